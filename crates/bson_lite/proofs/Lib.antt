@@ -1,0 +1,9 @@
+pub mod Again
+pub mod Found
+pub mod FinMaps
+pub mod Loops
+pub mod Nested
+pub mod Numbers
+pub mod Sound
+pub mod Steps
+pub mod Takes

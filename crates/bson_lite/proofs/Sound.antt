@@ -1,0 +1,302 @@
+-- What is read was spelled so: documents and arrays, by the levels that they nest.
+use Rattle.std.proofs.Common.{◌≡◌, ℕ, zero, suc, ◌+◌, ◌-◌, ◌≤◌, true, false, ◌||◌, ◌&&◌, ltb, eqb, cond, List, [], ◌∷◌, ◌++◌, length, map, Some, None, Result, Ok, refl, sym, ap, subst, ◌∙◌, append_assoc, arith, inl, inr}
+use Rattle.std.specs.Prelude.{decimal}
+use Rattle.std.specs.Str.{is_utf8, bytes_eq}
+use Rattle.std.proofs.lemmas.Bool.{ltb-false, eqb-true, or_from, or_parts, or_cases, and_from, both_ways}
+use Rattle.std.proofs.lemmas.List.{length-append, nil_from_length}
+use Rattle.bson_lite.specs.declared.bson.Bson as bson
+use Rattle.bson_lite.specs.declared.bson.Bson.{Bson, map-Bson, roll-Bson}
+use Rattle.bson_lite.specs.declared.bson.Bson.TheOpen.{Bson-F}
+use Rattle.bson_lite.specs.declared.bson.Bson.TheVariants.{rolls-Document, rolls-Array}
+use Rattle.bson_lite.specs.declared.document.Pair.{Pair}
+use Rattle.bson_lite.specs.Parts.{number_at, some_at, byte_at, zero_ended, place_at, is_type, type_at, Frame, frame_at, whole_at, leaf_at}
+use Rattle.bson_lite.specs.Reading.{or_at, closed, value_with, pair_with, item_with, many_with, pairs_with, items_with, inside_with, framed_with, nested_at, read}
+use Rattle.bson_lite.specs.Spelling.{four, framed, on_value, numbered, spelled, body_of, depth, deepest, deepest_pair, zero_within, zero_in, zero_in_values, holds_zero, valid, valid_pairs, valid_values, spelling, Spells}
+use Rattle.std.specs.Int.{w32}
+use Rattle.bson_lite.proofs.Numbers.{same-bytes_eq}
+use Rattle.bson_lite.proofs.Nested.{folded, length-element}
+use Rattle.bson_lite.proofs.Steps.{some_is, ok_is, then_some, then_ok, by_some, by_ok, by_at, at_some, chosen, unless, when, by_closed}
+use Rattle.bson_lite.proofs.Takes.{some_took, byte_took, number_took, zero_took, regrouped, LeafTook, leaf_took}
+
+-- a value of this type, below so many levels, with its spelling in front of the bytes
+pub record Took (levels kind : ℕ) (bytes : List ℕ) (x : Bson × List ℕ) : Type 0 where
+  pub typed : (spelled x.0).0 ≡ kind
+  pub parts : bytes ≡ (spelled x.0).1 ++ x.1
+  pub nests : depth x.0 ≤ levels
+  pub zero_free : zero_within x.0 ≡ false
+  pub well_formed : valid x.0 ≡ true
+
+-- every value that the reader for so many levels gives was taken so
+abbrev pub Takes : ℕ → Type 0
+Takes levels = (kind end : ℕ) (bytes : List ℕ) (x : Bson × List ℕ) → value_with (nested_at levels) kind end bytes ≡ Ok x → Took levels kind bytes x
+
+-- ---- elements
+
+type_took : (bytes : List ℕ) (x : ℕ × List ℕ) → type_at bytes ≡ Some x → bytes ≡ x.0 ∷ x.1
+unfolding type_at
+type_took bytes x e =
+    by_some (byte_at bytes) (λ byte. cond (is_type byte.0) (Some byte) None) x e (λ byte b rest.
+    when (is_type byte.0) (Some byte) x rest (λ _ is. subst (λ (y : ℕ × List ℕ). bytes ≡ y.0 ∷ y.1) (some_is byte x is) (byte_took bytes byte b)))
+
+pub record PairTook (levels : ℕ) (bytes : List ℕ) (x : Pair Bson × List ℕ) : Type 0 where
+  pub parts : bytes ≡ (spelled x.0.value).0 ∷ ((x.0.key ++ 0 ∷ (spelled x.0.value).1) ++ x.1)
+  pub nests : depth x.0.value ≤ levels
+  pub zero_free : (holds_zero x.0.key || zero_within x.0.value) ≡ false
+  pub well_formed : (is_utf8 x.0.key && valid x.0.value) ≡ true
+
+element_parts : (bytes after key more text rest : List ℕ) (kind type : ℕ) → bytes ≡ kind ∷ after → after ≡ key ++ 0 ∷ more → more ≡ text ++ rest → type ≡ kind → bytes ≡ type ∷ ((key ++ 0 ∷ text) ++ rest)
+element_parts bytes after key more text rest kind type e f g k =
+    e ∙ ap (λ (t : List ℕ). kind ∷ t) (f ∙ ap (λ (t : List ℕ). key ++ 0 ∷ t) g ∙ sym (append_assoc key (0 ∷ text) rest)) ∙ ap (λ (t : ℕ). t ∷ ((key ++ 0 ∷ text) ++ rest)) (sym k)
+
+pair_took : (levels end : ℕ) → Takes levels → (bytes : List ℕ) (x : Pair Bson × List ℕ) → pair_with (nested_at levels) end bytes ≡ Ok x → PairTook levels bytes x
+unfolding pair_with
+pair_took levels end takes bytes x e =
+    by_at (end - length bytes) (type_at bytes) (λ type. then_ok (or_at (end - length type.1) (zero_ended type.1)) (λ key. then_ok (value_with (nested_at levels) type.0 end key.1) (λ value. Ok (record { key = key.0; value = value.0 }, value.1)))) x e (λ type t rest.
+    by_at (end - length type.1) (zero_ended type.1) (λ key. then_ok (value_with (nested_at levels) type.0 end key.1) (λ value. Ok (record { key = key.0; value = value.0 }, value.1))) x rest (λ key k more.
+    by_ok (value_with (nested_at levels) type.0 end key.1) (λ value. Ok (record { key = key.0; value = value.0 }, value.1)) x more (λ value v is.
+    let z = zero_took type.1 key k in
+    let took = takes type.0 end key.1 value v in
+    subst (PairTook levels bytes) (ok_is (record { key = key.0; value = value.0 }, value.1) x is) (record {
+      parts = element_parts bytes type.1 key.0 key.1 (spelled value.0).1 value.1 type.0 (spelled value.0).0 (type_took bytes type t) z.parts took.parts took.typed;
+      nests = took.nests;
+      zero_free = or_from (holds_zero key.0) (zero_within value.0) z.zero_free took.zero_free;
+      well_formed = and_from (is_utf8 key.0) (valid value.0) z.utf8 took.well_formed;
+    }))))
+
+pub record ItemTook (levels place : ℕ) (bytes : List ℕ) (x : Bson × List ℕ) : Type 0 where
+  pub parts : bytes ≡ (spelled x.0).0 ∷ ((decimal place ++ 0 ∷ (spelled x.0).1) ++ x.1)
+  pub nests : depth x.0 ≤ levels
+  pub zero_free : zero_within x.0 ≡ false
+  pub well_formed : valid x.0 ≡ true
+
+place_took : (place : ℕ) (bytes after : List ℕ) → place_at place bytes ≡ Some after → bytes ≡ decimal place ++ 0 ∷ after
+unfolding place_at
+place_took place bytes after e =
+    by_some (zero_ended bytes) (λ key. cond (bytes_eq key.0 (decimal place)) (Some key.1) None) after e (λ key k rest.
+    when (bytes_eq key.0 (decimal place)) (Some key.1) after rest (λ same is.
+    (zero_took bytes key k).parts ∙ ap (λ (t : List ℕ). t ++ 0 ∷ key.1) (same-bytes_eq key.0 (decimal place) same) ∙ ap (λ (t : List ℕ). decimal place ++ 0 ∷ t) (some_is key.1 after is)))
+
+item_took : (levels end place : ℕ) → Takes levels → (bytes : List ℕ) (x : Bson × List ℕ) → item_with (nested_at levels) end place bytes ≡ Ok x → ItemTook levels place bytes x
+unfolding item_with
+item_took levels end place takes bytes x e =
+    by_at (end - length bytes) (type_at bytes) (λ type. then_ok (or_at (end - length type.1) (place_at place type.1)) (λ after. value_with (nested_at levels) type.0 end after)) x e (λ type t rest.
+    by_at (end - length type.1) (place_at place type.1) (λ after. value_with (nested_at levels) type.0 end after) x rest (λ after a v.
+    let took = takes type.0 end after x v in
+    record {
+      parts = element_parts bytes type.1 (decimal place) after (spelled x.0).1 x.1 type.0 (spelled x.0).0 (type_took bytes type t) (place_took place type.1 after a) took.parts took.typed;
+      nests = took.nests;
+      zero_free = took.zero_free;
+      well_formed = took.well_formed;
+    }))
+
+-- ---- all elements
+
+pub record PairsTook (levels : ℕ) (bytes : List ℕ) (pairs : List (Pair Bson)) : Type 0 where
+  pub parts : bytes ≡ body_of pairs
+  pub nests : deepest_pair (map (on_value depth) pairs) ≤ levels
+  pub zero_free : zero_in pairs ≡ false
+  pub well_formed : valid_pairs pairs ≡ true
+
+pairs_none : (levels : ℕ) (pairs : List (Pair Bson)) → ◌≡◌ {A = Result (List (Pair Bson)) ℕ} (Ok []) (Ok pairs) → PairsTook levels [] pairs
+pairs_none levels pairs e = subst (PairsTook levels []) (ok_is [] pairs e) (record { parts = refl; nests = omega arith; zero_free = refl; well_formed = refl })
+
+shorter : (byte kind : ℕ) (bytes key text rest : List ℕ) (turns : ℕ) → ◌≡◌ {A = List ℕ} (byte ∷ bytes) (kind ∷ ((key ++ 0 ∷ text) ++ rest)) → length (byte ∷ bytes) ≤ suc turns → length rest ≤ turns
+shorter byte kind bytes key text rest turns e h = omega (arith, ap length e, length-element key text rest)
+
+pub pairs_took : (levels end : ℕ) → Takes levels → (turns place : ℕ) (bytes : List ℕ) (pairs : List (Pair Bson)) → length bytes ≤ turns
+    → many_with (λ place. pair_with (nested_at levels) end) turns place bytes ≡ Ok pairs → PairsTook levels bytes pairs
+unfolding many_with
+pairs_took levels end takes zero place [] pairs enough e = pairs_none levels pairs e
+pairs_took levels end takes zero place (byte ∷ bytes) pairs enough e = absurd (omega arith)
+pairs_took levels end takes (suc turns) place [] pairs enough e = pairs_none levels pairs e
+pairs_took levels end takes (suc turns) place (byte ∷ bytes) pairs enough e =
+    by_ok (pair_with (nested_at levels) end (byte ∷ bytes)) (λ first. then_ok (many_with (λ place. pair_with (nested_at levels) end) turns (place + 1) first.1) (λ others. Ok (first.0 ∷ others))) pairs e (λ first f rest.
+    by_ok (many_with (λ place. pair_with (nested_at levels) end) turns (place + 1) first.1) (λ others. Ok (first.0 ∷ others)) pairs rest (λ others o is.
+    let here = pair_took levels end takes (byte ∷ bytes) first f in
+    let there = pairs_took levels end takes turns (place + 1) first.1 others (shorter byte (spelled first.0.value).0 bytes first.0.key (spelled first.0.value).1 first.1 turns here.parts enough) o in
+    subst (PairsTook levels (byte ∷ bytes)) (ok_is (first.0 ∷ others) pairs is) (record {
+      parts = here.parts ∙ ap (λ (t : List ℕ). (spelled first.0.value).0 ∷ ((first.0.key ++ 0 ∷ (spelled first.0.value).1) ++ t)) there.parts;
+      nests = omega (arith, here.nests, there.nests);
+      zero_free = or_from (holds_zero first.0.key || zero_within first.0.value) (zero_in others) here.zero_free there.zero_free;
+      well_formed = and_from (is_utf8 first.0.key && valid first.0.value) (valid_pairs others) here.well_formed there.well_formed;
+    })))
+
+pub record ItemsTook (levels place : ℕ) (bytes : List ℕ) (values : List Bson) : Type 0 where
+  pub parts : bytes ≡ numbered place (map spelled values)
+  pub nests : deepest (map depth values) ≤ levels
+  pub zero_free : zero_in_values (map zero_within values) ≡ false
+  pub well_formed : valid_values (map valid values) ≡ true
+
+items_none : (levels place : ℕ) (values : List Bson) → ◌≡◌ {A = Result (List Bson) ℕ} (Ok []) (Ok values) → ItemsTook levels place [] values
+items_none levels place values e = subst (ItemsTook levels place []) (ok_is [] values e) (record { parts = refl; nests = omega arith; zero_free = refl; well_formed = refl })
+
+pub items_took : (levels end : ℕ) → Takes levels → (turns place : ℕ) (bytes : List ℕ) (values : List Bson) → length bytes ≤ turns
+    → many_with (item_with (nested_at levels) end) turns place bytes ≡ Ok values → ItemsTook levels place bytes values
+unfolding many_with
+items_took levels end takes zero place [] values enough e = items_none levels place values e
+items_took levels end takes zero place (byte ∷ bytes) values enough e = absurd (omega arith)
+items_took levels end takes (suc turns) place [] values enough e = items_none levels place values e
+items_took levels end takes (suc turns) place (byte ∷ bytes) values enough e =
+    by_ok (item_with (nested_at levels) end place (byte ∷ bytes)) (λ first. then_ok (many_with (item_with (nested_at levels) end) turns (place + 1) first.1) (λ others. Ok (first.0 ∷ others))) values e (λ first f rest.
+    by_ok (many_with (item_with (nested_at levels) end) turns (place + 1) first.1) (λ others. Ok (first.0 ∷ others)) values rest (λ others o is.
+    let here = item_took levels end place takes (byte ∷ bytes) first f in
+    let there = items_took levels end takes turns (place + 1) first.1 others (shorter byte (spelled first.0).0 bytes (decimal place) (spelled first.0).1 first.1 turns here.parts enough) o in
+    subst (ItemsTook levels place (byte ∷ bytes)) (ok_is (first.0 ∷ others) values is) (record {
+      parts = here.parts ∙ ap (λ (t : List ℕ). (spelled first.0).0 ∷ ((decimal place ++ 0 ∷ (spelled first.0).1) ++ t)) there.parts;
+      nests = omega (arith, here.nests, there.nests);
+      zero_free = or_from (zero_within first.0) (zero_in_values (map zero_within others)) here.zero_free there.zero_free;
+      well_formed = and_from (valid first.0) (valid_values (map valid others)) here.well_formed there.well_formed;
+    })))
+
+-- ---- frames
+
+pub record FrameTook (bytes : List ℕ) (x : Frame × List ℕ) : Type 0 where
+  pub parts : bytes ≡ four (length x.0.elements + 5) ++ (x.0.elements ++ x.0.last ∷ x.1)
+  pub short : length x.0.elements + 5 ≤ 2147483647
+
+pub frame_took : (bytes : List ℕ) (x : Frame × List ℕ) → frame_at bytes ≡ Some x → FrameTook bytes x
+unfolding frame_at
+frame_took bytes x e =
+    by_some (number_at w32 bytes) (λ count. cond (ltb count.0 5 || ltb 2147483647 count.0) None (then_some (some_at (count.0 - 5) count.1) (λ part. then_some (byte_at part.1) (λ last. Some (record { elements = part.0; last = last.0 }, last.1))))) x e (λ count c rest.
+    unless (ltb count.0 5 || ltb 2147483647 count.0) (then_some (some_at (count.0 - 5) count.1) (λ part. then_some (byte_at part.1) (λ last. Some (record { elements = part.0; last = last.0 }, last.1)))) x rest (λ test more.
+    by_some (some_at (count.0 - 5) count.1) (λ part. then_some (byte_at part.1) (λ last. Some (record { elements = part.0; last = last.0 }, last.1))) x more (λ part p tail.
+    by_some (byte_at part.1) (λ last. Some (record { elements = part.0; last = last.0 }, last.1)) x tail (λ last l is.
+    let n = number_took w32 bytes count c in
+    let s = some_took (count.0 - 5) count.1 part p in
+    let tests = or_parts (ltb count.0 5) (ltb 2147483647 count.0) test in
+    let large : 5 ≤ count.0 = ltb-false count.0 5 tests.0 in
+    let small : count.0 ≤ 2147483647 = ltb-false 2147483647 count.0 tests.1 in
+    let len : count.0 ≡ length part.0 + 5 = omega (arith, s.1) in
+    subst (FrameTook bytes) (some_is (record { elements = part.0; last = last.0 }, last.1) x is) (record {
+      parts = n.parts ∙ ap (λ (t : List ℕ). four count.0 ++ t) (s.0 ∙ ap (λ (t : List ℕ). part.0 ++ t) (byte_took part.1 last l)) ∙ ap (λ (k : ℕ). four k ++ (part.0 ++ last.0 ∷ last.1)) len;
+      short = omega arith;
+    })))))
+
+-- what is inside a frame, and that its last byte is zero
+inside_took : {A P : Type 0} (inside : ℕ → List ℕ → Result A ℕ) (end : ℕ) (frame : Frame) (x : A) → inside_with inside end frame ≡ Ok x
+    → (inside (end - 1) frame.elements ≡ Ok x → frame.last ≡ 0 → P) → P
+unfolding inside_with
+inside_took inside end frame x e k =
+    by_ok (inside (end - 1) frame.elements) (closed (end - 1) frame.last) x e (λ y i rest.
+    by_closed (eqb frame.last 0) (end - 1) y x rest (λ zero_last is. k (i ∙ ap (λ z. Ok z) is) (eqb-true frame.last 0 zero_last)))
+
+-- a frame and what is inside it
+framed_took : {A P : Type 0} (inside : ℕ → List ℕ → Result A ℕ) (end : ℕ) (bytes : List ℕ) (x : A × List ℕ) → framed_with inside end bytes ≡ Ok x
+    → ((elements : List ℕ) (e : ℕ) → inside e elements ≡ Ok x.0 → bytes ≡ framed elements ++ x.1 → P) → P
+unfolding framed_with
+framed_took {A} inside end bytes x e k =
+    by_at (end - length bytes) (frame_at bytes) (λ frame. then_ok (inside_with inside (end - length frame.1) frame.0) (λ y. Ok (y, frame.1))) x e (λ frame f rest.
+    by_ok (inside_with inside (end - length frame.1) frame.0) (λ y. Ok (y, frame.1)) x rest (λ y i is.
+    inside_took inside (end - length frame.1) frame.0 y i (λ got zero_last.
+    let t = frame_took bytes frame f in
+    let same = ok_is (y, frame.1) x is in
+    let spelt : bytes ≡ framed frame.0.elements ++ frame.1 =
+    t.parts ∙ ap (λ (b : ℕ). four (length frame.0.elements + 5) ++ (frame.0.elements ++ b ∷ frame.1)) zero_last ∙ sym (regrouped (four (length frame.0.elements + 5)) frame.0.elements frame.1 0) in
+    k frame.0.elements (end - length frame.1 - 1) (got ∙ ap (λ (z : A × List ℕ). Ok z.0) same) (spelt ∙ ap (λ (z : A × List ℕ). framed frame.0.elements ++ z.1) same))))
+
+-- ---- values
+
+from_leaf : (levels kind : ℕ) (bytes : List ℕ) (x : Bson × List ℕ) → LeafTook kind bytes x → Took levels kind bytes x
+from_leaf levels kind bytes x t =
+    let f = folded t.layer in
+    let here : Took levels kind bytes (roll-Bson t.layer, x.1) = record {
+      typed = ap (λ (s : ℕ × List ℕ). s.0) f.spells ∙ t.typed;
+      parts = t.parts ∙ ap (λ (s : ℕ × List ℕ). s.1 ++ x.1) (sym f.spells);
+      nests = omega (arith, f.nests, t.flat);
+      zero_free = f.zeros ∙ t.zero_free;
+      well_formed = f.valids ∙ t.well_formed;
+    } in
+    subst (λ (v : Bson). Took levels kind bytes (v, x.1)) (sym t.made_of) here
+
+document_took : (levels kind end : ℕ) → Takes levels → (bytes : List ℕ) (x : Bson × List ℕ) → kind ≡ 3
+    → then_ok (framed_with (pairs_with (nested_at levels)) end bytes) (λ y. Ok (bson.Document y.0, y.1)) ≡ Ok x → Took (suc levels) kind bytes x
+unfolding pairs_with
+document_took levels kind end takes bytes x k e =
+    by_ok (framed_with (pairs_with (nested_at levels)) end bytes) (λ y. Ok (bson.Document y.0, y.1)) x e (λ y f is.
+    framed_took (pairs_with (nested_at levels)) end bytes y f (λ elements place got spelt.
+    let t = pairs_took levels place takes (length elements) 0 elements y.0 (omega arith) got in
+    let f = folded (Bson-F.Document y.0) in
+    let here : Took (suc levels) kind bytes (roll-Bson (Bson-F.Document y.0), y.1) = record {
+      typed = ap (λ (s : ℕ × List ℕ). s.0) f.spells ∙ sym k;
+      parts = spelt ∙ ap (λ (b : List ℕ). framed b ++ y.1) t.parts ∙ ap (λ (s : ℕ × List ℕ). s.1 ++ y.1) (sym f.spells);
+      nests = omega (arith, f.nests, t.nests);
+      zero_free = f.zeros ∙ t.zero_free;
+      well_formed = f.valids ∙ t.well_formed;
+    } in
+    subst (Took (suc levels) kind bytes) (ok_is (bson.Document y.0, y.1) x is) (subst (λ (v : Bson). Took (suc levels) kind bytes (v, y.1)) (rolls-Document y.0) here)))
+
+array_took : (levels kind end : ℕ) → Takes levels → (bytes : List ℕ) (x : Bson × List ℕ) → kind ≡ 4
+    → then_ok (framed_with (items_with (nested_at levels)) end bytes) (λ y. Ok (bson.Array y.0, y.1)) ≡ Ok x → Took (suc levels) kind bytes x
+unfolding items_with
+array_took levels kind end takes bytes x k e =
+    by_ok (framed_with (items_with (nested_at levels)) end bytes) (λ y. Ok (bson.Array y.0, y.1)) x e (λ y f is.
+    framed_took (items_with (nested_at levels)) end bytes y f (λ elements place got spelt.
+    let t = items_took levels place takes (length elements) 0 elements y.0 (omega arith) got in
+    let f = folded (Bson-F.Array y.0) in
+    let here : Took (suc levels) kind bytes (roll-Bson (Bson-F.Array y.0), y.1) = record {
+      typed = ap (λ (s : ℕ × List ℕ). s.0) f.spells ∙ sym k;
+      parts = spelt ∙ ap (λ (b : List ℕ). framed b ++ y.1) t.parts ∙ ap (λ (s : ℕ × List ℕ). s.1 ++ y.1) (sym f.spells);
+      nests = omega (arith, f.nests, t.nests);
+      zero_free = f.zeros ∙ t.zero_free;
+      well_formed = f.valids ∙ t.well_formed;
+    } in
+    subst (Took (suc levels) kind bytes) (ok_is (bson.Array y.0, y.1) x is) (subst (λ (v : Bson). Took (suc levels) kind bytes (v, y.1)) (rolls-Array y.0) here)))
+
+-- what documents and arrays take
+abbrev NestedTakes : ℕ → Type 0
+NestedTakes levels = (kind end : ℕ) (bytes : List ℕ) (x : Bson × List ℕ) → (eqb kind 3 || eqb kind 4) ≡ true → nested_at levels kind end bytes ≡ Ok x → Took levels kind bytes x
+
+nested_zero : NestedTakes 0
+unfolding nested_at
+nested_zero kind end bytes x nest e = absurd cc
+
+nested_suc : (levels : ℕ) → Takes levels → NestedTakes (suc levels)
+unfolding nested_at
+nested_suc levels takes kind end bytes x nest e =
+    chosen (eqb kind 3) (then_ok (framed_with (pairs_with (nested_at levels)) end bytes) (λ y. Ok (bson.Document y.0, y.1))) (then_ok (framed_with (items_with (nested_at levels)) end bytes) (λ y. Ok (bson.Array y.0, y.1))) (Ok x) e
+    (λ three d. document_took levels kind end takes bytes x (eqb-true kind 3 three) d)
+    (λ other a. array_took levels kind end takes bytes x (elim (or_cases (eqb kind 3) (eqb kind 4) nest) [
+      | inl three ↦ absurd (both_ways (eqb kind 3) other three)
+      | inr four_is ↦ eqb-true kind 4 four_is
+    ]) a)
+
+takes_by : (levels : ℕ) → NestedTakes levels → Takes levels
+unfolding value_with
+takes_by levels nested kind end bytes x e =
+    chosen (eqb kind 3 || eqb kind 4) (nested_at levels kind end bytes) (or_at (end - length bytes) (leaf_at kind bytes)) (Ok x) e
+    (λ nest n. nested kind end bytes x nest n)
+    (λ _ leaf. from_leaf levels kind bytes x (leaf_took kind bytes x (at_some (end - length bytes) (leaf_at kind bytes) x leaf)))
+
+pub takes_at : (levels : ℕ) → Takes levels
+takes_at zero = takes_by 0 nested_zero
+takes_at (suc levels) = takes_by (suc levels) (nested_suc levels (takes_at levels))
+
+whole_took : (bytes : List ℕ) (frame : Frame) → whole_at bytes ≡ Some frame → (bytes ≡ four (length frame.elements + 5) ++ (frame.elements ++ frame.last ∷ [])) × (length frame.elements + 5 ≤ 2147483647)
+unfolding whole_at
+whole_took bytes frame e =
+    by_some (frame_at bytes) (λ f. cond (eqb (length f.1) 0) (Some f.0) None) frame e (λ f ff rest.
+    when (eqb (length f.1) 0) (Some f.0) frame rest (λ empty is.
+    let t = frame_took bytes f ff in
+    let none : f.1 ≡ [] = nil_from_length f.1 (eqb-true (length f.1) 0 empty) in
+    subst (λ (g : Frame). (bytes ≡ four (length g.elements + 5) ++ (g.elements ++ g.last ∷ [])) × (length g.elements + 5 ≤ 2147483647)) (some_is f.0 frame is)
+    (t.parts ∙ ap (λ (r : List ℕ). four (length f.0.elements + 5) ++ (f.0.elements ++ f.0.last ∷ r)) none, t.short)))
+
+-- the law: what is read was spelled so
+pub read_took : (bytes : List ℕ) (document : List (Pair Bson)) → read bytes ≡ Ok document → Spells document bytes
+unfolding read pairs_with
+read_took bytes document e =
+    by_at 0 (whole_at bytes) (λ frame. inside_with (pairs_with (nested_at 99)) (length bytes) frame) document e (λ frame w rest.
+    inside_took (pairs_with (nested_at 99)) (length bytes) frame document rest (λ got zero_last.
+    let whole = whole_took bytes frame w in
+    let t = pairs_took 99 (length bytes - 1) (takes_at 99) (length frame.elements) 0 frame.elements document (omega arith) got in
+    let spelt : bytes ≡ spelling document = whole.0 ∙ ap (λ (b : ℕ). four (length frame.elements + 5) ++ (frame.elements ++ b ∷ [])) zero_last ∙ ap framed t.parts in
+    let len : length (body_of document) ≡ length frame.elements = ap length (sym t.parts) in
+    record {
+      has = record {
+        nests = omega (arith, t.nests);
+        zero_free = t.zero_free;
+        well_formed = t.well_formed;
+        short = omega (arith, whole.1, length-append (body_of document) (0 ∷ []));
+      };
+      is = spelt;
+    }))

@@ -1,0 +1,9 @@
+-- Many values put into a finite map.
+use Rattle.std.specs.Prelude.{ℕ, List, [], ◌∷◌}
+use Rattle.std.specs.Ordering.{nat_cmp}
+use Rattle.std.specs.FinMap as finite
+
+-- the map once each value was put at its index, in turn
+unfoldable pub insert_each : {X : Type 0} → finite.FinMap nat_cmp X → List (ℕ × X) → finite.FinMap nat_cmp X
+insert_each m [] = m
+insert_each m (entry ∷ entries) = insert_each (finite.insert m entry.0 entry.1) entries

@@ -1,0 +1,11 @@
+pub mod Fields
+pub mod Indexed
+pub mod Namespace
+pub mod PairCode
+pub mod Parts
+pub mod Ranges
+pub mod Reading
+pub mod Same
+pub mod Sameness
+pub mod Spelling
+pub mod formers

@@ -1,0 +1,43 @@
+//! BSON documents: the values, their one spelling in bytes, and the way back.
+//!
+//! A contract sees a [`Document`] as the list of its pairs and a [`Bson`] as a plain tree, so an
+//! equality of documents is an equality of trees. `Text`, `Bytes` and `List` are seen as lists.
+#![tactic(auto)]
+
+pub mod boxed;
+pub mod bson;
+pub mod by_index;
+pub mod copy;
+pub mod decoding;
+pub mod document;
+pub mod encoding;
+pub mod fault;
+pub mod fields;
+pub mod laws;
+pub mod list;
+pub mod namespace;
+mod parts;
+pub mod raw;
+mod same;
+mod survey;
+#[cfg(test)]
+mod tests;
+pub mod text;
+
+pub use boxed::Boxed;
+pub use bson::{Binary, Bson, ObjectId, Regex, Timestamp};
+pub use by_index::ByIndex;
+pub use copy::TryClone;
+pub use decoding::decode;
+pub use document::{Document, Pair};
+pub use encoding::{encode, encode_refusal};
+pub use fault::{DecodeFault, EncodeFault};
+pub use fields::{
+    ID_KEY, get_int, get_or_prepend_id_field, replacement_document_check, update_document_check,
+};
+pub use laws::{read_is_spelled, round_trip};
+pub use list::List;
+pub use namespace::Namespace;
+pub use raw::RawDocumentBuf;
+pub use survey::encoded_len;
+pub use text::{Bytes, Text};

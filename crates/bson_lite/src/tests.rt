@@ -1,0 +1,173 @@
+//! Spellings from outside: worked documents, and vectors of the public standard for each type.
+//! The helpers promise nothing, so that a test's proof has little to read.
+use crate::bson::{Binary, Bson, ObjectId};
+use crate::copy::TryClone;
+use crate::decoding::decode;
+use crate::document::Document;
+use crate::encoding::{encode, encode_refusal};
+use crate::fault::{DecodeFault, EncodeFault};
+use crate::fields::{get_int, get_or_prepend_id_field};
+use crate::raw::RawDocumentBuf;
+use crate::survey::encoded_len;
+use crate::text::{Bytes, Text};
+use std::alloc::{AllocError, Global};
+use std::test::Fail;
+
+const X_IS_1: [u8; 12] = [12, 0, 0, 0, 16, b'x', 0, 1, 0, 0, 0, 0];
+
+const WITH_ID: [u8; 29] = [
+    29, 0, 0, 0, 7, b'_', b'i', b'd', 0, 0, 0, 0, 0, 0, 0, 0, 0, 0, 0, 0, 1, 16, b'x', 0, 1, 0, 0,
+    0, 0,
+];
+
+fn one(alloc: Global, key: &str, value: Bson) -> Result<Document, AllocError> {
+    let mut document = Document::new(alloc);
+    document.push(key, value)?;
+    Ok(document)
+}
+
+fn spelled(alloc: Global, document: &Document) -> Result<Bytes, EncodeFault> {
+    encode(alloc, document)
+}
+
+fn read(alloc: Global, bytes: &[u8]) -> Result<Document, DecodeFault> {
+    decode(alloc, bytes)
+}
+
+fn put_id(alloc: Global, document: &mut Document, last: u8) -> Result<Bson, AllocError> {
+    let bytes = [0, 0, 0, 0, 0, 0, 0, 0, 0, 0, 0, last];
+    get_or_prepend_id_field(alloc, document, ObjectId { bytes })
+}
+
+fn kept(alloc: Global, document: &Document) -> Result<RawDocumentBuf, EncodeFault> {
+    RawDocumentBuf::from_document(alloc, document)?
+        .try_clone(alloc)
+        .map_err(EncodeFault::from)
+}
+
+fn number_at(document: &Document, key: &str) -> Option<i64> {
+    document.get(key).and_then(get_int)
+}
+
+fn binary(alloc: Global) -> Result<Bson, AllocError> {
+    Ok(Bson::Binary(Binary {
+        subtype: 4,
+        bytes: Bytes::from_slice(alloc, &[0xff, 0xff])?,
+    }))
+}
+
+fn text(alloc: Global) -> Result<Bson, AllocError> {
+    Ok(Bson::String(Text::from_str(alloc, "b")?))
+}
+
+fn nested(alloc: Global, levels: u32) -> Result<Document, AllocError> {
+    let mut document = Document::new(alloc);
+    for _ in 1..levels {
+        document = one(alloc, "d", Bson::Document(document))?;
+    }
+    Ok(document)
+}
+
+#[test]
+fn worked_documents(rt: HostRuntime) -> Result<(), Fail> {
+    let alloc = rt.alloc();
+    let mut document = one(alloc, "x", Bson::Int32(1))?;
+    assert_eq!(rt; spelled(alloc, &document)?.as_slice(), X_IS_1.as_slice());
+    assert!(rt; read(alloc, &X_IS_1)?.try_clone(alloc)? == document);
+    put_id(alloc, &mut document, 1)?;
+    put_id(alloc, &mut document, 2)?;
+    assert_eq!(rt; kept(alloc, &document)?.as_bytes(), WITH_ID.as_slice());
+    assert_eq!(rt; encoded_len(&document), 29);
+    assert_eq!(rt; number_at(&document, "x"), Some(1));
+    assert_eq!(rt; number_at(&document, "y"), None);
+    Ok(())
+}
+
+#[test]
+fn broken_bytes(rt: HostRuntime) {
+    let alloc = rt.alloc();
+    let table: [(&[u8], usize); 8] = [
+        (&[12, 0, 0, 0, 16, b'x', 0, 1, 0, 0, 0], 0),
+        (&[5, 0, 0, 0, 1], 4),
+        (&[12, 0, 0, 0, 15, b'x', 0, 1, 0, 0, 0, 0], 4),
+        (&[12, 0, 0, 0, 16, 0xff, 0, 1, 0, 0, 0, 0], 5),
+        (&[9, 0, 0, 0, 8, b'b', 0, 2, 0], 7),
+        (&[13, 0, 0, 0, 3, b'x', 0, 5, 0, 0, 0, 7, 0], 11),
+        (
+            &[16, 0, 0, 0, 4, b'x', 0, 8, 0, 0, 0, 10, b'1', 0, 0, 0],
+            12,
+        ),
+        (&[12, 0, 0, 0, 2, b'x', 0, 0, 0, 0, 0, 0], 7),
+    ];
+    for (bytes, offset) in table {
+        assert_eq!(rt;
+            read(alloc, bytes).err(),
+            Some(DecodeFault::At { offset }),
+            "at {offset}"
+        );
+    }
+}
+
+#[test]
+fn refusals(rt: HostRuntime) -> Result<(), Fail> {
+    let alloc = rt.alloc();
+    let zero = one(alloc, "a\0b", Bson::Null)?;
+    assert_eq!(rt; spelled(alloc, &zero).err(), Some(EncodeFault::ZeroByte));
+    let deep = nested(alloc, 100)?;
+    assert_eq!(rt; encode_refusal(&deep), None);
+    assert!(rt; read(alloc, spelled(alloc, &deep)?.as_slice())? == deep);
+    let deeper = nested(alloc, 101)?;
+    assert_eq!(rt; spelled(alloc, &deeper).err(), Some(EncodeFault::TooDeep));
+    Ok(())
+}
+
+#[test]
+fn standard_values(rt: HostRuntime) -> Result<(), Fail> {
+    let alloc = rt.alloc();
+    let string = one(alloc, "a", text(alloc)?)?;
+    assert_eq!(rt;
+        spelled(alloc, &string)?.as_slice(),
+        b"\x0e\0\0\0\x02a\0\x02\0\0\0b\0\0".as_slice()
+    );
+    let bytes = one(alloc, "x", binary(alloc)?)?;
+    assert_eq!(rt;
+        spelled(alloc, &bytes)?.as_slice(),
+        b"\x0f\0\0\0\x05x\0\x02\0\0\0\x04\xff\xff\0".as_slice()
+    );
+    let inner = one(alloc, "x", Bson::Document(string))?;
+    assert_eq!(rt;
+        spelled(alloc, &inner)?.as_slice(),
+        b"\x16\0\0\0\x03x\0\x0e\0\0\0\x02a\0\x02\0\0\0b\0\0\0".as_slice()
+    );
+    Ok(())
+}
+
+#[test]
+fn standard_vectors_read_and_spelled(rt: HostRuntime) -> Result<(), Fail> {
+    let alloc = rt.alloc();
+    let table: [&[u8]; 18] = [
+        b"\x05\0\0\0\0",
+        b"\x10\0\0\0\x01d\0\0\0\0\0\0\0\xf0\x3f\0",
+        b"\x0e\0\0\0\x02a\0\x02\0\0\0b\0\0",
+        b"\x14\0\0\0\x04a\0\x0c\0\0\0\x100\0\x0a\0\0\0\0\0",
+        b"\x0f\0\0\0\x05x\0\x02\0\0\0\0\xff\xff\0",
+        b"\x08\0\0\0\x06a\0\0",
+        b"\x14\0\0\0\x07a\0\x56\xe1\xfc\x72\xe0\xc9\x17\xe9\xc4\x71\x41\x61\0",
+        b"\x09\0\0\0\x08b\0\x01\0",
+        b"\x10\0\0\0\x09a\0\xc5\xd8\xd6\xcc\x3b\x01\0\0\0",
+        b"\x08\0\0\0\x0aa\0\0",
+        b"\x0f\0\0\0\x0ba\0abc\0im\0\0",
+        b"\x0e\0\0\0\x0da\0\x02\0\0\0b\0\0",
+        b"\x0e\0\0\0\x0ea\0\x02\0\0\0b\0\0",
+        b"\x0c\0\0\0\x10i\0\xff\xff\xff\xff\0",
+        b"\x10\0\0\0\x11a\0\x2a\0\0\0\x15\xcd\x5b\x07\0",
+        b"\x10\0\0\0\x12a\0\xff\xff\xff\xff\xff\xff\xff\xff\0",
+        b"\x18\0\0\0\x13d\0\x01\0\0\0\0\0\0\0\0\0\0\0\0\0\x40\x30\0",
+        b"\x08\0\0\0\x7fa\0\0",
+    ];
+    for bytes in table {
+        let document = read(alloc, bytes)?;
+        assert_eq!(rt; spelled(alloc, &document)?.as_slice(), bytes);
+    }
+    Ok(())
+}
