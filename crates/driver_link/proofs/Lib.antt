@@ -1,0 +1,4 @@
+pub mod Counting
+pub mod SessionIds
+pub mod Exchanged
+pub mod Replaying

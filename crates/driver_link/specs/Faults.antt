@@ -1,0 +1,19 @@
+-- Counts of faults: a call answers a fault only where its count rose.
+use Rattle.std.specs.Prelude.{ℕ, ◌+◌, ◌-◌, ◌^◌, ◌≤◌, min, Result, Ok, Err}
+use Rattle.driver_link.specs.declared.fault.LinkError.{LinkError}
+use Rattle.driver_link.specs.declared.fault.LinkError.TheVariants.{Fault, Memory}
+
+-- the count rose, or stands at the greatest u64
+abbrev pub Rose : ℕ → ℕ → Type 0
+Rose before now = min (before + 1) (2 ^ 64 - 1) ≤ now
+
+-- a count never falls, and a failure comes only where it rose
+abbrev pub HasCause : {A E : Type 0} → ℕ → ℕ → Result A E → Type 0
+HasCause before now (Ok answer) = before ≤ now
+HasCause before now (Err failed) = Rose before now × (before ≤ now)
+
+-- the same for a link, whose want of memory has no cause
+abbrev pub HasLinkCause : {A : Type 0} → ℕ → ℕ → Result A LinkError → Type 0
+HasLinkCause before now (Ok answer) = before ≤ now
+HasLinkCause before now (Err (Fault fault labels)) = Rose before now × (before ≤ now)
+HasLinkCause before now (Err Memory) = before ≤ now

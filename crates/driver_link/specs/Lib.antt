@@ -1,0 +1,16 @@
+pub mod Apart
+pub mod Commands
+pub mod CountingIds
+pub mod Exchange
+pub mod Faults
+pub mod Framed
+pub mod MemClock
+pub mod MemStreams
+pub mod Once
+pub mod Reads
+pub mod Replies
+pub mod Sequences
+pub mod Serving
+pub mod Streams
+pub mod Told
+pub mod Values

@@ -1,0 +1,33 @@
+//! What stands between the driver and the outside: the traits of link, clock, ids, input and output,
+//! and the model server's machine, over which every promise about a run is stated.
+#![tactic(auto)]
+
+pub mod by_id;
+pub mod clock;
+pub mod counting_ids;
+pub mod fault;
+pub mod frame;
+pub mod ids;
+pub mod keys;
+pub mod link;
+pub mod machine;
+pub mod mem_clock;
+pub mod mem_stream;
+pub mod options;
+pub mod stream;
+
+pub use by_id::ById;
+pub use clock::Clock;
+pub use counting_ids::{CountingIds, counting_ids_differ};
+pub use fault::{Answered, LinkCall, LinkError, LinkFault};
+pub use frame::{Frame, Sequence};
+pub use ids::IdSource;
+pub use link::Link;
+pub use machine::{
+    Counted, Entry, Item, KnownSession, Place, PlacedWrite, Schedule, Send, SendBody, SendCommand,
+    Server, Setup, WriteKind, Written,
+};
+pub use mem_clock::MemClock;
+pub use mem_stream::{MemSink, MemSource};
+pub use options::{Address, ClientOptions, Conn, Description, ReadPreference, SelectionCriteria};
+pub use stream::{Failed, Sink, Source};

@@ -1,0 +1,182 @@
+//! Input and output in memory that fail at chosen calls, for runs that are to repeat exactly.
+ghost use Rattle.std.specs.Prelude.{◌≡◌, ◌≤◌, ◌<◌, ◌+◌, ◌-◌, ◌^◌, ◌++◌, [], min, drop, take, length, is_err, IfOk, OnErr, Some};
+ghost use Rattle.driver_link.specs.Faults.{HasCause};
+ghost use Rattle.driver_link.specs.MemStreams.{SourceState, SinkState, is_listed, write_fails};
+ghost use Rattle.driver_link.specs.Streams.{Consumes, IsAtEnd, Appends};
+
+use crate::stream::{Failed, Sink, Source};
+use bson_lite::{Bytes, List};
+use std::alloc::{AllocError, Global};
+use std::io::{Cursor, Read};
+use std::marker::Model;
+
+/// Input from memory.
+#[derive(Drop)]
+pub struct MemSource {
+    bytes: Cursor<Vec<u8>>,
+    fails: List<u64>,
+    calls: u64,
+    faults: u64,
+}
+
+impl Model for MemSource {
+    ghost use Rattle.std.specs.Prelude.{drop};
+    ghost use Rattle.std.specs.Io.Cursor.{cursor_position, cursor_inner};
+    ghost use Rattle.driver_link.specs.MemStreams.{SourceState};
+
+    ghost Value = { SourceState };
+
+    ghost view = { λ source. record { left = drop (cursor_position source.bytes) (cursor_inner source.bytes).items; fails = source.fails; calls = source.calls; faults = source.faults } };
+}
+
+impl MemSource {
+    /// A source of these bytes that fails at the calls listed, counted from 0.
+    pub fn new(bytes: Bytes, fails: List<u64>) -> MemSource
+        ensures { result ≡ record { left = bytes; fails = fails; calls = 0; faults = 0 } }
+    {
+        MemSource {
+            bytes: Cursor::new(bytes.into_vec()),
+            fails,
+            calls: 0,
+            faults: 0,
+        }
+    }
+}
+
+impl Source for MemSource {
+    ghost left = { λ source. Some source.left };
+
+    ghost faults = { λ source. source.faults };
+
+    fn read(&mut self, into: &mut [u8]) -> Result<usize, Failed>
+        ensures within { IfOk result (λ count. count ≤ length into.old) }
+        ensures taken { IfOk result (λ count. Consumes (Some self.old.left) (Some self.new.left) (take count into.new)) }
+        ensures end { IfOk result (λ count. count ≡ 0 → 0 < length into.old → IsAtEnd (Some self.old.left)) }
+        ensures err { OnErr result (Some self.new.left ≡ Some self.old.left) }
+        ensures cause { HasCause self.old.faults self.new.faults result }
+        ensures listed { is_err result ≡ is_listed self.old.calls self.old.fails }
+        ensures calls { self.new.calls ≡ min (self.old.calls + 1) (2 ^ 64 - 1) }
+        ensures fails { self.new.fails ≡ self.old.fails }
+    {
+        let call = self.calls;
+        self.calls = call.saturating_add(1);
+        if self.fails.as_slice().contains(&call) {
+            self.faults = self.faults.saturating_add(1);
+            return Err(Failed);
+        }
+        match self.bytes.read(into) {
+            Ok(count) => Ok(count),
+            Err(_) => unreachable!(),
+        }
+    }
+}
+
+/// Output into memory that was reserved.
+#[derive(Drop)]
+pub struct MemSink {
+    bytes: Vec<u8>,
+    room: usize,
+    fails: List<u64>,
+    calls: u64,
+    faults: u64,
+}
+
+impl Model for MemSink {
+    ghost use Rattle.std.specs.Prelude.{◌≤◌, length, vec_capacity};
+    ghost use Rattle.driver_link.specs.MemStreams.{SinkState};
+
+    ghost Value = { SinkState };
+
+    ghost view = { λ sink. record { contents = sink.bytes.items; room = sink.room; fails = sink.fails; calls = sink.calls; faults = sink.faults } };
+
+    ghost invariant = { λ sink. (length sink.bytes.items ≤ sink.room) × (sink.room ≤ vec_capacity sink.bytes) };
+}
+
+impl MemSink {
+    /// A sink with so much room that fails at the calls listed, counted from 0, and once it is full.
+    pub fn new(alloc: Global, room: usize, fails: List<u64>) -> Result<MemSink, AllocError>
+        ensures { IfOk result (λ sink. sink ≡ record { contents = []; room = room; fails = fails; calls = 0; faults = 0 }) }
+    {
+        Ok(MemSink {
+            bytes: Vec::with_capacity(alloc, room)?,
+            room,
+            fails,
+            calls: 0,
+            faults: 0,
+        })
+    }
+
+    /// The bytes that were written.
+    pub fn contents(&self) -> &[u8]
+        ensures { result.now ≡ self.now.contents }
+    {
+        self.bytes.as_slice()
+    }
+}
+
+impl Sink for MemSink {
+    ghost contents = { λ sink. Some sink.contents };
+
+    ghost faults = { λ sink. sink.faults };
+
+    fn write(&mut self, bytes: &[u8]) -> Result<usize, Failed>
+        ensures within { IfOk result (λ count. count ≤ length bytes.now) }
+        ensures some { IfOk result (λ count. 0 < length bytes.now → 0 < count) }
+        ensures taken { IfOk result (λ count. Appends (Some self.old.contents) (Some self.new.contents) (take count bytes.now)) }
+        ensures err { OnErr result (Some self.new.contents ≡ Some self.old.contents) }
+        ensures cause { HasCause self.old.faults self.new.faults result }
+        ensures listed { is_err result ≡ write_fails self.old }
+        ensures fits { IfOk result (λ count. count ≡ min (length bytes.now) (self.old.room - length self.old.contents)) }
+        ensures calls { self.new.calls ≡ min (self.old.calls + 1) (2 ^ 64 - 1) }
+        ensures fails { self.new.fails ≡ self.old.fails }
+        ensures room { self.new.room ≡ self.old.room }
+    {
+        let call = self.calls;
+        self.calls = call.saturating_add(1);
+        if self.fails.as_slice().contains(&call) || self.bytes.len() == self.room {
+            self.faults = self.faults.saturating_add(1);
+            return Err(Failed);
+        }
+        let count = bytes.len().min(self.room - self.bytes.len());
+        match self.bytes.extend_from_slice(&bytes[..count]) {
+            Ok(()) => Ok(count),
+            Err(_) => unreachable!(),
+        }
+    }
+}
+
+#[cfg(test)]
+mod tests {
+    use super::*;
+
+    #[test]
+    fn reads_fail_at_their_calls(rt: HostRuntime) -> Result<(), AllocError> {
+        let alloc = rt.alloc();
+        let bytes = Bytes::from_slice(alloc, b"abc")?;
+        let mut fails = List::new(alloc);
+        fails.push(1)?;
+        let mut source = MemSource::new(bytes, fails);
+        let mut piece = [0; 2];
+        assert_eq!(rt; source.read(&mut piece), Ok(2));
+        assert_eq!(rt; piece, *b"ab");
+        assert_eq!(rt; source.read(&mut piece), Err(Failed));
+        assert_eq!(rt; source.read(&mut piece), Ok(1));
+        assert_eq!(rt; piece[0], b'c');
+        assert_eq!(rt; source.read(&mut piece), Ok(0));
+        Ok(())
+    }
+
+    #[test]
+    fn writes_fail_at_their_calls_and_when_full(rt: HostRuntime) -> Result<(), AllocError> {
+        let alloc = rt.alloc();
+        let mut fails = List::new(alloc);
+        fails.push(0)?;
+        let mut sink = MemSink::new(alloc, 3, fails)?;
+        assert_eq!(rt; sink.write(b"ab"), Err(Failed));
+        assert_eq!(rt; sink.write(b"ab"), Ok(2));
+        assert_eq!(rt; sink.write(b"cd"), Ok(1));
+        assert_eq!(rt; sink.write(b"d"), Err(Failed));
+        assert_eq!(rt; sink.contents(), b"abc".as_slice());
+        Ok(())
+    }
+}

@@ -1,0 +1,53 @@
+//! Options, addresses and connections, as plain data.
+use bson_lite::Text;
+
+/// Where a server listens.
+#[derive(Debug, Drop)]
+pub struct Address {
+    pub host: Text,
+    pub port: u16,
+}
+
+/// Which servers may serve an operation.
+#[derive(Clone, Copy, Debug, PartialEq, Eq)]
+pub enum ReadPreference {
+    Primary,
+    PrimaryPreferred,
+    Secondary,
+    SecondaryPreferred,
+    Nearest,
+}
+
+/// How a server is chosen.
+#[derive(Debug, Drop)]
+pub enum SelectionCriteria {
+    ReadPreference(ReadPreference),
+    Address(Address),
+}
+
+/// What a client is made with.
+#[derive(Debug, Drop)]
+pub struct ClientOptions {
+    /// Tells clients apart: a session belongs to the client of its number.
+    pub client_number: u64,
+}
+
+/// What a connection's server said of itself. Sizes are in bytes.
+#[derive(Clone, Copy, Debug, PartialEq, Eq)]
+pub struct Description {
+    pub max_wire_version: Option<i32>,
+    pub max_bson_object_size: i64,
+    pub max_message_size_bytes: i64,
+    pub max_write_batch_size: i64,
+    pub supports_sessions: bool,
+    pub supports_retryable_writes: bool,
+    pub sharded: bool,
+}
+
+/// A connection that was checked out. It is handed back by value.
+#[derive(Debug, Drop)]
+pub struct Conn {
+    pub address: Address,
+    pub description: Description,
+    pub number: u64,
+}
