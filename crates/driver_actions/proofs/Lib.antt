@@ -1,0 +1,15 @@
+pub mod Frames
+pub mod DoneReplies
+pub mod Attempts
+pub mod Making
+pub mod Drawing
+pub mod Moving
+pub mod Ids
+pub mod Knowing
+pub mod Logging
+pub mod Answering
+pub mod Turning
+pub mod Running
+pub mod Progress
+pub mod Causes
+pub mod Refusals

@@ -1,0 +1,163 @@
+-- A run of calls over any store and any link, call by call: what holds of the run so far.
+use Rattle.std.proofs.Common.{◌≡◌, ℕ, ◌<◌, List, [], ◌∷◌, ◌++◌, length, get_or, refl, sym, ap, subst, ◌∙◌, inl, inr}
+use Rattle.std.specs.Prelude.{Bool, true, false, Option, None, Some, Result, Ok, Err, is_ok, slice_get}
+use Rattle.std.proofs.lemmas.Option.{slice_get-get_or}
+use Rattle.driver_error.specs.declared.error.Error.{Error}
+use Rattle.driver_link.specs.declared.machine.Place.{Place}
+use Rattle.driver_link.specs.declared.machine.PlacedWrite.{PlacedWrite}
+use Rattle.driver_link.specs.declared.machine.Send.{Send}
+use Rattle.driver_link.specs.declared.machine.Written.{Written}
+use Rattle.driver_link.specs.Told.{Told, IsFresh}
+use Rattle.driver_actions.specs.declared.call.Answer.{Answer}
+use Rattle.driver_actions.specs.declared.call.Answer.TheVariants as answer
+use Rattle.driver_actions.specs.declared.call.Call.{Call}
+use Rattle.driver_actions.specs.declared.call.Call.TheVariants.{Single}
+use Rattle.driver_actions.specs.declared.call.Outcome.{Outcome}
+use Rattle.driver_actions.specs.declared.call.SingleAnswer.{SingleAnswer}
+use Rattle.driver_actions.specs.Calls.{written}
+use Rattle.driver_actions.specs.MainTheorem.{Begins, HoldsTold, IsReplayed, KeepsMaking}
+use Rattle.driver_actions.specs.Pool.{ToldStore, Draws, DrawnApart, AllApart, first_ids}
+use Rattle.driver_actions.specs.Session.{Session}
+use Rattle.driver_actions.specs.Turns.{Turn, Made, MakesCall, Attempts, HasSent, MaySend, send_under}
+use Rattle.driver_actions.proofs.Drawing.{draws_twice, draws_staying, draws_lending, draws_taking, draws_refl}
+use Rattle.driver_actions.proofs.Ids.{apart_left}
+use Rattle.driver_actions.proofs.Moving.{Moves, keeps_twice, keeps_refl, moves_keeps, moves_replayed, fresh_replayed}
+use Rattle.driver_actions.proofs.Running.{Ran, ran_none, ran_more, ran_holds}
+
+-- what holds after a number of calls, where store and link tell
+abbrev pub RanTold : List Call → List Outcome → Option ToldStore → Option Told → Type 0
+RanTold calls outcomes None link = ⊥
+RanTold calls outcomes (Some store) None = ⊥
+RanTold calls outcomes (Some store) (Some told) = Ran calls outcomes store.pool told.server
+
+-- what holds of the run so far
+pub record Progress (calls : List Call) (store : Option ToldStore) (link : Option Told) (outcomes : List Outcome) (store_now : Option ToldStore) (link_now : Option Told) : Type 0 where
+  pub main : Begins store link store_now → RanTold calls outcomes store_now link_now
+  pub replayed : IsFresh link → IsReplayed link_now
+  pub making : KeepsMaking link link_now
+  pub drawn : Draws store store_now
+
+moves_same : (link now : Option Told) → now ≡ link → Moves link now
+moves_same None now same = same
+moves_same (Some told) now same = inl same
+
+moves_sent : (link now : Option Told) (send : Send) → HasSent link now send → Moves link now
+moves_sent None now send sent = sent
+moves_sent (Some told) now send sent = inr (send, sent)
+
+moves_may : (link now : Option Told) (send : Send) → MaySend link now send → Moves link now
+moves_may None now send may = may
+moves_may (Some told) now send may = elim may [ inl same ↦ inl same | inr sent ↦ inr (send, sent) ]
+
+moves_attempt : (link now : Option Told) (session back : Session) (write : PlacedWrite) (done : Bool) → Attempts link now session back write done → Moves link now
+moves_attempt link now session back write true attempt = moves_sent link now (send_under back write) attempt.1
+moves_attempt link now session back write false attempt = elim attempt [
+  | inl none ↦ moves_same link now none.0
+  | inr may ↦ moves_may link now (send_under back write) may.1
+]
+
+module _ (store store_now : Option ToldStore) (link link_now : Option Told) where
+  turn_moves : (write : PlacedWrite) (done : Bool) → Turn store store_now link link_now write done → Moves link link_now
+  turn_moves write done turn = moves_attempt link link_now turn.session turn.back write done turn.attempt
+
+  turn_draws : (write : PlacedWrite) (done : Bool) → Turn store store_now link link_now write done → Draws store store_now
+  turn_draws write done turn =
+      draws_twice store turn.lent store_now (draws_lending store turn.lent turn.caller turn.out_at turn.session turn.lends)
+      (draws_taking turn.lent store_now turn.caller turn.back turn.back_at turn.takes)
+
+  made_moves : (given : Written) (place : Place) (result : Result SingleAnswer Error) → Made store store_now link link_now given place result → Moves link link_now
+  made_moves given place result made = turn_moves made.write (is_ok result) made.turn
+
+  made_draws : (given : Written) (place : Place) (result : Result SingleAnswer Error) → Made store store_now link link_now given place result → Draws store store_now
+  made_draws given place result made = turn_draws made.write (is_ok result) made.turn
+
+  call_moves : (call : Call) (number : ℕ) (result : Result Answer Error) → MakesCall store store_now link link_now call number result → Moves link link_now
+  call_moves (Single write) number (Ok (answer.Single given)) makes = made_moves (written write) (record { call = number; index = 0 }) (Ok given) makes
+  call_moves (Single write) number (Err error) makes = elim makes [
+    | inl stays ↦ moves_same link link_now stays.1
+    | inr made ↦ made_moves (written write) (record { call = number; index = 0 }) (Err error) made
+  ]
+
+  call_draws : (call : Call) (number : ℕ) (result : Result Answer Error) → MakesCall store store_now link link_now call number result → Draws store store_now
+  call_draws (Single write) number (Ok (answer.Single given)) makes = made_draws (written write) (record { call = number; index = 0 }) (Ok given) makes
+  call_draws (Single write) number (Err error) makes = elim makes [
+    | inl stays ↦ draws_staying store store_now stays.0
+    | inr made ↦ made_draws (written write) (record { call = number; index = 0 }) (Err error) made
+  ]
+
+apart_before : (old now : Option ToldStore) → Draws old now → DrawnApart now → DrawnApart old
+apart_before None now draws apart = tt
+apart_before (Some old) None draws apart = absurd draws
+apart_before (Some old) (Some now) draws apart =
+    apart_left old.pool.drawn (first_ids draws.count old.to_come) (subst AllApart draws.drawn apart)
+
+ran_more_told : (calls : List Call) (outcomes : List Outcome) (last : Outcome) (call : Call) (store store_now : Option ToldStore) (link link_now : Option Told)
+    → slice_get calls (length outcomes) ≡ Some call → MakesCall store store_now link link_now call (length outcomes) last.result
+    → Draws store store_now → KeepsMaking link link_now → DrawnApart store_now → RanTold calls outcomes store link
+    → RanTold calls (outcomes ++ last ∷ []) store_now link_now
+ran_more_told calls outcomes last call None store_now link link_now at makes draws keeps apart ran = absurd ran
+ran_more_told calls outcomes last call (Some store) store_now None link_now at makes draws keeps apart ran = absurd ran
+ran_more_told calls outcomes last call (Some store) None (Some told) link_now at makes draws keeps apart ran = absurd draws
+ran_more_told calls outcomes last call (Some store) (Some store_now) (Some told) None at makes draws keeps apart ran = absurd keeps
+ran_more_told calls outcomes last call (Some store) (Some store_now) (Some told) (Some told_now) at makes draws keeps apart ran =
+    ran_more calls outcomes store store_now told told_now last call last.result refl at makes apart ran
+
+ran_none_told : (calls : List Call) (store : Option ToldStore) (link : Option Told) → Begins store link store → RanTold calls [] store link
+ran_none_told calls None link begins = absurd begins.new
+ran_none_told calls (Some store) None begins = absurd begins.fresh
+ran_none_told calls (Some store) (Some told) begins = ran_none calls store.pool told.server begins.new begins.fresh
+
+-- before the first call
+pub progress_none : (calls : List Call) (store : Option ToldStore) (link : Option Told) → Progress calls store link [] store link
+progress_none calls store link = record {
+  main = ran_none_told calls store link;
+  replayed = fresh_replayed link;
+  making = keeps_refl link;
+  drawn = draws_refl store;
+}
+
+-- one call more
+pub progress_more : (calls : List Call) (store : Option ToldStore) (link : Option Told) (outcomes : List Outcome) (mid store_now : Option ToldStore)
+    (mid_link link_now : Option Told) (call : Call) (last : Outcome) → slice_get calls (length outcomes) ≡ Some call
+    → MakesCall mid store_now mid_link link_now call (length outcomes) last.result
+    → Progress calls store link outcomes mid mid_link → Progress calls store link (outcomes ++ last ∷ []) store_now link_now
+progress_more calls store link outcomes mid store_now mid_link link_now call last at makes progress =
+    let draws = call_draws mid store_now mid_link link_now call (length outcomes) last.result makes in
+    let moves = call_moves mid store_now mid_link link_now call (length outcomes) last.result makes in
+    let keeps = moves_keeps mid_link link_now moves in
+    record {
+      main = λ begins. ran_more_told calls outcomes last call mid store_now mid_link link_now at makes draws keeps begins.apart
+          (progress.main (record { new = begins.new; fresh = begins.fresh; apart = apart_before mid store_now draws begins.apart }));
+      replayed = λ fresh. moves_replayed mid_link link_now moves (progress.replayed fresh);
+      making = keeps_twice link mid_link link_now progress.making keeps;
+      drawn = draws_twice store mid store_now progress.drawn draws;
+    }
+
+ran_holds_told : (calls : List Call) (outcomes : List Outcome) (store : Option ToldStore) (link : Option Told) → length outcomes ≡ length calls
+    → RanTold calls outcomes store link → HoldsTold calls outcomes link
+ran_holds_told calls outcomes None link count ran = absurd ran
+ran_holds_told calls outcomes (Some store) None count ran = absurd ran
+ran_holds_told calls outcomes (Some store) (Some told) count ran = ran_holds calls outcomes store.pool told.server count ran
+
+-- the loop over the calls: before the first
+pub progress_starts : (calls : List Call) (store : Option ToldStore) (link : Option Told) (outcomes : List Outcome) → outcomes ≡ []
+    → Progress calls store link outcomes store link
+progress_starts calls store link outcomes none = subst (λ o. Progress calls store link o store link) (sym none) (progress_none calls store link)
+
+-- and one call more
+pub progress_steps : (calls : List Call) (store : Option ToldStore) (link : Option Told) (outcomes more : List Outcome) (mid store_now : Option ToldStore)
+    (mid_link link_now : Option Told) (call : Call) (last : Outcome) (number : ℕ) → length outcomes ≡ number → number < length calls
+    → call ≡ get_or calls number call → MakesCall mid store_now mid_link link_now call number last.result → more ≡ outcomes ++ last ∷ []
+    → Progress calls store link outcomes mid mid_link → Progress calls store link more store_now link_now
+progress_steps calls store link outcomes more mid store_now mid_link link_now call last number count within is_call makes is_more progress =
+    let at_number : slice_get calls number ≡ Some call = slice_get-get_or calls number call within ∙ ap (λ made. Some made) (sym is_call) in
+    let at = subst (λ n. slice_get calls n ≡ Some call) (sym count) at_number in
+    let made = subst (λ n. MakesCall mid store_now mid_link link_now call n last.result) (sym count) makes in
+    subst (λ o. Progress calls store link o store_now link_now) (sym is_more)
+    (progress_more calls store link outcomes mid store_now mid_link link_now call last at made progress)
+
+-- after the last call
+pub progress_holds : (calls : List Call) (store : Option ToldStore) (link : Option Told) (outcomes : List Outcome) (store_now : Option ToldStore) (link_now : Option Told)
+    → length outcomes ≡ length calls → Progress calls store link outcomes store_now link_now → Begins store link store_now → HoldsTold calls outcomes link_now
+progress_holds calls store link outcomes store_now link_now count progress begins =
+    ran_holds_told calls outcomes store_now link_now count (progress.main begins)

@@ -1,0 +1,154 @@
+-- An id that is put first changes no refusal but by its length.
+use Rattle.std.proofs.Common.{◌≡◌, ℕ, suc, ◌+◌, ◌-◌, ◌<◌, ◌≤◌, ◌^◌, min, Bool, true, false, List, [], ◌∷◌, ◌++◌, map, length, refl, sym, ap, ◌∙◌, inl, arith, rules, length-append}
+use Rattle.std.specs.Prelude.{Option, None, Some, is_some, nat_lt, max, ◌||◌, if◌then◌else◌}
+use Rattle.std.proofs.lemmas.Bool.{cond-true, cond-false}
+use Rattle.std.proofs.lemmas.Bool.Decides.{nat_tests}
+use Rattle.bson_lite.specs.declared.bson.Bson as bson
+use Rattle.bson_lite.specs.declared.bson.Bson.{Bson}
+use Rattle.bson_lite.specs.declared.bson.ObjectId.{ObjectId}
+use Rattle.bson_lite.specs.declared.document.Pair.{Pair}
+use Rattle.bson_lite.specs.declared.fault.EncodeFault.{EncodeFault}
+use Rattle.bson_lite.specs.declared.fault.EncodeFault.TheVariants.{TooDeep, ZeroByte, TooLong}
+use Rattle.bson_lite.specs.Fields.{value_of, id_key, with_id}
+use Rattle.bson_lite.specs.Spelling.{refusal, nesting, zero_in, spelling, spelled, depth, zero_within, deepest_pair, on_value, body_of, framed, element}
+use Rattle.driver_error.specs.declared.kind.ErrorKind.{ErrorKind}
+use Rattle.driver_error.specs.declared.kind.ErrorKind.TheVariants.{BsonSerialization}
+use Rattle.driver_actions.specs.Causes.{RefusesInsert, RefusesFirst}
+
+-- the pair of an id
+abbrev pub named : ObjectId → Pair Bson
+named id = record { key = id_key; value = bson.ObjectId id }
+
+depth_of_id : (id : ObjectId) → depth (bson.ObjectId id) ≡ 0
+depth_of_id id = search (rules, bson.the_lemmas)
+
+zero_of_id : (id : ObjectId) → zero_within (bson.ObjectId id) ≡ false
+zero_of_id id = search (rules, bson.the_lemmas)
+
+spelled_id : (id : ObjectId) → spelled (bson.ObjectId id) ≡ (7, id.bytes)
+spelled_id id = search (rules, bson.the_lemmas)
+
+max_zero : (n : ℕ) → max 0 n ≡ n
+max_zero n = omega arith
+
+nesting_named : (id : ObjectId) (document : List (Pair Bson)) → nesting (named id ∷ document) ≡ nesting document
+nesting_named id document =
+    let rest = deepest_pair (map (on_value depth) document) in
+    ap (λ n. suc (max n rest)) (depth_of_id id) ∙ ap suc (max_zero rest)
+
+zero_named : (id : ObjectId) (document : List (Pair Bson)) → zero_in (named id ∷ document) ≡ zero_in document
+zero_named id document = ap (λ b. (false || b) || zero_in document) (zero_of_id id)
+
+length_framed : (body : List ℕ) → length (framed body) ≡ length body + 5
+length_framed body = omega (arith, length-append body (0 ∷ []))
+
+length_named : (id : ObjectId) (document : List (Pair Bson)) → length id.bytes ≡ 12 → length (spelling (named id ∷ document)) ≡ length (spelling document) + 17
+length_named id document twelve =
+    let body : body_of (named id ∷ document) ≡ element id_key (7, id.bytes) ++ body_of document
+    = ap (λ value. element id_key value ++ body_of document) (spelled_id id) in
+    let parts = length-append (element id_key (7, id.bytes)) (body_of document) in
+    ap (λ b. length (framed b)) body ∙ length_framed (element id_key (7, id.bytes) ++ body_of document)
+    ∙ omega (arith, parts, twelve, length_framed (body_of document))
+
+-- the refusal by depth, zero bytes and length
+abbrev refused_by : ℕ → Bool → ℕ → Option EncodeFault
+refused_by deep zero long =
+    if nat_lt 100 deep then Some TooDeep else (
+    if zero then Some ZeroByte else (
+    if nat_lt 2147483647 long then Some TooLong else None))
+
+refusal_named : (id : ObjectId) (document : List (Pair Bson)) → length id.bytes ≡ 12
+    → refusal (named id ∷ document) ≡ refused_by (nesting document) (zero_in document) (length (spelling document) + 17)
+refusal_named id document twelve =
+    ap (λ n. refused_by n (zero_in (named id ∷ document)) (length (spelling (named id ∷ document)))) (nesting_named id document)
+    ∙ ap (λ b. refused_by (nesting document) b (length (spelling (named id ∷ document)))) (zero_named id document)
+    ∙ ap (λ n. refused_by (nesting document) (zero_in document) n) (length_named id document twelve)
+
+-- a document that has an id
+pub refuses_own : (document : List (Pair Bson)) (found : Option Bson) → value_of id_key document ≡ found → is_some found ≡ true
+    → RefusesInsert document (refusal document)
+refuses_own document found at there = λ id twelve.
+    ap refusal (cond-true (is_some (value_of id_key document)) document (named id ∷ document) (ap is_some at ∙ there))
+
+with_none : (id : ObjectId) (document : List (Pair Bson)) → is_some (value_of id_key document) ≡ false → with_id id document ≡ named id ∷ document
+with_none id document none = cond-false (is_some (value_of id_key document)) document (named id ∷ document) none
+
+lt_longer : (long : ℕ) → nat_lt 2147483647 long ≡ true → nat_lt 2147483647 (long + 17) ≡ true
+lt_longer long is = grind (arith, nat_tests)
+
+lt_above : (long : ℕ) → 2147483647 < long + 17 → nat_lt 2147483647 (long + 17) ≡ true
+lt_above long more = grind (arith, nat_tests)
+
+lt_within : (long : ℕ) → long + 17 ≤ 2147483647 → nat_lt 2147483647 (long + 17) ≡ false
+lt_within long fits = grind (arith, nat_tests)
+
+-- the refusal by length
+abbrev by_length : Bool → Option EncodeFault
+by_length long = if long then Some TooLong else None
+
+longer_length : (long : ℕ) (fault : EncodeFault) (b : Bool) → nat_lt 2147483647 long ≡ b → by_length b ≡ Some fault → by_length (nat_lt 2147483647 (long + 17)) ≡ Some fault
+longer_length long fault true at is = ap by_length (lt_longer long at) ∙ is
+longer_length long fault false at is = absurd (let e : ◌≡◌ {A = Option EncodeFault} None (Some fault) = is in cc)
+
+-- the refusal by what was tested
+abbrev by_tests : Bool → Bool → Bool → Option EncodeFault
+by_tests deep zero long = if deep then Some TooDeep else (if zero then Some ZeroByte else by_length long)
+
+longer_tests : (deep zero : Bool) (long : ℕ) (fault : EncodeFault) → by_tests deep zero (nat_lt 2147483647 long) ≡ Some fault
+    → by_tests deep zero (nat_lt 2147483647 (long + 17)) ≡ Some fault
+longer_tests true zero long fault is = is
+longer_tests false true long fault is = is
+longer_tests false false long fault is = longer_length long fault (nat_lt 2147483647 long) refl is
+
+none_tests : (deep zero : Bool) (long : ℕ) (b : Bool) → by_tests deep zero (nat_lt 2147483647 long) ≡ None → nat_lt 2147483647 (long + 17) ≡ b
+    → by_tests deep zero (nat_lt 2147483647 (long + 17)) ≡ by_length b
+none_tests true zero long b is at = absurd (let e : ◌≡◌ {A = Option EncodeFault} (Some TooDeep) None = is in cc)
+none_tests false true long b is at = absurd (let e : ◌≡◌ {A = Option EncodeFault} (Some ZeroByte) None = is in cc)
+none_tests false false long b is at = ap by_length at
+
+-- a document without an id that is refused without one
+pub refuses_named : (document : List (Pair Bson)) (fault : EncodeFault) → is_some (value_of id_key document) ≡ false → refusal document ≡ Some fault
+    → RefusesInsert document (Some fault)
+refuses_named document fault none is = λ id twelve.
+    ap refusal (with_none id document none) ∙ refusal_named id document twelve
+    ∙ longer_tests (nat_lt 100 (nesting document)) (zero_in document) (length (spelling document)) fault is
+
+named_none : (document : List (Pair Bson)) (b : Bool) → is_some (value_of id_key document) ≡ false → refusal document ≡ None
+    → nat_lt 2147483647 (length (spelling document) + 17) ≡ b → RefusesInsert document (by_length b)
+named_none document b none is at = λ id twelve.
+    ap refusal (with_none id document none) ∙ refusal_named id document twelve
+    ∙ none_tests (nat_lt 100 (nesting document)) (zero_in document) (length (spelling document)) b is at
+
+-- one that is too long with an id
+pub refuses_long : (document : List (Pair Bson)) → is_some (value_of id_key document) ≡ false → refusal document ≡ None
+    → 2147483630 < min (length (spelling document)) (2 ^ 64 - 1) → RefusesInsert document (Some TooLong)
+refuses_long document none is more = named_none document true none is (lt_above (length (spelling document)) (omega arith))
+
+-- and one that is not
+pub refuses_none : (document : List (Pair Bson)) → is_some (value_of id_key document) ≡ false → refusal document ≡ None
+    → min (length (spelling document)) (2 ^ 64 - 1) ≤ 2147483630 → RefusesInsert document None
+refuses_none document none is fits = named_none document false none is (lt_within (length (spelling document)) (omega arith))
+
+-- an id of zeros
+some_id : ObjectId
+some_id = record { bytes = 0 ∷ 0 ∷ 0 ∷ 0 ∷ 0 ∷ 0 ∷ 0 ∷ 0 ∷ 0 ∷ 0 ∷ 0 ∷ 0 ∷ [] }
+
+-- a document has one refusal
+one_refusal : (document : List (Pair Bson)) (first second : Option EncodeFault) → RefusesInsert document first → RefusesInsert document second → first ≡ second
+unfolding some_id
+one_refusal document first second one other = sym (one some_id refl) ∙ other some_id refl
+
+one_fault : (document : List (Pair Bson)) (first second : EncodeFault) → RefusesInsert document (Some first) → RefusesInsert document (Some second) → first ≡ second
+one_fault document first second one other = let is = one_refusal document (Some first) (Some second) one other in cc
+
+-- the fault that was answered is the document's
+pub refuses_first : (document : List (Pair Bson)) (fault : EncodeFault) (why : ErrorKind) → RefusesInsert document (Some fault) → why ≡ BsonSerialization fault
+    → RefusesFirst document (Some why)
+refuses_first document fault why refuses is =
+    record { tells = λ other refused. inl (is ∙ ap (λ f. BsonSerialization f) (one_fault document fault other refuses refused)) }
+
+-- no document without a spelling comes here
+pub refuses_nothing : (document : List (Pair Bson)) (ended : Option ErrorKind) → RefusesInsert document None → RefusesFirst document ended
+refuses_nothing document ended none = record {
+  tells = λ fault refused. absurd (let is : ◌≡◌ {A = Option EncodeFault} None (Some fault) = one_refusal document None (Some fault) none refused in cc);
+}

@@ -1,0 +1,83 @@
+-- The writes of a list of calls by their places, and what the log says of a call.
+use Rattle.std.specs.Prelude.{◌≡◌, ℕ, Bool, ◌==◌, ◌&&◌, List, [], ◌∷◌, Option, None, Some, ◌⊎◌, slice_get, if◌then◌else◌, IsSome}
+use Rattle.std.specs.Option.{option_and_then, option_map}
+use Rattle.bson_lite.specs.declared.bson.Bson.{Bson}
+use Rattle.bson_lite.specs.declared.bson.ObjectId.{ObjectId}
+use Rattle.bson_lite.specs.declared.document.Pair.{Pair}
+use Rattle.bson_lite.specs.declared.namespace.Namespace.{Namespace}
+use Rattle.bson_lite.specs.Fields.{value_of, id_key, with_id}
+use Rattle.driver_link.specs.declared.machine.Entry.{Entry}
+use Rattle.driver_link.specs.declared.machine.Place.{Place}
+use Rattle.driver_link.specs.declared.machine.WriteKind.TheVariants as kind
+use Rattle.driver_link.specs.declared.machine.Written.{Written}
+use Rattle.driver_actions.specs.declared.call.Answer.{Answer}
+use Rattle.driver_actions.specs.declared.call.Answer.TheVariants as answer
+use Rattle.driver_actions.specs.declared.call.Call.{Call}
+use Rattle.driver_actions.specs.declared.call.Call.TheVariants.{Single}
+use Rattle.driver_actions.specs.declared.call.SingleAnswer.TheVariants.{Inserted}
+use Rattle.driver_actions.specs.declared.call.SingleWrite.{SingleWrite}
+use Rattle.driver_actions.specs.declared.call.SingleWrite.TheVariants.{InsertOne}
+
+-- the insert of a document
+abbrev pub inserted : Namespace → List (Pair Bson) → Written
+inserted namespace document = record { kind = kind.Insert; namespace = namespace; document = document }
+
+-- a single write as it was given
+abbrev pub written : SingleWrite → Written
+written (InsertOne namespace document) = inserted namespace document
+
+-- the write of a call at an index
+abbrev pub write_in : Call → ℕ → Option Written
+write_in (Single write) index = if index == 0 then Some (written write) else None
+
+-- the write that the caller gave at a place
+unfoldable pub write_at : List Call → Place → Option Written
+write_at calls place = option_and_then (λ call. write_in call place.index) (slice_get calls place.call)
+
+-- a write that was sent is the one given; where an insert's document has no id, one object id was put first
+pub record IsOwn (given sent : Written) : Type 0 where
+  pub kind : sent.kind ≡ given.kind
+  pub namespace : sent.namespace ≡ given.namespace
+  pub id : ObjectId
+  pub document : sent.document ≡ with_id id given.document
+
+abbrev pub OwnAt : Option Written → Written → Type 0
+OwnAt None sent = ⊥
+OwnAt (Some given) sent = IsOwn given sent
+
+-- each entry is the caller's own write
+abbrev pub Mine : List Call → List Entry → Type 0
+Mine calls [] = Unit {0}
+Mine calls (entry ∷ log) = OwnAt (write_at calls entry.place) entry.written × Mine calls log
+
+-- an entry has this place
+abbrev pub Stands : Place → List Entry → Type 0
+Stands place [] = ⊥
+Stands place (entry ∷ log) = (entry.place ≡ place) ⊎ Stands place log
+
+-- each write of a call stands in the log
+abbrev pub Done : List Call → ℕ → List Entry → Type 0
+Done calls call log =
+    (index : ℕ) → IsSome (write_at calls (record { call = call; index = index })) → Stands (record { call = call; index = index }) log
+
+-- two places are the same
+abbrev pub same_place : Place → Place → Bool
+same_place a b = (a.call == b.call) && (a.index == b.index)
+
+-- the entry at a place
+unfoldable pub entry_at : Place → List Entry → Option Entry
+entry_at place [] = None
+entry_at place (entry ∷ log) = if same_place entry.place place then Some entry else entry_at place log
+
+-- the id of the document in an entry
+abbrev pub entry_id : Entry → Option Bson
+entry_id entry = value_of id_key entry.written.document
+
+-- the answer of a call that the log spells
+abbrev pub result_of : Call → ℕ → List Entry → Option Answer
+result_of (Single (InsertOne namespace document)) call log =
+    option_map (λ id. answer.Single (Inserted (record { inserted_id = id }))) (option_and_then entry_id (entry_at (record { call = call; index = 0 }) log))
+
+-- the answer of the call at a number that the log spells
+unfoldable pub call_result : List Call → ℕ → List Entry → Option Answer
+call_result calls call log = option_and_then (λ made. result_of made call log) (slice_get calls call)

@@ -1,0 +1,152 @@
+-- One turn of a write: a session is lent, at most one command goes out under its next number, and the
+-- session comes back.
+use Rattle.std.specs.Prelude.{◌≡◌, ℕ, ◌<ℤ◌, ◌≤ℤ◌, Bool, true, false, List, length, Option, None, Some, ◌⊎◌, Result, Ok, Err, is_ok}
+use Rattle.bson_lite.specs.declared.bson.Bson.{Bson}
+use Rattle.bson_lite.specs.declared.bson.ObjectId.{ObjectId}
+use Rattle.bson_lite.specs.declared.document.Pair.{Pair}
+use Rattle.bson_lite.specs.declared.namespace.Namespace.{Namespace}
+use Rattle.bson_lite.specs.Fields.{value_of, id_key, with_id}
+use Rattle.bson_lite.specs.Spelling.{Spells}
+use Rattle.driver_error.specs.declared.error.Error.{Error}
+use Rattle.driver_error.specs.declared.kind.ErrorKind.{ErrorKind}
+use Rattle.driver_error.specs.declared.kind.ErrorKind.TheVariants as kind
+use Rattle.driver_error.specs.Error.{IsAlone, kind_of}
+use Rattle.driver_error.specs.LabelTexts.{no_labels, label_set}
+use Rattle.driver_link.specs.declared.fault.LinkError.{LinkError}
+use Rattle.driver_link.specs.declared.fault.LinkError.TheVariants.{Fault, Memory}
+use Rattle.driver_link.specs.declared.fault.LinkFault.{LinkFault}
+use Rattle.driver_link.specs.declared.fault.LinkFault.TheVariants.{Io}
+use Rattle.driver_link.specs.declared.machine.Place.{Place}
+use Rattle.driver_link.specs.declared.machine.PlacedWrite.{PlacedWrite}
+use Rattle.driver_link.specs.declared.machine.Send.{Send}
+use Rattle.driver_link.specs.declared.machine.WriteKind.TheVariants as write_kind
+use Rattle.driver_link.specs.declared.machine.Written.{Written}
+use Rattle.driver_link.specs.Told.{Told, told_after}
+use Rattle.driver_actions.specs.declared.call.Answer.{Answer}
+use Rattle.driver_actions.specs.declared.call.Answer.TheVariants as answer
+use Rattle.driver_actions.specs.declared.call.Call.{Call}
+use Rattle.driver_actions.specs.declared.call.Call.TheVariants.{Single}
+use Rattle.driver_actions.specs.declared.call.SingleAnswer.{SingleAnswer}
+use Rattle.driver_actions.specs.declared.call.SingleAnswer.TheVariants.{Inserted}
+use Rattle.driver_actions.specs.Calls.{IsOwn, written}
+use Rattle.driver_actions.specs.Inserts.{insert_one_send}
+use Rattle.driver_actions.specs.Pool.{ToldStore, Lends, TakesBack, StaysTold}
+use Rattle.driver_actions.specs.Session.{Session}
+
+-- the kind of a link's fault
+abbrev pub fault_kind : LinkFault → ErrorKind
+fault_kind (Io io) = kind.Io io
+
+-- the error's kind is that of a link's failure, or want of memory
+abbrev pub TellsFailure : LinkError → ErrorKind → Type 0
+TellsFailure (Fault fault labels) why = (why ≡ fault_kind fault) ⊎ (why ≡ kind.Memory)
+TellsFailure Memory why = why ≡ kind.Memory
+
+-- the error of a link's failure, with its labels and nothing else
+abbrev pub IsFailure : LinkError → Error → Type 0
+IsFailure (Fault fault labels) error = IsAlone (fault_kind fault) (label_set labels) error ⊎ IsAlone kind.Memory no_labels error
+IsFailure Memory error = IsAlone kind.Memory no_labels error
+
+-- a fault of the network makes a session dirty
+abbrev pub dirty_after : Bool → LinkError → Bool
+dirty_after dirty (Fault fault labels) = true
+dirty_after dirty Memory = dirty
+
+-- the insert of a placed document under a session and its number
+abbrev pub send_under : Session → PlacedWrite → Send
+send_under session write = insert_one_send session.id session.number write.written.namespace write.written.document write.place
+
+-- a send went out
+abbrev pub HasSent : Option Told → Option Told → Send → Type 0
+HasSent None now send = now ≡ None
+HasSent (Some told) now send = now ≡ Some (told_after told send)
+
+-- a send went out or did not
+abbrev pub MaySend : Option Told → Option Told → Send → Type 0
+MaySend None now send = now ≡ None
+MaySend (Some told) now send = (now ≡ Some told) ⊎ (now ≡ Some (told_after told send))
+
+-- nothing went out, or at most one send under a number that was not used before
+abbrev pub MayAttempt : Option Told → Option Told → Session → Session → PlacedWrite → Type 0
+MayAttempt old now session back write =
+    ((now ≡ old) × (session.number ≤ℤ back.number)) ⊎ ((session.number <ℤ back.number) × MaySend old now (send_under back write))
+
+-- one attempt of a write under a lent session: it is done only after its send
+abbrev pub Attempts : Option Told → Option Told → Session → Session → PlacedWrite → Bool → Type 0
+Attempts old now session back write true = (session.number <ℤ back.number) × HasSent old now (send_under back write)
+Attempts old now session back write false = MayAttempt old now session back write
+
+-- a session was lent for an attempt and came back
+pub record Turn (store store_now : Option ToldStore) (link link_now : Option Told) (write : PlacedWrite) (done : Bool) : Type 0 where
+  pub lent : Option ToldStore
+  pub caller : ℕ
+  pub out_at : ℕ
+  pub back_at : ℕ
+  pub session : Session
+  pub back : Session
+  pub lends : Lends store lent caller out_at session
+  pub takes : TakesBack lent store_now caller back back_at
+  pub id : back.id ≡ session.id
+  pub attempt : Attempts link link_now session back write done
+
+-- nothing that is told changed
+abbrev pub AllStays : Option ToldStore → Option ToldStore → Option Told → Option Told → Type 0
+AllStays store store_now link link_now = StaysTold store store_now × (link_now ≡ link)
+
+-- one turn of a write; an error may come before a session is lent
+abbrev pub Turns : {A : Type 0} → Option ToldStore → Option ToldStore → Option Told → Option Told → PlacedWrite → Result A Error → Type 0
+Turns store store_now link link_now write (Ok given) = Turn store store_now link link_now write true
+Turns store store_now link link_now write (Err error) =
+    AllStays store store_now link link_now ⊎ Turn store store_now link link_now write false
+
+-- a document has an id, at its front where it had none
+pub record HasOwnId (given now : List (Pair Bson)) (value : Bson) : Type 0 where
+  pub id : ObjectId
+  pub twelve : length id.bytes ≡ 12
+  pub document : now ≡ with_id id given
+  pub found : value_of id_key now ≡ Some value
+
+-- an error tells of want of memory
+abbrev pub PutsId : List (Pair Bson) → List (Pair Bson) → Result Bson Error → Type 0
+PutsId given now (Ok value) = HasOwnId given now value
+PutsId given now (Err error) = kind_of error ≡ kind.Memory
+
+-- a write as it is sent for a caller's document, in bytes too, with the document's id
+pub record Owns (namespace : Namespace) (given : List (Pair Bson)) (place : Place) (write : PlacedWrite) (bytes : List ℕ) (id : Bson) : Type 0 where
+  pub place_is : write.place ≡ place
+  pub kind_is : write.written.kind ≡ write_kind.Insert
+  pub namespace_is : write.written.namespace ≡ namespace
+  pub document : HasOwnId given write.written.document id
+  pub spelled : Spells write.written.document bytes
+
+-- an answer tells the id of the document that was sent
+pub record TellsId (document : List (Pair Bson)) (given : SingleAnswer) : Type 0 where
+  pub id : Bson
+  pub found : value_of id_key document ≡ Some id
+  pub answer_is : given ≡ Inserted (record { inserted_id = id })
+
+-- an error tells none
+abbrev pub TellsAnswer : List (Pair Bson) → Result SingleAnswer Error → Type 0
+TellsAnswer document (Ok given) = TellsId document given
+TellsAnswer document (Err error) = Unit {0}
+
+-- a call's own write had its turn
+pub record Made (store store_now : Option ToldStore) (link link_now : Option Told) (given : Written) (place : Place) (result : Result SingleAnswer Error) : Type 0 where
+  pub write : PlacedWrite
+  pub placed : write.place ≡ place
+  pub own : IsOwn given write.written
+  pub turn : Turn store store_now link link_now write (is_ok result)
+  pub tells : TellsAnswer write.written.document result
+
+-- one call of a single write: an error may come before a session is lent
+abbrev pub Makes : Option ToldStore → Option ToldStore → Option Told → Option Told → Written → Place → Result SingleAnswer Error → Type 0
+Makes store store_now link link_now given place (Ok answer) = Made store store_now link link_now given place (Ok answer)
+Makes store store_now link link_now given place (Err error) =
+    AllStays store store_now link link_now ⊎ Made store store_now link link_now given place (Err error)
+
+-- one call of a list, by its number
+abbrev pub MakesCall : Option ToldStore → Option ToldStore → Option Told → Option Told → Call → ℕ → Result Answer Error → Type 0
+MakesCall store store_now link link_now (Single write) call (Ok (answer.Single given)) =
+    Made store store_now link link_now (written write) (record { call = call; index = 0 }) (Ok given)
+MakesCall store store_now link link_now (Single write) call (Err error) =
+    Makes store store_now link link_now (written write) (record { call = call; index = 0 }) (Err error)

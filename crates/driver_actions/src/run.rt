@@ -1,0 +1,88 @@
+//! A list of calls, made one after another.
+ghost use Rattle.std.specs.Prelude.{◌≡◌, IfOk, OnOk, OnErr};
+ghost use Rattle.driver_actions.specs.Causes.{HasCause, HaveCauses, end_of, moment};
+ghost use Rattle.driver_actions.specs.Client.{options_of, store_of};
+ghost use Rattle.driver_actions.specs.MainTheorem.{Begins, HoldsTold, IsReplayed, KeepsMaking};
+ghost use Rattle.driver_actions.specs.Pool.{Draws};
+ghost use Rattle.driver_actions.specs.Turns.{MakesCall};
+ghost use Rattle.driver_link.specs.Told.{IsFresh};
+
+use crate::call::{Answer, Call, Outcome};
+use crate::client::Client;
+use crate::outside::Outside;
+use crate::single::single;
+use crate::store::SessionStore;
+use bson_lite::List;
+use driver_link::{Clock, Link, Place};
+use rand_core::Rng;
+use std::alloc::{AllocError, Global};
+
+/// Makes the calls of a list in order. Call k is made with `outside.call` set to k, and write i of call
+/// k has the place (k, i). It answers want of memory alone, before the first call.
+pub fn run_calls<S: SessionStore, L: Link, K: Clock, R: Rng>(
+    alloc: Global,
+    client: &mut Client<S>,
+    outside: &mut Outside<L, K, R>,
+    calls: &[Call],
+) -> Result<List<Outcome>, AllocError>
+    ensures main { IfOk result (λ outcomes. Begins (S.told (store_of client.old)) (L.told outside.old.link) (S.told (store_of client.new)) → HoldsTold calls.now outcomes (L.told outside.new.link)) }
+    ensures causes { IfOk result (λ outcomes. HaveCauses calls.now outcomes (moment (L.faults outside.old.link) (L.answers outside.old.link) (S.told (store_of client.old))) (moment (L.faults outside.new.link) (L.answers outside.new.link) (S.told (store_of client.new)))) }
+    ensures replayed { OnOk result (IsFresh (L.told outside.old.link) → IsReplayed (L.told outside.new.link)) }
+    ensures making { KeepsMaking (L.told outside.old.link) (L.told outside.new.link) }
+    ensures drawn { Draws (S.told (store_of client.old)) (S.told (store_of client.new)) }
+    ensures options { options_of client.new ≡ options_of client.old }
+    ensures err { OnErr result (L.told outside.new.link ≡ L.told outside.old.link) }
+{
+    let mut outcomes = Vec::with_capacity(alloc, calls.len())?;
+    for (number, call) in calls.iter().enumerate() {
+        outside.call = number as u64;
+        let outcome = make_call(alloc, &mut client.store, outside, call);
+        outcomes.push_reserved(outcome);
+    }
+    Ok(List::from_vec(outcomes))
+}
+
+/// Makes the current call, and reads the clock before and after it.
+fn make_call<S: SessionStore, L: Link, K: Clock, R: Rng>(
+    alloc: Global,
+    store: &mut S,
+    outside: &mut Outside<L, K, R>,
+    call: &Call,
+) -> Outcome
+    ensures makes { MakesCall (S.told store.old) (S.told store.new) (L.told outside.old.link) (L.told outside.new.link) call.now outside.old.call result.result }
+    ensures cause { HasCause (moment (L.faults outside.old.link) (L.answers outside.old.link) (S.told store.old)) (moment (L.faults outside.new.link) (L.answers outside.new.link) (S.told store.new)) call.now (end_of result.result) }
+{
+    let started_ms = outside.clock.now_ms();
+    let result = answer_call(alloc, store, outside, call);
+    let ended_ms = outside.clock.now_ms();
+    Outcome {
+        result,
+        started_ms,
+        ended_ms,
+    }
+}
+
+/// Makes the current call.
+fn answer_call<S: SessionStore, L: Link, K: Clock, R: Rng>(
+    alloc: Global,
+    store: &mut S,
+    outside: &mut Outside<L, K, R>,
+    call: &Call,
+) -> driver_error::Result<Answer>
+    ensures makes { MakesCall (S.told store.old) (S.told store.new) (L.told outside.old.link) (L.told outside.new.link) call.now outside.old.call result }
+    ensures cause { HasCause (moment (L.faults outside.old.link) (L.answers outside.old.link) (S.told store.old)) (moment (L.faults outside.new.link) (L.answers outside.new.link) (S.told store.new)) call.now (end_of result) }
+{
+    match call {
+        Call::Single { write } => {
+            let place = Place {
+                call: outside.call,
+                index: 0,
+            };
+            let Outside { link, clock, .. } = outside;
+            match single(alloc, store, link, clock, write, place) {
+                Ok(answer) => Ok(Answer::Single(answer)),
+                Err(error) => Err(error),
+            }
+        }
+    }
+}

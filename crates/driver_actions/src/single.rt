@@ -1,0 +1,110 @@
+//! One write of one document, from its caller to its answer.
+ghost use Rattle.std.specs.Prelude.{IfErr, IfOk};
+ghost use Rattle.driver_error.specs.Error.{kind_of};
+ghost use Rattle.driver_actions.specs.Causes.{Caused, IsSpent, WriteRefused, EndsRefused, end_of, InsertRefused, RefusesFirst, TellsOwnRefusal};
+ghost use Rattle.driver_actions.specs.Calls.{inserted, written};
+ghost use Rattle.driver_actions.specs.Pool.{StaysTold};
+ghost use Rattle.driver_actions.specs.Turns.{Makes, PutsId, Owns};
+
+use crate::attempt::insert_placed;
+use crate::call::{SingleAnswer, SingleWrite};
+use crate::encoded::encoded;
+use crate::refusal::insert_refusal;
+use crate::store::SessionStore;
+use bson_lite::{Bson, Bytes, Document, ID_KEY, Namespace, TryClone, get_or_prepend_id_field};
+use driver_error::{Error, ErrorKind, InsertOneResult, Result};
+use driver_link::{Clock, Link, Place, PlacedWrite, WriteKind, Written};
+use std::alloc::Global;
+
+/// Makes a single write, whose one place is given.
+pub(crate) fn single<S: SessionStore, L: Link, K: Clock>(
+    alloc: Global,
+    store: &mut S,
+    link: &mut L,
+    clock: &mut K,
+    write: &SingleWrite,
+    place: Place,
+) -> Result<SingleAnswer>
+    ensures makes { Makes (S.told store.old) (S.told store.new) (L.told link.old) (L.told link.new) (written write.now) place result }
+    ensures cause { Caused (L.faults link.old) (L.faults link.new) (L.answers link.old) (L.answers link.new) (IsSpent (S.told store.old)) (WriteRefused write.now) (end_of result) }
+    ensures refused { EndsRefused write.now (end_of result) }
+{
+    match write {
+        SingleWrite::InsertOne {
+            namespace,
+            document,
+        } => insert_one(alloc, store, link, clock, namespace, document, place),
+    }
+}
+
+/// Inserts one document, whose place is given.
+#[tactic(auto, using(crate::proofs::Refusals::refuses_nothing))]
+fn insert_one<S: SessionStore, L: Link, K: Clock>(
+    alloc: Global,
+    store: &mut S,
+    link: &mut L,
+    clock: &mut K,
+    namespace: &Namespace,
+    document: &Document,
+    place: Place,
+) -> Result<SingleAnswer>
+    ensures makes { Makes (S.told store.old) (S.told store.new) (L.told link.old) (L.told link.new) (inserted namespace.now document.now) place result }
+    ensures cause { Caused (L.faults link.old) (L.faults link.new) (L.answers link.old) (L.answers link.new) (IsSpent (S.told store.old)) (InsertRefused namespace.now document.now) (end_of result) }
+    ensures refused { RefusesFirst document.now (end_of result) }
+{
+    if let Some(fault) = insert_refusal(document) {
+        return Err(Error::from_kind(ErrorKind::BsonSerialization(fault)));
+    }
+    let own = own_write(alloc, store, namespace, document, place)?;
+    let OwnWrite { write, bytes, id } = own;
+    insert_placed(alloc, store, link, clock, &write, bytes)?;
+    Ok(SingleAnswer::Inserted(InsertOneResult { inserted_id: id }))
+}
+
+/// A write as it is sent, the spelling of its document, and the document's id.
+#[derive(Drop)]
+struct OwnWrite {
+    write: PlacedWrite,
+    bytes: Bytes,
+    id: Bson,
+}
+
+/// The write of a caller's document in its place, with an id.
+fn own_write<S: SessionStore>(
+    alloc: Global,
+    store: &mut S,
+    namespace: &Namespace,
+    document: &Document,
+    place: Place,
+) -> Result<OwnWrite>
+    ensures refusal { IfErr result (λ error. TellsOwnRefusal document.now (kind_of error)) }
+    ensures owns { IfOk result (λ own. Owns namespace.now document.now place own.write own.bytes own.id) }
+    ensures stays { StaysTold (S.told store.old) (S.told store.new) }
+{
+    let mut document = document.try_clone(alloc)?;
+    let id = put_id(alloc, store, &mut document)?;
+    let bytes = encoded(alloc, &document)?;
+    let namespace = namespace.try_clone(alloc)?;
+    let written = Written {
+        kind: WriteKind::Insert,
+        namespace,
+        document,
+    };
+    Ok(OwnWrite {
+        write: PlacedWrite { place, written },
+        bytes,
+        id,
+    })
+}
+
+/// Puts a new id first in a document that has none, and answers a copy of the document's id.
+fn put_id<S: SessionStore>(alloc: Global, store: &mut S, document: &mut Document) -> Result<Bson>
+    ensures id { PutsId document.old document.new result }
+    ensures stays { StaysTold (S.told store.old) (S.told store.new) }
+{
+    if let Some(id) = document.get(ID_KEY) {
+        return Ok(id.try_clone(alloc)?);
+    }
+    let id = store.object_id();
+    Ok(get_or_prepend_id_field(alloc, document, id)?)
+}
