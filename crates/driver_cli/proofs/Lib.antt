@@ -1,0 +1,9 @@
+pub mod ChangeLaws
+pub mod ExchangeLaws
+pub mod InsertReads
+pub mod ReadLaws
+mod Bytes
+mod IdSets
+mod Made
+mod Pieces
+pub mod ReplyLaws

@@ -1,0 +1,148 @@
+-- How a run of the program ends: for each status what was read, what was written and what was made.
+use Rattle.std.specs.Prelude.{◌≡◌, ℕ, List, [], ◌∷◌, ◌++◌, ◌⊎◌, codes, Option, None, Some, Ok, Err, bytes_eq, if◌then◌else◌}
+use Rattle.driver_link.specs.CountingIds.{IdsDrawn, none_drawn, session_at}
+use Rattle.driver_link.specs.Exchange.{replayed, empty_server}
+use Rattle.driver_link.specs.Faults.{Rose}
+use Rattle.driver_link.specs.Streams.{Appends}
+use Rattle.driver_actions.specs.Causes.{Moment, moment, HaveCauses}
+use Rattle.driver_actions.specs.Client.{options_of, store_of}
+use Rattle.driver_actions.specs.MainTheorem.{Holds}
+use Rattle.driver_actions.specs.Pool.{Stock, empty_pool}
+use Rattle.driver_actions.specs.declared.call.Outcome.{Outcome}
+use Rattle.driver_actions.specs.declared.client.Client.{Client}
+use Rattle.driver_cli.specs.declared.program.Command.{Command}
+use Rattle.driver_cli.specs.declared.program.Command.TheVariants as command
+use Rattle.driver_cli.specs.declared.running.Run.{Run}
+use Rattle.driver_cli.specs.declared.script.Script.{Script}
+use Rattle.driver_cli.specs.declared.status.Status.{Status}
+use Rattle.driver_cli.specs.declared.status.Status.TheVariants as status
+use Rattle.driver_cli.specs.declared.streams.TheConstants.{LIMIT}
+use Rattle.driver_cli.specs.ModelServerState.{ModelState}
+use Rattle.driver_cli.specs.Lines.{newline}
+use Rattle.driver_cli.specs.Report.{report}
+use Rattle.driver_cli.specs.Script.{script}
+use Rattle.driver_cli.specs.Streamed.{ReadToEnd, ReadMore, ReadFailed, TookFront}
+
+-- what a new client and a new server tell before the first call
+abbrev pub begun_moment : Moment
+begun_moment = moment 0 (Some []) (Some (record { pool = empty_pool; to_come = λ k. session_at none_drawn k }))
+
+-- what a client and a server tell
+abbrev pub moment_of : Client (Stock IdsDrawn) → ModelState → Moment
+moment_of client model =
+    moment model.faults (Some model.answers) (Some (record { pool = (store_of client).pool; to_come = λ k. session_at (store_of client).ids k }))
+
+-- a run of a script: its client and server are made by the script, the server is the fold of the
+-- exchanges over its trace, the main theorem holds of the outcomes and the server, and every error has
+-- its cause
+pub record IsRunOf (asked : Script) (run : Run) : Type 0 where
+  pub outcomes : List Outcome
+  pub client : Client (Stock IdsDrawn)
+  pub model : ModelState
+  pub script_kept : run.script ≡ Some asked
+  pub outcomes_kept : run.outcomes ≡ Some outcomes
+  pub client_kept : run.client ≡ Some client
+  pub server_kept : run.server ≡ Some model
+  pub options : options_of client ≡ asked.options
+  pub setup : model.setup ≡ asked.setup
+  pub schedule : model.schedule ≡ asked.schedule
+  pub replayed : model.server ≡ replayed asked.schedule empty_server model.server.trace
+  pub holds : Holds asked.calls outcomes model.server
+  pub causes : HaveCauses asked.calls outcomes begun_moment (moment_of client model)
+
+-- the input and the output before and now: what is left to read, what was written, how many calls failed
+pub record Ends : Type 0 where
+  pub left : Option (List ℕ)
+  pub left_now : Option (List ℕ)
+  pub reads_failed : ℕ
+  pub reads_failed_now : ℕ
+  pub contents : Option (List ℕ)
+  pub contents_now : Option (List ℕ)
+  pub writes_failed : ℕ
+  pub writes_failed_now : ℕ
+
+-- a line was written, or a front of it and the count of failed writes rose
+abbrev pub SaysTo : Option (List ℕ) → Option (List ℕ) → ℕ → ℕ → List ℕ → Type 0
+SaysTo contents now failed failed_now line = Appends contents now line ⊎ (Rose failed failed_now × TookFront contents now line)
+
+-- the same of the input and the output of a run
+abbrev pub Said : Ends → List ℕ → Type 0
+Said ends line = SaysTo ends.contents ends.contents_now ends.writes_failed ends.writes_failed_now line
+
+-- the input was read to its end, it is a script, and the run is one of that script
+pub record HasRun (left left_now : Option (List ℕ)) (run : Run) : Type 0 where
+  pub bytes : List ℕ
+  pub asked : Script
+  pub read : ReadToEnd LIMIT left left_now bytes
+  pub is : script bytes ≡ Ok asked
+  pub made : IsRunOf asked run
+
+-- the input was read to its end, and it is no script: the path is that of what is wrong
+pub record Refuses (left left_now : Option (List ℕ)) (path : List ℕ) : Type 0 where
+  pub bytes : List ℕ
+  pub read : ReadToEnd LIMIT left left_now bytes
+  pub is : script bytes ≡ Err path
+
+-- the same for some path
+abbrev pub IsRefused : Option (List ℕ) → Option (List ℕ) → Type 0
+IsRefused left left_now = (path : List ℕ) × Refuses left left_now path
+
+-- the line that shows the forms of the words
+unfoldable pub usage_line : List ℕ
+usage_line = codes "usage: run | race N | generate SEED N\n"
+
+-- the line that names the path of what is wrong
+unfoldable pub refused_line : List ℕ → List ℕ
+refused_line path = codes "script refused at " ++ path ++ newline
+
+-- the line of an input that failed
+unfoldable pub failed_line : List ℕ
+failed_line = codes "read failed\n"
+
+-- the line of an input that is too long
+unfoldable pub large_line : List ℕ
+large_line = codes "script too large\n"
+
+-- what each status says; after want of memory nothing is said
+abbrev pub Ended : Status → Ends → Run → Run → Type 0
+Ended status.Done ends run now = HasRun ends.left ends.left_now now × Appends ends.contents ends.contents_now (report now)
+Ended status.Usage ends run now = Said ends usage_line × (ends.left_now ≡ ends.left) × (now ≡ run)
+Ended status.Refused ends run now = ((path : List ℕ) × Refuses ends.left ends.left_now path × Said ends (refused_line path)) × (now ≡ run)
+Ended status.ReadFailed ends run now =
+    ReadFailed LIMIT ends.left ends.left_now ends.reads_failed ends.reads_failed_now × Said ends failed_line × (now ≡ run)
+Ended status.WriteFailed ends run now =
+    HasRun ends.left ends.left_now now × Rose ends.writes_failed ends.writes_failed_now × TookFront ends.contents ends.contents_now (report now)
+Ended status.Memory ends run now = Unit {0}
+Ended status.TooLarge ends run now = ReadMore LIMIT ends.left ends.left_now × Said ends large_line × (now ≡ run)
+
+-- the number of a status
+abbrev pub code : Status → ℕ
+code status.Done = 0
+code status.Usage = 2
+code status.Refused = 3
+code status.ReadFailed = 4
+code status.WriteFailed = 5
+code status.Memory = 6
+code status.TooLarge = 7
+
+-- a number is that of a status and says what the status says
+abbrev pub EndsWith : ℕ → Ends → Run → Run → Type 0
+EndsWith number ends run now = (status : Status) × (number ≡ code status) × Ended status ends run now
+
+-- what the words ask for
+abbrev pub command_of : List (List ℕ) → Option Command
+command_of (word ∷ []) = if bytes_eq word (codes "run") then Some command.Run else None
+command_of words = None
+
+-- the line of a refused script, where there is memory for it
+abbrev pub Refusal : Option (List ℕ) → Option (List ℕ) → ℕ → ℕ → List ℕ → Status → Type 0
+Refusal contents now failed failed_now path status.Refused = SaysTo contents now failed failed_now (refused_line path)
+Refusal contents now failed failed_now path status.Memory = Unit {0}
+Refusal contents now failed failed_now path other = ⊥
+
+-- the report of a run, where there is memory for it
+abbrev pub Reported : Option (List ℕ) → Option (List ℕ) → ℕ → ℕ → Run → Status → Type 0
+Reported contents now failed failed_now run status.Done = Appends contents now (report run)
+Reported contents now failed failed_now run status.WriteFailed = Rose failed failed_now × TookFront contents now (report run)
+Reported contents now failed failed_now run status.Memory = Unit {0}
+Reported contents now failed failed_now run other = ⊥

@@ -1,0 +1,11 @@
+pub mod ModelServerChange
+pub mod ModelServerState
+pub mod Distinct
+pub mod Ended
+pub mod Json
+pub mod Lines
+pub mod Report
+pub mod Script
+pub mod Streamed
+pub mod Values
+pub mod Words

@@ -1,0 +1,98 @@
+-- What a script is: one JSON object, with its defaults.
+use Rattle.std.specs.Prelude.{◌≡◌, ℕ, ◌==◌, true, false, if◌then◌else◌, pos, List, [], ◌∷◌, length, codes, Option, None, Some, Result, Ok, Err, unwrap_or, bytes_eq}
+use Rattle.std.specs.Option.{option_and_then, option_map, ok_or}
+use Rattle.std.specs.Str.{is_utf8}
+use Rattle.driver_link.specs.declared.machine.Item.{Item}
+use Rattle.driver_link.specs.declared.machine.Schedule.{Schedule}
+use Rattle.driver_link.specs.declared.machine.Setup.{Setup}
+use Rattle.driver_link.specs.declared.options.ClientOptions.{ClientOptions}
+use Rattle.driver_actions.specs.declared.call.Call.{Call}
+use Rattle.driver_actions.specs.declared.call.Call.TheVariants.{Single}
+use Rattle.driver_actions.specs.declared.call.SingleWrite.TheVariants.{InsertOne}
+use Rattle.serde_json.specs.Data.{Data, object, no_members, member}
+use Rattle.serde_json.specs.Read.{read}
+use Rattle.driver_cli.specs.declared.keys.TheConstants.{CALLS, DOC, INSERT_ONE, NS, SCHEDULE}
+use Rattle.driver_cli.specs.declared.script.Script.{Script}
+use Rattle.driver_cli.specs.declared.script.ScriptFault.{ScriptFault}
+use Rattle.driver_cli.specs.declared.script.ScriptFault.TheVariants.{Wrong, Memory}
+use Rattle.driver_cli.specs.Json.{list_of, needed, optional, has_only}
+use Rattle.driver_cli.specs.Values.{namespace_of, document_of}
+
+-- the options of a script's client, which is the first
+abbrev pub usual_options : ClientOptions
+usual_options = record { client_number = 1 }
+
+-- the setup of a script's server
+abbrev pub usual_setup : Setup
+usual_setup = record {
+  description = record {
+    max_wire_version = Some (pos 25);
+    max_bson_object_size = pos 16777216;
+    max_message_size_bytes = pos 48000000;
+    max_write_batch_size = pos 100000;
+    supports_sessions = true;
+    supports_retryable_writes = true;
+    sharded = false;
+  };
+  transactions = true;
+  timeout_ms = Some 1800000;
+}
+
+-- the schedule that lets each exchange be served
+abbrev pub empty_schedule : Schedule
+empty_schedule = record { items = [] }
+
+-- an item of a schedule: there is none yet
+unfoldable pub item_of : Data → Option Item
+item_of d = None
+
+-- a schedule: the list of its items
+unfoldable pub schedule_of : Data → Option Schedule
+schedule_of d = option_map (λ items. record { items = items }) (list_of item_of d)
+
+-- an insert of one document, with its namespace
+unfoldable pub insert_one_of : Data → Option Call
+insert_one_of d =
+    if has_only (NS.now ∷ DOC.now ∷ []) d
+    then option_and_then (λ namespace. option_map (λ document. Single (InsertOne namespace document)) (needed document_of DOC.now d)) (needed namespace_of NS.now d)
+    else None
+
+-- a call: an object whose one key names it
+unfoldable pub call_of : Data → Option Call
+call_of (object (member name d no_members)) = if bytes_eq name INSERT_ONE.now then insert_one_of d else None
+call_of d = None
+
+-- one call exactly
+unfoldable pub one_call : List Call → Option (List Call)
+one_call calls = if length calls == 1 then Some calls else None
+
+-- a script with these calls
+abbrev pub script_with : List Call → Option Schedule → Script
+script_with calls schedule =
+    record { options = usual_options; setup = usual_setup; calls = calls; schedule = unwrap_or schedule empty_schedule }
+
+-- a script: an object with its calls, and maybe a schedule
+unfoldable pub script_of : Data → Option Script
+script_of d =
+    if has_only (CALLS.now ∷ SCHEDULE.now ∷ []) d
+    then option_and_then (λ calls. option_map (script_with calls) (optional schedule_of SCHEDULE.now d)) (option_and_then one_call (needed (list_of call_of) CALLS.now d))
+    else None
+
+-- the value of a text in JSON
+abbrev pub value_read : List ℕ → Option Data
+value_read bytes = if is_utf8 bytes then read bytes else None
+
+-- the script that bytes are, or the path of what is wrong
+unfoldable pub script : List ℕ → Result Script (List ℕ)
+script bytes = ok_or (option_and_then script_of (value_read bytes)) (codes "$")
+
+-- the answer is the one given; want of memory says nothing
+abbrev pub Reads : Result Script ScriptFault → Result Script (List ℕ) → Type 0
+Reads (Ok found) given = given ≡ Ok found
+Reads (Err (Wrong path)) given = given ≡ Err path
+Reads (Err Memory) given = Unit {0}
+
+-- the fault names the path, or memory ran out
+abbrev pub IsWrong : List ℕ → ScriptFault → Type 0
+IsWrong path (Wrong found) = found ≡ path
+IsWrong path Memory = Unit {0}

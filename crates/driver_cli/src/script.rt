@@ -1,0 +1,175 @@
+//! The script: one JSON object with the calls to be made and the schedule of the model server.
+ghost use Rattle.std.specs.Prelude.{◌≡◌, codes, option_and_then};
+ghost use Rattle.serde_json.specs.Data.{Data};
+ghost use Rattle.serde_json.specs.View.{view};
+ghost use Rattle.driver_cli.specs.Json.{Gives};
+ghost use Rattle.driver_cli.specs.Script.{insert_one_of, call_of, item_of, schedule_of, script_of, script, value_read, usual_options, usual_setup, IsWrong, Reads};
+
+use crate::json::{FromJson, Unread, is_object_of, read_needed, read_optional};
+use crate::keys::{CALLS, DOC, INSERT_ONE, NS, SCHEDULE};
+use bson_lite::{List, Text};
+use driver_actions::{Call, SingleWrite};
+use driver_link::{ClientOptions, Description, Item, Schedule, Setup};
+use serde_json::Value;
+use std::alloc::{AllocError, Global};
+
+/// What a script asks for.
+#[derive(Debug, Drop)]
+pub struct Script {
+    pub options: ClientOptions,
+    pub setup: Setup,
+    pub calls: List<Call>,
+    pub schedule: Schedule,
+}
+
+/// Why bytes are no script.
+#[derive(Debug, Drop)]
+pub enum ScriptFault {
+    /// The path of the first wrong item, from `$` on.
+    Wrong { path: Text },
+    Memory,
+}
+
+/// The script that the bytes are.
+#[tactic(auto, unfolding(crate::specs::Script::script))]
+pub fn read_script(alloc: Global, bytes: &[u8]) -> Result<Script, ScriptFault>
+    ensures { Reads result (script bytes.now) }
+{
+    match any_script(alloc, bytes) {
+        Ok(script) => Ok(script),
+        Err(Unread::Wrong) => Err(wrong(alloc)),
+        Err(Unread::Memory) => Err(ScriptFault::Memory),
+    }
+}
+
+/// The fault of a script that is wrong.
+fn wrong(alloc: Global) -> ScriptFault
+    ensures { IsWrong (codes "$") result }
+{
+    match Text::from_str(alloc, "$") {
+        Ok(path) => ScriptFault::Wrong { path },
+        Err(AllocError) => ScriptFault::Memory,
+    }
+}
+
+#[tactic(auto, using(crate::proofs::Bytes::value_read_text, crate::proofs::Bytes::value_read_none))]
+fn any_script(alloc: Global, bytes: &[u8]) -> Result<Script, Unread>
+    ensures { Gives result (option_and_then script_of (value_read bytes.now)) }
+{
+    let value = match Value::from_slice(alloc, bytes) {
+        Ok(value) => value,
+        Err(error) => {
+            if error.is_memory() {
+                return Err(Unread::Memory);
+            }
+            return Err(Unread::Wrong);
+        }
+    };
+    Script::read(alloc, &value)
+}
+
+impl FromJson for Script {
+    ghost spec = { script_of };
+
+    #[tactic(auto, unfolding(crate::specs::Script::script_of, crate::specs::Script::one_call))]
+    fn read(alloc: Global, value: &Value) -> Result<Script, Unread> {
+        if !is_object_of(value, &[CALLS, SCHEDULE]) {
+            return Err(Unread::Wrong);
+        }
+        let calls = read_needed::<List<Call>>(alloc, value, CALLS)?;
+        if calls.len() != 1 {
+            return Err(Unread::Wrong);
+        }
+        let schedule = read_optional(alloc, value, SCHEDULE)?;
+        Ok(Script {
+            options: options_of_scripts(),
+            setup: setup_of_scripts(),
+            calls,
+            schedule: schedule.unwrap_or(Schedule {
+                items: List::new(alloc),
+            }),
+        })
+    }
+}
+
+fn options_of_scripts() -> ClientOptions
+    ensures { result ≡ usual_options }
+{
+    ClientOptions { client_number: 1 }
+}
+
+fn setup_of_scripts() -> Setup
+    ensures { result ≡ usual_setup }
+{
+    Setup {
+        description: Description {
+            max_wire_version: Some(25),
+            max_bson_object_size: 16_777_216,
+            max_message_size_bytes: 48_000_000,
+            max_write_batch_size: 100_000,
+            supports_sessions: true,
+            supports_retryable_writes: true,
+            sharded: false,
+        },
+        transactions: true,
+        timeout_ms: Some(1_800_000),
+    }
+}
+
+impl FromJson for Schedule {
+    ghost spec = { schedule_of };
+
+    #[tactic(auto, unfolding(crate::specs::Script::schedule_of))]
+    fn read(alloc: Global, value: &Value) -> Result<Schedule, Unread> {
+        let items = List::<Item>::read(alloc, value)?;
+        Ok(Schedule { items })
+    }
+}
+
+impl FromJson for Item {
+    ghost spec = { item_of };
+
+    #[tactic(auto, unfolding(crate::specs::Script::item_of))]
+    fn read(_alloc: Global, _value: &Value) -> Result<Item, Unread> {
+        Err(Unread::Wrong)
+    }
+}
+
+impl FromJson for Call {
+    ghost spec = { call_of };
+
+    #[tactic(auto, unfolding(crate::specs::Script::call_of))]
+    fn read(alloc: Global, value: &Value) -> Result<Call, Unread> {
+        let Value::Object(members) = value else {
+            return Err(Unread::Wrong);
+        };
+        let mut entries = members.iter();
+        match (entries.next(), entries.next()) {
+            (Some((name, inner)), None) => {
+                if name.as_str() == INSERT_ONE {
+                    insert_one(alloc, inner)
+                } else {
+                    Err(Unread::Wrong)
+                }
+            }
+            _ => Err(Unread::Wrong),
+        }
+    }
+}
+
+#[tactic(auto, unfolding(crate::specs::Script::insert_one_of))]
+fn insert_one(alloc: Global, value: &Value) -> Result<Call, Unread>
+    ensures { Gives result (insert_one_of (view value.now)) }
+{
+    if !is_object_of(value, &[NS, DOC]) {
+        return Err(Unread::Wrong);
+    }
+    let namespace = read_needed(alloc, value, NS)?;
+    let document = read_needed(alloc, value, DOC)?;
+    Ok(Call::Single {
+        write: SingleWrite::InsertOne {
+            namespace,
+            document,
+        },
+    })
+}
