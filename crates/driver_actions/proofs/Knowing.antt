@@ -110,6 +110,12 @@ number_raised pool server session back same raised holds =
     up_more number more None raised up = tt
     up_more number more (Some known) raised up = omega (arith, ints)
 
+-- sessions that are known as before
+pub fits_same : (drawn : List (List ℕ)) (old now : Server) (idle : List IdleSession) → now.sessions ≡ old.sessions → FitsIdle drawn old idle → FitsIdle drawn now idle
+fits_same drawn old now [] same fits = tt
+fits_same drawn old now (first ∷ idle) same fits =
+    (fits.0, subst (λ sessions. IsUpTo first.number (finite.get sessions first.id)) (sym same) fits.1, fits.2, fits_same drawn old now idle same fits.3)
+
 fits_gained : (drawn : List (List ℕ)) (old now : Server) (id : List ℕ) (known : KnownSession) (idle : List IdleSession)
     → now.sessions ≡ finite.insert old.sessions id known → NotAmong id (ids_of idle) → FitsIdle drawn old idle → FitsIdle drawn now idle
 fits_gained drawn old now id known [] gained apart fits = tt

@@ -9,6 +9,9 @@ pub mod Knowing
 pub mod Logging
 pub mod Answering
 pub mod Turning
+pub mod Lending
+pub mod Numbering
+pub mod Accounting
 pub mod Running
 pub mod Progress
 pub mod Causes

@@ -1,21 +1,25 @@
 -- One call of a single write, from its parts.
 use Rattle.std.proofs.Common.{◌≡◌, ℕ, ◌+◌, List, [], refl, sym, ap, subst, ◌∙◌, inl, inr, ◌∷◌}
-use Rattle.std.specs.Prelude.{Bool, true, false, Option, None, Some, is_some, Result, Ok, Err, IsErr, ◌⊎◌, if◌then◌else◌}
+use Rattle.std.specs.Prelude.{true, Option, None, Some, is_some, Ok, Err, ◌⊎◌, if◌then◌else◌}
 use Rattle.std.proofs.lemmas.Bool.{cond-true}
 use Rattle.bson_lite.specs.declared.bson.Bson.{Bson}
 use Rattle.bson_lite.specs.declared.document.Pair.{Pair}
 use Rattle.bson_lite.specs.declared.namespace.Namespace.{Namespace}
 use Rattle.bson_lite.specs.Fields.{value_of, id_key}
+use Rattle.bson_lite.specs.declared.fault.EncodeFault.{EncodeFault}
 use Rattle.driver_error.specs.declared.error.Error.{Error}
+use Rattle.driver_error.specs.declared.kind.ErrorKind.{ErrorKind}
+use Rattle.driver_error.specs.declared.kind.ErrorKind.TheVariants as kind
+use Rattle.driver_error.specs.Error.{kind_of}
 use Rattle.driver_link.specs.declared.machine.Place.{Place}
 use Rattle.driver_link.specs.declared.machine.PlacedWrite.{PlacedWrite}
 use Rattle.driver_link.specs.Told.{Told}
-use Rattle.driver_actions.specs.declared.call.SingleAnswer.{SingleAnswer}
 use Rattle.driver_actions.specs.declared.call.SingleAnswer.TheVariants.{Inserted}
 use Rattle.driver_actions.specs.Calls.{IsOwn, inserted}
 use Rattle.driver_actions.specs.Pool.{ToldStore, Lends, LendsFrom, StaysTold, session_out, lent_out, draws}
 use Rattle.driver_actions.specs.Session.{Session}
-use Rattle.driver_actions.specs.Turns.{Turn, AllStays, HasOwnId, Owns, Made, Makes}
+use Rattle.driver_actions.specs.Causes.{Failure, failure_of, never, DocumentRefused}
+use Rattle.driver_actions.specs.Turns.{Turn, Unsent, ComesEarly, HasOwnId, Owns, Made, Makes}
 
 -- a document that has an id keeps it
 pub has_own_id : (document : List (Pair Bson)) (value copy : Bson) → ◌≡◌ {A = Option Bson} (Some value) (value_of id_key document) → copy ≡ value
@@ -50,9 +54,9 @@ stays_then_lends (Some old) None c caller moment session stays lends = absurd st
 stays_then_lends (Some old) (Some mid) None caller moment session stays lends = absurd lends
 stays_then_lends (Some old) (Some mid) (Some now) caller moment session stays lends = lends_from old mid now caller moment session stays lends
 
-pub turn_later : (store mid now : Option ToldStore) (link link_now : Option Told) (write : PlacedWrite) (done : Bool) → StaysTold store mid
-    → Turn mid now link link_now write done → Turn store now link link_now write done
-turn_later store mid now link link_now write done stays turn = record {
+pub turn_later : (store mid now : Option ToldStore) (link link_now : Option Told) (write : PlacedWrite) (ended : Option Failure) → StaysTold store mid
+    → Turn mid now link link_now write ended → Turn store now link link_now write ended
+turn_later store mid now link link_now write ended stays turn = record {
   lent = turn.lent;
   caller = turn.caller;
   out_at = turn.out_at;
@@ -74,30 +78,42 @@ is_own namespace document place write bytes id owns =
 -- a write that was done
 pub made_ok : (store mid now : Option ToldStore) (link link_now : Option Told) (namespace : Namespace) (document : List (Pair Bson)) (place : Place)
     (write : PlacedWrite) (bytes : List ℕ) (id : Bson) → StaysTold store mid → Owns namespace document place write bytes id
-    → Turn mid now link link_now write true
+    → Turn mid now link link_now write None
     → Made store now link link_now (inserted namespace document) place
     (Ok (Inserted (record { inserted_id = id })))
 made_ok store mid now link link_now namespace document place write bytes id stays owns turn = record {
   write = write;
   placed = owns.place_is;
   own = is_own namespace document place write bytes id owns;
-  turn = turn_later store mid now link link_now write true stays turn;
+  turn = turn_later store mid now link link_now write None stays turn;
   tells = record { id = id; found = owns.document.found; answer_is = refl };
 }
 
+-- a reason without a refusal is one with any
+early_more : (link : Option Told) (early : EncodeFault → Type 0) (why : ErrorKind) → ComesEarly link never why → ComesEarly link early why
+early_more None early why reason = tt
+early_more (Some told) early (kind.BsonSerialization fault) reason = absurd reason
+early_more (Some told) early kind.Memory reason = tt
+early_more (Some told) early (kind.Io io) reason = absurd reason
+early_more (Some told) early (kind.Internal message) reason = absurd reason
+early_more (Some told) early (kind.InvalidResponse message) reason = absurd reason
+
 -- a write that failed
 pub made_err : (store mid now : Option ToldStore) (link link_now : Option Told) (namespace : Namespace) (document : List (Pair Bson)) (place : Place)
-    (write : PlacedWrite) (bytes : List ℕ) (id : Bson) (result : Result SingleAnswer Error) → StaysTold store mid → Owns namespace document place write bytes id
-    → AllStays mid now link link_now ⊎ Turn mid now link link_now write false → IsErr result
-    → Makes store now link link_now (inserted namespace document) place result
-made_err store mid now link link_now namespace document place write bytes id (Ok given) stays owns turns err = absurd (let e : ◌≡◌ {A = Bool} false true = err in cc)
-made_err store mid now link link_now namespace document place write bytes id (Err error) stays owns turns err = elim turns [
-  | inl unsent ↦ inl (stays_twice store mid now stays unsent.0, unsent.1)
+    (write : PlacedWrite) (bytes : List ℕ) (id : Bson) (error : Error) → StaysTold store mid → Owns namespace document place write bytes id
+    → Unsent mid now link link_now never (kind_of error) ⊎ Turn mid now link link_now write (Some (failure_of error))
+    → Makes store now link link_now (inserted namespace document) place (Err error)
+made_err store mid now link link_now namespace document place write bytes id error stays owns turns = elim turns [
+  | inl unsent ↦ inl (record {
+    store_stays = stays_twice store mid now stays unsent.store_stays;
+    link_stays = unsent.link_stays;
+    reason = early_more link (DocumentRefused document) (kind_of error) unsent.reason;
+  })
   | inr turn ↦ inr (record {
     write = write;
     placed = owns.place_is;
     own = is_own namespace document place write bytes id owns;
-    turn = turn_later store mid now link link_now write false stays turn;
+    turn = turn_later store mid now link link_now write (Some (failure_of error)) stays turn;
     tells = tt;
   })
 ]

@@ -1,6 +1,6 @@
 -- A run of calls over any store and any link, call by call: what holds of the run so far.
 use Rattle.std.proofs.Common.{◌≡◌, ℕ, ◌<◌, List, [], ◌∷◌, ◌++◌, length, get_or, refl, sym, ap, subst, ◌∙◌, inl, inr}
-use Rattle.std.specs.Prelude.{Bool, true, false, Option, None, Some, Result, Ok, Err, is_ok, slice_get}
+use Rattle.std.specs.Prelude.{Option, None, Some, Result, Ok, Err, slice_get}
 use Rattle.std.proofs.lemmas.Option.{slice_get-get_or}
 use Rattle.driver_error.specs.declared.error.Error.{Error}
 use Rattle.driver_link.specs.declared.machine.Place.{Place}
@@ -15,10 +15,14 @@ use Rattle.driver_actions.specs.declared.call.Call.TheVariants.{Single}
 use Rattle.driver_actions.specs.declared.call.Outcome.{Outcome}
 use Rattle.driver_actions.specs.declared.call.SingleAnswer.{SingleAnswer}
 use Rattle.driver_actions.specs.Calls.{written}
-use Rattle.driver_actions.specs.MainTheorem.{Begins, HoldsTold, IsReplayed, KeepsMaking}
-use Rattle.driver_actions.specs.Pool.{ToldStore, Draws, DrawnApart, AllApart, first_ids}
+use Rattle.driver_actions.specs.MainTheorem.{Begins, HoldsTold, CompletesTold, IsReplayed, KeepsMaking}
+use Rattle.driver_actions.specs.Pool.{ToldStore, Draws, DrawnApart, AllApart, LendsAsBefore, first_ids}
 use Rattle.driver_actions.specs.Session.{Session}
-use Rattle.driver_actions.specs.Turns.{Turn, Made, MakesCall, Attempts, HasSent, MaySend, send_under}
+use Rattle.driver_actions.specs.Turns.{Turn, Made, MakesCall, Attempts, HasAnswer, MaySend, send_under}
+use Rattle.driver_actions.specs.Causes.{Failure, end_of}
+use Rattle.driver_link.specs.declared.machine.Schedule.{Schedule}
+use Rattle.driver_actions.proofs.Accounting.{Accounts, accounts_none, accounts_more, accounts_complete}
+use Rattle.driver_actions.proofs.Lending.{lends_refl, lends_twice, lends_staying, lends_turning}
 use Rattle.driver_actions.proofs.Drawing.{draws_twice, draws_staying, draws_lending, draws_taking, draws_refl}
 use Rattle.driver_actions.proofs.Ids.{apart_left}
 use Rattle.driver_actions.proofs.Moving.{Moves, keeps_twice, keeps_refl, moves_keeps, moves_replayed, fresh_replayed}
@@ -28,7 +32,8 @@ use Rattle.driver_actions.proofs.Running.{Ran, ran_none, ran_more, ran_holds}
 abbrev pub RanTold : List Call → List Outcome → Option ToldStore → Option Told → Type 0
 RanTold calls outcomes None link = ⊥
 RanTold calls outcomes (Some store) None = ⊥
-RanTold calls outcomes (Some store) (Some told) = Ran calls outcomes store.pool told.server
+RanTold calls outcomes (Some store) (Some told) =
+    Ran calls outcomes store.pool told.server × Accounts calls outcomes told.schedule store.pool told.server
 
 -- what holds of the run so far
 pub record Progress (calls : List Call) (store : Option ToldStore) (link : Option Told) (outcomes : List Outcome) (store_now : Option ToldStore) (link_now : Option Told) : Type 0 where
@@ -36,52 +41,67 @@ pub record Progress (calls : List Call) (store : Option ToldStore) (link : Optio
   pub replayed : IsFresh link → IsReplayed link_now
   pub making : KeepsMaking link link_now
   pub drawn : Draws store store_now
+  pub lent : LendsAsBefore store store_now
 
 moves_same : (link now : Option Told) → now ≡ link → Moves link now
 moves_same None now same = same
 moves_same (Some told) now same = inl same
 
-moves_sent : (link now : Option Told) (send : Send) → HasSent link now send → Moves link now
-moves_sent None now send sent = sent
-moves_sent (Some told) now send sent = inr (send, sent)
+moves_answered : (link now : Option Told) (send : Send) → HasAnswer link now send → Moves link now
+moves_answered None now send sent = sent
+moves_answered (Some told) now send sent = inr (send, sent.0)
 
 moves_may : (link now : Option Told) (send : Send) → MaySend link now send → Moves link now
 moves_may None now send may = may
 moves_may (Some told) now send may = elim may [ inl same ↦ inl same | inr sent ↦ inr (send, sent) ]
 
-moves_attempt : (link now : Option Told) (session back : Session) (write : PlacedWrite) (done : Bool) → Attempts link now session back write done → Moves link now
-moves_attempt link now session back write true attempt = moves_sent link now (send_under back write) attempt.1
-moves_attempt link now session back write false attempt = elim attempt [
+moves_attempt : (link now : Option Told) (session back : Session) (write : PlacedWrite) (ended : Option Failure) → Attempts link now session back write ended → Moves link now
+moves_attempt link now session back write None attempt = moves_answered link now (send_under back write) attempt.1
+moves_attempt link now session back write (Some why) attempt = elim attempt.0 [
   | inl none ↦ moves_same link now none.0
   | inr may ↦ moves_may link now (send_under back write) may.1
 ]
 
 module _ (store store_now : Option ToldStore) (link link_now : Option Told) where
-  turn_moves : (write : PlacedWrite) (done : Bool) → Turn store store_now link link_now write done → Moves link link_now
-  turn_moves write done turn = moves_attempt link link_now turn.session turn.back write done turn.attempt
+  turn_moves : (write : PlacedWrite) (ended : Option Failure) → Turn store store_now link link_now write ended → Moves link link_now
+  turn_moves write ended turn = moves_attempt link link_now turn.session turn.back write ended turn.attempt
 
-  turn_draws : (write : PlacedWrite) (done : Bool) → Turn store store_now link link_now write done → Draws store store_now
-  turn_draws write done turn =
+  turn_lends : (write : PlacedWrite) (ended : Option Failure) → Turn store store_now link link_now write ended → LendsAsBefore store store_now
+  turn_lends write ended turn =
+      lends_turning store turn.lent store_now turn.caller turn.out_at turn.back_at turn.session turn.back turn.lends turn.id turn.takes
+
+  turn_draws : (write : PlacedWrite) (ended : Option Failure) → Turn store store_now link link_now write ended → Draws store store_now
+  turn_draws write ended turn =
       draws_twice store turn.lent store_now (draws_lending store turn.lent turn.caller turn.out_at turn.session turn.lends)
       (draws_taking turn.lent store_now turn.caller turn.back turn.back_at turn.takes)
 
   made_moves : (given : Written) (place : Place) (result : Result SingleAnswer Error) → Made store store_now link link_now given place result → Moves link link_now
-  made_moves given place result made = turn_moves made.write (is_ok result) made.turn
+  made_moves given place result made = turn_moves made.write (end_of result) made.turn
 
   made_draws : (given : Written) (place : Place) (result : Result SingleAnswer Error) → Made store store_now link link_now given place result → Draws store store_now
-  made_draws given place result made = turn_draws made.write (is_ok result) made.turn
+  made_draws given place result made = turn_draws made.write (end_of result) made.turn
+
+  made_lends : (given : Written) (place : Place) (result : Result SingleAnswer Error) → Made store store_now link link_now given place result → LendsAsBefore store store_now
+  made_lends given place result made = turn_lends made.write (end_of result) made.turn
+
+  call_lends : (call : Call) (number : ℕ) (result : Result Answer Error) → MakesCall store store_now link link_now call number result → LendsAsBefore store store_now
+  call_lends (Single write) number (Ok (answer.Single given)) makes = made_lends (written write) (record { call = number; index = 0 }) (Ok given) makes
+  call_lends (Single write) number (Err error) makes = elim makes [
+    | inl unsent ↦ lends_staying store store_now unsent.store_stays
+    | inr made ↦ made_lends (written write) (record { call = number; index = 0 }) (Err error) made
+  ]
 
   call_moves : (call : Call) (number : ℕ) (result : Result Answer Error) → MakesCall store store_now link link_now call number result → Moves link link_now
   call_moves (Single write) number (Ok (answer.Single given)) makes = made_moves (written write) (record { call = number; index = 0 }) (Ok given) makes
   call_moves (Single write) number (Err error) makes = elim makes [
-    | inl stays ↦ moves_same link link_now stays.1
+    | inl unsent ↦ moves_same link link_now unsent.link_stays
     | inr made ↦ made_moves (written write) (record { call = number; index = 0 }) (Err error) made
   ]
 
   call_draws : (call : Call) (number : ℕ) (result : Result Answer Error) → MakesCall store store_now link link_now call number result → Draws store store_now
   call_draws (Single write) number (Ok (answer.Single given)) makes = made_draws (written write) (record { call = number; index = 0 }) (Ok given) makes
   call_draws (Single write) number (Err error) makes = elim makes [
-    | inl stays ↦ draws_staying store store_now stays.0
+    | inl unsent ↦ draws_staying store store_now unsent.store_stays
     | inr made ↦ made_draws (written write) (record { call = number; index = 0 }) (Err error) made
   ]
 
@@ -93,19 +113,23 @@ apart_before (Some old) (Some now) draws apart =
 
 ran_more_told : (calls : List Call) (outcomes : List Outcome) (last : Outcome) (call : Call) (store store_now : Option ToldStore) (link link_now : Option Told)
     → slice_get calls (length outcomes) ≡ Some call → MakesCall store store_now link link_now call (length outcomes) last.result
-    → Draws store store_now → KeepsMaking link link_now → DrawnApart store_now → RanTold calls outcomes store link
+    → Draws store store_now → KeepsMaking link link_now → Moves link link_now → DrawnApart store_now → RanTold calls outcomes store link
     → RanTold calls (outcomes ++ last ∷ []) store_now link_now
-ran_more_told calls outcomes last call None store_now link link_now at makes draws keeps apart ran = absurd ran
-ran_more_told calls outcomes last call (Some store) store_now None link_now at makes draws keeps apart ran = absurd ran
-ran_more_told calls outcomes last call (Some store) None (Some told) link_now at makes draws keeps apart ran = absurd draws
-ran_more_told calls outcomes last call (Some store) (Some store_now) (Some told) None at makes draws keeps apart ran = absurd keeps
-ran_more_told calls outcomes last call (Some store) (Some store_now) (Some told) (Some told_now) at makes draws keeps apart ran =
-    ran_more calls outcomes store store_now told told_now last call last.result refl at makes apart ran
+ran_more_told calls outcomes last call None store_now link link_now at makes draws keeps moves apart ran = absurd ran
+ran_more_told calls outcomes last call (Some store) store_now None link_now at makes draws keeps moves apart ran = absurd ran
+ran_more_told calls outcomes last call (Some store) None (Some told) link_now at makes draws keeps moves apart ran = absurd draws
+ran_more_told calls outcomes last call (Some store) (Some store_now) (Some told) None at makes draws keeps moves apart ran = absurd keeps
+ran_more_told calls outcomes last call (Some store) (Some store_now) (Some told) (Some told_now) at makes draws keeps moves apart ran =
+    let P : Schedule → Type 0 = λ schedule. Accounts calls (outcomes ++ last ∷ []) schedule store_now.pool told_now.server in (
+      ran_more calls outcomes store store_now told told_now last call last.result refl at makes apart ran.0,
+      subst P (sym keeps.1) (accounts_more calls outcomes store store_now told told_now last call at makes apart moves ran.0.between ran.1),
+    )
 
 ran_none_told : (calls : List Call) (store : Option ToldStore) (link : Option Told) → Begins store link store → RanTold calls [] store link
 ran_none_told calls None link begins = absurd begins.new
 ran_none_told calls (Some store) None begins = absurd begins.fresh
-ran_none_told calls (Some store) (Some told) begins = ran_none calls store.pool told.server begins.new begins.fresh
+ran_none_told calls (Some store) (Some told) begins =
+    (ran_none calls store.pool told.server begins.new begins.fresh, accounts_none calls told.schedule store.pool told.server begins.new)
 
 -- before the first call
 pub progress_none : (calls : List Call) (store : Option ToldStore) (link : Option Told) → Progress calls store link [] store link
@@ -114,6 +138,7 @@ progress_none calls store link = record {
   replayed = fresh_replayed link;
   making = keeps_refl link;
   drawn = draws_refl store;
+  lent = lends_refl store;
 }
 
 -- one call more
@@ -126,18 +151,19 @@ progress_more calls store link outcomes mid store_now mid_link link_now call las
     let moves = call_moves mid store_now mid_link link_now call (length outcomes) last.result makes in
     let keeps = moves_keeps mid_link link_now moves in
     record {
-      main = λ begins. ran_more_told calls outcomes last call mid store_now mid_link link_now at makes draws keeps begins.apart
+      main = λ begins. ran_more_told calls outcomes last call mid store_now mid_link link_now at makes draws keeps moves begins.apart
           (progress.main (record { new = begins.new; fresh = begins.fresh; apart = apart_before mid store_now draws begins.apart }));
       replayed = λ fresh. moves_replayed mid_link link_now moves (progress.replayed fresh);
       making = keeps_twice link mid_link link_now progress.making keeps;
       drawn = draws_twice store mid store_now progress.drawn draws;
+      lent = lends_twice store mid store_now progress.lent (call_lends mid store_now mid_link link_now call (length outcomes) last.result makes);
     }
 
 ran_holds_told : (calls : List Call) (outcomes : List Outcome) (store : Option ToldStore) (link : Option Told) → length outcomes ≡ length calls
     → RanTold calls outcomes store link → HoldsTold calls outcomes link
 ran_holds_told calls outcomes None link count ran = absurd ran
 ran_holds_told calls outcomes (Some store) None count ran = absurd ran
-ran_holds_told calls outcomes (Some store) (Some told) count ran = ran_holds calls outcomes store.pool told.server count ran
+ran_holds_told calls outcomes (Some store) (Some told) count ran = ran_holds calls outcomes store.pool told.server count ran.0
 
 -- the loop over the calls: before the first
 pub progress_starts : (calls : List Call) (store : Option ToldStore) (link : Option Told) (outcomes : List Outcome) → outcomes ≡ []
@@ -161,3 +187,15 @@ pub progress_holds : (calls : List Call) (store : Option ToldStore) (link : Opti
     → length outcomes ≡ length calls → Progress calls store link outcomes store_now link_now → Begins store link store_now → HoldsTold calls outcomes link_now
 progress_holds calls store link outcomes store_now link_now count progress begins =
     ran_holds_told calls outcomes store_now link_now count (progress.main begins)
+
+ran_completes_told : (calls : List Call) (outcomes : List Outcome) (store : Option ToldStore) (link : Option Told) → RanTold calls outcomes store link
+    → CompletesTold calls outcomes link
+ran_completes_told calls outcomes None link ran = absurd ran
+ran_completes_told calls outcomes (Some store) None ran = absurd ran
+ran_completes_told calls outcomes (Some store) (Some told) ran = accounts_complete calls outcomes told.schedule store.pool told.server ran.1
+
+-- and completeness
+pub progress_completes : (calls : List Call) (store : Option ToldStore) (link : Option Told) (outcomes : List Outcome) (store_now : Option ToldStore) (link_now : Option Told)
+    → Progress calls store link outcomes store_now link_now → Begins store link store_now → CompletesTold calls outcomes link_now
+progress_completes calls store link outcomes store_now link_now progress begins =
+    ran_completes_told calls outcomes store_now link_now (progress.main begins)

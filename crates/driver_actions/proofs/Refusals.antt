@@ -11,9 +11,8 @@ use Rattle.bson_lite.specs.declared.fault.EncodeFault.{EncodeFault}
 use Rattle.bson_lite.specs.declared.fault.EncodeFault.TheVariants.{TooDeep, ZeroByte, TooLong}
 use Rattle.bson_lite.specs.Fields.{value_of, id_key, with_id}
 use Rattle.bson_lite.specs.Spelling.{refusal, nesting, zero_in, spelling, spelled, depth, zero_within, deepest_pair, on_value, body_of, framed, element}
-use Rattle.driver_error.specs.declared.kind.ErrorKind.{ErrorKind}
 use Rattle.driver_error.specs.declared.kind.ErrorKind.TheVariants.{BsonSerialization}
-use Rattle.driver_actions.specs.Causes.{RefusesInsert, RefusesFirst}
+use Rattle.driver_actions.specs.Causes.{Failure, RefusesInsert, RefusesFirst}
 
 -- the pair of an id
 abbrev pub named : ObjectId → Pair Bson
@@ -141,14 +140,18 @@ one_refusal document first second one other = sym (one some_id refl) ∙ other s
 one_fault : (document : List (Pair Bson)) (first second : EncodeFault) → RefusesInsert document (Some first) → RefusesInsert document (Some second) → first ≡ second
 one_fault document first second one other = let is = one_refusal document (Some first) (Some second) one other in cc
 
+-- a document that has a spelling with any id has no fault
+pub no_fault : (document : List (Pair Bson)) (fault : EncodeFault) → RefusesInsert document None → RefusesInsert document (Some fault) → ⊥
+no_fault document fault none refused = let is : ◌≡◌ {A = Option EncodeFault} None (Some fault) = one_refusal document None (Some fault) none refused in cc
+
 -- the fault that was answered is the document's
-pub refuses_first : (document : List (Pair Bson)) (fault : EncodeFault) (why : ErrorKind) → RefusesInsert document (Some fault) → why ≡ BsonSerialization fault
+pub refuses_first : (document : List (Pair Bson)) (fault : EncodeFault) (why : Failure) → RefusesInsert document (Some fault) → why.kind ≡ BsonSerialization fault
     → RefusesFirst document (Some why)
 refuses_first document fault why refuses is =
     record { tells = λ other refused. inl (is ∙ ap (λ f. BsonSerialization f) (one_fault document fault other refuses refused)) }
 
 -- no document without a spelling comes here
-pub refuses_nothing : (document : List (Pair Bson)) (ended : Option ErrorKind) → RefusesInsert document None → RefusesFirst document ended
+pub refuses_nothing : (document : List (Pair Bson)) (ended : Option Failure) → RefusesInsert document None → RefusesFirst document ended
 refuses_nothing document ended none = record {
-  tells = λ fault refused. absurd (let is : ◌≡◌ {A = Option EncodeFault} None (Some fault) = one_refusal document None (Some fault) none refused in cc);
+  tells = λ fault refused. absurd (no_fault document fault none refused);
 }

@@ -28,6 +28,7 @@ use Rattle.driver_actions.specs.declared.call.SingleAnswer.{SingleAnswer}
 use Rattle.driver_actions.specs.declared.call.SingleAnswer.TheVariants.{Inserted}
 use Rattle.driver_actions.specs.declared.call.SingleWrite.TheVariants.{InsertOne}
 use Rattle.driver_actions.specs.Calls.{IsOwn, Mine, inserted}
+use Rattle.driver_actions.specs.Causes.{failure_of}
 use Rattle.driver_actions.specs.MainTheorem.{Holds}
 use Rattle.driver_actions.specs.Pool.{Pool, ToldStore, AllApart, empty_pool}
 use Rattle.driver_actions.specs.Turns.{Made, Makes, MakesCall}
@@ -97,12 +98,12 @@ module _ (calls : List Call) (outcomes : List Outcome) (old now : ToldStore) (to
       → Ran calls (outcomes ++ last ∷ []) now.pool told_now.server
   ran_failed namespace document error at makes none apart ran = elim makes [
     | inl stays ↦
-        let same : told_now ≡ told = cc stays.1 in
+        let same : told_now ≡ told = cc stays.link_stays in
         let P : Told → Type 0 = λ made. Ran calls (outcomes ++ last ∷ []) now.pool made.server in
-        let between : Between now.pool told.server = subst (λ pool. Between pool told.server) (sym stays.0.0) ran.between in
+        let between : Between now.pool told.server = subst (λ pool. Between pool told.server) (sym stays.store_stays.0) ran.between in
         subst P (sym same) (ran_same calls outcomes last now.pool told.server told.server none between refl ran.logged ran.answered)
     | inr made ↦
-        let turned = turn_failed old now told told_now made.write made.turn apart ran.between in
+        let turned = turn_failed old now told told_now made.write (failure_of error) made.turn apart ran.between in
         elim turned.1 [
           | inl same ↦ ran_same calls outcomes last now.pool told.server told_now.server none turned.0 same ran.logged ran.answered
           | inr adds ↦

@@ -1,5 +1,5 @@
 -- Why a call ended as it did, by what the link answered in it, over any link and any store.
-use Rattle.std.specs.Prelude.{◌≡◌, ℕ, ◌≤◌, ℤ, pos, List, [], ◌∷◌, length, Option, None, Some, ◌⊎◌, Result, Ok, Err}
+use Rattle.std.specs.Prelude.{◌≡◌, ℕ, ◌≤◌, ℤ, pos, List, [], ◌∷◌, ◌++◌, length, Option, None, Some, ◌⊎◌, Result, Ok, Err}
 use Rattle.bson_lite.specs.declared.bson.Bson.{Bson}
 use Rattle.bson_lite.specs.declared.bson.ObjectId.{ObjectId}
 use Rattle.bson_lite.specs.declared.document.Pair.{Pair}
@@ -11,9 +11,13 @@ use Rattle.driver_error.specs.declared.error.Error.{Error}
 use Rattle.driver_error.specs.declared.kind.ErrorKind.{ErrorKind}
 use Rattle.driver_error.specs.declared.kind.ErrorKind.TheVariants as kind
 use Rattle.driver_error.specs.declared.kind.IoKind.{IoKind}
-use Rattle.driver_error.specs.Error.{kind_of}
+use Rattle.driver_error.specs.declared.labels.TheConstants.{RETRYABLE_WRITE_ERROR}
+use Rattle.driver_error.specs.Error.{kind_of, labels_of}
+use Rattle.driver_error.specs.LabelTexts.{LabelSet, label_set}
 use Rattle.driver_link.specs.declared.fault.Answered.{Answered}
 use Rattle.driver_link.specs.declared.fault.Answered.TheVariants as answer
+use Rattle.driver_link.specs.declared.fault.LinkCall.{LinkCall}
+use Rattle.driver_link.specs.declared.fault.LinkCall.TheVariants.{Select, CheckOut, Exchange}
 use Rattle.driver_link.specs.declared.fault.LinkFault.TheVariants.{Io}
 use Rattle.driver_link.specs.Faults.{Rose}
 use Rattle.driver_link.specs.Told.{Notes}
@@ -33,47 +37,108 @@ HasReply P [] = ⊥
 HasReply P (answer.Reply bytes ∷ items) = P bytes ⊎ HasReply P items
 HasReply P (answer.Fault call fault labels ∷ items) = HasReply P items
 
--- one of the faults is of this kind
-abbrev pub HasFault : IoKind → List Answered → Type 0
-HasFault io [] = ⊥
-HasFault io (answer.Reply bytes ∷ items) = HasFault io items
-HasFault io (answer.Fault call fault labels ∷ items) = (fault ≡ Io io) ⊎ HasFault io items
+-- the labels of the error of a fault, by the call that met it: after a check-out or an exchange a failure
+-- of the network has the label that lets the write be tried again beside the link's own labels
+abbrev pub labels_by : LinkCall → List (List ℕ) → List (List ℕ)
+labels_by Select own = own
+labels_by CheckOut own = own ++ RETRYABLE_WRITE_ERROR.now ∷ []
+labels_by Exchange own = own ++ RETRYABLE_WRITE_ERROR.now ∷ []
+
+-- one of the faults is of this kind, and its error has these labels
+abbrev pub HasFault : IoKind → LabelSet → List Answered → Type 0
+HasFault io labels [] = ⊥
+HasFault io labels (answer.Reply bytes ∷ items) = HasFault io labels items
+HasFault io labels (answer.Fault call fault own ∷ items) = ((fault ≡ Io io) × (labels ≡ label_set (labels_by call own))) ⊎ HasFault io labels items
+
+-- nothing was exchanged: all that was answered is a fault of an earlier call
+abbrev pub AllEarly : List Answered → Type 0
+AllEarly [] = Unit {0}
+AllEarly (answer.Reply bytes ∷ items) = ⊥
+AllEarly (answer.Fault Exchange fault own ∷ items) = ⊥
+AllEarly (answer.Fault call fault own ∷ items) = AllEarly items
 
 -- bytes that do not tell of an insert that was done
 abbrev pub IsNoDoneReply : List ℕ → Type 0
 IsNoDoneReply bytes = IsDoneReply bytes → ⊥
 
--- what an error of each kind needs, by the count of faults before and now and by what the link answered;
--- want of memory needs nothing
-abbrev pub KindNeeds : ℕ → ℕ → List Answered → Type 0 → (EncodeFault → Type 0) → ErrorKind → Type 0
-KindNeeds before now items spent refused (kind.Io io) = Rose before now × HasFault io items
-KindNeeds before now items spent refused (kind.BsonSerialization fault) = refused fault
-KindNeeds before now items spent refused (kind.Internal message) = spent
-KindNeeds before now items spent refused (kind.InvalidResponse message) = HasReply IsNoDoneReply items
-KindNeeds before now items spent refused kind.Memory = Unit {0}
+-- why something has no spelling: by what is found before a session is lent, or by what is found after it
+pub record Refused : Type 1 where
+  pub early : EncodeFault → Type 0
+  pub late : EncodeFault → Type 0
 
--- how a call ended: nothing after an Ok, else the kind of its error
-abbrev pub end_of : {A : Type 0} → Result A Error → Option ErrorKind
+-- nothing is refused
+abbrev pub never : EncodeFault → Type 0
+never fault = ⊥
+
+-- the number is the last one, where it is told
+abbrev pub MayBeLast : Option ℤ → Type 0
+MayBeLast None = Unit {0}
+MayBeLast (Some number) = number ≡ last_number
+
+-- the number is told, and it is the last one
+abbrev pub IsLast : Option ℤ → Type 0
+IsLast None = ⊥
+IsLast (Some number) = number ≡ last_number
+
+-- what an error tells of itself: its kind and its own labels
+pub record Failure : Type 0 where
+  pub kind : ErrorKind
+  pub labels : LabelSet
+
+abbrev pub failure_of : Error → Failure
+failure_of error = record { kind = kind_of error; labels = labels_of error }
+
+-- what an error of each kind needs, by the count of faults before and now, by what the link answered, and
+-- by the number of the session that is lent next; want of memory needs nothing
+abbrev pub KindNeeds : ℕ → ℕ → List Answered → Option ℤ → Refused → LabelSet → ErrorKind → Type 0
+KindNeeds before now items number refused labels (kind.Io io) = Rose before now × HasFault io labels items
+KindNeeds before now items number refused labels (kind.BsonSerialization fault) = refused.early fault ⊎ refused.late fault
+KindNeeds before now items number refused labels (kind.Internal message) = MayBeLast number
+KindNeeds before now items number refused labels (kind.InvalidResponse message) = HasReply IsNoDoneReply items
+KindNeeds before now items number refused labels kind.Memory = Unit {0}
+
+-- how a call ended: nothing after an Ok, else what its error tells
+abbrev pub end_of : {A : Type 0} → Result A Error → Option Failure
 end_of (Ok given) = None
-end_of (Err error) = Some (kind_of error)
+end_of (Err error) = Some (failure_of error)
 
 -- what an end needs: an Ok comes only after a reply that tells of an insert that was done
-abbrev pub EndNeeds : ℕ → ℕ → List Answered → Type 0 → (EncodeFault → Type 0) → Option ErrorKind → Type 0
-EndNeeds before now items spent refused None = HasReply IsDoneReply items
-EndNeeds before now items spent refused (Some why) = KindNeeds before now items spent refused why
+abbrev pub EndNeeds : ℕ → ℕ → List Answered → Option ℤ → Refused → Option Failure → Type 0
+EndNeeds before now items number refused None = HasReply IsDoneReply items
+EndNeeds before now items number refused (Some why) = KindNeeds before now items number refused why.labels why.kind
+
+-- where a session's number is at its end, an error tells so, but for what was found before the session was
+-- lent and for want of memory
+abbrev pub KindAtLast : (EncodeFault → Type 0) → ErrorKind → Type 0
+KindAtLast early (kind.Io io) = Unit {0}
+KindAtLast early (kind.BsonSerialization fault) = early fault
+KindAtLast early (kind.Internal message) = Unit {0}
+KindAtLast early (kind.InvalidResponse message) = ⊥
+KindAtLast early kind.Memory = Unit {0}
+
+-- there nothing is exchanged, and the call does not end with an Ok
+abbrev pub EndAtLast : List Answered → (EncodeFault → Type 0) → Option Failure → Type 0
+EndAtLast items early None = ⊥
+EndAtLast items early (Some why) = AllEarly items × KindAtLast early why.kind
 
 -- an end with its cause: what the link answered in between, and a count of faults that never falls
-pub record Caused (before now : ℕ) (answers answers_now : Option (List Answered)) (spent : Type 0) (refused : EncodeFault → Type 0) (ended : Option ErrorKind) : Type 0 where
+pub record Caused (before now : ℕ) (answers answers_now : Option (List Answered)) (number : Option ℤ) (refused : Refused) (ended : Option Failure) : Type 0 where
   pub items : List Answered
   pub noted : Notes answers answers_now items
   pub never_falls : before ≤ now
-  pub needs : EndNeeds before now items spent refused ended
+  pub needs : EndNeeds before now items number refused ended
+  pub at_last : IsLast number → EndAtLast items refused.early ended
 
--- the body of some insert into this namespace has no spelling
+-- the body of an insert into this namespace, under some session and number, has no spelling
 pub record BodyRefused (namespace : Namespace) (fault : EncodeFault) : Type 0 where
   pub id : List ℕ
+  pub sixteen : length id ≡ 16
   pub number : ℤ
   pub is : refusal (insert_body namespace id number) ≡ Some fault
+
+-- what is refused of a command: its body
+abbrev pub refused_body : Namespace → Refused
+refused_body namespace = record { early = never; late = BodyRefused namespace }
 
 -- why a document has no spelling once it has an id, or none where it has one, whichever id that is
 abbrev pub RefusesInsert : List (Pair Bson) → Option EncodeFault → Type 0
@@ -82,35 +147,35 @@ RefusesInsert document why = (id : ObjectId) → length id.bytes ≡ 12 → refu
 abbrev pub DocumentRefused : List (Pair Bson) → EncodeFault → Type 0
 DocumentRefused document fault = RefusesInsert document (Some fault)
 
--- an insert has no spelling, by its document or by its namespace
-abbrev pub InsertRefused : Namespace → List (Pair Bson) → EncodeFault → Type 0
-InsertRefused namespace document fault = DocumentRefused document fault ⊎ BodyRefused namespace fault
+-- what is refused of an insert: its document, before anything is drawn or sent, and the body of its command
+abbrev pub refused_insert : Namespace → List (Pair Bson) → Refused
+refused_insert namespace document = record { early = DocumentRefused document; late = BodyRefused namespace }
 
--- a single write has no spelling
-abbrev pub WriteRefused : SingleWrite → EncodeFault → Type 0
-WriteRefused (InsertOne namespace document) fault = InsertRefused namespace document fault
+-- what is refused of a single write
+abbrev pub refused_write : SingleWrite → Refused
+refused_write (InsertOne namespace document) = refused_insert namespace document
 
 -- the number of the session that a check-out lends
 abbrev pub lent_number : List IdleSession → ℤ
 lent_number [] = pos 0
 lent_number (front ∷ idle) = front.number
 
--- the session that is lent next has used its last number, where the store tells that
-abbrev pub IsSpent : Option ToldStore → Type 0
-IsSpent None = Unit {0}
-IsSpent (Some told) = lent_number told.pool.idle ≡ last_number
+-- the number of the session that is lent next, where the store tells it
+abbrev pub next_number : Option ToldStore → Option ℤ
+next_number None = None
+next_number (Some told) = Some (lent_number told.pool.idle)
 
 -- an end tells of this fault of encoding, or of want of memory
-abbrev pub TellsFault : EncodeFault → Option ErrorKind → Type 0
+abbrev pub TellsFault : EncodeFault → Option Failure → Type 0
 TellsFault fault None = ⊥
-TellsFault fault (Some why) = (why ≡ kind.BsonSerialization fault) ⊎ (why ≡ kind.Memory)
+TellsFault fault (Some why) = (why.kind ≡ kind.BsonSerialization fault) ⊎ (why.kind ≡ kind.Memory)
 
 -- a document without a spelling is answered so
-pub record RefusesFirst (document : List (Pair Bson)) (ended : Option ErrorKind) : Type 0 where
+pub record RefusesFirst (document : List (Pair Bson)) (ended : Option Failure) : Type 0 where
   pub tells : (fault : EncodeFault) → DocumentRefused document fault → TellsFault fault ended
 
 -- so is a write of one
-abbrev pub EndsRefused : SingleWrite → Option ErrorKind → Type 0
+abbrev pub EndsRefused : SingleWrite → Option Failure → Type 0
 EndsRefused (InsertOne namespace document) ended = RefusesFirst document ended
 
 -- what link and store tell at one moment
@@ -129,12 +194,12 @@ TellsOwnRefusal document kind.Memory = Unit {0}
 TellsOwnRefusal document _ = ⊥
 
 -- a single write ended with its cause, and a document without a spelling was refused
-pub record WriteCaused (before now : Moment) (write : SingleWrite) (ended : Option ErrorKind) : Type 0 where
-  pub caused : Caused before.faults now.faults before.answers now.answers (IsSpent before.store) (WriteRefused write) ended
+pub record WriteCaused (before now : Moment) (write : SingleWrite) (ended : Option Failure) : Type 0 where
+  pub caused : Caused before.faults now.faults before.answers now.answers (next_number before.store) (refused_write write) ended
   pub refused : EndsRefused write ended
 
 -- so does a call
-abbrev pub HasCause : Moment → Moment → Call → Option ErrorKind → Type 0
+abbrev pub HasCause : Moment → Moment → Call → Option Failure → Type 0
 HasCause before now (Single write) ended = WriteCaused before now write ended
 
 -- each call of a list has its cause between two moments, from the first moment to the last

@@ -79,6 +79,17 @@ taken_back caller session now pool =
       history = pool.history ++ Back caller session.id session.number session.last_use session.dirty now ∷ [];
     } else pool
 
+-- how often an id is lent
+abbrev pub times_lent : List ℕ → List (List ℕ) → ℕ
+times_lent id [] = 0
+times_lent id (other ∷ lent) = (if bytes_eq other id then 1 else 0) + times_lent id lent
+
+-- each id is lent as often as before
+abbrev pub LendsAsBefore : Option ToldStore → Option ToldStore → Type 0
+LendsAsBefore None now = now ≡ None
+LendsAsBefore (Some old) None = ⊥
+LendsAsBefore (Some old) (Some now) = (id : List ℕ) → times_lent id now.pool.lent ≡ times_lent id old.pool.lent
+
 -- an idle session holds what a lent one does
 abbrev pub IsNext : Session → IdleSession → Type 0
 IsNext session idle = session ≡ record { id = idle.id; number = idle.number; last_use = idle.last_use; dirty = false }

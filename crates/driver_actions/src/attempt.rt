@@ -1,30 +1,46 @@
 //! One attempt of an insert: a server, a connection, a session, one command and its reply.
-ghost use Rattle.std.specs.Prelude.{◌≡◌, is_ok};
+ghost use Rattle.std.specs.Prelude.{◌≡◌, IfOk, Some};
 ghost use Rattle.bson_lite.specs.Spelling.{Spells};
-ghost use Rattle.driver_actions.specs.Turns.{Attempts, Turns, IsFailure, TellsFailure, fault_kind, dirty_after};
-ghost use Rattle.driver_actions.specs.Causes.{Caused, BodyRefused, IsSpent, end_of};
-ghost use Rattle.driver_actions.specs.Session.{last_number};
-ghost use Rattle.driver_error.specs.Error.{kind_of};
+ghost use Rattle.driver_actions.specs.Turns.{Attempts, Turns, IsFailure, fault_kind, dirty_after};
+ghost use Rattle.driver_actions.specs.Causes.{Caused, refused_body, next_number, end_of, labels_by};
 
 use crate::insert::{insert_frame, read_insert_reply};
 use crate::session::ServerSession;
 use crate::store::SessionStore;
-use bson_lite::Bytes;
-use driver_error::{Error, ErrorKind, Result};
-use driver_link::{Clock, Conn, Link, LinkError, LinkFault, PlacedWrite};
-use std::alloc::Global;
+use bson_lite::{Bytes, List, Text};
+use driver_error::{Error, ErrorKind, RETRYABLE_WRITE_ERROR, Result};
+use driver_link::{Clock, Conn, Link, LinkCall, LinkError, LinkFault, PlacedWrite};
+use std::alloc::{AllocError, Global};
 
-/// The error of a link's failure, with the labels that the link gave.
-fn link_error(alloc: Global, failure: LinkError) -> Error
-    ensures failure { IsFailure failure result }
-    ensures kind { TellsFailure failure (kind_of result) }
+/// The error of a link's failure in one of its calls, with the labels that it then has.
+fn link_error(alloc: Global, call: LinkCall, failure: LinkError) -> Error
+    ensures { IsFailure call failure result }
 {
     match failure {
-        LinkError::Fault { fault, labels } => {
-            Error::new(alloc, fault_kind(fault), labels.as_slice())
-        }
+        LinkError::Fault { fault, labels } => match labels_by(alloc, call, labels) {
+            Ok(labels) => Error::new(alloc, fault_kind(fault), labels.as_slice()),
+            Err(AllocError) => Error::from_kind(ErrorKind::Memory),
+        },
         LinkError::Memory => Error::from_kind(ErrorKind::Memory),
     }
+}
+
+/// The labels of the error of a fault, by the call that met it.
+fn labels_by(
+    alloc: Global,
+    call: LinkCall,
+    own: List<Text>,
+) -> std::result::Result<List<Text>, AllocError>
+    ensures { IfOk result (λ labels. labels ≡ labels_by call own) }
+{
+    let mut labels = own;
+    match call {
+        LinkCall::Select => {}
+        LinkCall::CheckOut | LinkCall::Exchange => {
+            labels.push(Text::from_str(alloc, RETRYABLE_WRITE_ERROR)?)?;
+        }
+    }
+    Ok(labels)
 }
 
 fn fault_kind(fault: LinkFault) -> ErrorKind
@@ -55,8 +71,8 @@ fn send_under<L: Link>(
 ) -> Result<()>
     requires { Spells write.now.written.document bytes }
     ensures id { session.new.id ≡ session.old.id }
-    ensures attempt { Attempts (L.told link.old) (L.told link.new) session.old session.new write.now (is_ok result) }
-    ensures cause { Caused (L.faults link.old) (L.faults link.new) (L.answers link.old) (L.answers link.new) (session.old.number ≡ last_number) (BodyRefused write.now.written.namespace) (end_of result) }
+    ensures attempt { Attempts (L.told link.old) (L.told link.new) session.old session.new write.now (end_of result) }
+    ensures cause { Caused (L.faults link.old) (L.faults link.new) (L.answers link.old) (L.answers link.new) (Some session.old.number) (refused_body write.now.written.namespace) (end_of result) }
 {
     let number = session.next_number(alloc)?;
     let frame = insert_frame(alloc, &write.written.namespace, bytes, session.id(), number)?;
@@ -64,7 +80,7 @@ fn send_under<L: Link>(
         Ok(reply) => read_insert_reply(alloc, reply.as_slice()),
         Err(failure) => {
             mark_failure(session, &failure);
-            Err(link_error(alloc, failure))
+            Err(link_error(alloc, LinkCall::Exchange, failure))
         }
     }
 }
@@ -81,7 +97,7 @@ fn with_session<S: SessionStore, L: Link, K: Clock>(
 ) -> Result<()>
     requires { Spells write.now.written.document bytes }
     ensures turns { Turns (S.told store.old) (S.told store.new) (L.told link.old) (L.told link.new) write.now result }
-    ensures cause { Caused (L.faults link.old) (L.faults link.new) (L.answers link.old) (L.answers link.new) (IsSpent (S.told store.old)) (BodyRefused write.now.written.namespace) (end_of result) }
+    ensures cause { Caused (L.faults link.old) (L.faults link.new) (L.answers link.old) (L.answers link.new) (next_number (S.told store.old)) (refused_body write.now.written.namespace) (end_of result) }
 {
     let out_at = clock.now_ms();
     let mut session = store.check_out(alloc, out_at)?;
@@ -102,15 +118,15 @@ pub(crate) fn insert_placed<S: SessionStore, L: Link, K: Clock>(
 ) -> Result<()>
     requires { Spells write.now.written.document bytes }
     ensures turns { Turns (S.told store.old) (S.told store.new) (L.told link.old) (L.told link.new) write.now result }
-    ensures cause { Caused (L.faults link.old) (L.faults link.new) (L.answers link.old) (L.answers link.new) (IsSpent (S.told store.old)) (BodyRefused write.now.written.namespace) (end_of result) }
+    ensures cause { Caused (L.faults link.old) (L.faults link.new) (L.answers link.old) (L.answers link.new) (next_number (S.told store.old)) (refused_body write.now.written.namespace) (end_of result) }
 {
     let address = match link.select(alloc, None, &[]) {
         Ok(address) => address,
-        Err(failure) => return Err(link_error(alloc, failure)),
+        Err(failure) => return Err(link_error(alloc, LinkCall::Select, failure)),
     };
     let conn = match link.check_out(alloc, &address) {
         Ok(conn) => conn,
-        Err(failure) => return Err(link_error(alloc, failure)),
+        Err(failure) => return Err(link_error(alloc, LinkCall::CheckOut, failure)),
     };
     let result = with_session(alloc, store, link, clock, &conn, write, bytes);
     link.check_in(conn);

@@ -1,5 +1,5 @@
 //! The insert command of one document: its frame and its reply.
-ghost use Rattle.std.specs.Prelude.{◌≡◌, IfOk};
+ghost use Rattle.std.specs.Prelude.{◌≡◌, IfOk, length};
 ghost use Rattle.driver_actions.specs.Inserts.{insert_body, session_document, BuildsInsert, ReadsReply, IsOneDocument, TellsNotInserted, is_done_reply, is_one, int_at};
 ghost use Rattle.driver_error.specs.Error.{kind_of};
 
@@ -22,7 +22,8 @@ pub(crate) fn insert_frame(
     session: &[u8; 16],
     number: i64,
 ) -> Result<Frame>
-    ensures { BuildsInsert session.now number namespace.now document result }
+    ensures builds { BuildsInsert session.now number namespace.now document result }
+    ensures sixteen { length session.now ≡ 16 }
 {
     let body = insert_body(alloc, namespace, session, number)?;
     let body = encoded(alloc, &body)?;

@@ -2,8 +2,8 @@
 ghost use Rattle.std.specs.Prelude.{◌≡◌, IfOk, OnOk, OnErr};
 ghost use Rattle.driver_actions.specs.Causes.{HasCause, HaveCauses, end_of, moment};
 ghost use Rattle.driver_actions.specs.Client.{options_of, store_of};
-ghost use Rattle.driver_actions.specs.MainTheorem.{Begins, HoldsTold, IsReplayed, KeepsMaking};
-ghost use Rattle.driver_actions.specs.Pool.{Draws};
+ghost use Rattle.driver_actions.specs.MainTheorem.{Begins, HoldsTold, CompletesTold, IsReplayed, KeepsMaking};
+ghost use Rattle.driver_actions.specs.Pool.{Draws, LendsAsBefore};
 ghost use Rattle.driver_actions.specs.Turns.{MakesCall};
 ghost use Rattle.driver_link.specs.Told.{IsFresh};
 
@@ -26,12 +26,14 @@ pub fn run_calls<S: SessionStore, L: Link, K: Clock, R: Rng>(
     calls: &[Call],
 ) -> Result<List<Outcome>, AllocError>
     ensures main { IfOk result (λ outcomes. Begins (S.told (store_of client.old)) (L.told outside.old.link) (S.told (store_of client.new)) → HoldsTold calls.now outcomes (L.told outside.new.link)) }
+    ensures complete { IfOk result (λ outcomes. Begins (S.told (store_of client.old)) (L.told outside.old.link) (S.told (store_of client.new)) → CompletesTold calls.now outcomes (L.told outside.new.link)) }
     ensures causes { IfOk result (λ outcomes. HaveCauses calls.now outcomes (moment (L.faults outside.old.link) (L.answers outside.old.link) (S.told (store_of client.old))) (moment (L.faults outside.new.link) (L.answers outside.new.link) (S.told (store_of client.new)))) }
     ensures replayed { OnOk result (IsFresh (L.told outside.old.link) → IsReplayed (L.told outside.new.link)) }
     ensures making { KeepsMaking (L.told outside.old.link) (L.told outside.new.link) }
     ensures drawn { Draws (S.told (store_of client.old)) (S.told (store_of client.new)) }
+    ensures lent { LendsAsBefore (S.told (store_of client.old)) (S.told (store_of client.new)) }
     ensures options { options_of client.new ≡ options_of client.old }
-    ensures err { OnErr result (L.told outside.new.link ≡ L.told outside.old.link) }
+    ensures err { OnErr result ((client.new ≡ client.old) × (outside.new ≡ outside.old)) }
 {
     let mut outcomes = Vec::with_capacity(alloc, calls.len())?;
     for (number, call) in calls.iter().enumerate() {

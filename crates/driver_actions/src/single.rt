@@ -1,7 +1,7 @@
 //! One write of one document, from its caller to its answer.
 ghost use Rattle.std.specs.Prelude.{IfErr, IfOk};
 ghost use Rattle.driver_error.specs.Error.{kind_of};
-ghost use Rattle.driver_actions.specs.Causes.{Caused, IsSpent, WriteRefused, EndsRefused, end_of, InsertRefused, RefusesFirst, TellsOwnRefusal};
+ghost use Rattle.driver_actions.specs.Causes.{Caused, next_number, refused_write, EndsRefused, end_of, refused_insert, RefusesFirst, TellsOwnRefusal};
 ghost use Rattle.driver_actions.specs.Calls.{inserted, written};
 ghost use Rattle.driver_actions.specs.Pool.{StaysTold};
 ghost use Rattle.driver_actions.specs.Turns.{Makes, PutsId, Owns};
@@ -26,7 +26,7 @@ pub(crate) fn single<S: SessionStore, L: Link, K: Clock>(
     place: Place,
 ) -> Result<SingleAnswer>
     ensures makes { Makes (S.told store.old) (S.told store.new) (L.told link.old) (L.told link.new) (written write.now) place result }
-    ensures cause { Caused (L.faults link.old) (L.faults link.new) (L.answers link.old) (L.answers link.new) (IsSpent (S.told store.old)) (WriteRefused write.now) (end_of result) }
+    ensures cause { Caused (L.faults link.old) (L.faults link.new) (L.answers link.old) (L.answers link.new) (next_number (S.told store.old)) (refused_write write.now) (end_of result) }
     ensures refused { EndsRefused write.now (end_of result) }
 {
     match write {
@@ -49,7 +49,7 @@ fn insert_one<S: SessionStore, L: Link, K: Clock>(
     place: Place,
 ) -> Result<SingleAnswer>
     ensures makes { Makes (S.told store.old) (S.told store.new) (L.told link.old) (L.told link.new) (inserted namespace.now document.now) place result }
-    ensures cause { Caused (L.faults link.old) (L.faults link.new) (L.answers link.old) (L.answers link.new) (IsSpent (S.told store.old)) (InsertRefused namespace.now document.now) (end_of result) }
+    ensures cause { Caused (L.faults link.old) (L.faults link.new) (L.answers link.old) (L.answers link.new) (next_number (S.told store.old)) (refused_insert namespace.now document.now) (end_of result) }
     ensures refused { RefusesFirst document.now (end_of result) }
 {
     if let Some(fault) = insert_refusal(document) {

@@ -1,5 +1,5 @@
 -- The ids that count: the next of them, and that the first of them differ.
-use Rattle.std.proofs.Common.{◌≡◌, ◌<◌, ◌≤◌, ℕ, zero, suc, ◌+◌, ◌-◌, ◌*◌, ◌/◌, ◌%◌, ◌^◌, List, [], ◌∷◌, refl, sym, ap, ◌∙◌, arith, lit<, add-zero, zero-add, add-one}
+use Rattle.std.proofs.Common.{◌≡◌, ◌<◌, ℕ, zero, suc, ◌+◌, ◌-◌, ◌*◌, ◌/◌, ◌%◌, ◌^◌, List, ◌∷◌, refl, sym, ap, ◌∙◌, arith, lit<, add-zero, zero-add}
 use Rattle.std.proofs.Math.Arith.{mod-mul}
 use Rattle.std.proofs.Math.Nat.{div-one, mod-add-mod, mod-eq_of_lt, mod-one, pow-suc, pow-succ'}
 use Rattle.std.specs.Int.{byte_at, bytes_high_first}

@@ -1,19 +1,23 @@
 -- What one exchange makes of a server when its number is greater than all that the server knows of the
 -- session: the writes are appended, and nothing else is.
-use Rattle.std.proofs.Common.{◌≡◌, ℕ, Bool, true, false, List, [], ◌∷◌, ◌++◌, refl, sym, subst, ap, ◌∙◌, arith}
-use Rattle.std.specs.Prelude.{ℤ, ◌<ℤ◌, int_lt, Option, None, Some, slice_get}
+use Rattle.std.proofs.Common.{◌≡◌, ℕ, Bool, true, false, List, [], ◌∷◌, ◌++◌, refl, sym, subst, ap, ◌∙◌, arith, inl, inr}
+use Rattle.std.specs.Prelude.{ℤ, ◌<ℤ◌, int_lt, Option, None, Some, IsSome, ◌⊎◌, slice_get, if◌then◌else◌}
 use Rattle.std.proofs.lemmas.Int.{ints}
 use Rattle.std.proofs.lemmas.Bool.{cond-false, cond-true}
 use Rattle.std.specs.Ordering.{nat_cmp}
 use Rattle.std.specs.FinMap as finite
+use Rattle.bson_lite.specs.declared.bson.Bson.{Bson}
+use Rattle.bson_lite.specs.declared.document.Pair.{Pair}
 use Rattle.driver_link.specs.declared.machine.Entry.{Entry}
 use Rattle.driver_link.specs.declared.machine.Item.{Item}
-use Rattle.driver_link.specs.declared.machine.Item.TheVariants.{Serve}
+use Rattle.driver_link.specs.declared.machine.Item.TheVariants.{Serve, Lost}
 use Rattle.driver_link.specs.declared.machine.KnownSession.{KnownSession}
 use Rattle.driver_link.specs.declared.machine.PlacedWrite.{PlacedWrite}
+use Rattle.driver_link.specs.declared.machine.Send.{Send}
 use Rattle.driver_link.specs.declared.machine.Server.{Server}
 use Rattle.driver_link.specs.Commands.{insert_send}
-use Rattle.driver_link.specs.Exchange.{exchanged, traced, arrived, delivered, after}
+use Rattle.driver_link.specs.Exchange.{exchanged, answered, traced, arrived, delivered, after}
+use Rattle.driver_link.specs.Replies.{done_reply, error_reply, is_too_old, reply_to, transaction_too_old}
 use Rattle.driver_link.specs.Serving.{entry_of, entries_left, kept_after, begun, taken, is_below, ran, served_numbered, served_as, served}
 
 -- the number is greater than what is known of a session
@@ -72,16 +76,61 @@ ran_above id number write server above =
     let P : Server → Type 0 = λ now. Gains id number (entry_of (Some id) (Some number) write) server now in
     subst P (sym (is ∙ anew)) (ran_begun id number write server)
 
--- so it is where the number is greater than all that the server knows of the session
-pub exchanged_above : (id : List ℕ) (number : ℤ) (ordered : Bool) (write : PlacedWrite) (server : Server) (item : Item)
+-- so it is where the send is served and its number is greater than all that the server knows of the session
+served_above : (id : List ℕ) (number : ℤ) (ordered : Bool) (write : PlacedWrite) (server : Server)
     → IsAbove number (finite.get server.sessions id)
     → Gains id number (entry_of (Some id) (Some number) write) server
-    (exchanged server (insert_send (Some id) (Some number) ordered (write ∷ [])) item)
+    (exchanged server (insert_send (Some id) (Some number) ordered (write ∷ [])) Serve)
 unfolding exchanged served served_as
-exchanged_above id number ordered write server Serve above =
-    let send = insert_send (Some id) (Some number) ordered (write ∷ []) in
-    let gains = ran_above id number write (traced server send) above in
+served_above id number ordered write server above =
+    let gains = ran_above id number write (traced server (insert_send (Some id) (Some number) ordered (write ∷ []))) above in
     record { known = gains.known; greatest = gains.greatest; sessions = gains.sessions; log = gains.log; waiting = gains.waiting }
+
+-- a send that was answered gained its entry
+pub answered_above : (id : List ℕ) (number : ℤ) (ordered : Bool) (write : PlacedWrite) (server : Server) (item : Item)
+    → IsAbove number (finite.get server.sessions id)
+    → IsSome (answered server (insert_send (Some id) (Some number) ordered (write ∷ [])) item)
+    → Gains id number (entry_of (Some id) (Some number) write) server
+    (exchanged server (insert_send (Some id) (Some number) ordered (write ∷ [])) item)
+unfolding answered
+answered_above id number ordered write server Serve above is = served_above id number ordered write server above
+answered_above id number ordered write server Lost above is = absurd (let e : ◌≡◌ {A = Bool} false true = is in cc)
+
+-- an exchange that left the log as it was: the send joined the trace, and nothing else changed
+pub record OnlyTraced (old now : Server) : Type 0 where
+  pub sessions : now.sessions ≡ old.sessions
+  pub log : now.log ≡ old.log
+  pub waiting : now.waiting ≡ old.waiting
+
+-- one exchange gains its entry or only the trace
+pub exchanged_above : (id : List ℕ) (number : ℤ) (ordered : Bool) (write : PlacedWrite) (server : Server) (item : Item)
+    → IsAbove number (finite.get server.sessions id)
+    → Gains id number (entry_of (Some id) (Some number) write) server (exchanged server (insert_send (Some id) (Some number) ordered (write ∷ [])) item)
+    ⊎ OnlyTraced server (exchanged server (insert_send (Some id) (Some number) ordered (write ∷ [])) item)
+unfolding exchanged
+exchanged_above id number ordered write server Serve above = inl (served_above id number ordered write server above)
+exchanged_above id number ordered write server Lost above = inr (record { sessions = refl; log = refl; waiting = refl })
+
+-- such a send is not too old
+new_enough : (id : List ℕ) (number : ℤ) (server : Server) → IsAbove number (finite.get server.sessions id) → is_too_old (Some id) (Some number) server ≡ false
+unfolding is_too_old
+new_enough id number server above = above_not_below number (finite.get server.sessions id) above
+
+-- so where it is answered, the reply is that of one write that was done
+pub answer_above : (id : List ℕ) (number : ℤ) (ordered : Bool) (write : PlacedWrite) (server : Server) (item : Item) (reply : List (Pair Bson))
+    → IsAbove number (finite.get server.sessions id)
+    → answered server (insert_send (Some id) (Some number) ordered (write ∷ [])) item ≡ Some reply → reply ≡ done_reply 1
+unfolding answered reply_to
+answer_above id number ordered write server Serve reply above is =
+    let told : reply ≡ (if is_too_old (Some id) (Some number) server then error_reply transaction_too_old else done_reply 1) = cc is in
+    told ∙ cond-false (is_too_old (Some id) (Some number) server) _ _ (new_enough id number server above)
+answer_above id number ordered write server Lost reply above is = absurd (let e : ◌≡◌ {A = Option (List (Pair Bson))} None (Some reply) = is in cc)
+
+-- an item by which a send gets no reply is no Serve
+pub unanswered_lost : (server : Server) (send : Send) (item : Item) → answered server send item ≡ None → item ≡ Lost
+unfolding answered
+unanswered_lost server send Serve is = absurd (let e : ◌≡◌ {A = Option (List (Pair Bson))} None (Some (reply_to server send)) = sym is in cc)
+unanswered_lost server send Lost is = refl
 
 unchanged : (server : Server) → server.waiting ≡ [] → (pick : ℕ) → delivered server pick ≡ server
 unfolding delivered arrived

@@ -4,7 +4,7 @@ use Rattle.std.specs.Prelude.{ℤ, ℕ, Option, None, Some}
 use Rattle.std.specs.FinMap as finite
 use Rattle.driver_link.specs.declared.machine.PlacedWrite.{PlacedWrite}
 use Rattle.driver_link.specs.declared.machine.Item.{Item}
-use Rattle.driver_link.specs.declared.machine.Item.TheVariants.{Serve}
+use Rattle.driver_link.specs.declared.machine.Item.TheVariants.{Serve, Lost}
 use Rattle.driver_link.specs.declared.machine.Schedule.{Schedule}
 use Rattle.driver_link.specs.declared.machine.Send.{Send}
 use Rattle.driver_link.specs.declared.machine.Server.{Server}
@@ -45,3 +45,4 @@ trace_served server send = trace_as send.session send.number (writes_of send) se
 pub trace_exchanged : (server : Server) (send : Send) (item : Item) → (exchanged server send item).trace ≡ server.trace ++ send ∷ []
 unfolding exchanged
 trace_exchanged server send Serve = trace_served (traced server send) send
+trace_exchanged server send Lost = refl

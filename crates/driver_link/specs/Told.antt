@@ -3,11 +3,14 @@ use Rattle.std.specs.Prelude.{◌≡◌, ℕ, List, [], ◌∷◌, ◌++◌, Opt
 use Rattle.bson_lite.specs.declared.bson.Bson.{Bson}
 use Rattle.bson_lite.specs.declared.document.Pair.{Pair}
 use Rattle.bson_lite.specs.Spelling.{Spells}
+use Rattle.driver_error.specs.declared.kind.IoKind.TheVariants.{ConnectionReset}
 use Rattle.driver_link.specs.declared.fault.Answered.{Answered}
 use Rattle.driver_link.specs.declared.fault.Answered.TheVariants as answer
 use Rattle.driver_link.specs.declared.fault.LinkCall.{LinkCall}
 use Rattle.driver_link.specs.declared.fault.LinkError.{LinkError}
 use Rattle.driver_link.specs.declared.fault.LinkError.TheVariants.{Fault, Memory}
+use Rattle.driver_link.specs.declared.fault.LinkFault.{LinkFault}
+use Rattle.driver_link.specs.declared.fault.LinkFault.TheVariants.{Io}
 use Rattle.driver_link.specs.declared.machine.Schedule.{Schedule}
 use Rattle.driver_link.specs.declared.machine.Send.{Send}
 use Rattle.driver_link.specs.declared.machine.Server.{Server}
@@ -40,12 +43,17 @@ abbrev pub IsReply : Option (List (Pair Bson)) → List ℕ → Type 0
 IsReply None bytes = ⊥
 IsReply (Some document) bytes = Spells document bytes
 
+-- the fault of an exchange that gave no reply, with its labels: the connection was reset, and there is none
+abbrev pub IsReset : LinkFault → List (List ℕ) → Type 0
+IsReset fault labels = (fault ≡ Io ConnectionReset) × (labels ≡ [])
+
 -- one exchange: an Ok is the machine's reply and a fault comes where the machine answers none, both
 -- after its step; after want of memory the server is unchanged or has taken the step
 abbrev pub Steps : Option Told → Option Told → Send → Result (List ℕ) LinkError → Type 0
 Steps None now send result = now ≡ None
 Steps (Some told) now send (Ok bytes) = (now ≡ Some (told_after told send)) × IsReply (told_answer told send) bytes
-Steps (Some told) now send (Err (Fault fault labels)) = (now ≡ Some (told_after told send)) × (told_answer told send ≡ None)
+Steps (Some told) now send (Err (Fault fault labels)) =
+    (now ≡ Some (told_after told send)) × (told_answer told send ≡ None) × IsReset fault labels
 Steps (Some told) now send (Err Memory) = (now ≡ Some told) ⊎ (now ≡ Some (told_after told send))
 
 -- a call that is no exchange: it leaves what is told, and over a told server it does not fail

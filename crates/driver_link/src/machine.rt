@@ -111,6 +111,8 @@ pub struct Server {
 pub enum Item {
     /// The send is served and answered.
     Serve,
+    /// The send is lost on its way: nothing runs, and the caller sees its connection reset.
+    Lost,
 }
 
 /// What happens to the exchanges of a run, one item each. Past its end each exchange is served.

@@ -4,8 +4,8 @@ use Rattle.driver_actions.specs.declared.call.Outcome.{Outcome}
 use Rattle.driver_actions.specs.Causes.{HaveCauses, moment}
 use Rattle.driver_actions.proofs.Causes.{causes_start, causes_more, causes_all}
 use Rattle.driver_actions.specs.Client.{store_of}
-use Rattle.driver_actions.specs.MainTheorem.{HoldsTold}
-use Rattle.driver_actions.proofs.Progress.{progress_starts, progress_steps, progress_holds}
+use Rattle.driver_actions.specs.MainTheorem.{HoldsTold, CompletesTold}
+use Rattle.driver_actions.proofs.Progress.{progress_starts, progress_steps, progress_holds, progress_completes}
 use Rattle.driver_actions.proofs.run.run_calls.Goals as goal
 
 pub loop-number-init : goal.loop-number-init
@@ -45,6 +45,13 @@ returns-clause-main g c = λ begins.
     subst P (sym c.from_vec.ensures)
     (progress_holds c.args.calls.now (g.S.SessionStore.told (store_of c.args.client.now)) (g.L.Link.told c.args.outside.now.link) outcomes
     (g.S.SessionStore.told (store_of c.loop-number.client)) (g.L.Link.told c.loop-number.outside.link) count c.loop-number.invariant.progress begins)
+
+pub returns-clause-complete : goal.returns-clause-complete
+returns-clause-complete g c = λ begins.
+    let P : List Outcome → Type 0 = λ made. CompletesTold c.args.calls.now made (g.L.Link.told c.loop-number.outside.link) in
+    subst P (sym c.from_vec.ensures)
+    (progress_completes c.args.calls.now (g.S.SessionStore.told (store_of c.args.client.now)) (g.L.Link.told c.args.outside.now.link) c.loop-number.outcomes.items
+    (g.S.SessionStore.told (store_of c.loop-number.client)) (g.L.Link.told c.loop-number.outside.link) c.loop-number.invariant.progress begins)
 
 pub returns-clause-causes : goal.returns-clause-causes
 returns-clause-causes g c =
