@@ -17,6 +17,8 @@ pub mod run;
 pub mod session;
 mod single;
 pub mod store;
+#[cfg(test)]
+mod tests;
 
 pub use call::{Answer, Call, Outcome, SingleAnswer, SingleWrite};
 pub use client::Client;

@@ -1,0 +1,162 @@
+//! What no clause shows: that a call succeeds with ample memory, over a link whose replies a test chooses.
+use crate::call::{Call, Outcome, SingleWrite};
+use crate::client::Client;
+use crate::outside::Outside;
+use crate::plain::PlainStore;
+use crate::run::run_calls;
+use bson_lite::{Bson, Bytes, Document, List, Namespace, Text, TryClone};
+use driver_error::ErrorKind;
+use driver_link::{
+    Address, Answered, ClientOptions, Conn, CountingIds, Description, Frame, Link, LinkError,
+    MemClock, Place, SelectionCriteria,
+};
+use rand_core::SeedableRng;
+use rand_pcg::Pcg32;
+use std::alloc::{AllocError, Global};
+use std::test::Fail;
+
+/// A link that gives one reply to each exchange, whatever is sent.
+#[derive(Drop)]
+struct OneReply {
+    reply: Bytes,
+    answered: List<Answered>,
+}
+
+impl Link for OneReply {
+    ghost use Rattle.std.specs.Prelude.{None, Some};
+
+    ghost told = { λ link. None };
+
+    ghost answers = { λ link. Some link.answered };
+
+    ghost faults = { λ link. 0 };
+
+    fn select(
+        &mut self,
+        alloc: Global,
+        _criteria: Option<&SelectionCriteria>,
+        _deprioritized: &[Address],
+    ) -> Result<Address, LinkError> {
+        let host = Text::from_str(alloc, "test")?;
+        Ok(Address { host, port: 1 })
+    }
+
+    fn check_out(&mut self, alloc: Global, address: &Address) -> Result<Conn, LinkError> {
+        let host = address.host.try_clone(alloc)?;
+        Ok(Conn {
+            address: Address {
+                host,
+                port: address.port,
+            },
+            description: description(),
+            number: 0,
+        })
+    }
+
+    fn exchange(
+        &mut self,
+        alloc: Global,
+        _conn: &Conn,
+        _frame: &Frame,
+        _places: &[Place],
+    ) -> Result<Bytes, LinkError> {
+        let reply = self.reply.try_clone(alloc)?;
+        self.answered
+            .push(Answered::Reply(self.reply.try_clone(alloc)?))?;
+        Ok(reply)
+    }
+
+    fn check_in(&mut self, _conn: Conn) {}
+}
+
+fn description() -> Description {
+    Description {
+        max_wire_version: Some(25),
+        max_bson_object_size: 16_777_216,
+        max_message_size_bytes: 48_000_000,
+        max_write_batch_size: 100_000,
+        supports_sessions: true,
+        supports_retryable_writes: true,
+        sharded: false,
+    }
+}
+
+/// An insert of `{x: 1}`.
+fn insert(alloc: Global) -> Result<Call, AllocError> {
+    let mut document = Document::new(alloc);
+    document.push("x", Bson::Int32(1))?;
+    let namespace = Namespace {
+        db: Text::from_str(alloc, "shop")?,
+        coll: Text::from_str(alloc, "items")?,
+    };
+    Ok(Call::Single {
+        write: SingleWrite::InsertOne {
+            namespace,
+            document,
+        },
+    })
+}
+
+/// The outcomes of one insert over a link with this reply.
+fn outcomes_over(alloc: Global, reply: &[u8]) -> Result<List<Outcome>, AllocError> {
+    let link = OneReply {
+        reply: Bytes::from_slice(alloc, reply)?,
+        answered: List::new(alloc),
+    };
+    let options = ClientOptions { client_number: 1 };
+    let mut client = Client::new(options, PlainStore::new(alloc, CountingIds::new()));
+    let mut outside = Outside {
+        link,
+        clock: MemClock::new(0, 0),
+        words: Pcg32::seed_from_u64(1),
+        call: 0,
+    };
+    let calls = [insert(alloc)?];
+    run_calls(alloc, &mut client, &mut outside, &calls)
+}
+
+/// Whether the one outcome is Ok, or else an invalid response.
+fn is_taken(outcomes: &List<Outcome>) -> Option<bool> {
+    let [outcome] = outcomes.as_slice() else {
+        return None;
+    };
+    match &outcome.result {
+        Ok(_) => Some(true),
+        Err(error) => match error.kind() {
+            ErrorKind::InvalidResponse { .. } => Some(false),
+            _ => None,
+        },
+    }
+}
+
+#[test]
+fn an_insert_is_ok_only_after_a_reply_that_says_so(rt: HostRuntime) -> Result<(), Fail> {
+    let alloc = rt.alloc();
+    let table: [(&[u8], bool); 8] = [
+        // {ok: 1, n: 1}
+        (b"\x14\0\0\0\x10ok\0\x01\0\0\0\x10n\0\x01\0\0\0\0", true),
+        // the same as int64s, and as doubles
+        (
+            b"\x1c\0\0\0\x12ok\0\x01\0\0\0\0\0\0\0\x12n\0\x01\0\0\0\0\0\0\0\0",
+            true,
+        ),
+        (
+            b"\x1c\0\0\0\x01ok\0\0\0\0\0\0\0\xf0\x3f\x01n\0\0\0\0\0\0\0\xf0\x3f\0",
+            true,
+        ),
+        // {ok: 1, n: 0}
+        (b"\x14\0\0\0\x10ok\0\x01\0\0\0\x10n\0\0\0\0\0\0", false),
+        // {ok: 0, n: 1}
+        (b"\x14\0\0\0\x10ok\0\0\0\0\0\x10n\0\x01\0\0\0\0", false),
+        // {ok: 1}
+        (b"\x0d\0\0\0\x10ok\0\x01\0\0\0\0", false),
+        // no document at all
+        (b"", false),
+        (b"nonsense", false),
+    ];
+    for (reply, taken) in table {
+        let outcomes = outcomes_over(alloc, reply)?;
+        assert_eq!(rt; is_taken(&outcomes), Some(taken));
+    }
+    Ok(())
+}
