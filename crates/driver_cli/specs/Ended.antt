@@ -1,5 +1,5 @@
 -- How a run of the program ends: for each status what was read, what was written and what was made.
-use Rattle.std.specs.Prelude.{◌≡◌, ℕ, List, [], ◌∷◌, ◌++◌, ◌⊎◌, codes, Option, None, Some, Ok, Err, bytes_eq, if◌then◌else◌}
+use Rattle.std.specs.Prelude.{◌≡◌, ℕ, ◌<◌, ◌≤◌, List, [], ◌∷◌, ◌++◌, length, ◌⊎◌, codes, Option, None, Some, Ok, Err, bytes_eq, if◌then◌else◌}
 use Rattle.driver_link.specs.CountingIds.{IdsDrawn, none_drawn, session_at}
 use Rattle.driver_link.specs.Exchange.{replayed, empty_server}
 use Rattle.driver_link.specs.Faults.{Rose}
@@ -13,6 +13,7 @@ use Rattle.driver_actions.specs.declared.client.Client.{Client}
 use Rattle.driver_cli.specs.declared.program.Command.{Command}
 use Rattle.driver_cli.specs.declared.program.Command.TheVariants as command
 use Rattle.driver_cli.specs.declared.running.Run.{Run}
+use Rattle.driver_cli.specs.declared.script.TheConstants.{MOST_CALLS}
 use Rattle.driver_cli.specs.declared.script.Script.{Script}
 use Rattle.driver_cli.specs.declared.status.Status.{Status}
 use Rattle.driver_cli.specs.declared.status.Status.TheVariants as status
@@ -75,6 +76,7 @@ pub record HasRun (left left_now : Option (List ℕ)) (run : Run) : Type 0 where
   pub asked : Script
   pub read : ReadToEnd LIMIT left left_now bytes
   pub is : script bytes ≡ Ok asked
+  pub few : length asked.calls ≤ MOST_CALLS
   pub made : IsRunOf asked run
 
 -- the input was read to its end, and it is no script: the path is that of what is wrong
@@ -86,6 +88,37 @@ pub record Refuses (left left_now : Option (List ℕ)) (path : List ℕ) : Type 
 -- the same for some path
 abbrev pub IsRefused : Option (List ℕ) → Option (List ℕ) → Type 0
 IsRefused left left_now = (path : List ℕ) × Refuses left left_now path
+
+-- the input was read to its end, and it is a script of too many calls
+pub record HasManyCalls (left left_now : Option (List ℕ)) : Type 0 where
+  pub bytes : List ℕ
+  pub asked : Script
+  pub read : ReadToEnd LIMIT left left_now bytes
+  pub is : script bytes ≡ Ok asked
+  pub many : MOST_CALLS < length asked.calls
+
+-- more bytes than a script may have were read, or it has too many calls
+abbrev pub IsTooLarge : Option (List ℕ) → Option (List ℕ) → Type 0
+IsTooLarge left left_now = ReadMore LIMIT left left_now ⊎ HasManyCalls left left_now
+
+-- the input is told, and it is a script that is not too large
+pub record OffersScript (left : Option (List ℕ)) : Type 0 where
+  pub bytes : List ℕ
+  pub asked : Script
+  pub told : left ≡ Some bytes
+  pub fits : length bytes ≤ LIMIT
+  pub is : script bytes ≡ Ok asked
+  pub few : length asked.calls ≤ MOST_CALLS
+
+-- a count of faults did not rise
+abbrev pub Stood : ℕ → ℕ → Type 0
+Stood before now = Rose before now → ⊥
+
+-- a script that is offered is run and reported where nothing fails, or memory runs out: the number is that
+-- of one of the two statuses
+abbrev pub Completes : ℕ → Option (List ℕ) → ℕ → ℕ → ℕ → ℕ → Type 0
+Completes number left reads_failed reads_failed_now writes_failed writes_failed_now =
+    OffersScript left → Stood reads_failed reads_failed_now → Stood writes_failed writes_failed_now → (number ≡ 0) ⊎ (number ≡ 6)
 
 -- the line that shows the forms of the words
 unfoldable pub usage_line : List ℕ
@@ -99,7 +132,7 @@ refused_line path = codes "script refused at " ++ path ++ newline
 unfoldable pub failed_line : List ℕ
 failed_line = codes "read failed\n"
 
--- the line of an input that is too long
+-- the line of a script that is too large
 unfoldable pub large_line : List ℕ
 large_line = codes "script too large\n"
 
@@ -113,7 +146,7 @@ Ended status.ReadFailed ends run now =
 Ended status.WriteFailed ends run now =
     HasRun ends.left ends.left_now now × Rose ends.writes_failed ends.writes_failed_now × TookFront ends.contents ends.contents_now (report now)
 Ended status.Memory ends run now = Unit {0}
-Ended status.TooLarge ends run now = ReadMore LIMIT ends.left ends.left_now × Said ends large_line × (now ≡ run)
+Ended status.TooLarge ends run now = IsTooLarge ends.left ends.left_now × Said ends large_line × (now ≡ run)
 
 -- the number of a status
 abbrev pub code : Status → ℕ

@@ -1,4 +1,5 @@
 pub mod ModelServerChange
+pub mod ModelServerExchange
 pub mod ModelServerState
 pub mod Distinct
 pub mod Ended

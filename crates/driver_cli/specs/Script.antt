@@ -1,20 +1,22 @@
 -- What a script is: one JSON object, with its defaults.
-use Rattle.std.specs.Prelude.{◌≡◌, ℕ, ◌==◌, true, false, if◌then◌else◌, pos, List, [], ◌∷◌, length, codes, Option, None, Some, Result, Ok, Err, unwrap_or, bytes_eq}
+use Rattle.std.specs.Prelude.{◌≡◌, ℕ, ◌<◌, ◌≤◌, true, false, if◌then◌else◌, pos, List, [], ◌∷◌, length, codes, Option, None, Some, Result, Ok, Err, unwrap_or, bytes_eq}
 use Rattle.std.specs.Option.{option_and_then, option_map, ok_or}
 use Rattle.std.specs.Str.{is_utf8}
 use Rattle.driver_link.specs.declared.machine.Item.{Item}
+use Rattle.driver_link.specs.declared.machine.Item.TheVariants.{Serve, Lost}
 use Rattle.driver_link.specs.declared.machine.Schedule.{Schedule}
 use Rattle.driver_link.specs.declared.machine.Setup.{Setup}
 use Rattle.driver_link.specs.declared.options.ClientOptions.{ClientOptions}
 use Rattle.driver_actions.specs.declared.call.Call.{Call}
 use Rattle.driver_actions.specs.declared.call.Call.TheVariants.{Single}
 use Rattle.driver_actions.specs.declared.call.SingleWrite.TheVariants.{InsertOne}
-use Rattle.serde_json.specs.Data.{Data, object, no_members, member}
+use Rattle.serde_json.specs.Data.{Data, string, object, no_members, member}
 use Rattle.serde_json.specs.Read.{read}
-use Rattle.driver_cli.specs.declared.keys.TheConstants.{CALLS, DOC, INSERT_ONE, NS, SCHEDULE}
+use Rattle.driver_cli.specs.declared.keys.TheConstants.{CALLS, DOC, INSERT_ONE, LOST, NS, SCHEDULE, SERVE}
+use Rattle.driver_cli.specs.declared.script.TheConstants.{MOST_CALLS}
 use Rattle.driver_cli.specs.declared.script.Script.{Script}
 use Rattle.driver_cli.specs.declared.script.ScriptFault.{ScriptFault}
-use Rattle.driver_cli.specs.declared.script.ScriptFault.TheVariants.{Wrong, Memory}
+use Rattle.driver_cli.specs.declared.script.ScriptFault.TheVariants.{Wrong, TooManyCalls, Memory}
 use Rattle.driver_cli.specs.Json.{list_of, needed, optional, has_only}
 use Rattle.driver_cli.specs.Values.{namespace_of, document_of}
 
@@ -42,8 +44,13 @@ usual_setup = record {
 abbrev pub empty_schedule : Schedule
 empty_schedule = record { items = [] }
 
--- an item of a schedule: there is none yet
+-- the item of a name
+unfoldable pub item_named : List ℕ → Option Item
+item_named name = if bytes_eq name SERVE.now then Some Serve else if bytes_eq name LOST.now then Some Lost else None
+
+-- an item of a schedule: the text that names it
 unfoldable pub item_of : Data → Option Item
+item_of (string name) = item_named name
 item_of d = None
 
 -- a schedule: the list of its items
@@ -62,10 +69,6 @@ unfoldable pub call_of : Data → Option Call
 call_of (object (member name d no_members)) = if bytes_eq name INSERT_ONE.now then insert_one_of d else None
 call_of d = None
 
--- one call exactly
-unfoldable pub one_call : List Call → Option (List Call)
-one_call calls = if length calls == 1 then Some calls else None
-
 -- a script with these calls
 abbrev pub script_with : List Call → Option Schedule → Script
 script_with calls schedule =
@@ -75,7 +78,7 @@ script_with calls schedule =
 unfoldable pub script_of : Data → Option Script
 script_of d =
     if has_only (CALLS.now ∷ SCHEDULE.now ∷ []) d
-    then option_and_then (λ calls. option_map (script_with calls) (optional schedule_of SCHEDULE.now d)) (option_and_then one_call (needed (list_of call_of) CALLS.now d))
+    then option_and_then (λ calls. option_map (script_with calls) (optional schedule_of SCHEDULE.now d)) (needed (list_of call_of) CALLS.now d)
     else None
 
 -- the value of a text in JSON
@@ -86,13 +89,22 @@ value_read bytes = if is_utf8 bytes then read bytes else None
 unfoldable pub script : List ℕ → Result Script (List ℕ)
 script bytes = ok_or (option_and_then script_of (value_read bytes)) (codes "$")
 
--- the answer is the one given; want of memory says nothing
+-- what was given is a script of so many calls, more than may be made
+pub record HasTooMany (count : ℕ) (given : Result Script (List ℕ)) : Type 0 where
+  pub asked : Script
+  pub is : given ≡ Ok asked
+  pub counts : count ≡ length asked.calls
+  pub many : MOST_CALLS < count
+
+-- the answer is the one given, or it has too many calls; want of memory says nothing
 abbrev pub Reads : Result Script ScriptFault → Result Script (List ℕ) → Type 0
-Reads (Ok found) given = given ≡ Ok found
+Reads (Ok found) given = (given ≡ Ok found) × (length found.calls ≤ MOST_CALLS)
 Reads (Err (Wrong path)) given = given ≡ Err path
+Reads (Err (TooManyCalls count)) given = HasTooMany count given
 Reads (Err Memory) given = Unit {0}
 
 -- the fault names the path, or memory ran out
 abbrev pub IsWrong : List ℕ → ScriptFault → Type 0
 IsWrong path (Wrong found) = found ≡ path
+IsWrong path (TooManyCalls count) = ⊥
 IsWrong path Memory = Unit {0}

@@ -1,10 +1,8 @@
 //! The program: words to a command, and a script from its input to its report.
 ghost use Rattle.std.specs.Prelude.{◌≡◌, ◌≢◌, ◌≤◌, ◌↔◌, Some, None, IfOk, length, ◌<◌, ◌^◌, ◌+◌, ◌-◌};
 ghost use Rattle.driver_link.specs.Faults.{Rose};
-ghost use Rattle.driver_cli.specs.Ended.{Ended, EndsWith, HasRun, IsRefused, IsRunOf, SaysTo, Refusal, Reported, command_of, refused_line};
+ghost use Rattle.driver_cli.specs.Ended.{Completes, Ended, EndsWith, HasRun, IsRefused, IsRunOf, IsTooLarge, SaysTo, Refusal, Reported, command_of, refused_line};
 ghost use Rattle.driver_cli.specs.Report.{drawn_of};
-ghost use Rattle.driver_cli.specs.Streamed.{ReadMore};
-ghost use Rattle.driver_cli.specs.declared.streams.TheConstants.{LIMIT as READ_LIMIT};
 
 use crate::model_server::ModelServer;
 use crate::report::report_text;
@@ -110,6 +108,7 @@ fn copied_item(item: &Item) -> Item
 {
     match item {
         Item::Serve => Item::Serve,
+        Item::Lost => Item::Lost,
     }
 }
 
@@ -126,7 +125,8 @@ pub fn run_script<I: Source, O: Sink>(
     ensures refused { result ≡ 3 → IsRefused (I.left source.old) (I.left source.new) }
     ensures read_failed { result ≡ 4 → Rose (I.faults source.old) (I.faults source.new) }
     ensures write_failed { result ≡ 5 → Rose (O.faults sink.old) (O.faults sink.new) }
-    ensures too_large { result ≡ 7 → ReadMore READ_LIMIT (I.left source.old) (I.left source.new) }
+    ensures too_large { result ≡ 7 → IsTooLarge (I.left source.old) (I.left source.new) }
+    ensures complete { Completes result (I.left source.old) (I.faults source.old) (I.faults source.new) (O.faults sink.old) (O.faults sink.new) }
     ensures reads_later { I.faults source.old ≤ I.faults source.new }
     ensures writes_later { O.faults sink.old ≤ O.faults sink.new }
 {
@@ -160,6 +160,10 @@ fn script_status<I: Source, O: Sink>(
     let asked = match read_script(alloc, bytes.as_slice()) {
         Ok(asked) => asked,
         Err(ScriptFault::Wrong { path }) => return refuse(alloc, sink, &path),
+        Err(ScriptFault::TooManyCalls { .. }) => {
+            say(sink, b"script too large\n");
+            return Status::TooLarge;
+        }
         Err(ScriptFault::Memory) => return Status::Memory,
     };
     drop(bytes);
@@ -223,7 +227,8 @@ pub fn top<T: Wait + Threads, I: Source, O: Sink>(
     ensures refused { result ≡ 3 → IsRefused (I.left source.old) (I.left source.new) }
     ensures read_failed { result ≡ 4 → Rose (I.faults source.old) (I.faults source.new) }
     ensures write_failed { result ≡ 5 → Rose (O.faults sink.old) (O.faults sink.new) }
-    ensures too_large { result ≡ 7 → ReadMore READ_LIMIT (I.left source.old) (I.left source.new) }
+    ensures too_large { result ≡ 7 → IsTooLarge (I.left source.old) (I.left source.new) }
+    ensures complete { command_of words.now ≡ Some Command.Run → Completes result (I.left source.old) (I.faults source.old) (I.faults source.new) (O.faults sink.old) (O.faults sink.new) }
     ensures reads_later { I.faults source.old ≤ I.faults source.new }
     ensures writes_later { O.faults sink.old ≤ O.faults sink.new }
 {

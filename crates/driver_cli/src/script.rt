@@ -6,12 +6,15 @@ ghost use Rattle.driver_cli.specs.Json.{Gives};
 ghost use Rattle.driver_cli.specs.Script.{insert_one_of, call_of, item_of, schedule_of, script_of, script, value_read, usual_options, usual_setup, IsWrong, Reads};
 
 use crate::json::{FromJson, Unread, is_object_of, read_needed, read_optional};
-use crate::keys::{CALLS, DOC, INSERT_ONE, NS, SCHEDULE};
+use crate::keys::{CALLS, DOC, INSERT_ONE, LOST, NS, SCHEDULE, SERVE};
 use bson_lite::{List, Text};
 use driver_actions::{Call, SingleWrite};
 use driver_link::{ClientOptions, Description, Item, Schedule, Setup};
 use serde_json::Value;
 use std::alloc::{AllocError, Global};
+
+/// The greatest number of calls of a script.
+pub(crate) const MOST_CALLS: usize = 10_000;
 
 /// What a script asks for.
 #[derive(Debug, Drop)]
@@ -22,21 +25,31 @@ pub struct Script {
     pub schedule: Schedule,
 }
 
-/// Why bytes are no script.
+/// Why bytes are not run as a script.
 #[derive(Debug, Drop)]
 pub enum ScriptFault {
-    /// The path of the first wrong item, from `$` on.
+    /// They are no script: the path of the first wrong item, from `$` on.
     Wrong { path: Text },
+    /// They are a script of so many calls, more than may be made.
+    TooManyCalls { count: u64 },
     Memory,
 }
 
-/// The script that the bytes are.
+/// The script that the bytes are, where it has no more than 10000 calls.
 #[tactic(auto, unfolding(crate::specs::Script::script))]
 pub fn read_script(alloc: Global, bytes: &[u8]) -> Result<Script, ScriptFault>
     ensures { Reads result (script bytes.now) }
 {
     match any_script(alloc, bytes) {
-        Ok(script) => Ok(script),
+        Ok(script) => {
+            let count = script.calls.len();
+            if count > MOST_CALLS {
+                return Err(ScriptFault::TooManyCalls {
+                    count: count as u64,
+                });
+            }
+            Ok(script)
+        }
         Err(Unread::Wrong) => Err(wrong(alloc)),
         Err(Unread::Memory) => Err(ScriptFault::Memory),
     }
@@ -71,15 +84,12 @@ fn any_script(alloc: Global, bytes: &[u8]) -> Result<Script, Unread>
 impl FromJson for Script {
     ghost spec = { script_of };
 
-    #[tactic(auto, unfolding(crate::specs::Script::script_of, crate::specs::Script::one_call))]
+    #[tactic(auto, unfolding(crate::specs::Script::script_of))]
     fn read(alloc: Global, value: &Value) -> Result<Script, Unread> {
         if !is_object_of(value, &[CALLS, SCHEDULE]) {
             return Err(Unread::Wrong);
         }
-        let calls = read_needed::<List<Call>>(alloc, value, CALLS)?;
-        if calls.len() != 1 {
-            return Err(Unread::Wrong);
-        }
+        let calls = read_needed(alloc, value, CALLS)?;
         let schedule = read_optional(alloc, value, SCHEDULE)?;
         Ok(Script {
             options: options_of_scripts(),
@@ -129,8 +139,17 @@ impl FromJson for Schedule {
 impl FromJson for Item {
     ghost spec = { item_of };
 
-    #[tactic(auto, unfolding(crate::specs::Script::item_of))]
-    fn read(_alloc: Global, _value: &Value) -> Result<Item, Unread> {
+    #[tactic(auto, unfolding(crate::specs::Script::item_of, crate::specs::Script::item_named))]
+    fn read(_alloc: Global, value: &Value) -> Result<Item, Unread> {
+        let Value::String(name) = value else {
+            return Err(Unread::Wrong);
+        };
+        if name.as_str() == SERVE {
+            return Ok(Item::Serve);
+        }
+        if name.as_str() == LOST {
+            return Ok(Item::Lost);
+        }
         Err(Unread::Wrong)
     }
 }

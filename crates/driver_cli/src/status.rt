@@ -12,6 +12,6 @@ pub(crate) enum Status {
     ReadFailed = 4,
     WriteFailed = 5,
     Memory = 6,
-    /// The input is longer than a script may be.
+    /// The input is longer than a script may be, or has more calls.
     TooLarge = 7,
 }

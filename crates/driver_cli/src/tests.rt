@@ -1,16 +1,39 @@
 //! Scripts run from a source to a sink: statuses and texts.
 use crate::program::{run_script, top};
 use crate::running::Run;
-use crate::streams::{ReadFault, read_all};
 use bson_lite::{Bytes, List, Text};
 use driver_link::{MemSink, MemSource};
 use std::alloc::{AllocError, Global};
+use std::sync::Wait;
 use std::test::Fail;
+use std::thread::Threads;
 
 const INSERT: &str =
     "{\"calls\":[{\"insertOne\":{\"ns\":\"shop.items\",\"doc\":[[\"x\",1]]}}],\"schedule\":[]}";
 
 const UPDATE: &str = "{\"calls\":[{\"updateOne\":{\"ns\":\"shop.items\",\"doc\":[]}}]}";
+
+/// Two inserts, of which the first is lost.
+const LOST: &str =
+    "{\"calls\":[{\"insertOne\":{\"ns\":\"shop.items\",\"doc\":[[\"x\",1]]}},{\"insertOne\":{\"ns\":\"shop.items\",\"doc\":[[\"x\",1]]}}],\"schedule\":[\"lost\"]}";
+
+const REPORT_OF_LOST: &str =
+    "call 0 insertOne: err Io ConnectionReset labels=RetryableWriteError source=-
+call 1 insertOne: ok id=000000000000000000000002
+send 0: insert session=1 number=1 places=0.0
+send 1: insert session=2 number=1 places=1.0
+entry 0: 1.0 session=2 number=1 n=1
+ids: distinct
+waiting: 0
+totals: calls=2 ok=1 sends=2 entries=1
+";
+
+const REPORT_OF_NOTHING: &str = "ids: distinct
+waiting: 0
+totals: calls=0 ok=0 sends=0 entries=0
+";
+
+const TOO_LARGE: &str = "script too large\n";
 
 const REPORT: &str = "call 0 insertOne: ok id=000000000000000000000001
 send 0: insert session=1 number=1 places=0.0
@@ -42,6 +65,55 @@ fn ran(
     Ok((status, Bytes::from_slice(alloc, sink.contents())?))
 }
 
+/// The words of a command.
+fn words_of(alloc: Global, texts: &[&str]) -> Result<Vec<Text>, AllocError> {
+    let mut words = Vec::new(alloc);
+    for text in texts {
+        words.push(Text::from_str(alloc, text)?)?;
+    }
+    Ok(words)
+}
+
+/// The program's status on words and an input, and what was written.
+fn program<T: Wait + Threads>(
+    rt: &T,
+    alloc: Global,
+    texts: &[&str],
+    input: Bytes,
+) -> Result<(u8, Bytes), AllocError> {
+    let words = words_of(alloc, texts)?;
+    let mut source = MemSource::new(input, List::new(alloc));
+    let mut sink = MemSink::new(alloc, 1000, List::new(alloc))?;
+    let status = top(
+        rt,
+        alloc,
+        words.as_slice(),
+        &mut source,
+        &mut sink,
+        &mut Run::new(),
+    );
+    Ok((status, Bytes::from_slice(alloc, sink.contents())?))
+}
+
+/// An input of so many spaces.
+fn spaces(alloc: Global, count: usize) -> Result<Bytes, AllocError> {
+    Ok(Bytes::from_vec(vec![in alloc; b' '; count]?))
+}
+
+/// A script of so many inserts.
+fn inserts(alloc: Global, count: usize) -> Result<Bytes, AllocError> {
+    let mut script = String::new(alloc);
+    script.push_str("{\"calls\":[")?;
+    for at in 0..count {
+        if at > 0 {
+            script.push_str(",")?;
+        }
+        script.push_str("{\"insertOne\":{\"ns\":\"a.b\",\"doc\":[]}}")?;
+    }
+    script.push_str("]}")?;
+    Ok(Bytes::from_vec(script.into_bytes()))
+}
+
 #[test]
 fn refused_scripts_and_failing_streams(rt: HostRuntime) -> Result<(), Fail> {
     let undotted = "{\"calls\":[{\"insertOne\":{\"ns\":\"ab\",\"doc\":[]}}]}";
@@ -52,7 +124,21 @@ fn refused_scripts_and_failing_streams(rt: HostRuntime) -> Result<(), Fail> {
         (undotted, None, 100, 3, "script refused at $\n"),
         (fraction, None, 100, 3, "script refused at $\n"),
         (unknown, None, 100, 3, "script refused at $\n"),
-        ("{\"calls\":[]}", None, 100, 3, "script refused at $\n"),
+        (
+            "{\"calls\":[],\"schedule\":[\"Lost\"]}",
+            None,
+            100,
+            3,
+            "script refused at $\n",
+        ),
+        (
+            "{\"calls\":[],\"schedule\":\"lost\"}",
+            None,
+            100,
+            3,
+            "script refused at $\n",
+        ),
+        ("{\"schedule\":[]}", None, 100, 3, "script refused at $\n"),
         ("   ", None, 100, 3, "script refused at $\n"),
         (INSERT, Some(0), 100, 4, "read failed\n"),
         (INSERT, Some(1), 100, 4, "read failed\n"),
@@ -68,48 +154,63 @@ fn refused_scripts_and_failing_streams(rt: HostRuntime) -> Result<(), Fail> {
 }
 
 #[test]
-fn one_insert_is_reported(rt: HostRuntime) -> Result<(), Fail> {
-    for (room, status) in [(1000, 0), (16, 5)] {
-        let (found, bytes) = ran(rt.alloc(), INSERT, None, room)?;
-        let text = &REPORT.as_bytes()[..room.min(REPORT.len())];
-        assert_eq!(rt; found, status, "at room {room}");
-        assert_eq!(rt; bytes.as_slice(), text, "at room {room}");
+fn runs_are_reported(rt: HostRuntime) -> Result<(), Fail> {
+    let rows = [
+        (INSERT, REPORT),
+        (LOST, REPORT_OF_LOST),
+        ("{\"calls\":[]}", REPORT_OF_NOTHING),
+        (
+            "{\"calls\":[],\"schedule\":[\"serve\",\"lost\"]}",
+            REPORT_OF_NOTHING,
+        ),
+    ];
+    for (script, report) in rows {
+        for (room, status) in [(1000, 0), (16, 5)] {
+            let (found, bytes) = ran(rt.alloc(), script, None, room)?;
+            let text = &report.as_bytes()[..room.min(report.len())];
+            assert_eq!(rt; found, status, "of {script} at room {room}");
+            assert_eq!(rt; bytes.as_slice(), text, "of {script} at room {room}");
+        }
     }
     Ok(())
 }
 
 #[test]
 fn other_words_are_answered_by_their_usage(rt: HostRuntime) -> Result<(), Fail> {
-    let alloc = rt.alloc();
-    let mut words = Vec::new(alloc);
-    words.push(Text::from_str(alloc, "run")?)?;
-    words.push(Text::from_str(alloc, "x")?)?;
-    let mut source = source_of(alloc, INSERT.as_bytes(), None)?;
-    let mut sink = MemSink::new(alloc, 100, List::new(alloc))?;
-    let status = top(
-        &rt,
-        alloc,
-        words.as_slice(),
-        &mut source,
-        &mut sink,
-        &mut Run::new(),
-    );
-    assert_eq!(rt; status, 2);
-    assert_eq!(rt;
-        sink.contents(),
-        "usage: run | race N | generate SEED N\n".as_bytes()
-    );
+    let usage = "usage: run | race N | generate SEED N\n";
+    let empty: [&str; 0] = [];
+    for texts in [&empty[..], &["run", "x"], &["Run"], &["--help"]] {
+        let (status, text) = program(&rt, rt.alloc(), texts, Bytes::new(rt.alloc()))?;
+        assert_eq!(rt; status, 2);
+        assert_eq!(rt; text.as_slice(), usage.as_bytes());
+    }
     Ok(())
 }
 
 #[test]
-fn the_greatest_length_is_read_whole(rt: HostRuntime) -> Result<(), Fail> {
-    let alloc = rt.alloc();
-    let mut source = source_of(alloc, b"0123456789", None)?;
-    let whole = read_all(alloc, &mut source, 10);
-    assert!(rt; whole.is_ok_and(|bytes| bytes.len() == 10));
-    let mut source = source_of(alloc, b"0123456789", None)?;
-    let longer = read_all(alloc, &mut source, 9);
-    assert!(rt; longer.is_err_and(|fault| fault == ReadFault::TooLarge));
+fn the_length_of_an_input_is_bounded(rt: HostRuntime) -> Result<(), Fail> {
+    let rows = [
+        (16_777_216, 3, "script refused at $\n"),
+        (16_777_217, 7, TOO_LARGE),
+    ];
+    for (count, status, text) in rows {
+        let input = spaces(rt.alloc(), count)?;
+        let (found, bytes) = program(&rt, rt.alloc(), &["run"], input)?;
+        assert_eq!(rt; found, status, "of {count} bytes");
+        assert_eq!(rt; bytes.as_slice(), text.as_bytes(), "of {count} bytes");
+    }
+    Ok(())
+}
+
+#[test]
+fn the_number_of_calls_is_bounded(rt: HostRuntime) -> Result<(), Fail> {
+    // The report of 10000 calls is longer than the room of the output.
+    for (count, status) in [(10_000, 5), (10_001, 7)] {
+        let input = inserts(rt.alloc(), count)?;
+        let (found, bytes) = program(&rt, rt.alloc(), &["run"], input)?;
+        assert_eq!(rt; found, status, "of {count} calls");
+        let refused = bytes.as_slice() == TOO_LARGE.as_bytes();
+        assert_eq!(rt; refused, status == 7, "of {count} calls");
+    }
     Ok(())
 }

@@ -1,16 +1,20 @@
 //! The model server as a link.
-ghost use Rattle.std.specs.Prelude.{◌≡◌, ◌+◌, ◌-◌, ◌^◌, ◌∷◌, ◌++◌, [], min, Some, OnOk, OnErr, IfOk};
+ghost use Rattle.std.specs.Prelude.{◌≡◌, ◌≤◌, ◌+◌, ◌-◌, ◌^◌, ◌∷◌, ◌++◌, [], min, Some, OnOk, OnErr, IfOk};
 ghost use Rattle.driver_cli.specs.ModelServerChange.{changed};
-ghost use Rattle.driver_link.specs.Exchange.{empty_server, traced};
+ghost use Rattle.driver_cli.specs.ModelServerExchange.{Serves, Loses, is_lost, counted_up};
+ghost use Rattle.driver_link.specs.Exchange.{empty_server, traced, next_item};
+ghost use Rattle.driver_link.specs.declared.fault.LinkFault.TheVariants.{Io};
+ghost use Rattle.driver_error.specs.declared.kind.IoKind.TheVariants.{ConnectionReset};
 
 use crate::model_server::change::{Change, advance};
 use crate::model_server::reading::read_send;
 use crate::model_server::replying::reply_bytes;
 use crate::model_server::serving::change_of;
 use bson_lite::{Bytes, List, Text, TryClone};
+use driver_error::IoKind;
 use driver_link::{
-    Address, Answered, ById, Conn, Frame, Link, LinkError, Place, Schedule, SelectionCriteria,
-    Send, Server, Setup,
+    Address, Answered, ById, Conn, Frame, Item, Link, LinkCall, LinkError, LinkFault, Place,
+    Schedule, SelectionCriteria, Send, Server, Setup,
 };
 use std::alloc::{AllocError, Global};
 use std::marker::Model;
@@ -96,6 +100,52 @@ impl ModelServer {
         self.answered.as_slice()
     }
 
+    /// Whether the next exchange is lost. Past the end of the schedule none is.
+    fn loses_next(&self) -> bool
+        ensures { result ≡ is_lost (next_item self.now.schedule self.now.server) }
+    {
+        let at = self.server.trace.len();
+        matches!(self.schedule.items.get(at), Some(Item::Lost))
+    }
+
+    /// Serves a send. Want of memory changes nothing.
+    fn serve(&mut self, alloc: Global, send: Send) -> Result<Bytes, AllocError>
+        ensures ok { IfOk result (λ reply. Serves self.old self.new send reply) }
+        ensures err { OnErr result (self.new ≡ self.old) }
+    {
+        let reply = reply_bytes(alloc, &self.server, &send)?;
+        let note = Answered::Reply(reply.try_clone(alloc)?);
+        let change = change_of(alloc, &self.server, &send)?;
+        self.take(alloc, note, send, change)?;
+        Ok(reply)
+    }
+
+    /// Counts one more fault.
+    fn count_fault(&mut self)
+        ensures counts { self.new ≡ record self.old { faults = counted_up self.old.faults } }
+        ensures later { self.old.faults ≤ self.new.faults }
+    {
+        self.faults = self.faults.saturating_add(1);
+    }
+
+    /// Loses a send: it joins the trace, and nothing runs. Want of memory changes nothing.
+    fn lose(&mut self, alloc: Global, send: Send) -> Result<LinkError, AllocError>
+        ensures ok { IfOk result (λ failure. Loses self.old self.new send failure) }
+        ensures err { OnErr result (self.new ≡ self.old) }
+    {
+        let note = Answered::Fault {
+            call: LinkCall::Exchange,
+            fault: reset(),
+            labels: List::new(alloc),
+        };
+        self.take(alloc, note, send, Change::Nothing)?;
+        self.count_fault();
+        Ok(LinkError::Fault {
+            fault: reset(),
+            labels: List::new(alloc),
+        })
+    }
+
     /// Notes an answer, and puts the send and its change into the server. A refusal changes nothing.
     fn take(
         &mut self,
@@ -119,13 +169,24 @@ impl ModelServer {
     }
 }
 
+/// What the caller of a lost exchange sees.
+fn reset() -> LinkFault
+    ensures { result ≡ Io ConnectionReset }
+{
+    LinkFault::Io(IoKind::ConnectionReset)
+}
+
 impl Link for ModelServer {
     ghost use Rattle.std.specs.Prelude.{◌≡◌, ◌≤◌, ◌+◌, ◌-◌, ◌^◌, Some, IfOk, min};
     ghost use Rattle.std.specs.Option.{option_copied};
     ghost use Rattle.driver_cli.specs.ModelServerState.{selected, told_of};
     ghost use Rattle.driver_link.specs.Faults.{HasLinkCause};
-    ghost use Rattle.driver_link.specs.Told.{IsTo, Notes, Stays, noted, nothing_noted};
-    ghost use Rattle.driver_link.specs.declared.fault.LinkCall.TheVariants.{Select, CheckOut};
+    ghost use Rattle.driver_cli.specs.ModelServerExchange.{faults_after};
+    ghost use Rattle.driver_link.specs.Exchange.{next_item};
+    ghost use Rattle.driver_link.specs.Reads.{Reads};
+    ghost use Rattle.driver_link.specs.Told.{IsTo, Notes, Stays, Steps, noted, nothing_noted, reply_noted};
+    ghost use Rattle.driver_link.specs.declared.fault.LinkCall.TheVariants.{Select, CheckOut, Exchange};
+    ghost use Rattle.driver_link.specs.declared.machine.Send.{Send as Sent};
 
     ghost told = { λ model. Some (told_of model) };
 
@@ -184,21 +245,26 @@ impl Link for ModelServer {
         _conn: &Conn,
         frame: &Frame,
         places: &[Place],
-    ) -> Result<Bytes, LinkError> {
+    ) -> Result<Bytes, LinkError>
+        requires { (send : Sent) × Reads frame.now places.now send }
+        ensures step { (send : Sent) → Reads frame.now places.now send → Steps (Some (told_of self.old)) (Some (told_of self.new)) send result }
+        ensures answers { Notes (Some self.old.answers) (Some self.new.answers) (noted Exchange reply_noted result) }
+        ensures cause { HasLinkCause self.old.faults self.new.faults result }
+        ensures faults { self.new.faults ≡ faults_after self.old.faults (next_item self.old.schedule self.old.server) result }
+    {
         let Some(send) = read_send(alloc, frame, places)? else {
             unreachable!()
         };
-        let reply = reply_bytes(alloc, &self.server, &send)?;
-        let note = Answered::Reply(reply.try_clone(alloc)?);
-        let change = change_of(alloc, &self.server, &send)?;
-        self.take(alloc, note, send, change)?;
-        Ok(reply)
+        if self.loses_next() {
+            return Err(self.lose(alloc, send)?);
+        }
+        Ok(self.serve(alloc, send)?)
     }
 
     fn check_in(&mut self, _conn: Conn)
         ensures told { Some (told_of self.new) ≡ Some (told_of self.old) }
         ensures answers { Some self.new.answers ≡ Some self.old.answers }
-        ensures faults { self.old.faults ≤ self.new.faults }
+        ensures faults { self.new.faults ≡ self.old.faults }
         ensures unchanged { self.new ≡ self.old }
     {}
 }

@@ -1,30 +1,46 @@
-use Rattle.std.proofs.Common.{◌≡◌, List, Some, Ok, ap, sym, ◌∙◌, subst}
-use Rattle.bson_lite.specs.Spelling.{Spells}
-use Rattle.driver_cli.proofs.ExchangeLaws.{step_law}
+-- The send that was read is the one that the frame reads as, and it was served or lost.
+use Rattle.std.proofs.Common.{◌≡◌, Some, Ok, Err, sym, ◌∙◌, subst}
+use Rattle.driver_cli.proofs.ExchangeLaws.{serves_exchanges, loses_exchanges}
 use Rattle.driver_cli.proofs.ReadLaws.{some_same}
-use Rattle.driver_cli.specs.ModelServerChange.{changed}
-use Rattle.driver_link.specs.Exchange.{traced}
-use Rattle.driver_link.specs.Replies.{reply_to}
-use Rattle.driver_link.specs.Serving.{served}
-use Rattle.driver_link.specs.Told.{Told, Steps}
-use Rattle.driver_link.specs.declared.machine.Send.{Send}
+use Rattle.driver_cli.specs.ModelServerState.{told_of}
+use Rattle.driver_link.specs.Told.{Steps}
 use Rattle.driver_cli.proofs.model_server.server.ModelServerLink.exchange.Goals as goal
 
 pub unreachable-requires : goal.unreachable-requires
 unreachable-requires c = let none = sym c.in_default.is ∙ c.in_ok-send.ensures c.requires.0 c.requires.1 in cc
 
+pub returns-then-loses_next-clause-step : goal.returns-then-loses_next-clause-step
+returns-then-loses_next-clause-step c = λ send reads.
+    let same : c.in-Some.send ≡ send = some_same (sym c.in-Some.is ∙ c.in_ok-send.ensures send reads) in
+    let lost = loses_exchanges _ _ _ _ (sym c.loses_next.ensures ∙ c.if-loses_next.true) c.in_ok-lose.ensures.ok in
+    subst (λ s. Steps (Some (told_of c.args.self.now)) (Some (told_of c.lose.new.self)) s (Err c.in_ok-lose.field-0)) same lost.step
+
+pub returns-then-loses_next-clause-answers : goal.returns-then-loses_next-clause-answers
+returns-then-loses_next-clause-answers c =
+    (loses_exchanges _ _ _ _ (sym c.loses_next.ensures ∙ c.if-loses_next.true) c.in_ok-lose.ensures.ok).answers
+
+pub returns-then-loses_next-clause-cause : goal.returns-then-loses_next-clause-cause
+returns-then-loses_next-clause-cause c =
+    (loses_exchanges _ _ _ _ (sym c.loses_next.ensures ∙ c.if-loses_next.true) c.in_ok-lose.ensures.ok).cause
+
+pub returns-then-loses_next-clause-faults : goal.returns-then-loses_next-clause-faults
+returns-then-loses_next-clause-faults c =
+    (loses_exchanges _ _ _ _ (sym c.loses_next.ensures ∙ c.if-loses_next.true) c.in_ok-lose.ensures.ok).faults
+
 pub returns-clause-step : goal.returns-clause-step
 returns-clause-step c = λ send reads.
-    let told : Told = record { server = c.args.self.now.server; setup = c.args.self.now.setup; schedule = c.args.self.now.schedule } in
-    let now : Told = record { server = c.take.new.self.server; setup = c.take.new.self.setup; schedule = c.take.new.self.schedule } in
     let same : c.in-Some.send ≡ send = some_same (sym c.in-Some.is ∙ c.in_ok-send.ensures send reads) in
-    let serves : (trace : List Send) → changed (record told.server { trace = trace }) c.in_ok-change.change ≡ served (record told.server { trace = trace }) c.in-Some.send
-    = subst (λ server. (trace : List Send) → changed (record server { trace = trace }) c.in_ok-change.change ≡ served (record server { trace = trace }) c.in-Some.send)
-    (ap (λ model. model.server) c.self.view_is) c.in_ok-change.ensures in
-    let spells : Spells (reply_to told.server c.in-Some.send) c.in_ok-reply.reply
-    = subst (λ server. Spells (reply_to server c.in-Some.send) c.in_ok-reply.reply) (ap (λ model. model.server) c.self.view_is) c.in_ok-reply.ensures in
-    let now_is : record told { server = changed (traced told.server c.in-Some.send) c.in_ok-change.change } ≡ now
-    = ap (λ model. record { server = model.server; setup = model.setup; schedule = model.schedule }) (sym c.in_ok-take.ensures.ok) in
-    subst (λ s. Steps (Some told) (Some now) s (Ok c.in_ok-reply.reply)) same
-    (subst (λ t. Steps (Some told) (Some t) c.in-Some.send (Ok c.in_ok-reply.reply)) now_is
-    (step_law told c.in-Some.send c.in_ok-change.change c.in_ok-reply.reply serves spells))
+    let served = serves_exchanges _ _ _ _ (sym c.loses_next.ensures ∙ c.if-loses_next.false) c.in_ok-serve.ensures.ok in
+    subst (λ s. Steps (Some (told_of c.args.self.now)) (Some (told_of c.serve.new.self)) s (Ok c.in_ok-serve.field-0)) same served.step
+
+pub returns-clause-answers : goal.returns-clause-answers
+returns-clause-answers c =
+    (serves_exchanges _ _ _ _ (sym c.loses_next.ensures ∙ c.if-loses_next.false) c.in_ok-serve.ensures.ok).answers
+
+pub returns-clause-cause : goal.returns-clause-cause
+returns-clause-cause c =
+    (serves_exchanges _ _ _ _ (sym c.loses_next.ensures ∙ c.if-loses_next.false) c.in_ok-serve.ensures.ok).cause
+
+pub returns-clause-faults : goal.returns-clause-faults
+returns-clause-faults c =
+    (serves_exchanges _ _ _ _ (sym c.loses_next.ensures ∙ c.if-loses_next.false) c.in_ok-serve.ensures.ok).faults
