@@ -1,0 +1,112 @@
+#!/usr/bin/env python3
+"""Times the program on scripts of 1,000, 3,000 and 10,000 calls of insertOne.
+
+Builds `driver_cli` as the merge gate does, by `rt run` (LLVM, the default level of optimization), runs it
+several times on each script, and prints the median of the wall times and of the processor times, the latter
+over that of the smallest script, and the peak memory. A second table is of schedules that lose every fifth
+exchange.
+
+Usage: python3 bench/program.py [RUNS]      (Linux: it reads /proc)
+"""
+
+import json
+import os
+import statistics
+import subprocess
+import sys
+import tempfile
+import time
+
+ROOT = os.path.dirname(os.path.dirname(os.path.abspath(__file__)))
+CRATE = os.path.join(ROOT, "crates", "driver_cli")
+PROGRAM = os.path.join(CRATE, "out", "driver_cli")
+COUNTS = (1_000, 3_000, 10_000)
+LOST_EVERY = 5
+
+
+def script(calls, lost_every):
+    """A script of so many inserts, which loses every exchange of that number, or none where it is None."""
+    asked = {
+        "calls": [
+            {"insertOne": {"ns": "shop.items", "doc": [["x", at], ["name", f"item {at}"]]}}
+            for at in range(calls)
+        ]
+    }
+    if lost_every is not None:
+        asked["schedule"] = [
+            "lost" if at % lost_every == lost_every - 1 else "serve" for at in range(calls)
+        ]
+    return json.dumps(asked)
+
+
+def build():
+    """Builds the program, and runs it once on a script without calls."""
+    built = subprocess.run(
+        ["rt", "run", "--", "run"],
+        cwd=CRATE,
+        input=b'{"calls":[]}',
+        stdout=subprocess.DEVNULL,
+        stderr=subprocess.PIPE,
+    )
+    if built.returncode != 0:
+        raise SystemExit(built.stderr.decode())
+
+
+def timed(path):
+    """The wall seconds, the processor seconds and the last line of one run on the script at `path`."""
+    with open(path, "rb") as source, tempfile.TemporaryFile() as sink:
+        begun = time.perf_counter()
+        child = subprocess.Popen([PROGRAM, "run"], stdin=source, stdout=sink)
+        _, status, usage = os.wait4(child.pid, 0)
+        wall = time.perf_counter() - begun
+        child.returncode = os.waitstatus_to_exitcode(status)
+        if child.returncode != 0:
+            raise SystemExit(f"the program ended with status {child.returncode}")
+        sink.seek(0)
+        return wall, usage.ru_utime + usage.ru_stime, sink.read().decode().splitlines()[-1]
+
+
+def peak_memory(path):
+    """The greatest memory of a run in KiB, as the kernel tells it while the program runs."""
+    peak = 0
+    with open(path, "rb") as source:
+        child = subprocess.Popen([PROGRAM, "run"], stdin=source, stdout=subprocess.DEVNULL)
+        while child.poll() is None:
+            with open(f"/proc/{child.pid}/status", encoding="ascii") as lines:
+                for line in lines:
+                    if line.startswith("VmHWM:"):
+                        peak = max(peak, int(line.split()[1]))
+    return peak
+
+
+def table(title, folder, runs, lost_every=None):
+    print(f"{title}: median of {runs} runs")
+    print(f"{'calls':>7} {'bytes':>8} {'wall ms':>8} {'cpu ms':>8} {'ratio':>6} {'MiB':>6}  last line")
+    smallest = None
+    for calls in COUNTS:
+        path = os.path.join(folder, f"{calls}.json")
+        with open(path, "w", encoding="utf-8") as out:
+            out.write(script(calls, lost_every))
+        timed(path)
+        measured = [timed(path) for _ in range(runs)]
+        wall = statistics.median(wall for wall, _, _ in measured)
+        spent = statistics.median(spent for _, spent, _ in measured)
+        smallest = smallest or spent
+        peak = max(peak_memory(path) for _ in range(3))
+        print(
+            f"{calls:>7} {os.path.getsize(path):>8} {wall * 1000:>8.1f} {spent * 1000:>8.1f}"
+            f" {spent / smallest:>6.1f} {peak / 1024:>6.1f}  {measured[0][2]}"
+        )
+    print()
+
+
+def main():
+    runs = int(sys.argv[1]) if len(sys.argv) > 1 else 9
+    build()
+    with tempfile.TemporaryDirectory() as folder:
+        table("each exchange served", folder, runs)
+        table(f"every {LOST_EVERY}th exchange lost", folder, runs, LOST_EVERY)
+
+
+if __name__ == "__main__":
+    main()
