@@ -1,7 +1,7 @@
 //! The program: words to a command, and a script from its input to its report.
 ghost use Rattle.std.specs.Prelude.{◌≡◌, ◌≢◌, ◌≤◌, ◌↔◌, Some, None, IfOk, length, ◌<◌, ◌^◌, ◌+◌, ◌-◌};
 ghost use Rattle.driver_link.specs.Faults.{Rose};
-ghost use Rattle.driver_cli.specs.Ended.{Completes, Ended, EndsWith, HasRun, IsRefused, IsRunOf, IsTooLarge, SaysTo, Refusal, Reported, command_of, refused_line};
+ghost use Rattle.driver_cli.specs.Ended.{Completes, Ended, EndsWith, HasRun, IsRefused, IsRunOf, IsTooLarge, SaysTo, Refusal, Reported, command_of, refused_line, usage_line};
 ghost use Rattle.driver_cli.specs.Report.{drawn_of};
 
 use crate::model_server::ModelServer;
@@ -211,8 +211,16 @@ fn report_status<O: Sink>(alloc: Global, sink: &mut O, run: &Run) -> Status
     }
 }
 
-/// The program: `run` runs the script of its input; all other words are answered by their usage.
+/// Writes the forms of the words.
 #[tactic(auto, unfolding(crate::specs::Ended::usage_line))]
+fn say_usage<O: Sink>(sink: &mut O)
+    ensures later { O.faults sink.old ≤ O.faults sink.new }
+    ensures said { SaysTo (O.contents sink.old) (O.contents sink.new) (O.faults sink.old) (O.faults sink.new) usage_line }
+{
+    say(sink, b"usage: run | race N | generate SEED N\n");
+}
+
+/// The program: `run` runs the script of its input; all other words are answered by their usage.
 pub fn top<T: Wait + Threads, I: Source, O: Sink>(
     _rt: &T,
     alloc: Global,
@@ -235,7 +243,7 @@ pub fn top<T: Wait + Threads, I: Source, O: Sink>(
     match command_in(words) {
         Some(Command::Run) => run_script(alloc, source, sink, run),
         None => {
-            say(sink, b"usage: run | race N | generate SEED N\n");
+            say_usage(sink);
             Status::Usage as u8
         }
     }
