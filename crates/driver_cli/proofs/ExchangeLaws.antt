@@ -1,6 +1,6 @@
 -- A send that was served or lost is one exchange of the machine.
 use Rattle.std.proofs.Common.{◌≡◌, ℕ, true, false, List, [], Some, Result, Ok, Err, refl, sym, ap, ◌∙◌, subst, arith}
-use Rattle.driver_cli.specs.ModelServerExchange.{Serves, Loses, is_lost, faults_after, reset_fault}
+use Rattle.driver_cli.specs.ModelServerExchange.{Keeps, Serves, Loses, is_lost, faults_after, reset_fault}
 use Rattle.driver_cli.specs.ModelServerState.{ModelState, told_of}
 use Rattle.driver_link.specs.declared.fault.LinkCall.TheVariants.{Exchange}
 use Rattle.driver_link.specs.declared.fault.LinkError.{LinkError}
@@ -18,6 +18,7 @@ pub record Exchanges (old now : ModelState) (send : Send) (result : Result (List
   pub answers : Notes (Some old.answers) (Some now.answers) (noted Exchange reply_noted result)
   pub cause : HasLinkCause old.faults now.faults result
   pub faults : now.faults ≡ faults_after old.faults (next_item old.schedule old.server) result
+  pub kept : Keeps old now result
 
 item_serve : (item : Item) → is_lost item ≡ false → item ≡ Serve
 item_serve Serve not = refl
@@ -42,6 +43,7 @@ serves_exchanges old now send reply not serves =
       answers = ap (λ model. Some model.answers) serves.is;
       cause = omega (arith, same);
       faults = same ∙ ap (λ i. faults_after {A = List ℕ} old.faults i (Ok reply)) item;
+      kept = ap (λ model. model.check_outs) serves.is;
     }
 
 -- an exchange that was lost
@@ -61,4 +63,5 @@ loses_exchanges old now send failure is loses =
       answers = ap (λ model. Some model.answers) loses.is;
       cause = (omega (arith, counted), loses.later);
       faults = counted ∙ ap (λ i. faults_after {A = List ℕ} old.faults i (Err (Fault reset_fault []))) item;
+      kept = ap (λ model. model.check_outs) loses.is;
     })

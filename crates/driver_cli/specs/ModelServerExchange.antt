@@ -5,7 +5,7 @@ use Rattle.driver_error.specs.declared.kind.IoKind.TheVariants.{ConnectionReset}
 use Rattle.driver_link.specs.declared.fault.Answered.TheVariants as answer
 use Rattle.driver_link.specs.declared.fault.LinkCall.TheVariants.{Exchange}
 use Rattle.driver_link.specs.declared.fault.LinkError.{LinkError}
-use Rattle.driver_link.specs.declared.fault.LinkError.TheVariants.{Fault}
+use Rattle.driver_link.specs.declared.fault.LinkError.TheVariants.{Fault, Memory}
 use Rattle.driver_link.specs.declared.fault.LinkFault.{LinkFault}
 use Rattle.driver_link.specs.declared.fault.LinkFault.TheVariants.{Io}
 use Rattle.driver_link.specs.declared.machine.Item.{Item}
@@ -29,6 +29,11 @@ counted_up count = min (count + 1) (2 ^ 64 - 1)
 abbrev pub faults_after : {A : Type 0} → ℕ → Item → Result A LinkError → ℕ
 faults_after faults Lost (Err (Fault fault labels)) = counted_up faults
 faults_after faults item result = faults
+
+-- want of memory leaves a server as it was; no exchange changes how often a connection was asked for
+abbrev pub Keeps : {A : Type 0} → ModelState → ModelState → Result A LinkError → Type 0
+Keeps old now (Err Memory) = now ≡ old
+Keeps old now result = now.check_outs ≡ old.check_outs
 
 -- a send was served: the reply is spelled and noted, and the server took the step
 pub record Serves (old now : ModelState) (send : Send) (reply : List ℕ) : Type 0 where

@@ -181,7 +181,7 @@ impl Link for ModelServer {
     ghost use Rattle.std.specs.Option.{option_copied};
     ghost use Rattle.driver_cli.specs.ModelServerState.{selected, told_of};
     ghost use Rattle.driver_link.specs.Faults.{HasLinkCause};
-    ghost use Rattle.driver_cli.specs.ModelServerExchange.{faults_after};
+    ghost use Rattle.driver_cli.specs.ModelServerExchange.{Keeps, faults_after};
     ghost use Rattle.driver_link.specs.Exchange.{next_item};
     ghost use Rattle.driver_link.specs.Reads.{Reads};
     ghost use Rattle.driver_link.specs.Told.{IsTo, Notes, Stays, Steps, noted, nothing_noted, reply_noted};
@@ -251,6 +251,7 @@ impl Link for ModelServer {
         ensures answers { Notes (Some self.old.answers) (Some self.new.answers) (noted Exchange reply_noted result) }
         ensures cause { HasLinkCause self.old.faults self.new.faults result }
         ensures faults { self.new.faults ≡ faults_after self.old.faults (next_item self.old.schedule self.old.server) result }
+        ensures kept { Keeps self.old self.new result }
     {
         let Some(send) = read_send(alloc, frame, places)? else {
             unreachable!()

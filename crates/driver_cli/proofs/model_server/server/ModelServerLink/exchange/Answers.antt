@@ -44,3 +44,11 @@ returns-clause-cause c =
 pub returns-clause-faults : goal.returns-clause-faults
 returns-clause-faults c =
     (serves_exchanges _ _ _ _ (sym c.loses_next.ensures ∙ c.if-loses_next.false) c.in_ok-serve.ensures.ok).faults
+
+pub returns-then-loses_next-clause-kept : goal.returns-then-loses_next-clause-kept
+returns-then-loses_next-clause-kept c =
+    (loses_exchanges _ _ _ _ (sym c.loses_next.ensures ∙ c.if-loses_next.true) c.in_ok-lose.ensures.ok).kept
+
+pub returns-clause-kept : goal.returns-clause-kept
+returns-clause-kept c =
+    (serves_exchanges _ _ _ _ (sym c.loses_next.ensures ∙ c.if-loses_next.false) c.in_ok-serve.ensures.ok).kept
