@@ -11,7 +11,7 @@ use Rattle.driver_actions.specs.declared.call.Outcome.{Outcome}
 use Rattle.driver_actions.specs.declared.client.Client.{Client}
 use Rattle.driver_actions.specs.Causes.{Moment, moment, HaveCauses}
 use Rattle.driver_actions.specs.Client.{options_of}
-use Rattle.driver_actions.specs.MainTheorem.{Begins, Holds}
+use Rattle.driver_actions.specs.MainTheorem.{Begins, Holds, Completes}
 use Rattle.driver_actions.specs.Pool.{Stock, ToldStore, DrawsMore, AllApart, NotAmong, first_ids, empty_pool}
 use Rattle.driver_cli.specs.declared.script.Script.{Script}
 use Rattle.driver_cli.specs.Ended.{IsRunOf, begun_moment, moment_of}
@@ -59,6 +59,7 @@ pub run_made : (asked : Script) (calls : List Call) (outcomes : List Outcome) (c
     → HaveCauses calls outcomes first (moment_of client model) → first ≡ begun_moment
     → DrawsMore store store_now
     → (Begins (Some store) (Some told) (Some store_now) → Holds calls outcomes model.server)
+    → (Begins (Some store) (Some told) (Some store_now) → Completes calls outcomes model.schedule model.server)
     → (told.server ≡ empty_server → model.server ≡ replayed model.schedule empty_server model.server.trace)
     → (model.setup ≡ told.setup) × (model.schedule ≡ told.schedule)
     → calls ≡ asked.calls → options_of client ≡ asked.options
@@ -66,9 +67,12 @@ pub run_made : (asked : Script) (calls : List Call) (outcomes : List Outcome) (c
     → ((count : ℕ) → count < 2 ^ 64 → AllApart (first_ids count store.to_come))
     → length store_now.pool.drawn < 2 ^ 64
     → IsRunOf asked (record { script = Some asked; outcomes = Some outcomes; client = Some client; server = Some model })
-run_made asked calls outcomes client model store store_now told first caused begun draws main replays keeps same options new fresh setup schedule apart few =
+run_made asked calls outcomes client model store store_now told first caused begun draws main complete replays keeps same options new fresh setup schedule apart few =
     let kept : model.schedule ≡ asked.schedule = keeps.1 ∙ schedule in
-    let holds : Holds calls outcomes model.server = main (record { new = new; fresh = fresh; apart = drawn_apart store store_now new draws few apart }) in
+    let start : Begins (Some store) (Some told) (Some store_now) = record { new = new; fresh = fresh; apart = drawn_apart store store_now new draws few apart } in
+    let holds : Holds calls outcomes model.server = main start in
+    let completes : Completes calls outcomes asked.schedule model.server
+    = subst (λ (s : Schedule). Completes calls outcomes s model.server) kept (complete start) in
     record {
       outcomes = outcomes;
       client = client;
@@ -82,6 +86,7 @@ run_made asked calls outcomes client model store store_now told first caused beg
       schedule = kept;
       replayed = subst (λ (s : Schedule). model.server ≡ replayed s empty_server model.server.trace) kept (replays fresh);
       holds = subst (λ (c : List Call). Holds c outcomes model.server) same holds;
+      completes = subst (λ (c : List Call). Completes c outcomes asked.schedule model.server) same completes;
       causes = subst (λ (c : List Call). HaveCauses c outcomes begun_moment (moment_of client model)) same
           (subst (λ (m : Moment). HaveCauses calls outcomes m (moment_of client model)) begun caused);
     }

@@ -7,6 +7,7 @@ use Rattle.driver_link.specs.Streams.{Appends}
 use Rattle.driver_actions.specs.Causes.{Moment, moment, HaveCauses}
 use Rattle.driver_actions.specs.Client.{options_of, store_of}
 use Rattle.driver_actions.specs.MainTheorem.{Holds}
+use Rattle.driver_actions.specs.MainTheorem.{Completes as CompletesCalls}
 use Rattle.driver_actions.specs.Pool.{Stock, empty_pool}
 use Rattle.driver_actions.specs.declared.call.Outcome.{Outcome}
 use Rattle.driver_actions.specs.declared.client.Client.{Client}
@@ -34,8 +35,8 @@ moment_of client model =
     moment model.faults (Some model.answers) (Some (record { pool = (store_of client).pool; to_come = λ k. session_at (store_of client).ids k }))
 
 -- a run of a script: its client and server are made by the script, the server is the fold of the
--- exchanges over its trace, the main theorem holds of the outcomes and the server, and every error has
--- its cause
+-- exchanges over its trace, the main theorem and completeness hold of the outcomes and the server, and
+-- every outcome has its cause
 pub record IsRunOf (asked : Script) (run : Run) : Type 0 where
   pub outcomes : List Outcome
   pub client : Client (Stock IdsDrawn)
@@ -49,6 +50,7 @@ pub record IsRunOf (asked : Script) (run : Run) : Type 0 where
   pub schedule : model.schedule ≡ asked.schedule
   pub replayed : model.server ≡ replayed asked.schedule empty_server model.server.trace
   pub holds : Holds asked.calls outcomes model.server
+  pub completes : CompletesCalls asked.calls outcomes asked.schedule model.server
   pub causes : HaveCauses asked.calls outcomes begun_moment (moment_of client model)
 
 -- the input and the output before and now: what is left to read, what was written, how many calls failed

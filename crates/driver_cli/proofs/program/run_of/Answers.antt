@@ -12,7 +12,7 @@ returns c =
     made.causes
     (begins c.new-client.result.store c.new-3.result (c.new-client.ensures.store ∙ c.new-2.ensures ∙ ap (λ ids. record { ids = ids; pool = empty_pool }) c.new.ensures)
     (ap (λ s. s.faults) c.new-3.ensures) (ap (λ s. s.answers) c.new-3.ensures))
-    made.drawn made.main made.replayed made.making
+    made.drawn made.main made.complete made.replayed made.making
     c.as_slice.ensures (made.options ∙ c.new-client.ensures.options)
     (ap (λ s. s.pool) (c.new-client.ensures.store ∙ c.new-2.ensures)) (ap (λ s. s.server) c.new-3.ensures)
     (ap (λ s. s.setup) c.new-3.ensures) (ap (λ s. s.schedule) c.new-3.ensures ∙ c.in_ok-schedule.ensures)
