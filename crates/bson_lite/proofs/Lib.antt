@@ -1,6 +1,7 @@
 pub mod Again
 pub mod Found
 pub mod FinMaps
+pub mod Framing
 pub mod Loops
 pub mod Nested
 pub mod Numbers

@@ -8,4 +8,5 @@ pub mod Reading
 pub mod Same
 pub mod Sameness
 pub mod Spelling
+pub mod Writing
 pub mod formers

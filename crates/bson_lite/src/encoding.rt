@@ -1,6 +1,7 @@
-//! From a document to its bytes.
-ghost use Rattle.std.specs.Prelude.{◌≡◌, ◌+◌, ◌%◌, ◌≤◌, ◌++◌, ◌∷◌, [], length, take, drop, OnOk, map};
+//! From a document to its bytes, which are all there before the first is written.
+ghost use Rattle.std.specs.Prelude.{◌≡◌, ◌+◌, ◌%◌, ◌≤◌, ◌++◌, ◌∷◌, [], length, take, drop, map};
 ghost use Rattle.bson_lite.specs.Spelling.{Encodes, refusal, spelled, framed, counted, four, body_of, numbered};
+ghost use Rattle.bson_lite.specs.Writing.{HasRoom, Puts};
 
 use crate::bson::{Binary, Bson, Regex, Timestamp};
 use crate::document::{Document, Pair};
@@ -8,16 +9,16 @@ use crate::fault::EncodeFault;
 use crate::survey::surveyed;
 use crate::text::{Bytes, Text};
 use itoa::Buffer;
-use std::alloc::{AllocError, Global};
+use std::alloc::Global;
 
 /// The one spelling of a document.
 pub fn encode(alloc: Global, document: &Document) -> Result<Bytes, EncodeFault>
     ensures { Encodes document.now result }
 {
     let length = surveyed(document)?;
-    let mut out = Bytes::with_capacity(alloc, length)?;
-    put_document(&mut out, document.pairs())?;
-    Ok(out)
+    let mut out = vec![in alloc; 0; length]?;
+    put_document(out.as_mut_slice(), 0, document.pairs());
+    Ok(Bytes::from_vec(out))
 }
 
 /// Why `encode` refuses a document, if it does. It takes no memory.
@@ -31,68 +32,71 @@ pub fn encode_refusal(document: &Document) -> Option<EncodeFault>
 }
 
 #[cycle(put)]
-fn put_document(out: &mut Bytes, pairs: &[Pair<Bson>]) -> Result<(), AllocError>
-    ensures { OnOk result (out.new ≡ out.old ++ framed (body_of pairs.now)) }
+fn put_document(out: &mut [u8], at: usize, pairs: &[Pair<Bson>]) -> usize
+    requires { HasRoom (framed (body_of pairs.now)) at out.old }
+    ensures { Puts (framed (body_of pairs.now)) at out.old out.new result }
 {
-    let at = out.len();
-    out.extend_from_slice(&[0, 0, 0, 0])?;
-    put_pairs(out, pairs)?;
-    close(out, at)
+    let end = put_pairs(out, at + 4, pairs);
+    close(out, at, end)
 }
 
 #[cycle(put)]
-fn put_array(out: &mut Bytes, values: &[Bson]) -> Result<(), AllocError>
-    ensures { OnOk result (out.new ≡ out.old ++ framed (numbered 0 (map spelled values.now))) }
+fn put_array(out: &mut [u8], at: usize, values: &[Bson]) -> usize
+    requires { HasRoom (framed (numbered 0 (map spelled values.now))) at out.old }
+    ensures { Puts (framed (numbered 0 (map spelled values.now))) at out.old out.new result }
 {
-    let at = out.len();
-    out.extend_from_slice(&[0, 0, 0, 0])?;
-    put_values(out, values)?;
-    close(out, at)
+    let end = put_values(out, at + 4, values);
+    close(out, at, end)
 }
 
 #[cycle(put)]
-fn put_pairs(out: &mut Bytes, pairs: &[Pair<Bson>]) -> Result<(), AllocError>
-    ensures { OnOk result (out.new ≡ out.old ++ body_of pairs.now) }
+fn put_pairs(out: &mut [u8], at: usize, pairs: &[Pair<Bson>]) -> usize
+    requires { HasRoom (body_of pairs.now) at out.old }
+    ensures { Puts (body_of pairs.now) at out.old out.new result }
 {
+    let mut end = at;
     for pair in pairs {
-        put_head(out, type_byte(&pair.value), pair.key.as_str())?;
-        put_value(out, &pair.value)?;
+        end = put_head(out, end, type_byte(&pair.value), pair.key.as_str());
+        end = put_value(out, end, &pair.value);
     }
-    Ok(())
+    end
 }
 
 #[cycle(put)]
-fn put_values(out: &mut Bytes, values: &[Bson]) -> Result<(), AllocError>
-    ensures { OnOk result (out.new ≡ out.old ++ numbered 0 (map spelled values.now)) }
+fn put_values(out: &mut [u8], at: usize, values: &[Bson]) -> usize
+    requires { HasRoom (numbered 0 (map spelled values.now)) at out.old }
+    ensures { Puts (numbered 0 (map spelled values.now)) at out.old out.new result }
 {
     let mut buffer = Buffer::new();
+    let mut end = at;
     for (place, value) in values.iter().enumerate() {
-        put_head(out, type_byte(value), buffer.format(place))?;
-        put_value(out, value)?;
+        end = put_head(out, end, type_byte(value), buffer.format(place));
+        end = put_value(out, end, value);
     }
-    Ok(())
+    end
 }
 
 #[cycle(put)]
-fn put_value(out: &mut Bytes, value: &Bson) -> Result<(), AllocError>
-    ensures { OnOk result (out.new ≡ out.old ++ (spelled value.now).1) }
+fn put_value(out: &mut [u8], at: usize, value: &Bson) -> usize
+    requires { HasRoom (spelled value.now).1 at out.old }
+    ensures { Puts (spelled value.now).1 at out.old out.new result }
 {
     match value {
-        Bson::Double(double) => out.extend_from_slice(double),
-        Bson::String(text) | Bson::JavaScriptCode(text) | Bson::Symbol(text) => put_text(out, text),
-        Bson::Document(document) => put_document(out, document.pairs()),
-        Bson::Array(values) => put_array(out, values.as_slice()),
-        Bson::Binary(binary) => put_binary(out, binary),
-        Bson::ObjectId(id) => out.extend_from_slice(&id.bytes),
-        Bson::Boolean(flag) => out.push(u8::from(*flag)),
-        Bson::DateTime(number) | Bson::Int64(number) => out.extend_from_slice(
-            &number.to_le_bytes(),
+        Bson::Double(double) => put(out, at, double),
+        Bson::String(text) | Bson::JavaScriptCode(text) | Bson::Symbol(text) => put_text(
+            out, at, text,
         ),
-        Bson::RegularExpression(regex) => put_regex(out, regex),
-        Bson::Int32(number) => out.extend_from_slice(&number.to_le_bytes()),
-        Bson::Timestamp(stamp) => put_stamp(out, stamp),
-        Bson::Decimal128(decimal) => out.extend_from_slice(decimal),
-        Bson::Undefined | Bson::Null | Bson::MinKey | Bson::MaxKey => Ok(()),
+        Bson::Document(document) => put_document(out, at, document.pairs()),
+        Bson::Array(values) => put_array(out, at, values.as_slice()),
+        Bson::Binary(binary) => put_binary(out, at, binary),
+        Bson::ObjectId(id) => put(out, at, &id.bytes),
+        Bson::Boolean(flag) => put(out, at, &[u8::from(*flag)]),
+        Bson::DateTime(number) | Bson::Int64(number) => put(out, at, &number.to_le_bytes()),
+        Bson::RegularExpression(regex) => put_regex(out, at, regex),
+        Bson::Int32(number) => put(out, at, &number.to_le_bytes()),
+        Bson::Timestamp(stamp) => put_stamp(out, at, stamp),
+        Bson::Decimal128(decimal) => put(out, at, decimal),
+        Bson::Undefined | Bson::Null | Bson::MinKey | Bson::MaxKey => at,
     }
 }
 
@@ -123,27 +127,16 @@ fn type_byte(value: &Bson) -> u8
 }
 
 /// The type byte and the key of an element.
-fn put_head(out: &mut Bytes, kind: u8, key: &str) -> Result<(), AllocError>
-    ensures { OnOk result (out.new ≡ out.old ++ kind ∷ (key.now ++ 0 ∷ [])) }
+fn put_head(out: &mut [u8], at: usize, kind: u8, key: &str) -> usize
+    requires { HasRoom (kind ∷ (key.now ++ 0 ∷ [])) at out.old }
+    ensures { Puts (kind ∷ (key.now ++ 0 ∷ [])) at out.old out.new result }
 {
-    out.push(kind)?;
-    out.extend_from_slice(key.as_bytes())?;
-    out.push(0)
-}
-
-fn put_four(out: &mut Bytes, number: u32) -> Result<(), AllocError>
-    ensures { OnOk result (out.new ≡ out.old ++ four number) }
-{
-    out.extend_from_slice(&number.to_le_bytes())
+    let end = put(out, at, &[kind]);
+    let end = put(out, end, key.as_bytes());
+    put(out, end, &[0])
 }
 
 /// A length, of which the format keeps 32 bits.
-fn put_count(out: &mut Bytes, count: usize) -> Result<(), AllocError>
-    ensures { OnOk result (out.new ≡ out.old ++ four count) }
-{
-    out.extend_from_slice(&count_bytes(count))
-}
-
 fn count_bytes(count: usize) -> [u8; 4]
     ensures { result ≡ four count }
 {
@@ -151,46 +144,70 @@ fn count_bytes(count: usize) -> [u8; 4]
     low.to_le_bytes()
 }
 
-fn put_text(out: &mut Bytes, text: &Text) -> Result<(), AllocError>
-    ensures { OnOk result (out.new ≡ out.old ++ counted text.now) }
+fn put_text(out: &mut [u8], at: usize, text: &Text) -> usize
+    requires { HasRoom (counted text.now) at out.old }
+    ensures { Puts (counted text.now) at out.old out.new result }
 {
     let bytes = text.as_str().as_bytes();
-    put_count(out, bytes.len() + 1)?;
-    out.extend_from_slice(bytes)?;
-    out.push(0)
+    let end = put(out, at, &count_bytes(bytes.len() + 1));
+    let end = put(out, end, bytes);
+    put(out, end, &[0])
 }
 
-fn put_binary(out: &mut Bytes, binary: &Binary) -> Result<(), AllocError>
-    ensures { OnOk result (out.new ≡ out.old ++ (four (length binary.now.bytes) ++ binary.now.subtype ∷ binary.now.bytes)) }
+fn put_binary(out: &mut [u8], at: usize, binary: &Binary) -> usize
+    requires { HasRoom (four (length binary.now.bytes) ++ binary.now.subtype ∷ binary.now.bytes) at out.old }
+    ensures { Puts (four (length binary.now.bytes) ++ binary.now.subtype ∷ binary.now.bytes) at out.old out.new result }
 {
-    put_count(out, binary.bytes.len())?;
-    out.push(binary.subtype)?;
-    out.extend_from_slice(binary.bytes.as_slice())
+    let end = put(out, at, &count_bytes(binary.bytes.len()));
+    let end = put(out, end, &[binary.subtype]);
+    put(out, end, binary.bytes.as_slice())
 }
 
-fn put_regex(out: &mut Bytes, regex: &Regex) -> Result<(), AllocError>
-    ensures { OnOk result (out.new ≡ out.old ++ (regex.now.pattern ++ 0 ∷ (regex.now.options ++ 0 ∷ []))) }
+fn put_regex(out: &mut [u8], at: usize, regex: &Regex) -> usize
+    requires { HasRoom (regex.now.pattern ++ 0 ∷ (regex.now.options ++ 0 ∷ [])) at out.old }
+    ensures { Puts (regex.now.pattern ++ 0 ∷ (regex.now.options ++ 0 ∷ [])) at out.old out.new result }
 {
-    out.extend_from_slice(regex.pattern.as_str().as_bytes())?;
-    out.push(0)?;
-    out.extend_from_slice(regex.options.as_str().as_bytes())?;
-    out.push(0)
+    let end = put(out, at, regex.pattern.as_str().as_bytes());
+    let end = put(out, end, &[0]);
+    let end = put(out, end, regex.options.as_str().as_bytes());
+    put(out, end, &[0])
 }
 
-fn put_stamp(out: &mut Bytes, stamp: &Timestamp) -> Result<(), AllocError>
-    ensures { OnOk result (out.new ≡ out.old ++ (four stamp.now.increment ++ four stamp.now.time)) }
+fn put_stamp(out: &mut [u8], at: usize, stamp: &Timestamp) -> usize
+    requires { HasRoom (four stamp.now.increment ++ four stamp.now.time) at out.old }
+    ensures { Puts (four stamp.now.increment ++ four stamp.now.time) at out.old out.new result }
 {
-    put_four(out, stamp.increment)?;
-    put_four(out, stamp.time)
+    let end = put(out, at, &stamp.increment.to_le_bytes());
+    put(out, end, &stamp.time.to_le_bytes())
 }
 
-/// Ends the frame that begins at a place: the last byte, and the length, for which four bytes stand there.
-fn close(out: &mut Bytes, at: usize) -> Result<(), AllocError>
+/// Writes a part over the bytes from a place on, and answers where it ends.
+#[inline(always)]
+fn put(out: &mut [u8], at: usize, part: &[u8]) -> usize
+    requires { HasRoom part.now at out.old }
+    ensures { Puts part.now at out.old out.new result }
+{
+    let end = at + part.len();
+    out[at..end].copy_from_slice(part);
+    end
+}
+
+/// Ends the frame whose elements stand from four bytes after a place up to their end: the last byte, and
+/// the length before them.
+fn close(out: &mut [u8], at: usize, end: usize) -> usize
+    requires start { at + 4 ≤ end }
+    requires room { end + 1 ≤ length out.old }
+    ensures { Puts (framed (drop (at + 4) (take end out.old))) at out.old out.new result }
+{
+    let after = put(out, end, &[0]);
+    patch(out, at, count_bytes(after - at));
+    after
+}
+
+/// Writes four bytes over those at a place.
+fn patch(out: &mut [u8], at: usize, part: [u8; 4])
     requires { at + 4 ≤ length out.old }
-    ensures { OnOk result (out.new ≡ take at out.old ++ framed (drop (at + 4) out.old)) }
+    ensures { out.new ≡ take at out.old ++ (part ++ drop (at + 4) out.old) }
 {
-    out.push(0)?;
-    let count = count_bytes(out.len() - at);
-    out.patch(at, &count);
-    Ok(())
+    out[at..at + 4].copy_from_slice(&part);
 }

@@ -1,5 +1,5 @@
 //! One walk over a document: how deep it nests, where zero bytes stand, how long its spelling is.
-ghost use Rattle.std.specs.Prelude.{◌≡◌, ◌+◌, ◌-◌, ◌^◌, ◌||◌, ◌∷◌, ◌++◌, [], suc, min, true, false, nat_lt, length, map, decimal, None, Some, IfOk, IfErr};
+ghost use Rattle.std.specs.Prelude.{◌≡◌, ◌+◌, ◌-◌, ◌^◌, ◌||◌, ◌∷◌, ◌++◌, [], ℕ, suc, min, true, false, nat_lt, length, map, decimal, None, Some, IfOk, IfErr};
 ghost use Rattle.std.specs.Str.{is_utf8};
 ghost use Rattle.bson_lite.specs.Ranges.{fits};
 ghost use Rattle.bson_lite.specs.Spelling.{HasSpelling, refusal, spelled, spelling, depth, deepest, deepest_pair, on_value, zero_within, zero_in, zero_in_values, holds_zero, valid, valid_pairs, valid_values, body_of, numbered, counted};
@@ -11,17 +11,29 @@ use crate::text::Text;
 use itoa::Buffer;
 
 /// The levels that may stand below a document.
-const LEVELS: u64 = 99;
+const LEVELS: u32 = 99;
 
 /// The greatest length that the format can state.
 const LIMIT: u64 = 2_147_483_647;
 
-/// What a walk finds. A number too large for its field is the greatest one.
+/// What a walk has met so far that `encode` refuses.
 #[derive(Clone, Copy)]
-struct Survey {
-    depth: u64,
+struct Met {
+    /// Documents or arrays that nest too deep.
+    deep: bool,
+    /// A zero byte in a key or in a text of a regular expression.
     zero: bool,
-    length: u64,
+}
+
+impl Met {
+    fn nothing() -> Met
+        ensures { result ≡ record { deep = false; zero = false } }
+    {
+        Met {
+            deep: false,
+            zero: false,
+        }
+    }
 }
 
 /// The length of a document's spelling, or the greatest number where it is larger. It takes no
@@ -29,7 +41,7 @@ struct Survey {
 pub fn encoded_len(document: &Document) -> u64
     ensures { result ≡ min (length (spelling document.now)) (2 ^ 64 - 1) }
 {
-    survey_pairs(document.pairs()).length.saturating_add(5)
+    survey_pairs(document.pairs(), LEVELS, &mut Met::nothing()).saturating_add(5)
 }
 
 /// The length of a document's spelling, or why it has none.
@@ -39,132 +51,117 @@ pub(crate) fn surveyed(document: &Document) -> Result<usize, EncodeFault>
     ensures none { IfOk result (λ _. refusal document.now ≡ None) }
     ensures why { IfErr result (λ fault. refusal document.now ≡ Some fault) }
 {
-    let survey = survey_pairs(document.pairs());
-    if survey.depth > LEVELS {
+    let mut met = Met::nothing();
+    let length = survey_pairs(document.pairs(), LEVELS, &mut met).saturating_add(5);
+    if met.deep {
         return Err(EncodeFault::TooDeep);
     }
-    if survey.zero {
+    if met.zero {
         return Err(EncodeFault::ZeroByte);
     }
-    let length = survey.length.saturating_add(5);
     if length > LIMIT {
         return Err(EncodeFault::TooLong);
     }
     Ok(length as usize)
 }
 
+/// The length of a document's elements, where so many levels may stand below the document.
 #[cycle(survey)]
-fn survey_pairs(pairs: &[Pair<Bson>]) -> Survey
-    ensures depth { result.depth ≡ min (deepest_pair (map (on_value depth) pairs.now)) (2 ^ 64 - 1) }
-    ensures zero { result.zero ≡ zero_in pairs.now }
-    ensures length { result.length ≡ min (length (body_of pairs.now)) (2 ^ 64 - 1) }
+fn survey_pairs(pairs: &[Pair<Bson>], levels: u32, met: &mut Met) -> u64
+    ensures deep { met.new.deep ≡ (met.old.deep || nat_lt levels (deepest_pair (map (on_value depth) pairs.now))) }
+    ensures zero { met.new.zero ≡ (met.old.zero || zero_in pairs.now) }
+    ensures length { result ≡ min (length (body_of pairs.now)) (2 ^ 64 - 1) }
     ensures well_formed { valid_pairs pairs.now ≡ true }
 {
-    let mut depth = 0u64;
-    let mut zero = false;
     let mut length = 0u64;
     for pair in pairs {
-        let value = survey_value(&pair.value);
-        depth = depth.max(value.depth);
-        zero = either(zero, either(has_zero(&pair.key), value.zero));
-        length = with_element(length, key_len(&pair.key), value.length);
+        note_key(&pair.key, met);
+        let value = survey_value(&pair.value, levels, met);
+        length = with_element(length, head_len(&pair.key), value);
     }
-    Survey {
-        depth,
-        zero,
-        length,
-    }
+    length
 }
 
+/// The length of an array's elements, where so many levels may stand below the array.
 #[cycle(survey)]
-fn survey_values(values: &[Bson]) -> Survey
-    ensures depth { result.depth ≡ min (deepest (map depth values.now)) (2 ^ 64 - 1) }
-    ensures zero { result.zero ≡ zero_in_values (map zero_within values.now) }
-    ensures length { result.length ≡ min (length (numbered 0 (map spelled values.now))) (2 ^ 64 - 1) }
+fn survey_values(values: &[Bson], levels: u32, met: &mut Met) -> u64
+    ensures deep { met.new.deep ≡ (met.old.deep || nat_lt levels (deepest (map depth values.now))) }
+    ensures zero { met.new.zero ≡ (met.old.zero || zero_in_values (map zero_within values.now)) }
+    ensures length { result ≡ min (length (numbered 0 (map spelled values.now))) (2 ^ 64 - 1) }
     ensures well_formed { valid_values (map valid values.now) ≡ true }
 {
-    let mut depth = 0u64;
-    let mut zero = false;
     let mut length = 0u64;
     for (place, item) in values.iter().enumerate() {
-        let value = survey_value(item);
-        depth = depth.max(value.depth);
-        zero = either(zero, value.zero);
-        length = with_element(length, place_len(place), value.length);
+        let value = survey_value(item, levels, met);
+        length = with_element(length, place_len(place), value);
     }
-    Survey {
-        depth,
-        zero,
-        length,
-    }
+    length
 }
 
+/// The length of a value, where so many levels of documents and arrays may begin with it.
 #[cycle(survey)]
-fn survey_value(value: &Bson) -> Survey
-    ensures depth { result.depth ≡ min (depth value.now) (2 ^ 64 - 1) }
-    ensures zero { result.zero ≡ zero_within value.now }
-    ensures length { result.length ≡ min (length (spelled value.now).1) (2 ^ 64 - 1) }
+fn survey_value(value: &Bson, levels: u32, met: &mut Met) -> u64
+    ensures deep { met.new.deep ≡ (met.old.deep || nat_lt levels (depth value.now)) }
+    ensures zero { met.new.zero ≡ (met.old.zero || zero_within value.now) }
+    ensures length { result ≡ min (length (spelled value.now).1) (2 ^ 64 - 1) }
     ensures well_formed { valid value.now ≡ true }
 {
     match value {
-        Bson::Document(document) => framed(survey_pairs(document.pairs())),
-        Bson::Array(values) => framed(survey_values(values.as_slice())),
-        Bson::RegularExpression(regex) => Survey {
-            depth: 0,
-            zero: either(has_zero(&regex.pattern), has_zero(&regex.options)),
-            length: two_len(&regex.pattern, &regex.options),
-        },
-        Bson::Double(double) => flat(double_len(double)),
-        Bson::String(text) | Bson::JavaScriptCode(text) | Bson::Symbol(text) => flat(text_len(
-            text,
-        )),
-        Bson::Binary(binary) => flat((binary.bytes.len() as u64).saturating_add(5)),
-        Bson::ObjectId(id) => flat(id_len(id)),
-        Bson::Boolean(_) => flat(1),
-        Bson::DateTime(number) | Bson::Int64(number) => long_of(*number),
-        Bson::Int32(number) => int_of(*number),
-        Bson::Timestamp(stamp) => stamp_of(*stamp),
-        Bson::Decimal128(decimal) => flat(decimal_len(decimal)),
-        Bson::Undefined | Bson::Null | Bson::MinKey | Bson::MaxKey => flat(0),
+        Bson::Document(document) => {
+            let below = levels_below(levels, met);
+            survey_pairs(document.pairs(), below, met).saturating_add(5)
+        }
+        Bson::Array(values) => {
+            let below = levels_below(levels, met);
+            survey_values(values.as_slice(), below, met).saturating_add(5)
+        }
+        Bson::RegularExpression(regex) => {
+            note_key(&regex.pattern, met);
+            note_key(&regex.options, met);
+            two_len(&regex.pattern, &regex.options)
+        }
+        Bson::Double(double) => double_len(double),
+        Bson::String(text) | Bson::JavaScriptCode(text) | Bson::Symbol(text) => text_len(text),
+        Bson::Binary(binary) => (binary.bytes.len() as u64).saturating_add(5),
+        Bson::ObjectId(id) => id_len(id),
+        Bson::Boolean(_) => 1,
+        Bson::DateTime(number) | Bson::Int64(number) => long_len(*number),
+        Bson::Int32(number) => int_len(*number),
+        Bson::Timestamp(stamp) => stamp_len(*stamp),
+        Bson::Decimal128(decimal) => decimal_len(decimal),
+        Bson::Undefined | Bson::Null | Bson::MinKey | Bson::MaxKey => 0,
     }
 }
 
-/// A value that holds no other.
-fn flat(length: u64) -> Survey
-    ensures { result ≡ record { depth = 0; zero = false; length = length } }
+/// The levels that may stand below a document or an array; where it must not stand itself, that is noted.
+fn levels_below(levels: u32, met: &mut Met) -> u32
+    ensures deep { (deepest : ℕ) → (met.new.deep || nat_lt result deepest) ≡ (met.old.deep || nat_lt levels (suc deepest)) }
+    ensures zero { met.new.zero ≡ met.old.zero }
 {
-    Survey {
-        depth: 0,
-        zero: false,
-        length,
+    match levels.checked_sub(1) {
+        Some(below) => below,
+        None => {
+            met.deep = true;
+            0
+        }
     }
 }
 
-/// What stands between a length and a last byte.
-fn framed(inside: Survey) -> Survey
-    ensures { result ≡ record { depth = min (suc inside.depth) (2 ^ 64 - 1); zero = inside.zero; length = min (inside.length + 5) (2 ^ 64 - 1) } }
+/// Notes whether a text that must not hold a zero byte holds one.
+fn note_key(text: &Text, met: &mut Met)
+    ensures deep { met.new.deep ≡ met.old.deep }
+    ensures zero { met.new.zero ≡ (met.old.zero || holds_zero text.now) }
 {
-    Survey {
-        depth: inside.depth.saturating_add(1),
-        zero: inside.zero,
-        length: inside.length.saturating_add(5),
+    if has_zero(text) {
+        met.zero = true;
     }
 }
 
-fn either(a: bool, b: bool) -> bool
-    ensures { result ≡ (a || b) }
+/// The length with one more element: a type byte and a key with a zero byte at its end, then a value.
+fn with_element(length: u64, head: u64, value: u64) -> u64
+    ensures { result ≡ min (length + head + value) (2 ^ 64 - 1) }
 {
-    a || b
-}
-
-/// The length with one more element: a type byte, a key with a zero byte at its end, a value.
-fn with_element(length: u64, key: usize, value: u64) -> u64
-    ensures { result ≡ min (length + (key + 2) + value) (2 ^ 64 - 1) }
-{
-    length
-        .saturating_add(key as u64)
-        .saturating_add(2)
-        .saturating_add(value)
+    length.saturating_add(head).saturating_add(value)
 }
 
 fn has_zero(text: &Text) -> bool
@@ -180,11 +177,20 @@ fn key_len(key: &Text) -> usize
     key.as_str().len()
 }
 
-fn place_len(place: usize) -> usize
-    ensures { result ≡ length (decimal place) }
+/// The length of a type byte and a key with a zero byte at its end.
+fn head_len(key: &Text) -> u64
+    ensures length { result ≡ length key.now + 2 }
+    ensures utf8 { is_utf8 key.now ≡ true }
+{
+    key.as_str().len() as u64 + 2
+}
+
+/// The same where the key is a place in an array.
+fn place_len(place: usize) -> u64
+    ensures { result ≡ length (decimal place) + 2 }
 {
     let mut buffer = Buffer::new();
-    buffer.format(place).len()
+    buffer.format(place).len() as u64 + 2
 }
 
 fn text_len(text: &Text) -> u64
@@ -227,26 +233,26 @@ fn id_len(id: &ObjectId) -> u64
 }
 
 /// A number of 64 bits, which is in its range as it is read.
-fn long_of(number: i64) -> Survey
-    ensures value { result ≡ record { depth = 0; zero = false; length = 8 } }
+fn long_len(number: i64) -> u64
+    ensures length { result ≡ 8 }
     ensures in_range { fits 0x8000_0000_0000_0000 number ≡ true }
 {
-    flat(8)
+    8
 }
 
 /// A number of 32 bits.
-fn int_of(number: i32) -> Survey
-    ensures value { result ≡ record { depth = 0; zero = false; length = 4 } }
+fn int_len(number: i32) -> u64
+    ensures length { result ≡ 4 }
     ensures in_range { fits 0x8000_0000 number ≡ true }
 {
-    flat(4)
+    4
 }
 
 /// Two numbers of 32 bits.
-fn stamp_of(stamp: Timestamp) -> Survey
-    ensures value { result ≡ record { depth = 0; zero = false; length = 8 } }
+fn stamp_len(stamp: Timestamp) -> u64
+    ensures length { result ≡ 8 }
     ensures time { nat_lt stamp.time 4294967296 ≡ true }
     ensures increment { nat_lt stamp.increment 4294967296 ≡ true }
 {
-    flat(8)
+    8
 }
