@@ -13,6 +13,7 @@ use std::alloc::Global;
 /// The greatest length that the format can state.
 pub(crate) const LIMIT: u32 = 2_147_483_647;
 
+#[inline(always)]
 #[tactic(auto, unfolding(crate::specs::Parts::some_at))]
 fn some_of(at: usize, count: usize, bytes: &[u8]) -> Result<(&[u8], &[u8]), DecodeFault>
     ensures gives { Gives (λ x. (x.0.now, x.1.now)) result (or_at at (some_at count bytes.now)) }
@@ -25,6 +26,7 @@ fn some_of(at: usize, count: usize, bytes: &[u8]) -> Result<(&[u8], &[u8]), Deco
     Ok((part, rest))
 }
 
+#[inline(always)]
 #[tactic(auto, unfolding(crate::specs::Parts::byte_at))]
 pub(crate) fn byte_of(at: usize, bytes: &[u8]) -> Result<(u8, &[u8]), DecodeFault>
     ensures gives { Gives (λ x. (x.0, x.1.now)) result (or_at at (byte_at bytes.now)) }
@@ -36,6 +38,7 @@ pub(crate) fn byte_of(at: usize, bytes: &[u8]) -> Result<(u8, &[u8]), DecodeFaul
     }
 }
 
+#[inline(always)]
 #[tactic(auto, unfolding(crate::specs::Parts::number_at, crate::specs::Parts::number_of, crate::specs::Parts::some_at))]
 fn four_of(at: usize, bytes: &[u8]) -> Result<(u32, &[u8]), DecodeFault>
     ensures gives { Gives (λ x. (x.0, x.1.now)) result (or_at at (number_at w32 bytes.now)) }
@@ -47,6 +50,7 @@ fn four_of(at: usize, bytes: &[u8]) -> Result<(u32, &[u8]), DecodeFault>
     }
 }
 
+#[inline(always)]
 #[tactic(auto, unfolding(crate::specs::Parts::number_at, crate::specs::Parts::number_of, crate::specs::Parts::some_at))]
 fn eight_of(at: usize, bytes: &[u8]) -> Result<(u64, &[u8]), DecodeFault>
     ensures gives { Gives (λ x. (x.0, x.1.now)) result (or_at at (number_at w64 bytes.now)) }
@@ -73,6 +77,7 @@ fn zero_of(bytes: &[u8]) -> Option<usize>
     bytes.iter().position(|byte| *byte == 0)
 }
 
+#[inline(always)]
 #[tactic(auto, unfolding(crate::specs::Parts::zero_ended))]
 pub(crate) fn zero_ended_of(at: usize, bytes: &[u8]) -> Result<(&str, &[u8]), DecodeFault>
     ensures gives { Gives (λ x. (x.0.now, x.1.now)) result (or_at at (zero_ended bytes.now)) }
@@ -87,6 +92,7 @@ pub(crate) fn zero_ended_of(at: usize, bytes: &[u8]) -> Result<(&str, &[u8]), De
     Ok((text, rest))
 }
 
+#[inline(always)]
 #[tactic(auto, unfolding(crate::specs::Parts::text_at))]
 fn text_of(alloc: Global, at: usize, bytes: &[u8]) -> Result<(Text, &[u8]), DecodeFault>
     ensures gives { Gives (λ x. (x.0, x.1.now)) result (or_at at (text_at bytes.now)) }
@@ -155,6 +161,7 @@ fn flag_of(at: usize, bytes: &[u8]) -> Result<(bool, &[u8]), DecodeFault>
     }
 }
 
+#[inline(always)]
 fn id_of(at: usize, bytes: &[u8]) -> Result<(ObjectId, &[u8]), DecodeFault>
     ensures gives { Gives (λ x. (x.0.bytes, x.1.now)) result (or_at at (some_at 12 bytes.now)) }
     ensures shorter { IfOk result (λ x. length x.1.now ≤ length bytes.now) }
@@ -163,6 +170,7 @@ fn id_of(at: usize, bytes: &[u8]) -> Result<(ObjectId, &[u8]), DecodeFault>
     Ok((ObjectId { bytes }, rest))
 }
 
+#[inline(always)]
 #[tactic(auto, unfolding(crate::specs::Parts::some_at))]
 fn chunk_of<const N: usize>(at: usize, bytes: &[u8]) -> Result<([u8; N], &[u8]), DecodeFault>
     ensures gives { Gives (λ x. (x.0, x.1.now)) result (or_at at (some_at N bytes.now)) }
@@ -213,6 +221,7 @@ pub(crate) fn frame_of(at: usize, bytes: &[u8]) -> Result<(&[u8], u8, &[u8]), De
     Ok((part, last, rest))
 }
 
+#[inline(always)]
 #[tactic(auto, unfolding(crate::specs::Parts::leaf_at))]
 pub(crate) fn leaf_of(
     alloc: Global,
@@ -254,6 +263,7 @@ pub(crate) fn leaf_of(
     }
 }
 
+#[inline(always)]
 #[tactic(auto, unfolding(crate::specs::Parts::more_at))]
 fn more_of(alloc: Global, at: usize, kind: u8, bytes: &[u8]) -> Result<(Bson, &[u8]), DecodeFault>
     ensures gives { Gives (λ x. (x.0, x.1.now)) result (or_at at (more_at kind bytes.now)) }
