@@ -6,6 +6,7 @@ ghost use Rattle.bson_lite.specs.declared.bson.Bson.{Bson};
 ghost use Rattle.bson_lite.specs.declared.document.Pair.{Pair};
 
 use crate::bson::Bson;
+use crate::counting::elements_in;
 use crate::document::{Document, Pair};
 use crate::fault::DecodeFault;
 use crate::list::List;
@@ -82,7 +83,7 @@ fn pairs_of(alloc: Global, level: u32, end: usize, bytes: &[u8]) -> Result<Docum
     requires { length bytes.now ≤ end }
     ensures { Gives (λ document. document) result (pairs_with (nested_at level) end bytes.now) }
 {
-    let mut document = Document::new(alloc);
+    let mut document = Document::with_capacity(alloc, elements_in(bytes))?;
     let mut rest = bytes;
     while !rest.is_empty() {
         let (pair, after) = pair_of(alloc, level, end, rest)?;
@@ -97,7 +98,7 @@ fn items_of(alloc: Global, level: u32, end: usize, bytes: &[u8]) -> Result<List<
     requires { length bytes.now ≤ end }
     ensures { Gives (λ array. array) result (items_with (nested_at level) end bytes.now) }
 {
-    let mut array = List::new(alloc);
+    let mut array = List::with_capacity(alloc, elements_in(bytes))?;
     let mut rest = bytes;
     while !rest.is_empty() {
         let (item, after) = item_of(alloc, level, end, array.len(), rest)?;

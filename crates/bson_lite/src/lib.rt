@@ -8,6 +8,7 @@ pub mod boxed;
 pub mod bson;
 pub mod by_index;
 pub mod copy;
+mod counting;
 pub mod decoding;
 pub mod document;
 pub mod encoding;

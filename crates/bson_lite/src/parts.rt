@@ -71,7 +71,8 @@ fn str_of(at: usize, bytes: &[u8]) -> Result<&str, DecodeFault>
     }
 }
 
-fn zero_of(bytes: &[u8]) -> Option<usize>
+#[inline(always)]
+pub(crate) fn zero_of(bytes: &[u8]) -> Option<usize>
     ensures { result ≡ position (λ byte. byte == 0) bytes.now }
 {
     bytes.iter().position(|byte| *byte == 0)

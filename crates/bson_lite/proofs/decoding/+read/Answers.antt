@@ -7,11 +7,11 @@ use Rattle.bson_lite.proofs.decoding.+read.Goals as goal
 
 pub items_of-loop-rest-init : goal.items_of-loop-rest-init
 unfolding items_with
-items_of-loop-rest-init t c = record { within = c.requires; going = rw c.new-array.ensures (starts (item_with (nested_at c.args.level) c.args.end) c.args.bytes.now) }
+items_of-loop-rest-init t c = record { within = c.requires; going = rw c.in_ok-array.ensures (starts (item_with (nested_at c.args.level) c.args.end) c.args.bytes.now) }
 
 pub items_of-returns-in_err-item : goal.items_of-returns-in_err-item
 items_of-returns-in_err-item t c =
-    let p = err_from_is_err_and c.from_residual.result c.from_residual.ensures.1 in
+    let p = err_from_is_err_and c.from_residual-in_err-item.result c.from_residual-in_err-item.ensures.1 in
     let some : 0 < length c.loop-rest.rest.now = search rules in
     rw (p.1, p.2) (exits (item_with (nested_at c.args.level) c.args.end) (items_with (nested_at c.args.level) c.args.end c.args.bytes.now) c.loop-rest.array c.loop-rest.rest.now c.in_err-item.field-0.0 some (rw c.len.ensures at c.in_err-item.ensures.gives) c.loop-rest.invariant.going)
 
@@ -27,11 +27,11 @@ items_of-returns t c =
 
 pub pairs_of-loop-rest-init : goal.pairs_of-loop-rest-init
 unfolding pairs_with
-pairs_of-loop-rest-init t c = record { within = c.requires; going = rw c.new-document.ensures (starts (λ place. pair_with (nested_at c.args.level) c.args.end) c.args.bytes.now) }
+pairs_of-loop-rest-init t c = record { within = c.requires; going = rw c.in_ok-document.ensures (starts (λ place. pair_with (nested_at c.args.level) c.args.end) c.args.bytes.now) }
 
 pub pairs_of-returns-in_err-pair : goal.pairs_of-returns-in_err-pair
 pairs_of-returns-in_err-pair t c =
-    let p = err_from_is_err_and c.from_residual.result c.from_residual.ensures.1 in
+    let p = err_from_is_err_and c.from_residual-in_err-pair.result c.from_residual-in_err-pair.ensures.1 in
     let some : 0 < length c.loop-rest.rest.now = search rules in
     rw (p.1, p.2) (exits (λ place. pair_with (nested_at c.args.level) c.args.end) (pairs_with (nested_at c.args.level) c.args.end c.args.bytes.now) c.loop-rest.document c.loop-rest.rest.now c.in_err-pair.field-0.0 some c.in_err-pair.ensures.gives c.loop-rest.invariant.going)
 
