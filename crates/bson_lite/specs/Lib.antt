@@ -4,6 +4,7 @@ pub mod Namespace
 pub mod PairCode
 pub mod Parts
 pub mod Ranges
+pub mod Raw
 pub mod Reading
 pub mod Same
 pub mod Sameness

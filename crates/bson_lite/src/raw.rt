@@ -1,5 +1,6 @@
 //! A document kept as its bytes.
 ghost use Rattle.std.specs.Prelude.{◌≡◌};
+ghost use Rattle.bson_lite.specs.Raw.{IsSpelling};
 ghost use Rattle.bson_lite.specs.Spelling.{Encodes, Spells};
 
 use crate::copy::TryClone;
@@ -18,10 +19,13 @@ pub struct RawDocumentBuf {
 
 impl Model for RawDocumentBuf {
     ghost use Rattle.std.specs.Prelude.{List, ℕ};
+    ghost use Rattle.bson_lite.specs.Raw.{IsSpelling};
 
     ghost Value = { List ℕ };
 
     ghost view = { λ raw. raw.bytes };
+
+    ghost invariant = { λ raw. IsSpelling raw.bytes };
 }
 
 impl RawDocumentBuf {
@@ -43,7 +47,8 @@ impl RawDocumentBuf {
     }
 
     pub fn as_bytes(&self) -> &[u8]
-        ensures { result.now ≡ self.now }
+        ensures value { result.now ≡ self.now }
+        ensures spells { IsSpelling self.now }
     {
         self.bytes.as_slice()
     }

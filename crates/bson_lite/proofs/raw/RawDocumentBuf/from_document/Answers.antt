@@ -1,0 +1,5 @@
+use Rattle.std.proofs.Common.{rules}
+use Rattle.bson_lite.proofs.raw.RawDocumentBuf.from_document.Goals as goal
+
+pub invariant_of-result : goal.invariant_of-result
+invariant_of-result c = record { document = c.args.document.now; spells = search rules }
