@@ -1,12 +1,17 @@
 //! Spellings from outside: worked documents, and vectors of the public standard for each type.
 //! The helpers promise nothing, so that a test's proof has little to read.
-use crate::bson::{Binary, Bson, ObjectId};
+mod containers;
+mod vectors;
+
+use crate::bson::{Bson, ObjectId};
 use crate::copy::TryClone;
 use crate::decoding::decode;
 use crate::document::Document;
 use crate::encoding::{encode, encode_refusal};
 use crate::fault::{DecodeFault, EncodeFault};
-use crate::fields::{get_int, get_or_prepend_id_field};
+use crate::fields::{
+    get_int, get_or_prepend_id_field, replacement_document_check, update_document_check,
+};
 use crate::raw::RawDocumentBuf;
 use crate::survey::encoded_len;
 use crate::text::{Bytes, Text};
@@ -49,15 +54,12 @@ fn number_at(document: &Document, key: &str) -> Option<i64> {
     document.get(key).and_then(get_int)
 }
 
-fn binary(alloc: Global) -> Result<Bson, AllocError> {
-    Ok(Bson::Binary(Binary {
-        subtype: 4,
-        bytes: Bytes::from_slice(alloc, &[0xff, 0xff])?,
-    }))
+fn b_text(alloc: Global) -> Result<Text, AllocError> {
+    Text::from_str(alloc, "b")
 }
 
-fn text(alloc: Global) -> Result<Bson, AllocError> {
-    Ok(Bson::String(Text::from_str(alloc, "b")?))
+fn copied<T: TryClone>(alloc: Global, value: &T) -> Result<T, AllocError> {
+    value.try_clone(alloc)
 }
 
 fn nested(alloc: Global, levels: u32) -> Result<Document, AllocError> {
@@ -121,53 +123,23 @@ fn refusals(rt: HostRuntime) -> Result<(), Fail> {
     Ok(())
 }
 
-#[test]
-fn standard_values(rt: HostRuntime) -> Result<(), Fail> {
-    let alloc = rt.alloc();
-    let string = one(alloc, "a", text(alloc)?)?;
-    assert_eq!(rt;
-        spelled(alloc, &string)?.as_slice(),
-        b"\x0e\0\0\0\x02a\0\x02\0\0\0b\0\0".as_slice()
-    );
-    let bytes = one(alloc, "x", binary(alloc)?)?;
-    assert_eq!(rt;
-        spelled(alloc, &bytes)?.as_slice(),
-        b"\x0f\0\0\0\x05x\0\x02\0\0\0\x04\xff\xff\0".as_slice()
-    );
-    let inner = one(alloc, "x", Bson::Document(string))?;
-    assert_eq!(rt;
-        spelled(alloc, &inner)?.as_slice(),
-        b"\x16\0\0\0\x03x\0\x0e\0\0\0\x02a\0\x02\0\0\0b\0\0\0".as_slice()
-    );
-    Ok(())
+fn names_operator(document: &Document) -> bool {
+    update_document_check(document)
+}
+
+fn replaces(document: &Document) -> bool {
+    replacement_document_check(document)
 }
 
 #[test]
-fn standard_vectors_read_and_spelled(rt: HostRuntime) -> Result<(), Fail> {
+fn first_keys(rt: HostRuntime) -> Result<(), Fail> {
     let alloc = rt.alloc();
-    let table: [&[u8]; 18] = [
-        b"\x05\0\0\0\0",
-        b"\x10\0\0\0\x01d\0\0\0\0\0\0\0\xf0\x3f\0",
-        b"\x0e\0\0\0\x02a\0\x02\0\0\0b\0\0",
-        b"\x14\0\0\0\x04a\0\x0c\0\0\0\x100\0\x0a\0\0\0\0\0",
-        b"\x0f\0\0\0\x05x\0\x02\0\0\0\0\xff\xff\0",
-        b"\x08\0\0\0\x06a\0\0",
-        b"\x14\0\0\0\x07a\0\x56\xe1\xfc\x72\xe0\xc9\x17\xe9\xc4\x71\x41\x61\0",
-        b"\x09\0\0\0\x08b\0\x01\0",
-        b"\x10\0\0\0\x09a\0\xc5\xd8\xd6\xcc\x3b\x01\0\0\0",
-        b"\x08\0\0\0\x0aa\0\0",
-        b"\x0f\0\0\0\x0ba\0abc\0im\0\0",
-        b"\x0e\0\0\0\x0da\0\x02\0\0\0b\0\0",
-        b"\x0e\0\0\0\x0ea\0\x02\0\0\0b\0\0",
-        b"\x0c\0\0\0\x10i\0\xff\xff\xff\xff\0",
-        b"\x10\0\0\0\x11a\0\x2a\0\0\0\x15\xcd\x5b\x07\0",
-        b"\x10\0\0\0\x12a\0\xff\xff\xff\xff\xff\xff\xff\xff\0",
-        b"\x18\0\0\0\x13d\0\x01\0\0\0\0\0\0\0\0\0\0\0\0\0\x40\x30\0",
-        b"\x08\0\0\0\x7fa\0\0",
-    ];
-    for bytes in table {
-        let document = read(alloc, bytes)?;
-        assert_eq!(rt; spelled(alloc, &document)?.as_slice(), bytes);
+    for (key, operator) in [("$set", true), ("x", false), ("", false), ("x$", false)] {
+        let document = one(alloc, key, Bson::Null)?;
+        assert_eq!(rt; names_operator(&document), operator, "{key}");
+        assert_eq!(rt; replaces(&document), !operator, "{key}");
     }
+    let empty = Document::new(alloc);
+    assert!(rt; !names_operator(&empty) && replaces(&empty));
     Ok(())
 }

@@ -1,5 +1,5 @@
 //! Text and bytes that contracts see as lists of numbers.
-ghost use Rattle.std.specs.Prelude.{◌≡◌, ◌+◌, ◌≤◌, ◌++◌, [], ◌∷◌, length, take, drop, string_bytes, IfOk, OnOk, OnErr, IsTrue, ◌↔◌};
+ghost use Rattle.std.specs.Prelude.{◌≡◌, ◌++◌, [], ◌∷◌, length, string_bytes, IfOk, OnOk, OnErr, IsTrue, ◌↔◌};
 ghost use Rattle.std.specs.Str.{IsUtf8};
 
 use std::alloc::{AllocError, Global};
@@ -176,13 +176,5 @@ impl Bytes {
     {
         self.inner.push(byte)?;
         Ok(())
-    }
-
-    /// Writes a slice over the bytes from a place on.
-    pub fn patch(&mut self, at: usize, part: &[u8])
-        requires { at + length part.now ≤ length self.old }
-        ensures { self.new ≡ take at self.old ++ (part.now ++ drop (at + length part.now) self.old) }
-    {
-        self.inner[at..at + part.len()].copy_from_slice(part);
     }
 }
