@@ -9,5 +9,6 @@ pub mod Reading
 pub mod Same
 pub mod Sameness
 pub mod Spelling
+pub mod Stamps
 pub mod Writing
 pub mod formers

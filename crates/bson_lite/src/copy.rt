@@ -1,6 +1,7 @@
 //! Copies that equal what they copy.
 ghost use Rattle.std.specs.Prelude.{◌≡◌, IfOk};
 
+use crate::boxed::Boxed;
 use crate::bson::{Binary, Bson, ObjectId, Regex, Timestamp};
 use crate::document::{Document, Pair};
 use crate::list::List;
@@ -43,6 +44,12 @@ impl<T: TryClone> TryClone for Option<T> {
             None => Ok(None),
             Some(value) => Ok(Some(value.try_clone(alloc)?)),
         }
+    }
+}
+
+impl<T: TryClone + Drop> TryClone for Boxed<T> {
+    fn try_clone(&self, alloc: Global) -> Result<Boxed<T>, AllocError> {
+        Boxed::new(alloc, self.get().try_clone(alloc)?)
     }
 }
 

@@ -1,9 +1,13 @@
-//! The laws of the spelling.
+//! The laws of the spelling, and of the order of timestamps.
 ghost use Rattle.std.specs.Prelude.{◌≡◌, ℕ, List, Ok};
 ghost use Rattle.bson_lite.specs.Reading.{read};
 ghost use Rattle.bson_lite.specs.Spelling.{HasSpelling, Spells, spelling};
 ghost use Rattle.bson_lite.specs.declared.bson.Bson.{Bson};
 ghost use Rattle.bson_lite.specs.declared.document.Pair.{Pair};
+ghost use Rattle.bson_lite.specs.Stamps.{by_time_then_increment};
+
+use crate::bson::Timestamp;
+use std::cmp::Ordering;
 
 /// What has a spelling is read again from it.
 pub fn round_trip()
@@ -14,3 +18,10 @@ pub fn round_trip()
 pub fn read_is_spelled()
     ensures { (bytes : List ℕ) (d : List (Pair Bson)) → read bytes ≡ Ok d → Spells d bytes }
 {}
+
+/// Timestamps are ordered by time, and where that is the same by increment.
+pub fn order_of_timestamps(a: Timestamp, b: Timestamp) -> Ordering
+    ensures { result ≡ by_time_then_increment a b }
+{
+    a.cmp(&b)
+}

@@ -36,7 +36,7 @@ pub use fault::{DecodeFault, EncodeFault};
 pub use fields::{
     ID_KEY, get_int, get_or_prepend_id_field, replacement_document_check, update_document_check,
 };
-pub use laws::{read_is_spelled, round_trip};
+pub use laws::{order_of_timestamps, read_is_spelled, round_trip};
 pub use list::List;
 pub use namespace::Namespace;
 pub use raw::RawDocumentBuf;
