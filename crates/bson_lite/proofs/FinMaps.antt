@@ -1,6 +1,6 @@
 -- A `HashMap` and the finite map that contracts see in its place: the keys have the order R and the
 -- test `eq`, and the two tie the same keys.
-use Rattle.std.proofs.Common.{true, Option, ◌≡◌, ℕ, suc, ◌+◌, Bool, false, cond, ◌||◌, List, [], ◌∷◌, length, Some, is_some, refl, sym, ap, ◌∙◌, add-one, nat_eq, ◌≤◌, arith}
+use Rattle.std.proofs.Common.{true, None, Option, ◌≡◌, ℕ, suc, ◌+◌, Bool, false, cond, ◌||◌, List, [], ◌∷◌, length, Some, is_some, refl, sym, ap, ◌∙◌, add-one, nat_eq, ◌≤◌, arith}
 use Rattle.std.specs.declared.cmp.Ordering.{Ordering}
 use Rattle.std.specs.declared.cmp.Ordering.TheVariants.{Less, Equal, Greater}
 use Rattle.std.specs.Cmp.{IsTotalOrder, eq_by_cmp_equiv, nat_cmp_total, unsigned_ties}
@@ -12,6 +12,7 @@ use Rattle.std.specs.HashMap.{HashMap}
 use Rattle.std.specs.List.{AllByRecursion, IsDistinct, list_any}
 use Rattle.std.specs.Map.{lookup, keys_of}
 use Rattle.std.proofs.lemmas.Map.Keys.{IsDistinct-head, IsDistinct-tail}
+use Rattle.std.proofs.lemmas.Bool.{eqb-true}
 use Rattle.bson_lite.specs.Indexed.{insert_each}
 
 -- a key that no key ties with is not found
@@ -110,3 +111,50 @@ module _ {K X : Type 0} {R : K → K → Ordering} (o : IsTotalOrder R) where
   insert_there same m k v is = finite.same_map o same _ _ (λ q.
       finite.get-insert o m k v q
       ∙ there (R q k) v (finite.get m q) (λ ties. sym is ∙ finite.get_tied o m q k ties))
+
+-- the first value that is there
+abbrev or_else : {A : Type 0} → Option A → Option A → Option A
+or_else None other = other
+or_else (Some x) other = Some x
+
+or_none : {A : Type 0} (found : Option A) → or_else found None ≡ found
+or_none None = refl
+or_none (Some x) = refl
+
+-- a later value stands before an earlier one, where only one of them has the key
+behind : {A : Type 0} (b : Bool) (v : A) (found before : Option A) → (b ≡ true → found ≡ None) → or_else found (cond b (Some v) before) ≡ or_else (cond b (Some v) found) before
+behind true v found before none = rw (none refl) refl
+behind false v found before none = refl
+
+-- a key that is not among the entries' keys is not found
+not_found : {X : Type 0} (es : List (ℕ × X)) (k q : ℕ) → AllByRecursion (λ y. nat_eq k y ≡ false) (keys_of es) → q ≡ k → finite.find nat_cmp q es ≡ None
+not_found [] k q none same = refl
+not_found (e ∷ es) k q none same =
+    let apart : eq_by_cmp nat_cmp q e.0 ≡ false = sym (unsigned_ties q e.0) ∙ rw same none.0 in
+    rw apart (not_found es k q none.1 same)
+
+-- what is found once each entry was put in turn
+get-insert_each : {X : Type 0} (m : finite.FinMap nat_cmp X) (es : List (ℕ × X)) (q : ℕ) → IsDistinct nat_eq (keys_of es)
+    → finite.get (insert_each m es) q ≡ or_else (finite.find nat_cmp q es) (finite.get m q)
+unfolding insert_each
+get-insert_each m [] q apart = refl
+get-insert_each m (e ∷ es) q apart =
+    get-insert_each (finite.insert m e.0 e.1) es q (IsDistinct-tail nat_eq e.0 (keys_of es) apart)
+    ∙ ap (or_else (finite.find nat_cmp q es)) (finite.get-insert nat_cmp_total m e.0 e.1 q)
+    ∙ behind (eq_by_cmp nat_cmp q e.0) e.1 (finite.find nat_cmp q es) (finite.get m q)
+    (λ ties. not_found es e.0 q (IsDistinct-head nat_eq e.0 (keys_of es) apart) (eqb-true q e.0 (unsigned_ties q e.0 ∙ ties)))
+
+-- entries that are put in turn, under keys apart, are the map of them
+pub put_in_turn : {X : Type 0} (es : List (ℕ × X)) → IsDistinct nat_eq (keys_of es) → insert_each finite.empty es ≡ finite.from_entries es
+put_in_turn es apart = finite.same_map nat_cmp_total finite.nat_cmp-IsAntisymmetric _ _ (λ q.
+    get-insert_each finite.empty es q apart
+    ∙ ap (or_else (finite.find nat_cmp q es)) (finite.get-empty nat_cmp q)
+    ∙ or_none (finite.find nat_cmp q es)
+    ∙ sym (finite.get-from_entries nat_cmp_total es q))
+
+-- the next entry was inserted
+pub insert_next : {X : Type 0} (m n all : finite.FinMap nat_cmp X) (k : ℕ) (v w : X) (rest left : List (ℕ × X))
+    → n ≡ finite.insert m k v → v ≡ w → left ≡ (k, w) ∷ rest → insert_each m left ≡ all → insert_each n rest ≡ all
+unfolding insert_each
+insert_next m n all k v w rest left put same is so_far =
+    ap (λ x. insert_each x rest) put ∙ ap (λ x. insert_each (finite.insert m k x) rest) same ∙ ap (insert_each m) (sym is) ∙ so_far

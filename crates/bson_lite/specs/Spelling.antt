@@ -1,4 +1,5 @@
--- The one spelling of a document in bytes, and which documents have one.
+-- The one spelling of a document in bytes, and which documents have one: the layout of BSON 1.1, whose
+-- productions stand in brackets beside the definitions.
 use Rattle.std.specs.Prelude.{◌≡◌, ℕ, suc, ◌+◌, ◌≤◌, max, Bool, true, false, ◌&&◌, ◌||◌, nat_lt, ◌==◌, if◌then◌else◌, List, [], ◌∷◌, ◌++◌, map, length, decimal, Option, Some, None, Result, Ok, Err}
 use Rattle.std.specs.Int.{w32, w64, to_le_bytes, cast_unsigned}
 use Rattle.std.specs.List.{list_any}
@@ -10,23 +11,23 @@ use Rattle.bson_lite.specs.declared.fault.EncodeFault.{EncodeFault}
 use Rattle.bson_lite.specs.declared.fault.EncodeFault.TheVariants.{TooDeep, ZeroByte, TooLong, Memory}
 use Rattle.bson_lite.specs.Ranges.{fits}
 
--- a number of 32 bits, the low byte first
+-- a number of 32 bits, the low byte first (int32)
 abbrev pub four : ℕ → List ℕ
 four n = to_le_bytes w32 n
 
--- the same of 64 bits
+-- the same of 64 bits (int64)
 abbrev pub eight : ℕ → List ℕ
 eight n = to_le_bytes w64 n
 
--- a text with its length before it: the length counts the zero byte that ends it
+-- a text with its length before it: the length counts the zero byte that ends it (string)
 abbrev pub counted : List ℕ → List ℕ
 counted text = four (length text + 1) ++ (text ++ 0 ∷ [])
 
--- a document's elements between its length, which counts itself too, and the zero byte that ends it
+-- a document's elements between its length, which counts itself too, and the zero byte that ends it (document)
 abbrev pub framed : List ℕ → List ℕ
 framed elements = four (length elements + 5) ++ (elements ++ 0 ∷ [])
 
--- an element: the type byte, the key with a zero byte at its end, the value
+-- an element: the type byte, the key with a zero byte at its end, the value (element, e_name, cstring)
 abbrev pub element : List ℕ → ℕ × List ℕ → List ℕ
 element key value = value.0 ∷ (key ++ 0 ∷ value.1)
 
@@ -34,7 +35,7 @@ element key value = value.0 ∷ (key ++ 0 ∷ value.1)
 abbrev pub on_value : {A B : Type 0} → (A → B) → Pair A → Pair B
 on_value f pair = record { key = pair.key; value = f pair.value }
 
--- the elements of a document, whose values are spelled already
+-- the elements of a document, whose values are spelled already (e_list)
 abbrev pub elements : List (Pair (ℕ × List ℕ)) → List ℕ
 elements [] = []
 elements (pair ∷ pairs) = element pair.key pair.value ++ elements pairs
@@ -44,7 +45,8 @@ abbrev pub numbered : ℕ → List (ℕ × List ℕ) → List ℕ
 numbered place [] = []
 numbered place (value ∷ values) = element (decimal place) value ++ numbered (place + 1) values
 
--- the type byte and the bytes of a value, from those of the values in it
+-- the type byte and the bytes of a value, from those of the values in it (the alternatives of element;
+-- binary and subtype at Binary, two cstrings at RegularExpression)
 abbrev pub step : Bson-F (ℕ × List ℕ) → ℕ × List ℕ
 step (Bson-F.Double double) = (1, double)
 step (Bson-F.String text) = (2, counted text)

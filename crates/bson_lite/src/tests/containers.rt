@@ -1,7 +1,7 @@
 //! Each container once with memory enough, and the text of a namespace.
 use super::{b_text, copied, spelled};
 use crate::boxed::Boxed;
-use crate::bson::Bson;
+use crate::bson::{Bson, Timestamp};
 use crate::by_index::ByIndex;
 use crate::document::{Document, Pair};
 use crate::list::List;
@@ -47,41 +47,45 @@ fn a_namespace_is_printed_with_a_dot(rt: HostRuntime) -> Result<(), Fail> {
     Ok(())
 }
 
-fn listed(alloc: Global) -> Result<List<u8>, AllocError> {
+fn stamp(time: u32) -> Timestamp {
+    Timestamp { time, increment: 0 }
+}
+
+fn listed(alloc: Global) -> Result<List<Timestamp>, AllocError> {
     let mut list = List::with_capacity(alloc, 1)?;
-    list.push(1)?;
+    list.push(stamp(1))?;
     let mut more = List::new(alloc);
-    more.push(2)?;
+    more.push(stamp(2))?;
     list.append(more)?;
-    Ok(list)
+    copied(alloc, &list)
 }
 
 fn gathered(alloc: Global) -> Result<Bytes, AllocError> {
     let mut bytes = Bytes::with_capacity(alloc, 3)?;
     bytes.push(1)?;
     bytes.extend_from_slice(&[2, 3])?;
-    Ok(bytes)
+    copied(alloc, &bytes)
 }
 
-fn indexed(alloc: Global) -> Result<ByIndex<u8>, AllocError> {
+fn indexed(alloc: Global) -> Result<ByIndex<Timestamp>, AllocError> {
     let mut by_index = ByIndex::new(alloc);
-    by_index.insert(7, 1)?;
-    by_index.extend(vec![in alloc; (8, 2), (7, 3)]?)?;
-    Ok(by_index)
+    by_index.insert(7, stamp(1))?;
+    by_index.extend(vec![in alloc; (8, stamp(2)), (7, stamp(3))]?)?;
+    copied(alloc, &by_index)
 }
 
-fn boxed(alloc: Global) -> Result<Boxed<u8>, AllocError> {
-    Boxed::new(alloc, 5)
+fn boxed(alloc: Global) -> Result<Boxed<Timestamp>, AllocError> {
+    copied(alloc, &Boxed::new(alloc, stamp(5))?)
 }
 
 #[test]
 fn containers(rt: HostRuntime) -> Result<(), Fail> {
     let alloc = rt.alloc();
-    assert_eq!(rt; listed(alloc)?.as_slice(), [1, 2].as_slice());
+    assert_eq!(rt; listed(alloc)?.as_slice(), [stamp(1), stamp(2)].as_slice());
     assert_eq!(rt; gathered(alloc)?.as_slice(), [1, 2, 3].as_slice());
     let by_index = indexed(alloc)?;
     assert_eq!(rt; by_index.len(), 2);
-    assert_eq!(rt; by_index.get(7).copied(), Some(3));
-    assert_eq!(rt; *boxed(alloc)?.get(), 5);
+    assert_eq!(rt; by_index.get(7).copied(), Some(stamp(3)));
+    assert_eq!(rt; *boxed(alloc)?.get(), stamp(5));
     Ok(())
 }
