@@ -1,6 +1,6 @@
 -- A `HashMap` and the finite map that contracts see in its place: the keys have the order R and the
 -- test `eq`, and the two tie the same keys.
-use Rattle.std.proofs.Common.{true, None, Option, ◌≡◌, ℕ, suc, ◌+◌, Bool, false, cond, ◌||◌, List, [], ◌∷◌, length, Some, is_some, refl, sym, ap, ◌∙◌, add-one, nat_eq, ◌≤◌, arith}
+use Rattle.std.proofs.Common.{true, Option, None, ◌≡◌, ℕ, suc, ◌+◌, Bool, false, cond, ◌||◌, List, [], ◌∷◌, length, Some, is_some, refl, sym, ap, ◌∙◌, add-one, nat_eq, ◌≤◌, arith}
 use Rattle.std.specs.declared.cmp.Ordering.{Ordering}
 use Rattle.std.specs.declared.cmp.Ordering.TheVariants.{Less, Equal, Greater}
 use Rattle.std.specs.Cmp.{IsTotalOrder, eq_by_cmp_equiv, nat_cmp_total, unsigned_ties}
@@ -9,11 +9,12 @@ use Rattle.std.specs.FinMap as finite
 use Rattle.std.specs.FinMap.Entries.{is_some-find}
 use Rattle.std.specs.HashMap as hash
 use Rattle.std.specs.HashMap.{HashMap}
+use Rattle.std.specs.Option.{option_map}
 use Rattle.std.specs.List.{AllByRecursion, IsDistinct, list_any}
 use Rattle.std.specs.Map.{lookup, keys_of}
 use Rattle.std.proofs.lemmas.Map.Keys.{IsDistinct-head, IsDistinct-tail}
 use Rattle.std.proofs.lemmas.Bool.{eqb-true}
-use Rattle.bson_lite.specs.Indexed.{insert_each}
+use Rattle.bson_lite.specs.Indexed.{insert_each, changed_entries, changed}
 
 -- a key that no key ties with is not found
 no_tie : {K : Type 0} (eq : K → K → Bool) (k : K) (ks : List K) → AllByRecursion (λ y. eq k y ≡ false) ks → list_any (eq k) ks ≡ false
@@ -60,6 +61,68 @@ module _ {K X S : Type 0} {R : K → K → Ordering} (o : IsTotalOrder R) (eq : 
   pub alike : finite.IsAntisymmetric R → (m n : HashMap K X S) → ((q : K) → hash.get eq n q ≡ hash.get eq m q)
       → finite.from_entries {R = R} n.entries ≡ finite.from_entries m.entries
   alike same m n is = finite.same_map o same _ _ (λ q. get-from_hash_map n q ∙ is q ∙ sym (get-from_hash_map m q))
+
+abbrev first_of : {X : Type 0} → Option X → Option X → Option X
+first_of None o = o
+first_of (Some v) o = Some v
+
+first_of-cond : {X : Type 0} (b : Bool) (v : X) (f o : Option X) → (b ≡ true → f ≡ None) → first_of f (cond b (Some v) o) ≡ first_of (cond b (Some v) f) o
+first_of-cond true v f o none = ap (λ x. first_of x (Some v)) (none refl)
+first_of-cond false v f o none = refl
+
+first_of-None : {X : Type 0} (o : Option X) → first_of o None ≡ o
+first_of-None None = refl
+first_of-None (Some v) = refl
+
+none_of : {X : Type 0} (o : Option X) → is_some o ≡ false → o ≡ None
+none_of None e = refl
+none_of (Some v) e = absurd cc
+
+-- a key is not found where the keys are apart from it
+none_behind : {X : Type 0} (e : ℕ × X) (es : List (ℕ × X)) (q : ℕ) → IsDistinct nat_eq (keys_of (e ∷ es)) → eq_by_cmp nat_cmp q e.0 ≡ true → finite.find nat_cmp q es ≡ None
+none_behind e es q apart ties =
+    let same : q ≡ e.0 = eqb-true q e.0 (unsigned_ties q e.0 ∙ ties) in
+    rw same (none_of (finite.find nat_cmp e.0 es)
+    (sym (ap is_some (finite.get-from_entries nat_cmp_total es e.0)) ∙ absent_head nat_cmp_total nat_eq unsigned_ties e es apart))
+
+get-insert_each : {X : Type 0} (m : finite.FinMap nat_cmp X) (es : List (ℕ × X)) → IsDistinct nat_eq (keys_of es) → (q : ℕ)
+    → finite.get (insert_each m es) q ≡ first_of (finite.find nat_cmp q es) (finite.get m q)
+unfolding insert_each
+get-insert_each m [] apart q = refl
+get-insert_each m (e ∷ es) apart q =
+    get-insert_each (finite.insert m e.0 e.1) es (IsDistinct-tail nat_eq e.0 (keys_of es) apart) q
+    ∙ ap (first_of (finite.find nat_cmp q es)) (finite.get-insert nat_cmp_total m e.0 e.1 q)
+    ∙ first_of-cond (eq_by_cmp nat_cmp q e.0) e.1 (finite.find nat_cmp q es) (finite.get m q) (none_behind e es q apart)
+
+-- entries with distinct keys give one map, put one after another or all at once
+pub from_distinct : {X : Type 0} (es : List (ℕ × X)) → IsDistinct nat_eq (keys_of es) → insert_each finite.empty es ≡ finite.from_entries {R = nat_cmp} es
+from_distinct es apart = finite.same_map nat_cmp_total finite.nat_cmp-IsAntisymmetric _ _ (λ q.
+    get-insert_each finite.empty es apart q ∙ ap (first_of (finite.find nat_cmp q es)) (finite.get-empty nat_cmp q)
+    ∙ first_of-None _ ∙ sym (finite.get-from_entries nat_cmp_total es q))
+
+option_map-cond : {X Y : Type 0} (f : X → Y) (b : Bool) (v : X) (o : Option X) → cond b (Some (f v)) (option_map f o) ≡ option_map f (cond b (Some v) o)
+option_map-cond f true v o = refl
+option_map-cond f false v o = refl
+
+find-changed : {X Y : Type 0} (f : X → Y) (es : List (ℕ × X)) (q : ℕ) → finite.find nat_cmp q (changed_entries f es) ≡ option_map f (finite.find nat_cmp q es)
+find-changed f [] q = refl
+find-changed f (e ∷ es) q =
+    ap (cond (eq_by_cmp nat_cmp q e.0) (Some (f e.1))) (find-changed f es q) ∙ option_map-cond f (eq_by_cmp nat_cmp q e.0) e.1 (finite.find nat_cmp q es)
+
+keys-changed : {X Y : Type 0} (f : X → Y) (es : List (ℕ × X)) → keys_of (changed_entries f es) ≡ keys_of es
+keys-changed f [] = refl
+keys-changed f (e ∷ es) = ap (◌∷◌ e.0) (keys-changed f es)
+
+-- entries put with their values changed give the map with its values changed
+pub changed_from_distinct : {X Y : Type 0} (f : X → Y) (es : List (ℕ × X)) → IsDistinct nat_eq (keys_of es)
+    → insert_each finite.empty (changed_entries f es) ≡ changed f (finite.from_entries es)
+changed_from_distinct f es apart =
+    from_distinct (changed_entries f es) (rw (keys-changed f es) apart)
+    ∙ finite.same_map nat_cmp_total finite.nat_cmp-IsAntisymmetric _ _ (λ q.
+    finite.get-from_entries nat_cmp_total (changed_entries f es) q ∙ find-changed f es q
+    ∙ ap (option_map f) (sym (finite.get-from_entries nat_cmp_total es q) ∙ finite.get-entries (finite.from_entries {R = nat_cmp} es) q)
+    ∙ sym (find-changed f (finite.entries (finite.from_entries {R = nat_cmp} es)) q)
+    ∙ sym (finite.get-from_entries nat_cmp_total (changed_entries f (finite.entries (finite.from_entries {R = nat_cmp} es))) q))
 
 -- the next of many values was put where it belongs
 pub puts_next : {X S : Type 0} (m n : HashMap ℕ X S) (entry : ℕ × X) (rest left : List (ℕ × X)) (all : finite.FinMap nat_cmp X)
@@ -111,50 +174,3 @@ module _ {K X : Type 0} {R : K → K → Ordering} (o : IsTotalOrder R) where
   insert_there same m k v is = finite.same_map o same _ _ (λ q.
       finite.get-insert o m k v q
       ∙ there (R q k) v (finite.get m q) (λ ties. sym is ∙ finite.get_tied o m q k ties))
-
--- the first value that is there
-abbrev or_else : {A : Type 0} → Option A → Option A → Option A
-or_else None other = other
-or_else (Some x) other = Some x
-
-or_none : {A : Type 0} (found : Option A) → or_else found None ≡ found
-or_none None = refl
-or_none (Some x) = refl
-
--- a later value stands before an earlier one, where only one of them has the key
-behind : {A : Type 0} (b : Bool) (v : A) (found before : Option A) → (b ≡ true → found ≡ None) → or_else found (cond b (Some v) before) ≡ or_else (cond b (Some v) found) before
-behind true v found before none = rw (none refl) refl
-behind false v found before none = refl
-
--- a key that is not among the entries' keys is not found
-not_found : {X : Type 0} (es : List (ℕ × X)) (k q : ℕ) → AllByRecursion (λ y. nat_eq k y ≡ false) (keys_of es) → q ≡ k → finite.find nat_cmp q es ≡ None
-not_found [] k q none same = refl
-not_found (e ∷ es) k q none same =
-    let apart : eq_by_cmp nat_cmp q e.0 ≡ false = sym (unsigned_ties q e.0) ∙ rw same none.0 in
-    rw apart (not_found es k q none.1 same)
-
--- what is found once each entry was put in turn
-get-insert_each : {X : Type 0} (m : finite.FinMap nat_cmp X) (es : List (ℕ × X)) (q : ℕ) → IsDistinct nat_eq (keys_of es)
-    → finite.get (insert_each m es) q ≡ or_else (finite.find nat_cmp q es) (finite.get m q)
-unfolding insert_each
-get-insert_each m [] q apart = refl
-get-insert_each m (e ∷ es) q apart =
-    get-insert_each (finite.insert m e.0 e.1) es q (IsDistinct-tail nat_eq e.0 (keys_of es) apart)
-    ∙ ap (or_else (finite.find nat_cmp q es)) (finite.get-insert nat_cmp_total m e.0 e.1 q)
-    ∙ behind (eq_by_cmp nat_cmp q e.0) e.1 (finite.find nat_cmp q es) (finite.get m q)
-    (λ ties. not_found es e.0 q (IsDistinct-head nat_eq e.0 (keys_of es) apart) (eqb-true q e.0 (unsigned_ties q e.0 ∙ ties)))
-
--- entries that are put in turn, under keys apart, are the map of them
-pub put_in_turn : {X : Type 0} (es : List (ℕ × X)) → IsDistinct nat_eq (keys_of es) → insert_each finite.empty es ≡ finite.from_entries es
-put_in_turn es apart = finite.same_map nat_cmp_total finite.nat_cmp-IsAntisymmetric _ _ (λ q.
-    get-insert_each finite.empty es q apart
-    ∙ ap (or_else (finite.find nat_cmp q es)) (finite.get-empty nat_cmp q)
-    ∙ or_none (finite.find nat_cmp q es)
-    ∙ sym (finite.get-from_entries nat_cmp_total es q))
-
--- the next entry was inserted
-pub insert_next : {X : Type 0} (m n all : finite.FinMap nat_cmp X) (k : ℕ) (v w : X) (rest left : List (ℕ × X))
-    → n ≡ finite.insert m k v → v ≡ w → left ≡ (k, w) ∷ rest → insert_each m left ≡ all → insert_each n rest ≡ all
-unfolding insert_each
-insert_next m n all k v w rest left put same is so_far =
-    ap (λ x. insert_each x rest) put ∙ ap (λ x. insert_each (finite.insert m k x) rest) same ∙ ap (insert_each m) (sym is) ∙ so_far

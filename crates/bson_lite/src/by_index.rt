@@ -5,7 +5,6 @@ ghost use Rattle.std.specs.Option.{option_copied};
 ghost use Rattle.std.specs.FinMap as map;
 ghost use Rattle.bson_lite.specs.Indexed.{insert_each};
 
-use crate::copy::TryClone;
 use std::alloc::{AllocError, Global};
 use std::collections::HashMap;
 use std::marker::Model;
@@ -78,16 +77,6 @@ impl<T: Drop> ByIndex<T> {
         self.entries.reserve(more.len())?;
         insert_all(&mut self.entries, more);
         Ok(())
-    }
-}
-
-impl<T: TryClone + Drop> TryClone for ByIndex<T> {
-    fn try_clone(&self, alloc: Global) -> Result<ByIndex<T>, AllocError> {
-        let mut copies = ByIndex::new(alloc);
-        for (index, value) in self.entries.iter() {
-            copies.insert(*index, value.try_clone(alloc)?)?;
-        }
-        Ok(copies)
     }
 }
 

@@ -3,6 +3,7 @@ ghost use Rattle.std.specs.Prelude.{◌≡◌, IfOk};
 
 use crate::boxed::Boxed;
 use crate::bson::{Binary, Bson, ObjectId, Regex, Timestamp};
+use crate::by_index::ByIndex;
 use crate::document::{Document, Pair};
 use crate::list::List;
 use crate::namespace::Namespace;
@@ -35,6 +36,17 @@ impl<T: TryClone + Drop> TryClone for List<T> {
             copies.push(item.try_clone(alloc)?)?;
         }
         Ok(List::from_vec(copies))
+    }
+}
+
+impl<T: TryClone + Drop> TryClone for ByIndex<T> {
+    fn try_clone(&self, alloc: Global) -> Result<ByIndex<T>, AllocError> {
+        let entries = self.map();
+        let mut copies = ByIndex::new(alloc);
+        for (index, value) in entries.iter() {
+            copies.insert(*index, value.try_clone(alloc)?)?;
+        }
+        Ok(copies)
     }
 }
 
