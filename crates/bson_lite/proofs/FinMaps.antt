@@ -113,6 +113,12 @@ keys-changed : {X Y : Type 0} (f : X → Y) (es : List (ℕ × X)) → keys_of (
 keys-changed f [] = refl
 keys-changed f (e ∷ es) = ap (◌∷◌ e.0) (keys-changed f es)
 
+-- the changed value is found at each index
+pub get-changed : {X Y : Type 0} (f : X → Y) (m : finite.FinMap nat_cmp X) (q : ℕ) → finite.get (changed f m) q ≡ option_map f (finite.get m q)
+get-changed f m q =
+    finite.get-from_entries nat_cmp_total (changed_entries f (finite.entries m)) q ∙ find-changed f (finite.entries m) q
+    ∙ ap (option_map f) (sym (finite.get-entries m q))
+
 -- entries put with their values changed give the map with its values changed
 pub changed_from_distinct : {X Y : Type 0} (f : X → Y) (es : List (ℕ × X)) → IsDistinct nat_eq (keys_of es)
     → insert_each finite.empty (changed_entries f es) ≡ changed f (finite.from_entries es)

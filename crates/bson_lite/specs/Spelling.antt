@@ -174,12 +174,16 @@ pub record Spells (document : List (Pair Bson)) (bytes : List ℕ) : Type 0 wher
   pub has : HasSpelling document
   pub is : bytes ≡ spelling document
 
--- why a document has no spelling, tested in this order
-abbrev pub refusal : List (Pair Bson) → Option EncodeFault
-refusal document =
-    if nat_lt 100 (nesting document) then Some TooDeep else (
+-- why a document that may nest so many levels deep is refused, tested in this order
+abbrev pub refusal_within : ℕ → List (Pair Bson) → Option EncodeFault
+refusal_within levels document =
+    if nat_lt levels (nesting document) then Some TooDeep else (
     if zero_in document then Some ZeroByte else (
     if nat_lt 2147483647 (length (spelling document)) then Some TooLong else None))
+
+-- why a document has no spelling
+abbrev pub refusal : List (Pair Bson) → Option EncodeFault
+refusal document = refusal_within 100 document
 
 -- what `encode` may answer
 abbrev pub Encodes : List (Pair Bson) → Result (List ℕ) EncodeFault → Type 0

@@ -40,5 +40,5 @@ pub use laws::{order_of_timestamps, read_is_spelled, round_trip};
 pub use list::List;
 pub use namespace::Namespace;
 pub use raw::RawDocumentBuf;
-pub use survey::encoded_len;
+pub use survey::{encoded_len, refusal_within};
 pub use text::{Bytes, Text};

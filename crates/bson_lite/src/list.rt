@@ -56,6 +56,11 @@ impl<T> List<T> {
         items
     }
 
+    /// Where it finds memory.
+    pub fn allocator(&self) -> Global {
+        *self.items.allocator()
+    }
+
     pub fn as_slice(&self) -> &[T]
         ensures { result.now ≡ self.now }
     {

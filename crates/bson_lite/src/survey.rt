@@ -2,7 +2,7 @@
 ghost use Rattle.std.specs.Prelude.{◌≡◌, ◌+◌, ◌-◌, ◌^◌, ◌||◌, ◌∷◌, ◌++◌, [], ℕ, suc, min, true, false, nat_lt, length, map, decimal, None, Some, IfOk, IfErr};
 ghost use Rattle.std.specs.Str.{is_utf8};
 ghost use Rattle.bson_lite.specs.Ranges.{fits};
-ghost use Rattle.bson_lite.specs.Spelling.{HasSpelling, refusal, spelled, spelling, depth, deepest, deepest_pair, on_value, zero_within, zero_in, zero_in_values, holds_zero, valid, valid_pairs, valid_values, body_of, numbered, counted};
+ghost use Rattle.bson_lite.specs.Spelling.{HasSpelling, refusal, refusal_within, spelled, spelling, depth, deepest, deepest_pair, on_value, zero_within, zero_in, zero_in_values, holds_zero, valid, valid_pairs, valid_values, body_of, numbered, counted};
 
 use crate::bson::{Bson, ObjectId, Timestamp};
 use crate::document::{Document, Pair};
@@ -63,6 +63,25 @@ pub(crate) fn surveyed(document: &Document) -> Result<usize, EncodeFault>
         return Err(EncodeFault::TooLong);
     }
     Ok(length as usize)
+}
+
+/// Why a document is refused where it may nest so many levels deep, the document itself counting 1: as
+/// `encode` would refuse it, but for the depth. It takes no memory.
+pub fn refusal_within(document: &Document, levels: u32) -> Option<EncodeFault>
+    ensures { result ≡ refusal_within levels document.now }
+{
+    let mut met = Met::nothing();
+    let below = levels_below(levels, &mut met);
+    let length = survey_pairs(document.pairs(), below, &mut met).saturating_add(5);
+    if met.deep {
+        Some(EncodeFault::TooDeep)
+    } else if met.zero {
+        Some(EncodeFault::ZeroByte)
+    } else if length > LIMIT {
+        Some(EncodeFault::TooLong)
+    } else {
+        None
+    }
 }
 
 /// The length of a document's elements, where so many levels may stand below the document.

@@ -9,9 +9,8 @@ use Rattle.bson_lite.specs.declared.fault.EncodeFault.{EncodeFault}
 use Rattle.bson_lite.specs.declared.namespace.Namespace.{Namespace}
 use Rattle.bson_lite.specs.Spelling.{refusal}
 use Rattle.driver_error.specs.declared.error.Error.{Error}
-use Rattle.driver_error.specs.declared.kind.ErrorKind.{ErrorKind}
 use Rattle.driver_error.specs.declared.kind.ErrorKind.TheVariants as kind
-use Rattle.driver_error.specs.Error.{kind_of}
+use Rattle.driver_error.specs.Error.{ErrorKind, kind_of}
 use Rattle.driver_link.specs.declared.machine.Item.{Item}
 use Rattle.driver_link.specs.declared.machine.Item.TheVariants.{Serve, Lost}
 use Rattle.driver_link.specs.declared.machine.PlacedWrite.{PlacedWrite}
@@ -30,7 +29,8 @@ use Rattle.driver_actions.specs.declared.call.Call.TheVariants.{Single}
 use Rattle.driver_actions.specs.declared.call.Outcome.{Outcome}
 use Rattle.driver_actions.specs.declared.call.SingleWrite.TheVariants.{InsertOne}
 use Rattle.driver_actions.specs.Calls.{inserted}
-use Rattle.driver_actions.specs.Causes.{DocumentRefused, Failure, failure_of}
+use Rattle.driver_actions.specs.Causes.{Failure, failure_of}
+use Rattle.driver_actions.specs.Inputs.{InputRefused}
 use Rattle.driver_actions.specs.Inserts.{insert_body, is_done_reply}
 use Rattle.driver_actions.specs.MainTheorem.{Completes, EndsWell, IsValid, IsValidInsert, HasWriteOf}
 use Rattle.driver_actions.specs.Pool.{Pool, ToldStore, AllApart, empty_pool}
@@ -40,7 +40,7 @@ use Rattle.driver_actions.proofs.Knowing.{Between}
 use Rattle.driver_actions.proofs.Logging.{first_place}
 use Rattle.driver_actions.proofs.Moving.{Moves}
 use Rattle.driver_actions.proofs.Numbering.{NumbersWithin, turn_within, within_staying}
-use Rattle.driver_actions.proofs.Refusals.{no_fault}
+use Rattle.driver_actions.proofs.Refusals.{accepted_not_refused}
 use Rattle.driver_actions.proofs.Turning.{lent_of, answer_is, is_done_one}
 
 -- a send of a call was lost
@@ -115,12 +115,13 @@ accounted_left schedule trace now call result grows accounted = elim accounted [
 
 -- a call that made no send
 unsent_well : (told : Told) (made : ℕ) (namespace : Namespace) (document : List (Pair Bson)) (why : ErrorKind) → IsValidInsert made namespace document
-    → ComesEarly (Some told) (DocumentRefused document) why → why ≡ kind.Memory
-unsent_well told made namespace document (kind.BsonSerialization fault) valid reason = absurd (no_fault document fault valid.spelled reason)
+    → ComesEarly (Some told) (InputRefused namespace document) why → why ≡ kind.Memory
+unsent_well told made namespace document (kind.InvalidArgument message) valid reason =
+    absurd (accepted_not_refused namespace document (kind.InvalidArgument message) valid.accepted reason)
+unsent_well told made namespace document (kind.BsonSerialization fault) valid reason =
+    absurd (accepted_not_refused namespace document (kind.BsonSerialization fault) valid.accepted reason)
 unsent_well told made namespace document kind.Memory valid reason = refl
-unsent_well told made namespace document (kind.Io io) valid reason = absurd reason
-unsent_well told made namespace document (kind.Internal message) valid reason = absurd reason
-unsent_well told made namespace document (kind.InvalidResponse message) valid reason = absurd reason
+unsent_well told made namespace document _ valid reason = absurd reason
 
 -- the send that was lost
 lost_send : (told told_now : Told) (session : Session) (write : PlacedWrite) (made : ℕ) → write.place ≡ first_place made
@@ -162,6 +163,7 @@ sent_accounted old now told told_now made namespace document error (kind.Invalid
     let reply = answer_is told lent.pool turn.session turn.back sent.write turn.id explains.0 lent.holds explains.1.reply explains.1.is in
     absurd (let e : ◌≡◌ {A = Bool} true false = sym is_done_one ∙ ap is_done_reply (sym reply) ∙ explains.1.denied in cc)
 sent_accounted old now told told_now made namespace document error kind.Memory is valid sent apart between number explains = inl is
+sent_accounted old now told told_now made namespace document error _ is valid sent apart between number explains = absurd explains
 
 -- what a call leaves: the numbers of idle sessions, and that it is accounted for where it is valid
 record One (made : ℕ) (call : Call) (schedule : Schedule) (result : Result Answer Error) (store_now : ToldStore) (server_now : Server) : Type 0 where

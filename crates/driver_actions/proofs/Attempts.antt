@@ -7,9 +7,8 @@ use Rattle.bson_lite.specs.declared.bson.Bson.{Bson}
 use Rattle.bson_lite.specs.declared.document.Pair.{Pair}
 use Rattle.bson_lite.specs.Spelling.{Spells}
 use Rattle.driver_error.specs.declared.error.Error.{Error}
-use Rattle.driver_error.specs.declared.kind.ErrorKind.{ErrorKind}
 use Rattle.driver_error.specs.declared.kind.ErrorKind.TheVariants as kind
-use Rattle.driver_error.specs.Error.{kind_of}
+use Rattle.driver_error.specs.Error.{ErrorKind, kind_of}
 use Rattle.driver_link.specs.declared.fault.LinkCall.{LinkCall}
 use Rattle.driver_link.specs.declared.fault.LinkCall.TheVariants.{Exchange}
 use Rattle.driver_link.specs.declared.fault.LinkError.{LinkError}
@@ -91,9 +90,7 @@ explains_reply None now session back write bytes why raised steps tells = tt
 explains_reply (Some told) now session back write bytes (kind.InvalidResponse message) raised steps tells =
     (raised, is_denied told now (send_under back write) bytes (told_answer told (send_under back write)) steps.0 refl steps.1 tells)
 explains_reply (Some told) now session back write bytes kind.Memory raised steps tells = tt
-explains_reply (Some told) now session back write bytes (kind.Io io) raised steps tells = absurd tells
-explains_reply (Some told) now session back write bytes (kind.BsonSerialization fault) raised steps tells = absurd tells
-explains_reply (Some told) now session back write bytes (kind.Internal message) raised steps tells = absurd tells
+explains_reply (Some told) now session back write bytes _ raised steps tells = absurd tells
 
 -- after a reply the attempt is done or failed
 pub attempts_replied : {A : Type 0} (old now : Option Told) (session back : Session) (write : PlacedWrite) (bytes : List ℕ) (result : Result A Error)
@@ -137,9 +134,7 @@ explains_end : (old now : Option Told) (session back : Session) (write : PlacedW
 explains_end None now session back write why tells = tt
 explains_end (Some told) now session back write (kind.Internal message) tells = tells.0
 explains_end (Some told) now session back write kind.Memory tells = tt
-explains_end (Some told) now session back write (kind.Io io) tells = absurd tells
-explains_end (Some told) now session back write (kind.BsonSerialization fault) tells = absurd tells
-explains_end (Some told) now session back write (kind.InvalidResponse message) tells = absurd tells
+explains_end (Some told) now session back write _ tells = absurd tells
 
 -- without a number nothing was sent
 pub attempts_unnumbered : (link : Option Told) (session back : Session) (write : PlacedWrite) (error : Error) → Numbers session back (Err error)
@@ -153,9 +148,7 @@ explains_body None now session back write id number why sixteen tells = tt
 explains_body (Some told) now session back write id number (kind.BsonSerialization fault) sixteen tells =
     record { id = id; sixteen = sixteen; number = number; is = tells }
 explains_body (Some told) now session back write id number kind.Memory sixteen tells = tt
-explains_body (Some told) now session back write id number (kind.Io io) sixteen tells = absurd tells
-explains_body (Some told) now session back write id number (kind.Internal message) sixteen tells = absurd tells
-explains_body (Some told) now session back write id number (kind.InvalidResponse message) sixteen tells = absurd tells
+explains_body (Some told) now session back write id number _ sixteen tells = absurd tells
 
 -- nor without a frame
 pub attempts_unframed : (link : Option Told) (session back : Session) (write : PlacedWrite) (id : List ℕ) (number : ℤ) (error : Error) → length id ≡ 16

@@ -8,20 +8,20 @@ use Rattle.bson_lite.specs.declared.fault.EncodeFault.{EncodeFault}
 use Rattle.bson_lite.specs.declared.namespace.Namespace.{Namespace}
 use Rattle.std.proofs.lemmas.List.{take_more, take_all}
 use Rattle.driver_error.specs.declared.error.Error.{Error}
-use Rattle.driver_error.specs.declared.kind.ErrorKind.{ErrorKind}
 use Rattle.driver_error.specs.declared.kind.ErrorKind.TheVariants as kind
-use Rattle.driver_error.specs.Error.{kind_of, labels_of}
+use Rattle.driver_error.specs.Error.{ErrorKind, kind_of, labels_of}
 use Rattle.driver_error.specs.LabelTexts.{LabelSet}
 use Rattle.driver_link.specs.declared.fault.Answered.{Answered}
 use Rattle.driver_link.specs.declared.fault.Answered.TheVariants as answer
 use Rattle.driver_link.specs.declared.fault.LinkCall.{LinkCall}
-use Rattle.driver_link.specs.declared.fault.LinkCall.TheVariants.{Select, CheckOut}
+use Rattle.driver_link.specs.declared.fault.LinkCall.TheVariants.{Select, CheckOut, Exchange}
 use Rattle.driver_link.specs.declared.fault.LinkError.{LinkError}
 use Rattle.driver_link.specs.declared.fault.LinkError.TheVariants.{Fault, Memory}
 use Rattle.driver_link.specs.declared.fault.LinkFault.TheVariants.{Io}
 use Rattle.driver_link.specs.Faults.{HasLinkCause}
-use Rattle.driver_link.specs.Told.{Notes}
-use Rattle.driver_actions.specs.Causes.{Failure, failure_of, KindNeeds, KindAtLast, EndNeeds, EndAtLast, AllEarly, MayBeLast, IsLast, Refused, never, refused_body, refused_insert, next_number, lent_number, DocumentRefused, Caused}
+use Rattle.driver_link.specs.Told.{Notes, noted, reply_noted}
+use Rattle.driver_actions.specs.Causes.{Failure, failure_of, KindNeeds, KindAtLast, EndNeeds, EndAtLast, AllEarly, MayBeLast, IsLast, Refused, never, refused_body, refused_insert, next_number, lent_number, Caused, TellsOwnRefusal}
+use Rattle.driver_actions.specs.Inputs.{InputRefused, TellsInput}
 use Rattle.driver_actions.specs.Inserts.{TellsRefusal, TellsNoReply, ReadsReply, insert_body}
 use Rattle.driver_actions.specs.Pool.{ToldStore, Lends, StaysTold, session_out}
 use Rattle.driver_actions.specs.Session.{Session, Numbers, TellsEnd}
@@ -53,27 +53,39 @@ module _ (faults : ℕ) (answers : Option (List Answered)) (number : Option ℤ)
   pub caused_memory : kind_of error ≡ kind.Memory → Caused faults faults answers answers number refused (Some (failure_of error))
   caused_memory is = caused_before (needs_memory (kind_of error) is) (λ last. last_memory (kind_of error) is)
 
-  -- a document that was refused before anything was asked
-  pub caused_early : (fault : EncodeFault) → kind_of error ≡ kind.BsonSerialization fault → refused.early fault
-      → Caused faults faults answers answers number refused (Some (failure_of error))
-  caused_early fault is early =
-      caused_before (subst (KindNeeds faults faults [] number refused (labels_of error)) (sym is) (inl early))
-      (λ last. subst (KindAtLast refused.early) (sym is) early)
-
 end_needs : (faults : ℕ) (session : Session) (refused : Refused) (labels : LabelSet) (why : ErrorKind) → TellsEnd session why
     → KindNeeds faults faults [] (Some session.number) refused labels why
 end_needs faults session refused labels (kind.Internal message) tells = tells.0
 end_needs faults session refused labels kind.Memory tells = tt
-end_needs faults session refused labels (kind.Io io) tells = absurd tells
-end_needs faults session refused labels (kind.BsonSerialization fault) tells = absurd tells
-end_needs faults session refused labels (kind.InvalidResponse message) tells = absurd tells
+end_needs faults session refused labels _ tells = absurd tells
 
-end_at_last : (session : Session) (early : EncodeFault → Type 0) (why : ErrorKind) → TellsEnd session why → KindAtLast early why
+input_needs : (faults : ℕ) (number : Option ℤ) (namespace : Namespace) (document : List (Pair Bson)) (labels : LabelSet) (why : ErrorKind) → TellsInput namespace document why
+    → KindNeeds faults faults [] number (refused_insert namespace document) labels why
+input_needs faults number namespace document labels (kind.InvalidArgument message) tells = tells
+input_needs faults number namespace document labels (kind.BsonSerialization fault) tells = inl tells
+input_needs faults number namespace document labels kind.Memory tells = tt
+input_needs faults number namespace document labels _ tells = absurd tells
+
+input_at_last : (namespace : Namespace) (document : List (Pair Bson)) (why : ErrorKind) → TellsInput namespace document why
+    → KindAtLast (InputRefused namespace document) why
+input_at_last namespace document (kind.InvalidArgument message) tells = tells
+input_at_last namespace document (kind.BsonSerialization fault) tells = tells
+input_at_last namespace document kind.Memory tells = tt
+input_at_last namespace document _ tells = absurd tells
+
+-- input that was refused before anything was asked
+pub caused_input : (faults : ℕ) (answers : Option (List Answered)) (number : Option ℤ) (namespace : Namespace) (document : List (Pair Bson)) (error : Error)
+    → TellsInput namespace document (kind_of error)
+    → Caused faults faults answers answers number (refused_insert namespace document) (Some (failure_of error))
+caused_input faults answers number namespace document error tells =
+    caused_before faults answers number (refused_insert namespace document) error
+    (input_needs faults number namespace document (labels_of error) (kind_of error) tells)
+    (λ last. input_at_last namespace document (kind_of error) tells)
+
+end_at_last : (session : Session) (early : ErrorKind → Type 0) (why : ErrorKind) → TellsEnd session why → KindAtLast early why
 end_at_last session early (kind.Internal message) tells = tt
 end_at_last session early kind.Memory tells = tt
-end_at_last session early (kind.Io io) tells = absurd tells
-end_at_last session early (kind.BsonSerialization fault) tells = absurd tells
-end_at_last session early (kind.InvalidResponse message) tells = absurd tells
+end_at_last session early _ tells = absurd tells
 
 -- the end where no number was left
 pub caused_end : (faults : ℕ) (answers : Option (List Answered)) (session back : Session) (refused : Refused) (error : Error) → Numbers session back (Err error)
@@ -87,9 +99,7 @@ body_needs : (faults : ℕ) (number : Option ℤ) (namespace : Namespace) (id : 
 body_needs faults number namespace id n labels (kind.BsonSerialization fault) sixteen tells =
     inr (record { id = id; sixteen = sixteen; number = n; is = tells })
 body_needs faults number namespace id n labels kind.Memory sixteen tells = tt
-body_needs faults number namespace id n labels (kind.Io io) sixteen tells = absurd tells
-body_needs faults number namespace id n labels (kind.Internal message) sixteen tells = absurd tells
-body_needs faults number namespace id n labels (kind.InvalidResponse message) sixteen tells = absurd tells
+body_needs faults number namespace id n labels _ sixteen tells = absurd tells
 
 -- the end where a frame was refused, under a number that was left
 pub caused_body : (faults : ℕ) (answers : Option (List Answered)) (session back : Session) (given : ℤ) (namespace : Namespace) (id : List ℕ) (n : ℤ) (error : Error)
@@ -108,9 +118,7 @@ reply_needs before now bytes number refused (Err error) reads = kind_needs (kind
     kind_needs : (why : ErrorKind) → TellsNoReply bytes why → KindNeeds before now (answer.Reply bytes ∷ []) number refused (labels_of error) why
     kind_needs (kind.InvalidResponse message) tells = inl tells
     kind_needs kind.Memory tells = tt
-    kind_needs (kind.Io io) tells = absurd tells
-    kind_needs (kind.BsonSerialization fault) tells = absurd tells
-    kind_needs (kind.Internal message) tells = absurd tells
+    kind_needs _ tells = absurd tells
 
 -- the end where a reply was read, under a number that was left
 pub caused_replied : {A : Type 0} (before now : ℕ) (answers answers_now : Option (List Answered)) (session back : Session) (given : ℤ) (refused : Refused) (bytes : List ℕ)
@@ -157,12 +165,30 @@ caused_failure before now answers answers_now number refused call failure error 
   at_last = at_last;
 }
 
+-- the end where an exchange failed, under a number that was left
+pub caused_exchange : (before now : ℕ) (answers answers_now : Option (List Answered)) (session back : Session) (given : ℤ) (refused : Refused) (failure : LinkError)
+    (error : Error) → Numbers session back (Ok given) → HasLinkCause {A = List ℕ} before now (Err failure)
+    → Notes answers answers_now (noted Exchange reply_noted (Err failure)) → IsFailure Exchange failure error
+    → Caused before now answers answers_now (Some session.number) refused (Some (failure_of error))
+caused_exchange before now answers answers_now session back given refused failure error numbers cause told is =
+    caused_failure before now answers answers_now (Some session.number) refused Exchange failure error (link_cause before now failure cause)
+    (notes_failure answers answers_now failure told) is (λ last. absurd (numbers.0 last))
+  where
+    notes_failure : (answers answers_now : Option (List Answered)) (failure : LinkError) → Notes answers answers_now (noted Exchange reply_noted (Err failure))
+        → Notes answers answers_now (failure_noted Exchange failure)
+    notes_failure answers answers_now (Fault fault own) told = told
+    notes_failure answers answers_now Memory told = told
+
+    link_cause : (before now : ℕ) (failure : LinkError) → HasLinkCause {A = List ℕ} before now (Err failure) → HasLinkCause {A = Unit {0}} before now (Err failure)
+    link_cause before now (Fault fault own) cause = cause
+    link_cause before now Memory cause = cause
+
 -- an exchange has a number that was left
-pub exchange_not_last : (session back : Session) (given : ℤ) (items : List Answered) (early : EncodeFault → Type 0) (ended : Option Failure)
+pub exchange_not_last : (session back : Session) (given : ℤ) (items : List Answered) (early : ErrorKind → Type 0) (ended : Option Failure)
     → Numbers session back (Ok given) → IsLast (Some session.number) → EndAtLast items early ended
 exchange_not_last session back given items early ended numbers last = absurd (numbers.0 last)
 
-early_kind : (call : LinkCall) (failure : LinkError) (error : Error) (early : EncodeFault → Type 0) → IsFailure call failure error → KindAtLast early (kind_of error)
+early_kind : (call : LinkCall) (failure : LinkError) (error : Error) (early : ErrorKind → Type 0) → IsFailure call failure error → KindAtLast early (kind_of error)
 early_kind call (Fault (Io io) own) error early is = elim is [
   | inl alone ↦ subst (KindAtLast early) (sym alone.kind_is) tt
   | inr alone ↦ subst (KindAtLast early) (sym alone.kind_is) tt
@@ -192,10 +218,12 @@ caused_check_out before now answers answers_now number refused failure error cau
 kind_under : (before now : ℕ) (items : List Answered) (number next : Option ℤ) (refused : Refused) (labels : LabelSet) (why : ErrorKind)
     → (MayBeLast number → MayBeLast next) → KindNeeds before now items number refused labels why → KindNeeds before now items next refused labels why
 kind_under before now items number next refused labels (kind.Io io) is needs = needs
+kind_under before now items number next refused labels (kind.InvalidArgument message) is needs = needs
 kind_under before now items number next refused labels (kind.BsonSerialization fault) is needs = needs
 kind_under before now items number next refused labels (kind.Internal message) is needs = is needs
 kind_under before now items number next refused labels (kind.InvalidResponse message) is needs = needs
 kind_under before now items number next refused labels kind.Memory is needs = needs
+kind_under before now items number next refused labels _ is needs = absurd needs
 
 end_under : (before now : ℕ) (items : List Answered) (number next : Option ℤ) (refused : Refused) (ended : Option Failure)
     → (MayBeLast number → MayBeLast next) → EndNeeds before now items number refused ended → EndNeeds before now items next refused ended
@@ -238,17 +266,20 @@ number_stays (Some told) (Some now) stays = ap (λ pool. Some (lent_number pool.
 kind_of_more : (before now : ℕ) (items : List Answered) (number : Option ℤ) (namespace : Namespace) (document : List (Pair Bson)) (labels : LabelSet) (why : ErrorKind)
     → KindNeeds before now items number (refused_body namespace) labels why → KindNeeds before now items number (refused_insert namespace document) labels why
 kind_of_more before now items number namespace document labels (kind.Io io) needs = needs
+kind_of_more before now items number namespace document labels (kind.InvalidArgument message) needs = absurd needs
 kind_of_more before now items number namespace document labels (kind.BsonSerialization fault) needs = elim needs [ inl none ↦ absurd none | inr body ↦ inr body ]
 kind_of_more before now items number namespace document labels (kind.Internal message) needs = needs
 kind_of_more before now items number namespace document labels (kind.InvalidResponse message) needs = needs
 kind_of_more before now items number namespace document labels kind.Memory needs = needs
+kind_of_more before now items number namespace document labels _ needs = absurd needs
 
-last_of_more : (document : List (Pair Bson)) (why : ErrorKind) → KindAtLast never why → KindAtLast (DocumentRefused document) why
-last_of_more document (kind.Io io) needs = needs
-last_of_more document (kind.BsonSerialization fault) needs = absurd needs
-last_of_more document (kind.Internal message) needs = needs
-last_of_more document (kind.InvalidResponse message) needs = needs
-last_of_more document kind.Memory needs = needs
+last_of_more : (namespace : Namespace) (document : List (Pair Bson)) (why : ErrorKind) → KindAtLast never why → KindAtLast (InputRefused namespace document) why
+last_of_more namespace document (kind.InvalidArgument message) needs = absurd needs
+last_of_more namespace document (kind.Io io) needs = needs
+last_of_more namespace document (kind.BsonSerialization fault) needs = absurd needs
+last_of_more namespace document (kind.Internal message) needs = needs
+last_of_more namespace document kind.Memory needs = needs
+last_of_more namespace document _ needs = absurd needs
 
 -- the end of an insert whose document is not refused, after the store drew an id for it
 pub caused_insert : (before now : ℕ) (answers answers_now : Option (List Answered)) (store mid : Option ToldStore) (namespace sent : Namespace) (document : List (Pair Bson))
@@ -269,9 +300,9 @@ caused_insert before now answers answers_now store mid namespace sent document e
     needs_more None needs = needs
     needs_more (Some why) needs = kind_of_more before now caused.items (next_number mid) sent document why.labels why.kind needs
 
-    last_more : (ended : Option Failure) → EndAtLast caused.items never ended → EndAtLast caused.items (DocumentRefused document) ended
+    last_more : (ended : Option Failure) → EndAtLast caused.items never ended → EndAtLast caused.items (InputRefused sent document) ended
     last_more None last = last
-    last_more (Some why) last = (last.0, last_of_more document why.kind last.1)
+    last_more (Some why) last = (last.0, last_of_more sent document why.kind last.1)
 
 causes_last : (calls : List Call) (outcomes : List Outcome) (call : Call) (last : Outcome) (before mid now : Moment) → HaveCauses calls outcomes before mid
     → HasCause mid now call (end_of last.result) → HaveCauses (calls ++ call ∷ []) (outcomes ++ last ∷ []) before now

@@ -7,16 +7,14 @@ use Rattle.bson_lite.specs.declared.fault.DecodeFault.{DecodeFault}
 use Rattle.bson_lite.specs.declared.fault.DecodeFault.TheVariants.{At}
 use Rattle.bson_lite.specs.Reading.{Gives}
 use Rattle.bson_lite.specs.Spelling.{Spells}
-use Rattle.driver_error.specs.declared.kind.ErrorKind.{ErrorKind}
-use Rattle.driver_error.specs.declared.kind.ErrorKind.TheVariants.{BsonSerialization, Internal, InvalidResponse, Io, Memory}
+use Rattle.driver_error.specs.Error.{ErrorKind}
+use Rattle.driver_error.specs.declared.kind.ErrorKind.TheVariants.{InvalidResponse, Memory}
 use Rattle.driver_actions.specs.Inserts.{IsDoneReply, TellsNoReply, TellsNotInserted}
 
 pub tells_no_reply : (bytes : List ℕ) (kind : ErrorKind) → TellsNotInserted kind → (IsDoneReply bytes → ⊥) → TellsNoReply bytes kind
 tells_no_reply bytes (InvalidResponse message) tells none = none
 tells_no_reply bytes Memory tells none = tt
-tells_no_reply bytes (BsonSerialization fault) tells none = tells
-tells_no_reply bytes (Internal message) tells none = tells
-tells_no_reply bytes (Io kind) tells none = tells
+tells_no_reply bytes _ tells none = absurd tells
 
 -- bytes that spell no document are none
 pub spells_none : (bytes : List ℕ) (fault : DecodeFault) (offset : ℕ) → fault ≡ At offset

@@ -8,9 +8,8 @@ use Rattle.bson_lite.specs.declared.namespace.Namespace.{Namespace}
 use Rattle.bson_lite.specs.Fields.{value_of, id_key}
 use Rattle.bson_lite.specs.declared.fault.EncodeFault.{EncodeFault}
 use Rattle.driver_error.specs.declared.error.Error.{Error}
-use Rattle.driver_error.specs.declared.kind.ErrorKind.{ErrorKind}
 use Rattle.driver_error.specs.declared.kind.ErrorKind.TheVariants as kind
-use Rattle.driver_error.specs.Error.{kind_of}
+use Rattle.driver_error.specs.Error.{ErrorKind, kind_of}
 use Rattle.driver_link.specs.declared.machine.Place.{Place}
 use Rattle.driver_link.specs.declared.machine.PlacedWrite.{PlacedWrite}
 use Rattle.driver_link.specs.Told.{Told}
@@ -18,7 +17,8 @@ use Rattle.driver_actions.specs.declared.call.SingleAnswer.TheVariants.{Inserted
 use Rattle.driver_actions.specs.Calls.{IsOwn, inserted}
 use Rattle.driver_actions.specs.Pool.{ToldStore, Lends, LendsFrom, StaysTold, session_out, lent_out, draws}
 use Rattle.driver_actions.specs.Session.{Session}
-use Rattle.driver_actions.specs.Causes.{Failure, failure_of, never, DocumentRefused}
+use Rattle.driver_actions.specs.Causes.{Failure, failure_of, never}
+use Rattle.driver_actions.specs.Inputs.{InputRefused, TellsInput}
 use Rattle.driver_actions.specs.Turns.{Turn, Unsent, ComesEarly, HasOwnId, Owns, Made, Makes}
 
 -- a document that has an id keeps it
@@ -90,13 +90,31 @@ made_ok store mid now link link_now namespace document place write bytes id stay
 }
 
 -- a reason without a refusal is one with any
-early_more : (link : Option Told) (early : EncodeFault → Type 0) (why : ErrorKind) → ComesEarly link never why → ComesEarly link early why
+early_more : (link : Option Told) (early : ErrorKind → Type 0) (why : ErrorKind) → ComesEarly link never why → ComesEarly link early why
 early_more None early why reason = tt
+early_more (Some told) early (kind.InvalidArgument message) reason = absurd reason
 early_more (Some told) early (kind.BsonSerialization fault) reason = absurd reason
 early_more (Some told) early kind.Memory reason = tt
-early_more (Some told) early (kind.Io io) reason = absurd reason
-early_more (Some told) early (kind.Internal message) reason = absurd reason
-early_more (Some told) early (kind.InvalidResponse message) reason = absurd reason
+early_more (Some told) early _ reason = absurd reason
+
+-- input that is refused, and nothing was drawn or sent
+pub comes_input : (link : Option Told) (namespace : Namespace) (document : List (Pair Bson)) (why : ErrorKind) → TellsInput namespace document why
+    → ComesEarly link (InputRefused namespace document) why
+comes_input None namespace document why tells = tt
+comes_input (Some told) namespace document (kind.InvalidArgument message) tells = tells
+comes_input (Some told) namespace document (kind.BsonSerialization fault) tells = tells
+comes_input (Some told) namespace document kind.Memory tells = tt
+comes_input (Some told) namespace document _ tells = absurd tells
+
+-- a write that was not made for want of memory
+pub unmade : (store now : Option ToldStore) (link : Option Told) (namespace : Namespace) (document : List (Pair Bson)) (place : Place) (error : Error)
+    → StaysTold store now → kind_of error ≡ kind.Memory → Makes store now link link (inserted namespace document) place (Err error)
+unmade store now link namespace document place error stays is =
+    inl (record { store_stays = stays; link_stays = refl; reason = comes_memory link (kind_of error) is })
+  where
+    comes_memory : (link : Option Told) (why : ErrorKind) → why ≡ kind.Memory → ComesEarly link (InputRefused namespace document) why
+    comes_memory None why is = tt
+    comes_memory (Some told) why is = subst (ComesEarly (Some told) (InputRefused namespace document)) (sym is) tt
 
 -- a write that failed
 pub made_err : (store mid now : Option ToldStore) (link link_now : Option Told) (namespace : Namespace) (document : List (Pair Bson)) (place : Place)
@@ -107,7 +125,7 @@ made_err store mid now link link_now namespace document place write bytes id err
   | inl unsent ↦ inl (record {
     store_stays = stays_twice store mid now stays unsent.store_stays;
     link_stays = unsent.link_stays;
-    reason = early_more link (DocumentRefused document) (kind_of error) unsent.reason;
+    reason = early_more link (InputRefused namespace document) (kind_of error) unsent.reason;
   })
   | inr turn ↦ inr (record {
     write = write;

@@ -1,18 +1,24 @@
 -- An id that is put first changes no refusal but by its length.
-use Rattle.std.proofs.Common.{◌≡◌, ℕ, suc, ◌+◌, ◌-◌, ◌<◌, ◌≤◌, ◌^◌, min, Bool, true, false, List, [], ◌∷◌, ◌++◌, map, length, refl, sym, ap, ◌∙◌, inl, arith, rules, length-append}
-use Rattle.std.specs.Prelude.{Option, None, Some, is_some, nat_lt, max, ◌||◌, if◌then◌else◌}
+use Rattle.std.proofs.Common.{◌≡◌, ℕ, suc, ◌+◌, ◌-◌, ◌<◌, ◌≤◌, ◌^◌, min, Bool, true, false, List, [], ◌∷◌, ◌++◌, map, length, refl, sym, ap, subst, ◌∙◌, inl, inr, arith, rules, length-append}
+use Rattle.std.specs.Prelude.{Option, None, Some, ◌⊎◌, is_some, nat_lt, max, ◌||◌, if◌then◌else◌}
 use Rattle.std.proofs.lemmas.Bool.{cond-true, cond-false}
 use Rattle.std.proofs.lemmas.Bool.Decides.{nat_tests}
 use Rattle.bson_lite.specs.declared.bson.Bson as bson
 use Rattle.bson_lite.specs.declared.bson.Bson.{Bson}
 use Rattle.bson_lite.specs.declared.bson.ObjectId.{ObjectId}
 use Rattle.bson_lite.specs.declared.document.Pair.{Pair}
+use Rattle.bson_lite.specs.declared.namespace.Namespace.{Namespace}
 use Rattle.bson_lite.specs.declared.fault.EncodeFault.{EncodeFault}
 use Rattle.bson_lite.specs.declared.fault.EncodeFault.TheVariants.{TooDeep, ZeroByte, TooLong}
 use Rattle.bson_lite.specs.Fields.{value_of, id_key, with_id}
-use Rattle.bson_lite.specs.Spelling.{refusal, nesting, zero_in, spelling, spelled, depth, zero_within, deepest_pair, on_value, body_of, framed, element}
-use Rattle.driver_error.specs.declared.kind.ErrorKind.TheVariants.{BsonSerialization}
-use Rattle.driver_actions.specs.Causes.{Failure, RefusesInsert, RefusesFirst}
+use Rattle.bson_lite.specs.Spelling.{refusal, refusal_within, nesting, zero_in, spelling, spelled, depth, zero_within, deepest_pair, on_value, body_of, framed, element}
+use Rattle.driver_error.specs.declared.kind.ErrorKind.TheVariants as kind
+use Rattle.driver_error.specs.declared.error.Error.{Error}
+use Rattle.driver_error.specs.Conversions.{IsMade}
+use Rattle.driver_error.specs.Error.{ErrorKind, IsAlone, kind_of}
+use Rattle.driver_error.specs.LabelTexts.{no_labels}
+use Rattle.driver_actions.specs.Causes.{Failure, RefusesFirst, TellsKind, TellsOwnRefusal}
+use Rattle.driver_actions.specs.Inputs.{has_dot, dotted_text, RefusesInsert, DocumentRefused, InputRefused, IsAccepted, TellsInput}
 
 -- the pair of an id
 abbrev pub named : ObjectId → Pair Bson
@@ -52,12 +58,12 @@ length_named id document twelve =
 -- the refusal by depth, zero bytes and length
 abbrev refused_by : ℕ → Bool → ℕ → Option EncodeFault
 refused_by deep zero long =
-    if nat_lt 100 deep then Some TooDeep else (
+    if nat_lt 96 deep then Some TooDeep else (
     if zero then Some ZeroByte else (
     if nat_lt 2147483647 long then Some TooLong else None))
 
 refusal_named : (id : ObjectId) (document : List (Pair Bson)) → length id.bytes ≡ 12
-    → refusal (named id ∷ document) ≡ refused_by (nesting document) (zero_in document) (length (spelling document) + 17)
+    → refusal_within 96 (named id ∷ document) ≡ refused_by (nesting document) (zero_in document) (length (spelling document) + 17)
 refusal_named id document twelve =
     ap (λ n. refused_by n (zero_in (named id ∷ document)) (length (spelling (named id ∷ document)))) (nesting_named id document)
     ∙ ap (λ b. refused_by (nesting document) b (length (spelling (named id ∷ document)))) (zero_named id document)
@@ -65,9 +71,9 @@ refusal_named id document twelve =
 
 -- a document that has an id
 pub refuses_own : (document : List (Pair Bson)) (found : Option Bson) → value_of id_key document ≡ found → is_some found ≡ true
-    → RefusesInsert document (refusal document)
+    → RefusesInsert document (refusal_within 96 document)
 refuses_own document found at there = λ id twelve.
-    ap refusal (cond-true (is_some (value_of id_key document)) document (named id ∷ document) (ap is_some at ∙ there))
+    ap (refusal_within 96) (cond-true (is_some (value_of id_key document)) document (named id ∷ document) (ap is_some at ∙ there))
 
 with_none : (id : ObjectId) (document : List (Pair Bson)) → is_some (value_of id_key document) ≡ false → with_id id document ≡ named id ∷ document
 with_none id document none = cond-false (is_some (value_of id_key document)) document (named id ∷ document) none
@@ -106,25 +112,25 @@ none_tests false true long b is at = absurd (let e : ◌≡◌ {A = Option Encod
 none_tests false false long b is at = ap by_length at
 
 -- a document without an id that is refused without one
-pub refuses_named : (document : List (Pair Bson)) (fault : EncodeFault) → is_some (value_of id_key document) ≡ false → refusal document ≡ Some fault
+pub refuses_named : (document : List (Pair Bson)) (fault : EncodeFault) → is_some (value_of id_key document) ≡ false → refusal_within 96 document ≡ Some fault
     → RefusesInsert document (Some fault)
 refuses_named document fault none is = λ id twelve.
-    ap refusal (with_none id document none) ∙ refusal_named id document twelve
-    ∙ longer_tests (nat_lt 100 (nesting document)) (zero_in document) (length (spelling document)) fault is
+    ap (refusal_within 96) (with_none id document none) ∙ refusal_named id document twelve
+    ∙ longer_tests (nat_lt 96 (nesting document)) (zero_in document) (length (spelling document)) fault is
 
-named_none : (document : List (Pair Bson)) (b : Bool) → is_some (value_of id_key document) ≡ false → refusal document ≡ None
+named_none : (document : List (Pair Bson)) (b : Bool) → is_some (value_of id_key document) ≡ false → refusal_within 96 document ≡ None
     → nat_lt 2147483647 (length (spelling document) + 17) ≡ b → RefusesInsert document (by_length b)
 named_none document b none is at = λ id twelve.
-    ap refusal (with_none id document none) ∙ refusal_named id document twelve
-    ∙ none_tests (nat_lt 100 (nesting document)) (zero_in document) (length (spelling document)) b is at
+    ap (refusal_within 96) (with_none id document none) ∙ refusal_named id document twelve
+    ∙ none_tests (nat_lt 96 (nesting document)) (zero_in document) (length (spelling document)) b is at
 
 -- one that is too long with an id
-pub refuses_long : (document : List (Pair Bson)) → is_some (value_of id_key document) ≡ false → refusal document ≡ None
+pub refuses_long : (document : List (Pair Bson)) → is_some (value_of id_key document) ≡ false → refusal_within 96 document ≡ None
     → 2147483630 < min (length (spelling document)) (2 ^ 64 - 1) → RefusesInsert document (Some TooLong)
 refuses_long document none is more = named_none document true none is (lt_above (length (spelling document)) (omega arith))
 
 -- and one that is not
-pub refuses_none : (document : List (Pair Bson)) → is_some (value_of id_key document) ≡ false → refusal document ≡ None
+pub refuses_none : (document : List (Pair Bson)) → is_some (value_of id_key document) ≡ false → refusal_within 96 document ≡ None
     → min (length (spelling document)) (2 ^ 64 - 1) ≤ 2147483630 → RefusesInsert document None
 refuses_none document none is fits = named_none document false none is (lt_within (length (spelling document)) (omega arith))
 
@@ -144,14 +150,77 @@ one_fault document first second one other = let is = one_refusal document (Some 
 pub no_fault : (document : List (Pair Bson)) (fault : EncodeFault) → RefusesInsert document None → RefusesInsert document (Some fault) → ⊥
 no_fault document fault none refused = let is : ◌≡◌ {A = Option EncodeFault} None (Some fault) = one_refusal document None (Some fault) none refused in cc
 
--- the fault that was answered is the document's
-pub refuses_first : (document : List (Pair Bson)) (fault : EncodeFault) (why : Failure) → RefusesInsert document (Some fault) → why.kind ≡ BsonSerialization fault
-    → RefusesFirst document (Some why)
-refuses_first document fault why refuses is =
-    record { tells = λ other refused. inl (is ∙ ap (λ f. BsonSerialization f) (one_fault document fault other refuses refused)) }
+-- a document that may nest 96 levels deep has a spelling
+none_of_less : (deep : ℕ) (zero long b : Bool) → nat_lt 96 deep ≡ b → (if b then Some TooDeep else (if zero then Some ZeroByte else by_length long)) ≡ None
+    → (if nat_lt 100 deep then Some TooDeep else (if zero then Some ZeroByte else by_length long)) ≡ None
+none_of_less deep zero long true at is = absurd (let e : ◌≡◌ {A = Option EncodeFault} (Some TooDeep) None = is in cc)
+none_of_less deep zero long false at is =
+    ap (λ b. if b then Some TooDeep else (if zero then Some ZeroByte else by_length long)) (not_deep deep at) ∙ is
+  where
+    not_deep : (deep : ℕ) → nat_lt 96 deep ≡ false → nat_lt 100 deep ≡ false
+    not_deep deep at = grind (arith, nat_tests)
 
--- no document without a spelling comes here
-pub refuses_nothing : (document : List (Pair Bson)) (ended : Option Failure) → RefusesInsert document None → RefusesFirst document ended
-refuses_nothing document ended none = record {
-  tells = λ fault refused. absurd (no_fault document fault none refused);
+spelled_within : (document : List (Pair Bson)) → refusal_within 96 document ≡ None → refusal document ≡ None
+spelled_within document is =
+    none_of_less (nesting document) (zero_in document) (nat_lt 2147483647 (length (spelling document))) (nat_lt 96 (nesting document)) refl is
+
+-- a document that is not refused is spelled as it is sent
+pub own_memory : (document : List (Pair Bson)) (why : ErrorKind) → RefusesInsert document None → TellsOwnRefusal document why → why ≡ kind.Memory
+own_memory document (kind.BsonSerialization fault) none tells =
+    absurd (let e : ◌≡◌ {A = Option EncodeFault} None (Some fault) = sym (spelled_within (with_id tells.0 document) (none tells.0 tells.1.0)) ∙ tells.1.1 in cc)
+own_memory document kind.Memory none tells = refl
+own_memory document _ none tells = absurd tells
+
+-- the error of a database whose name has a dot
+pub tells_dotted : (namespace : Namespace) (document : List (Pair Bson)) (error : Error) → has_dot namespace.db ≡ true
+    → IsMade (kind.InvalidArgument (dotted_text namespace.db)) no_labels error → TellsInput namespace document (kind_of error)
+tells_dotted namespace document error dot made = elim made [
+  | inl alone ↦ subst (TellsInput namespace document) (sym alone.kind_is) (dot, refl)
+  | inr alone ↦ subst (TellsInput namespace document) (sym alone.kind_is) tt
+]
+
+-- the error of a document that is refused, in a database whose name has none
+pub tells_document : (namespace : Namespace) (document : List (Pair Bson)) (fault : EncodeFault) (error : Error) → has_dot namespace.db ≡ false
+    → RefusesInsert document (Some fault) → IsAlone (kind.BsonSerialization fault) no_labels error → TellsInput namespace document (kind_of error)
+tells_document namespace document fault error dotless refused alone =
+    subst (TellsInput namespace document) (sym alone.kind_is) (dotless, refused)
+
+-- an input has one error
+one_input : (namespace : Namespace) (document : List (Pair Bson)) (first second : ErrorKind) → InputRefused namespace document first → InputRefused namespace document second
+    → first ≡ second
+one_input namespace document (kind.InvalidArgument message) (kind.InvalidArgument other) one two = ap (λ m. kind.InvalidArgument m) (one.1 ∙ sym two.1)
+one_input namespace document (kind.InvalidArgument message) (kind.BsonSerialization fault) one two =
+    absurd (let e : ◌≡◌ {A = Bool} true false = sym one.0 ∙ two.0 in cc)
+one_input namespace document (kind.BsonSerialization fault) (kind.InvalidArgument message) one two =
+    absurd (let e : ◌≡◌ {A = Bool} true false = sym two.0 ∙ one.0 in cc)
+one_input namespace document (kind.BsonSerialization fault) (kind.BsonSerialization other) one two =
+    ap (λ f. kind.BsonSerialization f) (one_fault document fault other one.1 two.1)
+one_input namespace document (kind.InvalidArgument message) _ one two = absurd two
+one_input namespace document (kind.BsonSerialization fault) _ one two = absurd two
+one_input namespace document _ second one two = absurd one
+
+-- the error that was answered is the input's
+pub input_first : (namespace : Namespace) (document : List (Pair Bson)) (why : Failure) → TellsInput namespace document why.kind
+    → RefusesFirst namespace document (Some why)
+input_first namespace document why tells = record { tells = λ other refused. first why.kind other tells refused }
+  where
+    first : (found other : ErrorKind) → TellsInput namespace document found → InputRefused namespace document other → (found ≡ other) ⊎ (found ≡ kind.Memory)
+    first (kind.InvalidArgument message) other tells refused = inl (one_input namespace document (kind.InvalidArgument message) other tells refused)
+    first (kind.BsonSerialization fault) other tells refused = inl (one_input namespace document (kind.BsonSerialization fault) other tells refused)
+    first kind.Memory other tells refused = inr refl
+    first _ other tells refused = absurd tells
+
+-- input that is accepted has no error
+pub accepted_not_refused : (namespace : Namespace) (document : List (Pair Bson)) (why : ErrorKind) → IsAccepted namespace document
+    → InputRefused namespace document why → ⊥
+accepted_not_refused namespace document (kind.InvalidArgument message) accepted refused =
+    let e : ◌≡◌ {A = Bool} true false = sym refused.0 ∙ accepted.database in cc
+accepted_not_refused namespace document (kind.BsonSerialization fault) accepted refused = no_fault document fault accepted.spelled refused.1
+accepted_not_refused namespace document _ accepted refused = refused
+
+-- no input that is refused comes here
+pub refuses_nothing : (namespace : Namespace) (document : List (Pair Bson)) (ended : Option Failure) → IsAccepted namespace document
+    → RefusesFirst namespace document ended
+refuses_nothing namespace document ended accepted = record {
+  tells = λ why refused. absurd (accepted_not_refused namespace document why accepted refused);
 }

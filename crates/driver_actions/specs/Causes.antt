@@ -8,11 +8,10 @@ use Rattle.bson_lite.specs.declared.namespace.Namespace.{Namespace}
 use Rattle.bson_lite.specs.Fields.{with_id}
 use Rattle.bson_lite.specs.Spelling.{refusal}
 use Rattle.driver_error.specs.declared.error.Error.{Error}
-use Rattle.driver_error.specs.declared.kind.ErrorKind.{ErrorKind}
 use Rattle.driver_error.specs.declared.kind.ErrorKind.TheVariants as kind
 use Rattle.driver_error.specs.declared.kind.IoKind.{IoKind}
 use Rattle.driver_error.specs.declared.labels.TheConstants.{RETRYABLE_WRITE_ERROR}
-use Rattle.driver_error.specs.Error.{kind_of, labels_of}
+use Rattle.driver_error.specs.Error.{ErrorKind, kind_of, labels_of}
 use Rattle.driver_error.specs.LabelTexts.{LabelSet, label_set}
 use Rattle.driver_link.specs.declared.fault.Answered.{Answered}
 use Rattle.driver_link.specs.declared.fault.Answered.TheVariants as answer
@@ -27,6 +26,7 @@ use Rattle.driver_actions.specs.declared.call.Outcome.{Outcome}
 use Rattle.driver_actions.specs.declared.call.SingleWrite.{SingleWrite}
 use Rattle.driver_actions.specs.declared.call.SingleWrite.TheVariants.{InsertOne}
 use Rattle.driver_actions.specs.declared.pool.IdleSession.{IdleSession}
+use Rattle.driver_actions.specs.Inputs.{InputRefused}
 use Rattle.driver_actions.specs.Inserts.{IsDoneReply, insert_body}
 use Rattle.driver_actions.specs.Pool.{ToldStore}
 use Rattle.driver_actions.specs.Session.{last_number}
@@ -61,14 +61,15 @@ AllEarly (answer.Fault call fault own ∷ items) = AllEarly items
 abbrev pub IsNoDoneReply : List ℕ → Type 0
 IsNoDoneReply bytes = IsDoneReply bytes → ⊥
 
--- why something has no spelling: by what is found before a session is lent, or by what is found after it
+-- why a call is refused: by the error of what is found before a session is lent, or by why something that
+-- is found after it has no spelling
 pub record Refused : Type 1 where
-  pub early : EncodeFault → Type 0
+  pub early : ErrorKind → Type 0
   pub late : EncodeFault → Type 0
 
 -- nothing is refused
-abbrev pub never : EncodeFault → Type 0
-never fault = ⊥
+abbrev pub never : ErrorKind → Type 0
+never why = ⊥
 
 -- the number is the last one, where it is told
 abbrev pub MayBeLast : Option ℤ → Type 0
@@ -92,10 +93,12 @@ failure_of error = record { kind = kind_of error; labels = labels_of error }
 -- by the number of the session that is lent next; want of memory needs nothing
 abbrev pub KindNeeds : ℕ → ℕ → List Answered → Option ℤ → Refused → LabelSet → ErrorKind → Type 0
 KindNeeds before now items number refused labels (kind.Io io) = Rose before now × HasFault io labels items
-KindNeeds before now items number refused labels (kind.BsonSerialization fault) = refused.early fault ⊎ refused.late fault
+KindNeeds before now items number refused labels (kind.InvalidArgument message) = refused.early (kind.InvalidArgument message)
+KindNeeds before now items number refused labels (kind.BsonSerialization fault) = refused.early (kind.BsonSerialization fault) ⊎ refused.late fault
 KindNeeds before now items number refused labels (kind.Internal message) = MayBeLast number
 KindNeeds before now items number refused labels (kind.InvalidResponse message) = HasReply IsNoDoneReply items
 KindNeeds before now items number refused labels kind.Memory = Unit {0}
+KindNeeds before now items number refused labels _ = ⊥
 
 -- how a call ended: nothing after an Ok, else what its error tells
 abbrev pub end_of : {A : Type 0} → Result A Error → Option Failure
@@ -109,15 +112,16 @@ EndNeeds before now items number refused (Some why) = KindNeeds before now items
 
 -- where a session's number is at its end, an error tells so, but for what was found before the session was
 -- lent and for want of memory
-abbrev pub KindAtLast : (EncodeFault → Type 0) → ErrorKind → Type 0
+abbrev pub KindAtLast : (ErrorKind → Type 0) → ErrorKind → Type 0
 KindAtLast early (kind.Io io) = Unit {0}
-KindAtLast early (kind.BsonSerialization fault) = early fault
+KindAtLast early (kind.InvalidArgument message) = early (kind.InvalidArgument message)
+KindAtLast early (kind.BsonSerialization fault) = early (kind.BsonSerialization fault)
 KindAtLast early (kind.Internal message) = Unit {0}
-KindAtLast early (kind.InvalidResponse message) = ⊥
 KindAtLast early kind.Memory = Unit {0}
+KindAtLast early _ = ⊥
 
 -- there nothing is exchanged, and the call does not end with an Ok
-abbrev pub EndAtLast : List Answered → (EncodeFault → Type 0) → Option Failure → Type 0
+abbrev pub EndAtLast : List Answered → (ErrorKind → Type 0) → Option Failure → Type 0
 EndAtLast items early None = ⊥
 EndAtLast items early (Some why) = AllEarly items × KindAtLast early why.kind
 
@@ -140,16 +144,9 @@ pub record BodyRefused (namespace : Namespace) (fault : EncodeFault) : Type 0 wh
 abbrev pub refused_body : Namespace → Refused
 refused_body namespace = record { early = never; late = BodyRefused namespace }
 
--- why a document has no spelling once it has an id, or none where it has one, whichever id that is
-abbrev pub RefusesInsert : List (Pair Bson) → Option EncodeFault → Type 0
-RefusesInsert document why = (id : ObjectId) → length id.bytes ≡ 12 → refusal (with_id id document) ≡ why
-
-abbrev pub DocumentRefused : List (Pair Bson) → EncodeFault → Type 0
-DocumentRefused document fault = RefusesInsert document (Some fault)
-
--- what is refused of an insert: its document, before anything is drawn or sent, and the body of its command
+-- what is refused of an insert: its input, before anything is drawn or sent, and the body of its command
 abbrev pub refused_insert : Namespace → List (Pair Bson) → Refused
-refused_insert namespace document = record { early = DocumentRefused document; late = BodyRefused namespace }
+refused_insert namespace document = record { early = InputRefused namespace document; late = BodyRefused namespace }
 
 -- what is refused of a single write
 abbrev pub refused_write : SingleWrite → Refused
@@ -165,18 +162,18 @@ abbrev pub next_number : Option ToldStore → Option ℤ
 next_number None = None
 next_number (Some told) = Some (lent_number told.pool.idle)
 
--- an end tells of this fault of encoding, or of want of memory
-abbrev pub TellsFault : EncodeFault → Option Failure → Type 0
-TellsFault fault None = ⊥
-TellsFault fault (Some why) = (why.kind ≡ kind.BsonSerialization fault) ⊎ (why.kind ≡ kind.Memory)
+-- an end tells of this error, or of want of memory
+abbrev pub TellsKind : ErrorKind → Option Failure → Type 0
+TellsKind why None = ⊥
+TellsKind why (Some found) = (found.kind ≡ why) ⊎ (found.kind ≡ kind.Memory)
 
--- a document without a spelling is answered so
-pub record RefusesFirst (document : List (Pair Bson)) (ended : Option Failure) : Type 0 where
-  pub tells : (fault : EncodeFault) → DocumentRefused document fault → TellsFault fault ended
+-- an insert whose input is refused is answered so
+pub record RefusesFirst (namespace : Namespace) (document : List (Pair Bson)) (ended : Option Failure) : Type 0 where
+  pub tells : (why : ErrorKind) → InputRefused namespace document why → TellsKind why ended
 
--- so is a write of one
+-- so is a write of such input
 abbrev pub EndsRefused : SingleWrite → Option Failure → Type 0
-EndsRefused (InsertOne namespace document) ended = RefusesFirst document ended
+EndsRefused (InsertOne namespace document) ended = RefusesFirst namespace document ended
 
 -- what link and store tell at one moment
 pub record Moment : Type 0 where
@@ -193,7 +190,7 @@ TellsOwnRefusal document (kind.BsonSerialization fault) = (id : ObjectId) × ((l
 TellsOwnRefusal document kind.Memory = Unit {0}
 TellsOwnRefusal document _ = ⊥
 
--- a single write ended with its cause, and a document without a spelling was refused
+-- a single write ended with its cause, and input that is refused was refused
 pub record WriteCaused (before now : Moment) (write : SingleWrite) (ended : Option Failure) : Type 0 where
   pub caused : Caused before.faults now.faults before.answers now.answers (next_number before.store) (refused_write write) ended
   pub refused : EndsRefused write ended

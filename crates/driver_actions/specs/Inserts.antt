@@ -9,9 +9,8 @@ use Rattle.bson_lite.specs.declared.namespace.Namespace.{Namespace}
 use Rattle.bson_lite.specs.Fields.{value_of, int_of}
 use Rattle.bson_lite.specs.Spelling.{Spells, refusal}
 use Rattle.driver_error.specs.declared.error.Error.{Error}
-use Rattle.driver_error.specs.declared.kind.ErrorKind.{ErrorKind}
 use Rattle.driver_error.specs.declared.kind.ErrorKind.TheVariants.{BsonSerialization, InvalidResponse, Memory}
-use Rattle.driver_error.specs.Error.{kind_of}
+use Rattle.driver_error.specs.Error.{ErrorKind, kind_of}
 use Rattle.driver_link.specs.declared.keys.TheConstants.{INSERT, ORDERED, SESSION, SESSION_ID, TRANSACTION_NUMBER, DATABASE, DOCUMENTS, OK, N, UUID_SUBTYPE}
 use Rattle.driver_link.specs.declared.machine.Place.{Place}
 use Rattle.driver_link.specs.declared.machine.Send.{Send}

@@ -1,6 +1,7 @@
 pub mod Calls
 pub mod Causes
 pub mod Client
+pub mod Inputs
 pub mod Inserts
 pub mod MainTheorem
 pub mod Pool

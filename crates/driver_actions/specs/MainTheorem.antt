@@ -26,7 +26,7 @@ use Rattle.driver_actions.specs.declared.call.Outcome.{Outcome}
 use Rattle.driver_actions.specs.declared.call.Call.TheVariants.{Single}
 use Rattle.driver_actions.specs.declared.call.SingleWrite.TheVariants.{InsertOne}
 use Rattle.driver_actions.specs.Calls.{Mine, Done, call_result}
-use Rattle.driver_actions.specs.Causes.{RefusesInsert}
+use Rattle.driver_actions.specs.Inputs.{IsAccepted}
 use Rattle.driver_actions.specs.Inserts.{insert_body}
 use Rattle.driver_actions.specs.Session.{last_number}
 use Rattle.driver_actions.specs.Pool.{ToldStore, IsNewStore, DrawnApart}
@@ -48,10 +48,11 @@ abbrev pub EndsWell : Result Answer Error → Type 0
 EndsWell (Ok given) = Unit {0}
 EndsWell (Err error) = kind_of error ≡ kind.Memory
 
--- an insert is valid as the call of a number: its document has a spelling with any id, so has its command
--- under any session and number, and fewer calls came before it than a session has numbers
+-- an insert is valid as the call of a number: its database's name has no dot, its document nests at most 96
+-- levels deep and has a spelling with any id, its command has one under any session and number, and fewer
+-- calls came before it than a session has numbers
 pub record IsValidInsert (call : ℕ) (namespace : Namespace) (document : List (Pair Bson)) : Type 0 where
-  pub spelled : RefusesInsert document None
+  pub accepted : IsAccepted namespace document
   pub command : (id : List ℕ) (number : ℤ) → length id ≡ 16 → refusal (insert_body namespace id number) ≡ None
   pub number : pos call <ℤ last_number
 

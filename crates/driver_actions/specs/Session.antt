@@ -1,9 +1,8 @@
 -- What a lent session holds, and its next number.
 use Rattle.std.specs.Prelude.{◌≡◌, ◌≢◌, ℕ, ℤ, pos, ◌+ℤ◌, Bool, List, Result, Ok, Err}
 use Rattle.driver_error.specs.declared.error.Error.{Error}
-use Rattle.driver_error.specs.declared.kind.ErrorKind.{ErrorKind}
 use Rattle.driver_error.specs.declared.kind.ErrorKind.TheVariants.{Internal, Memory}
-use Rattle.driver_error.specs.Error.{kind_of}
+use Rattle.driver_error.specs.Error.{ErrorKind, kind_of}
 use Rattle.driver_actions.specs.declared.session.TheConstants.{NUMBER_AT_ITS_END}
 
 -- an id, the last transaction number that was used, the moment of the last use in milliseconds, and

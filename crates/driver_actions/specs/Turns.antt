@@ -8,9 +8,8 @@ use Rattle.bson_lite.specs.declared.namespace.Namespace.{Namespace}
 use Rattle.bson_lite.specs.Fields.{value_of, id_key, with_id}
 use Rattle.bson_lite.specs.Spelling.{Spells}
 use Rattle.driver_error.specs.declared.error.Error.{Error}
-use Rattle.driver_error.specs.declared.kind.ErrorKind.{ErrorKind}
 use Rattle.driver_error.specs.declared.kind.ErrorKind.TheVariants as kind
-use Rattle.driver_error.specs.Error.{IsAlone, kind_of}
+use Rattle.driver_error.specs.Error.{ErrorKind, IsAlone, kind_of}
 use Rattle.driver_error.specs.LabelTexts.{no_labels, label_set}
 use Rattle.bson_lite.specs.declared.fault.EncodeFault.{EncodeFault}
 use Rattle.driver_link.specs.declared.fault.LinkCall.{LinkCall}
@@ -31,7 +30,8 @@ use Rattle.driver_actions.specs.declared.call.Call.TheVariants.{Single}
 use Rattle.driver_actions.specs.declared.call.SingleAnswer.{SingleAnswer}
 use Rattle.driver_actions.specs.declared.call.SingleAnswer.TheVariants.{Inserted}
 use Rattle.driver_actions.specs.Calls.{IsOwn, written}
-use Rattle.driver_actions.specs.Causes.{Failure, failure_of, end_of, labels_by, never, BodyRefused, DocumentRefused}
+use Rattle.driver_actions.specs.Causes.{Failure, failure_of, end_of, labels_by, never, BodyRefused}
+use Rattle.driver_actions.specs.Inputs.{InputRefused}
 use Rattle.driver_actions.specs.Inserts.{insert_one_send, is_done_reply}
 use Rattle.driver_actions.specs.Pool.{ToldStore, Lends, TakesBack, StaysTold}
 use Rattle.driver_actions.specs.Session.{Session, last_number}
@@ -95,6 +95,7 @@ Explains (Some told) now session back write (kind.BsonSerialization fault) = Bod
 Explains (Some told) now session back write (kind.Internal message) = session.number ≡ last_number
 Explains (Some told) now session back write (kind.InvalidResponse message) = Raises session back × WasDenied told now (send_under back write)
 Explains (Some told) now session back write kind.Memory = Unit {0}
+Explains (Some told) now session back write _ = ⊥
 
 -- one attempt of a write under a lent session: it is done only after its send was answered
 abbrev pub Attempts : Option Told → Option Told → Session → Session → PlacedWrite → Option Failure → Type 0
@@ -116,14 +117,15 @@ pub record Turn (store store_now : Option ToldStore) (link link_now : Option Tol
 
 -- why an error came before a session was lent, over a link that tells its server: something was refused, or
 -- there was no memory
-abbrev pub ComesEarly : Option Told → (EncodeFault → Type 0) → ErrorKind → Type 0
+abbrev pub ComesEarly : Option Told → (ErrorKind → Type 0) → ErrorKind → Type 0
 ComesEarly None early why = Unit {0}
-ComesEarly (Some told) early (kind.BsonSerialization fault) = early fault
+ComesEarly (Some told) early (kind.InvalidArgument message) = early (kind.InvalidArgument message)
+ComesEarly (Some told) early (kind.BsonSerialization fault) = early (kind.BsonSerialization fault)
 ComesEarly (Some told) early kind.Memory = Unit {0}
 ComesEarly (Some told) early _ = ⊥
 
 -- nothing that is told changed, and the error has its reason
-pub record Unsent (store store_now : Option ToldStore) (link link_now : Option Told) (early : EncodeFault → Type 0) (why : ErrorKind) : Type 0 where
+pub record Unsent (store store_now : Option ToldStore) (link link_now : Option Told) (early : ErrorKind → Type 0) (why : ErrorKind) : Type 0 where
   pub store_stays : StaysTold store store_now
   pub link_stays : link_now ≡ link
   pub reason : ComesEarly link early why
@@ -177,7 +179,7 @@ pub record Made (store store_now : Option ToldStore) (link link_now : Option Tol
 abbrev pub Makes : Option ToldStore → Option ToldStore → Option Told → Option Told → Written → Place → Result SingleAnswer Error → Type 0
 Makes store store_now link link_now given place (Ok answer) = Made store store_now link link_now given place (Ok answer)
 Makes store store_now link link_now given place (Err error) =
-    Unsent store store_now link link_now (DocumentRefused given.document) (kind_of error) ⊎ Made store store_now link link_now given place (Err error)
+    Unsent store store_now link link_now (InputRefused given.namespace given.document) (kind_of error) ⊎ Made store store_now link link_now given place (Err error)
 
 -- one call of a list, by its number
 abbrev pub MakesCall : Option ToldStore → Option ToldStore → Option Told → Option Told → Call → ℕ → Result Answer Error → Type 0

@@ -1,5 +1,6 @@
 //! A list of calls, made one after another.
 ghost use Rattle.std.specs.Prelude.{◌≡◌, IfOk, OnOk, OnErr};
+ghost use Rattle.driver_actions.specs.declared.call.Call.TheVariants.{Single};
 ghost use Rattle.driver_actions.specs.Causes.{HasCause, HaveCauses, end_of, moment};
 ghost use Rattle.driver_actions.specs.Client.{options_of, store_of};
 ghost use Rattle.driver_actions.specs.MainTheorem.{Begins, HoldsTold, CompletesTold, IsReplayed, KeepsMaking};
@@ -7,7 +8,7 @@ ghost use Rattle.driver_actions.specs.Pool.{Draws, LendsAsBefore};
 ghost use Rattle.driver_actions.specs.Turns.{MakesCall};
 ghost use Rattle.driver_link.specs.Told.{IsFresh};
 
-use crate::call::{Answer, Call, Outcome};
+use crate::call::{Answer, Call, Outcome, SingleWrite};
 use crate::client::Client;
 use crate::outside::Outside;
 use crate::single::single;
@@ -75,16 +76,27 @@ fn answer_call<S: SessionStore, L: Link, K: Clock, R: Rng>(
     ensures cause { HasCause (moment (L.faults outside.old.link) (L.answers outside.old.link) (S.told store.old)) (moment (L.faults outside.new.link) (L.answers outside.new.link) (S.told store.new)) call.now (end_of result) }
 {
     match call {
-        Call::Single { write } => {
-            let place = Place {
-                call: outside.call,
-                index: 0,
-            };
-            let Outside { link, clock, .. } = outside;
-            match single(alloc, store, link, clock, write, place) {
-                Ok(answer) => Ok(Answer::Single(answer)),
-                Err(error) => Err(error),
-            }
-        }
+        Call::Single { write } => answer_single(alloc, store, outside, write),
+    }
+}
+
+/// Makes the current call, which is a single write: its place is the first of the call.
+fn answer_single<S: SessionStore, L: Link, K: Clock, R: Rng>(
+    alloc: Global,
+    store: &mut S,
+    outside: &mut Outside<L, K, R>,
+    write: &SingleWrite,
+) -> driver_error::Result<Answer>
+    ensures makes { MakesCall (S.told store.old) (S.told store.new) (L.told outside.old.link) (L.told outside.new.link) (Single write.now) outside.old.call result }
+    ensures cause { HasCause (moment (L.faults outside.old.link) (L.answers outside.old.link) (S.told store.old)) (moment (L.faults outside.new.link) (L.answers outside.new.link) (S.told store.new)) (Single write.now) (end_of result) }
+{
+    let place = Place {
+        call: outside.call,
+        index: 0,
+    };
+    let Outside { link, clock, .. } = outside;
+    match single(alloc, store, link, clock, write, place) {
+        Ok(answer) => Ok(Answer::Single(answer)),
+        Err(error) => Err(error),
     }
 }

@@ -9,10 +9,10 @@ ghost use Rattle.driver_actions.specs.Turns.{Makes, PutsId, Owns};
 use crate::attempt::insert_placed;
 use crate::call::{SingleAnswer, SingleWrite};
 use crate::encoded::encoded;
-use crate::refusal::insert_refusal;
+use crate::refusal::input_refusal;
 use crate::store::SessionStore;
 use bson_lite::{Bson, Bytes, Document, ID_KEY, Namespace, TryClone, get_or_prepend_id_field};
-use driver_error::{Error, ErrorKind, InsertOneResult, Result};
+use driver_error::{InsertOneResult, Result};
 use driver_link::{Clock, Link, Place, PlacedWrite, WriteKind, Written};
 use std::alloc::Global;
 
@@ -38,7 +38,7 @@ pub(crate) fn single<S: SessionStore, L: Link, K: Clock>(
 }
 
 /// Inserts one document, whose place is given.
-#[tactic(auto, using(crate::proofs::Refusals::refuses_nothing))]
+#[tactic(auto, using(crate::proofs::Refusals::refuses_nothing, crate::proofs::Refusals::input_first, crate::proofs::Making::comes_input))]
 fn insert_one<S: SessionStore, L: Link, K: Clock>(
     alloc: Global,
     store: &mut S,
@@ -50,10 +50,10 @@ fn insert_one<S: SessionStore, L: Link, K: Clock>(
 ) -> Result<SingleAnswer>
     ensures makes { Makes (S.told store.old) (S.told store.new) (L.told link.old) (L.told link.new) (inserted namespace.now document.now) place result }
     ensures cause { Caused (L.faults link.old) (L.faults link.new) (L.answers link.old) (L.answers link.new) (next_number (S.told store.old)) (refused_insert namespace.now document.now) (end_of result) }
-    ensures refused { RefusesFirst document.now (end_of result) }
+    ensures refused { RefusesFirst namespace.now document.now (end_of result) }
 {
-    if let Some(fault) = insert_refusal(document) {
-        return Err(Error::from_kind(ErrorKind::BsonSerialization(fault)));
+    if let Some(error) = input_refusal(alloc, namespace, document) {
+        return Err(error);
     }
     let own = own_write(alloc, store, namespace, document, place)?;
     let OwnWrite { write, bytes, id } = own;

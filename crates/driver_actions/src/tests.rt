@@ -4,7 +4,7 @@ use crate::client::Client;
 use crate::outside::Outside;
 use crate::plain::PlainStore;
 use crate::run::run_calls;
-use bson_lite::{Bson, Bytes, Document, List, Namespace, Text, TryClone};
+use bson_lite::{Bson, Bytes, Document, EncodeFault, List, Namespace, Text, TryClone};
 use driver_error::ErrorKind;
 use driver_link::{
     Address, Answered, ClientOptions, Conn, CountingIds, Description, Frame, Link, LinkError,
@@ -81,10 +81,29 @@ fn description() -> Description {
     }
 }
 
-/// An insert of `{x: 1}`.
-fn insert(alloc: Global) -> Result<Call, AllocError> {
+/// The reply `{ok: 1, n: 1}`.
+const DONE: &[u8] = b"\x14\0\0\0\x10ok\0\x01\0\0\0\x10n\0\x01\0\0\0\0";
+
+/// The document `{x: 1}`.
+fn small(alloc: Global) -> Result<Document, AllocError> {
     let mut document = Document::new(alloc);
     document.push("x", Bson::Int32(1))?;
+    Ok(document)
+}
+
+/// A document that nests so many levels deep, itself counting one.
+fn nested(alloc: Global, levels: usize) -> Result<Document, AllocError> {
+    let mut document = Document::new(alloc);
+    for _ in 1..levels {
+        let mut outer = Document::new(alloc);
+        outer.push("d", Bson::Document(document))?;
+        document = outer;
+    }
+    Ok(document)
+}
+
+/// An insert of a document.
+fn insert(alloc: Global, document: Document) -> Result<Call, AllocError> {
     let namespace = Namespace {
         db: Text::from_str(alloc, "shop")?,
         coll: Text::from_str(alloc, "items")?,
@@ -97,8 +116,12 @@ fn insert(alloc: Global) -> Result<Call, AllocError> {
     })
 }
 
-/// The outcomes of one insert over a link with this reply.
-fn outcomes_over(alloc: Global, reply: &[u8]) -> Result<List<Outcome>, AllocError> {
+/// The outcomes of one insert of a document over a link with this reply.
+fn outcomes_over(
+    alloc: Global,
+    reply: &[u8],
+    document: Document,
+) -> Result<List<Outcome>, AllocError> {
     let link = OneReply {
         reply: Bytes::from_slice(alloc, reply)?,
         answered: List::new(alloc),
@@ -111,8 +134,22 @@ fn outcomes_over(alloc: Global, reply: &[u8]) -> Result<List<Outcome>, AllocErro
         words: Pcg32::seed_from_u64(1),
         call: 0,
     };
-    let calls = [insert(alloc)?];
+    let calls = [insert(alloc, document)?];
     run_calls(alloc, &mut client, &mut outside, &calls)
+}
+
+/// Whether the one outcome is Ok, or else a document that nests too deep.
+fn is_too_deep(outcomes: &List<Outcome>) -> Option<bool> {
+    let [outcome] = outcomes.as_slice() else {
+        return None;
+    };
+    match &outcome.result {
+        Ok(_) => Some(false),
+        Err(error) => match error.kind() {
+            ErrorKind::BsonSerialization(EncodeFault::TooDeep) => Some(true),
+            _ => None,
+        },
+    }
 }
 
 /// Whether the one outcome is Ok, or else an invalid response.
@@ -133,8 +170,7 @@ fn is_taken(outcomes: &List<Outcome>) -> Option<bool> {
 fn an_insert_is_ok_only_after_a_reply_that_says_so(rt: HostRuntime) -> Result<(), Fail> {
     let alloc = rt.alloc();
     let table: [(&[u8], bool); 8] = [
-        // {ok: 1, n: 1}
-        (b"\x14\0\0\0\x10ok\0\x01\0\0\0\x10n\0\x01\0\0\0\0", true),
+        (DONE, true),
         // the same as int64s, and as doubles
         (
             b"\x1c\0\0\0\x12ok\0\x01\0\0\0\0\0\0\0\x12n\0\x01\0\0\0\0\0\0\0\0",
@@ -155,8 +191,18 @@ fn an_insert_is_ok_only_after_a_reply_that_says_so(rt: HostRuntime) -> Result<()
         (b"nonsense", false),
     ];
     for (reply, taken) in table {
-        let outcomes = outcomes_over(alloc, reply)?;
+        let outcomes = outcomes_over(alloc, reply, small(alloc)?)?;
         assert_eq!(rt; is_taken(&outcomes), Some(taken));
+    }
+    Ok(())
+}
+
+#[test]
+fn a_callers_document_nests_at_most_96_levels(rt: HostRuntime) -> Result<(), Fail> {
+    let alloc = rt.alloc();
+    for (levels, refused) in [(1, false), (96, false), (97, true), (101, true)] {
+        let outcomes = outcomes_over(alloc, DONE, nested(alloc, levels)?)?;
+        assert_eq!(rt; is_too_deep(&outcomes), Some(refused), "of {levels} levels");
     }
     Ok(())
 }

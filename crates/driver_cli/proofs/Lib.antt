@@ -6,4 +6,5 @@ mod Bytes
 mod IdSets
 mod Made
 mod Pieces
+mod ValueLaws
 pub mod ReplyLaws

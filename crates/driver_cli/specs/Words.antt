@@ -8,11 +8,12 @@ use Rattle.bson_lite.specs.declared.fault.EncodeFault.{EncodeFault}
 use Rattle.bson_lite.specs.declared.fault.EncodeFault.TheVariants as fault
 use Rattle.bson_lite.specs.Spelling.{spelling, refusal}
 use Rattle.driver_error.specs.declared.error.Error.{Error}
-use Rattle.driver_error.specs.declared.kind.ErrorKind.{ErrorKind}
 use Rattle.driver_error.specs.declared.kind.ErrorKind.TheVariants as kind
 use Rattle.driver_error.specs.declared.kind.IoKind.{IoKind}
 use Rattle.driver_error.specs.declared.kind.IoKind.TheVariants as io
-use Rattle.driver_error.specs.Error.{kind_of, labels_of, source_of}
+use Rattle.driver_error.specs.declared.write.WriteFailure.{WriteFailure}
+use Rattle.driver_error.specs.declared.write.WriteFailure.TheVariants as failure
+use Rattle.driver_error.specs.Error.{ErrorKind, kind_of, labels_of, source_of}
 use Rattle.driver_error.specs.LabelTexts.{in_order}
 use Rattle.driver_link.specs.declared.machine.Place.{Place}
 
@@ -91,19 +92,53 @@ io_name io.Other = codes "Other"
 
 -- the name of an error's kind
 unfoldable pub kind_name : ErrorKind → List ℕ
+kind_name (kind.InvalidArgument message) = codes "InvalidArgument"
+kind_name (kind.Authentication message) = codes "Authentication"
+kind_name (kind.BsonDeserialization text) = codes "BsonDeserialization"
 kind_name (kind.BsonSerialization fault) = codes "BsonSerialization"
+kind_name (kind.InsertMany failures) = codes "InsertMany"
+kind_name (kind.BulkWrite failures) = codes "BulkWrite"
+kind_name (kind.Command error) = codes "Command"
+kind_name (kind.DnsResolve message) = codes "DnsResolve"
+kind_name (kind.GridFs failure) = codes "GridFs"
 kind_name (kind.Internal message) = codes "Internal"
-kind_name (kind.InvalidResponse message) = codes "InvalidResponse"
 kind_name (kind.Io failure) = codes "Io"
+kind_name (kind.ConnectionPoolCleared message) = codes "ConnectionPoolCleared"
+kind_name (kind.InvalidResponse message) = codes "InvalidResponse"
+kind_name (kind.ServerSelection message) = codes "ServerSelection"
+kind_name kind.SessionsNotSupported = codes "SessionsNotSupported"
+kind_name (kind.InvalidTlsConfig message) = codes "InvalidTlsConfig"
+kind_name (kind.Write failure) = codes "Write"
+kind_name (kind.Transaction message) = codes "Transaction"
+kind_name (kind.IncompatibleServer message) = codes "IncompatibleServer"
+kind_name kind.MissingResumeToken = codes "MissingResumeToken"
+kind_name (kind.Custom text) = codes "Custom"
+kind_name kind.Shutdown = codes "Shutdown"
 kind_name kind.Memory = codes "Memory"
+
+-- why a single write failed: which of the two, and its code
+unfoldable pub failure_text : WriteFailure → List ℕ
+failure_text (failure.WriteConcernError error) = codes "WriteConcernError " ++ signed_decimal error.code
+failure_text (failure.WriteError error) = codes "WriteError " ++ signed_decimal error.code
 
 -- what belongs to an error's kind, or `-`
 unfoldable pub detail : ErrorKind → List ℕ
+detail (kind.InvalidArgument message) = message
+detail (kind.Authentication message) = message
 detail (kind.BsonSerialization fault) = fault_name fault
+detail (kind.Command error) = signed_decimal error.code
+detail (kind.DnsResolve message) = message
 detail (kind.Internal message) = message
-detail (kind.InvalidResponse message) = message
 detail (kind.Io failure) = io_name failure
-detail kind.Memory = codes "-"
+detail (kind.ConnectionPoolCleared message) = message
+detail (kind.InvalidResponse message) = message
+detail (kind.ServerSelection message) = message
+detail (kind.InvalidTlsConfig message) = message
+detail (kind.Write failure) = failure_text failure
+detail (kind.Transaction message) = message
+detail (kind.IncompatibleServer message) = message
+detail (kind.Custom text) = text
+detail _ = codes "-"
 
 -- the kind of an error's source, or `-`
 abbrev pub source_text : Option Error → List ℕ

@@ -4,11 +4,14 @@
 //! `top` and `run_script` carry the program's promise; the rest reads the script or writes the report.
 #![tactic(auto)]
 
+mod details;
 mod distinct;
 mod json;
 mod keys;
+mod leaves;
 mod lines;
 pub mod model_server;
+mod namespaces;
 pub mod program;
 pub mod report;
 pub mod running;

@@ -1,8 +1,10 @@
 //! Scripts run from a source to a sink: statuses and texts.
+use crate::json::{FromJson, Unread};
 use crate::program::{run_script, top};
 use crate::running::Run;
-use bson_lite::{Bytes, List, Text};
+use bson_lite::{Bytes, Document, EncodeFault, List, Text, encode};
 use driver_link::{MemSink, MemSource};
+use serde_json::Value;
 use std::alloc::{AllocError, Global};
 use std::sync::Wait;
 use std::test::Fail;
@@ -26,6 +28,27 @@ entry 0: 1.0 session=2 number=1 n=1
 ids: distinct
 waiting: 0
 totals: calls=2 ok=1 sends=2 entries=1
+";
+
+/// An insert into a database whose name has a dot.
+const DOTTED: &str = "{\"calls\":[{\"insertOne\":{\"ns\":[\"a.b\",\"c\"],\"doc\":[]}}]}";
+
+const REPORT_OF_DOTTED: &str =
+    "call 0 insertOne: err InvalidArgument invalid database name a.b: name cannot contain period labels=- source=-
+ids: distinct
+waiting: 0
+totals: calls=1 ok=0 sends=0 entries=0
+";
+
+/// An insert of a document with a zero byte in a key.
+const ZERO: &str =
+    "{\"calls\":[{\"insertOne\":{\"ns\":\"shop.items\",\"doc\":[[\"a\\u0000b\",1]]}}]}";
+
+const REPORT_OF_ZERO: &str =
+    "call 0 insertOne: err BsonSerialization ZeroByte labels=- source=-
+ids: distinct
+waiting: 0
+totals: calls=1 ok=0 sends=0 entries=0
 ";
 
 const REPORT_OF_NOTHING: &str = "ids: distinct
@@ -114,6 +137,64 @@ fn inserts(alloc: Global, count: usize) -> Result<Bytes, AllocError> {
     Ok(Bytes::from_vec(script.into_bytes()))
 }
 
+/// The bytes of a document that a script writes so, and none where it is refused.
+fn encoded(alloc: Global, text: &str) -> Result<Option<Bytes>, AllocError> {
+    let Ok(value) = Value::from_slice(alloc, text.as_bytes()) else {
+        return Err(AllocError);
+    };
+    match Document::read(alloc, &value) {
+        Ok(document) => match encode(alloc, &document) {
+            Ok(bytes) => Ok(Some(bytes)),
+            Err(EncodeFault::Memory) => Err(AllocError),
+            Err(_) => Ok(None),
+        },
+        Err(Unread::Wrong) => Ok(None),
+        Err(Unread::Memory) => Err(AllocError),
+    }
+}
+
+#[test]
+fn documents_and_arrays_are_read(rt: HostRuntime) -> Result<(), Fail> {
+    // The bytes are those of the BSON standard's grammar: a length, the elements, a zero byte.
+    let rows = [
+        ("[]", "\x05\0\0\0\0"),
+        (
+            "[[\"a\",{\"doc\":[[\"b\",1]]}]]",
+            "\x14\0\0\0\x03a\0\x0c\0\0\0\x10b\0\x01\0\0\0\0\0",
+        ),
+        (
+            "[[\"c\",{\"array\":[true,\"x\",{\"doc\":[]}]}]]",
+            "\x22\0\0\0\x04c\0\x1a\0\0\0\x080\0\x01\x021\0\x02\0\0\0x\0\x032\0\x05\0\0\0\0\0\0",
+        ),
+    ];
+    for (text, bytes) in rows {
+        let found = encoded(rt.alloc(), text)?;
+        let same = matches!(&found, Some(read) if read.as_slice() == bytes.as_bytes());
+        assert!(rt; same, "of {text}");
+    }
+    Ok(())
+}
+
+#[test]
+fn broken_documents_and_arrays_are_refused(rt: HostRuntime) -> Result<(), Fail> {
+    for text in [
+        "{}",
+        "[[]]",
+        "[[\"a\"]]",
+        "[[\"a\",1,2]]",
+        "[[1,\"a\"]]",
+        "[[\"a\",[1]]]",
+        "[[\"a\",{\"doc\":{}}]]",
+        "[[\"a\",{\"array\":1}]]",
+        "[[\"a\",{\"array\":[1.5]}]]",
+        "[[\"a\",{\"array\":[],\"doc\":[]}]]",
+    ] {
+        let refused = encoded(rt.alloc(), text)?.is_none();
+        assert!(rt; refused, "of {text}");
+    }
+    Ok(())
+}
+
 #[test]
 fn refused_scripts_and_failing_streams(rt: HostRuntime) -> Result<(), Fail> {
     let undotted = "{\"calls\":[{\"insertOne\":{\"ns\":\"ab\",\"doc\":[]}}]}";
@@ -158,6 +239,8 @@ fn runs_are_reported(rt: HostRuntime) -> Result<(), Fail> {
     let rows = [
         (INSERT, REPORT),
         (LOST, REPORT_OF_LOST),
+        (DOTTED, REPORT_OF_DOTTED),
+        (ZERO, REPORT_OF_ZERO),
         ("{\"calls\":[]}", REPORT_OF_NOTHING),
         (
             "{\"calls\":[],\"schedule\":[\"serve\",\"lost\"]}",

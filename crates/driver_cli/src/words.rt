@@ -3,6 +3,7 @@ ghost use Rattle.std.specs.Prelude.{◌≡◌, ◌++◌, map, codes, string_byte
 ghost use Rattle.std.specs.Option.{option_copied};
 ghost use Rattle.driver_cli.specs.Words.{two_digits, hex, plain_hex, session_text, number_text, listed, more_texts, place_text, lone, spelled_or_nothing, value_text, fault_name, io_name, kind_name, detail, source_text, error_text};
 
+use crate::details::push_detail;
 use bson_lite::{Bson, Document, EncodeFault, Text, TryClone, encode};
 use driver_error::{Error, ErrorKind, IoKind};
 use driver_link::{Place, PlacedWrite};
@@ -116,7 +117,7 @@ fn push_spelling(alloc: Global, out: &mut String, value: &Bson) -> Result<(), Al
 }
 
 #[tactic(auto, unfolding(crate::specs::Words::fault_name))]
-fn name_of_fault(fault: EncodeFault) -> &'static str
+pub(crate) fn name_of_fault(fault: EncodeFault) -> &'static str
     ensures { result.now ≡ fault_name fault }
 {
     match fault {
@@ -128,7 +129,7 @@ fn name_of_fault(fault: EncodeFault) -> &'static str
 }
 
 #[tactic(auto, unfolding(crate::specs::Words::io_name))]
-fn name_of_io(kind: IoKind) -> &'static str
+pub(crate) fn name_of_io(kind: IoKind) -> &'static str
     ensures { result.now ≡ io_name kind }
 {
     match kind {
@@ -146,24 +147,29 @@ fn name_of_kind(kind: &ErrorKind) -> &'static str
     ensures { result.now ≡ kind_name kind.now }
 {
     match kind {
+        ErrorKind::InvalidArgument { .. } => "InvalidArgument",
+        ErrorKind::Authentication { .. } => "Authentication",
+        ErrorKind::BsonDeserialization(_) => "BsonDeserialization",
         ErrorKind::BsonSerialization(_) => "BsonSerialization",
+        ErrorKind::InsertMany(_) => "InsertMany",
+        ErrorKind::BulkWrite(_) => "BulkWrite",
+        ErrorKind::Command(_) => "Command",
+        ErrorKind::DnsResolve { .. } => "DnsResolve",
+        ErrorKind::GridFs(_) => "GridFs",
         ErrorKind::Internal { .. } => "Internal",
-        ErrorKind::InvalidResponse { .. } => "InvalidResponse",
         ErrorKind::Io(_) => "Io",
+        ErrorKind::ConnectionPoolCleared { .. } => "ConnectionPoolCleared",
+        ErrorKind::InvalidResponse { .. } => "InvalidResponse",
+        ErrorKind::ServerSelection { .. } => "ServerSelection",
+        ErrorKind::SessionsNotSupported => "SessionsNotSupported",
+        ErrorKind::InvalidTlsConfig { .. } => "InvalidTlsConfig",
+        ErrorKind::Write(_) => "Write",
+        ErrorKind::Transaction { .. } => "Transaction",
+        ErrorKind::IncompatibleServer { .. } => "IncompatibleServer",
+        ErrorKind::MissingResumeToken => "MissingResumeToken",
+        ErrorKind::Custom(_) => "Custom",
+        ErrorKind::Shutdown => "Shutdown",
         ErrorKind::Memory => "Memory",
-    }
-}
-
-#[tactic(auto, unfolding(crate::specs::Words::detail))]
-fn detail_of(kind: &ErrorKind) -> &str
-    ensures { result.now ≡ detail kind.now }
-{
-    match kind {
-        ErrorKind::BsonSerialization(fault) => name_of_fault(*fault),
-        ErrorKind::Internal { message } => message.as_str(),
-        ErrorKind::InvalidResponse { message } => message.as_str(),
-        ErrorKind::Io(failure) => name_of_io(*failure),
-        ErrorKind::Memory => "-",
     }
 }
 
@@ -199,7 +205,7 @@ pub(crate) fn push_error(alloc: Global, out: &mut String, error: &Error) -> Resu
     out.push_str("err ")?;
     out.push_str(name_of_kind(error.kind()))?;
     out.push_str(" ")?;
-    out.push_str(detail_of(error.kind()))?;
+    push_detail(out, error.kind())?;
     out.push_str(" labels=")?;
     push_labels(out, labels.as_slice())?;
     out.push_str(" source=")?;

@@ -1,2 +1,4 @@
+pub mod Chains
 pub mod LabelSets
+pub mod Redacting
 pub mod SortedLabels

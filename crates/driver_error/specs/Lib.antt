@@ -1,3 +1,9 @@
+pub mod Chains
+pub mod CommandText
+pub mod Conversions
 pub mod Error
+pub mod Kinds
 pub mod LabelTexts
+pub mod Predicates
+pub mod Redaction
 pub mod SortedLabels

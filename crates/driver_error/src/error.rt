@@ -1,13 +1,16 @@
 //! An error: its kind, its labels, and the error that caused it.
-ghost use Rattle.std.specs.Prelude.{◌≡◌, ◌⊎◌, OnOk, OnErr};
+ghost use Rattle.std.specs.Prelude.{◌≡◌, ◌++◌, None, Some, OnOk, OnErr, IfOk, IfNone};
 ghost use Rattle.std.specs.Option.{option_copied};
-ghost use Rattle.driver_error.specs.declared.kind.ErrorKind.TheVariants.{Memory as NoMemory};
-ghost use Rattle.driver_error.specs.Error.{kind_of, labels_of, source_of, response_of, wire_version_of, IsAlone, KeepsAllButLabels};
+ghost use Rattle.driver_error.specs.declared.kind.ErrorKind.TheVariants.{Custom};
+ghost use Rattle.driver_error.specs.Conversions.{IsMade, IsNew};
+ghost use Rattle.driver_error.specs.Error.{kind_of, labels_of, source_of, response_of, wire_version_of, IsAlone, KeepsAllButLabels, HasSource, HasVersion, HasResponse};
+ghost use Rattle.driver_error.specs.Kinds.{inner_labels, concern_of, backoff_of, custom_text};
 ghost use Rattle.driver_error.specs.LabelTexts.{no_labels, label_set, with_label, has_label};
 
-use crate::kind::{ErrorKind, IoKind};
+use crate::kind::ErrorKind;
 use crate::labels::Labels;
-use bson_lite::{Boxed, EncodeFault, RawDocumentBuf, Text};
+use crate::write::{WriteConcernError, WriteFailure};
+use bson_lite::{Boxed, RawDocumentBuf, Text};
 use std::alloc::{AllocError, Global};
 
 /// The driver's result.
@@ -16,15 +19,43 @@ pub type Result<T> = std::result::Result<T, Error>;
 /// An error of the driver.
 #[derive(Debug, Drop)]
 pub struct Error {
-    kind: ErrorKind,
-    labels: Labels,
-    wire_version: Option<i32>,
-    source: Option<Boxed<Error>>,
-    server_response: Option<RawDocumentBuf>,
+    pub(crate) kind: ErrorKind,
+    pub(crate) labels: Labels,
+    pub(crate) wire_version: Option<i32>,
+    pub(crate) source: Option<Boxed<Error>>,
+    pub(crate) server_response: Option<RawDocumentBuf>,
+}
+
+/// The write concern error inside an error of inserts or of a single write.
+pub(crate) fn concern_of(kind: &ErrorKind) -> Option<&WriteConcernError>
+    ensures { option_copied result ≡ concern_of kind.now }
+{
+    match kind {
+        ErrorKind::InsertMany(failures) => failures.write_concern_error.as_ref(),
+        ErrorKind::Write(WriteFailure::WriteConcernError(concern)) => Some(concern),
+        _ => None,
+    }
+}
+
+/// These labels, and those of a write concern error inside the kind.
+#[tactic(auto, using(crate::proofs::SortedLabels::with_labels_set))]
+fn all_labels(
+    alloc: Global,
+    kind: &ErrorKind,
+    labels: &[Text],
+) -> std::result::Result<Labels, AllocError>
+    ensures { IfOk result (λ all. all ≡ label_set (inner_labels kind.now ++ labels.now)) }
+{
+    let all = Labels::from_texts(alloc, labels)?;
+    match concern_of(kind) {
+        None => Ok(all),
+        Some(concern) => all.with_all(alloc, concern.labels.as_slice()),
+    }
 }
 
 impl Error {
-    /// An error of this kind without labels. It takes no memory.
+    /// An error of this kind without labels. It takes no memory. A kind with a write concern error
+    /// inside is made by [`Error::new`], which takes the labels of that one.
     pub fn from_kind(kind: ErrorKind) -> Error
         ensures { IsAlone kind no_labels result }
     {
@@ -37,11 +68,12 @@ impl Error {
         }
     }
 
-    /// An error of this kind with these labels. Where it finds no memory it is an error of kind Memory.
+    /// An error of this kind with these labels, and those of a write concern error inside an error of
+    /// inserts or of a single write. Where it finds no memory it is an error of kind Memory.
     pub fn new(alloc: Global, kind: ErrorKind, labels: &[Text]) -> Error
-        ensures { IsAlone kind (label_set labels.now) result ⊎ IsAlone NoMemory no_labels result }
+        ensures { IsNew kind labels.now result }
     {
-        match Labels::from_texts(alloc, labels) {
+        match all_labels(alloc, &kind, labels) {
             Ok(labels) => Error {
                 kind,
                 labels,
@@ -50,6 +82,26 @@ impl Error {
                 server_response: None,
             },
             Err(_refused) => Error::from_kind(ErrorKind::Memory),
+        }
+    }
+
+    /// An error of the caller's own. Where it finds no memory it is an error of kind Memory.
+    pub fn custom(alloc: Global, text: &str) -> Error
+        ensures { IsMade (Custom text.now) no_labels result }
+    {
+        match Text::from_str(alloc, text) {
+            Ok(text) => Error::from_kind(ErrorKind::Custom(text)),
+            Err(_refused) => Error::from_kind(ErrorKind::Memory),
+        }
+    }
+
+    /// The text of an error of the caller's own.
+    pub fn get_custom(&self) -> Option<&str>
+        ensures { option_copied result ≡ custom_text (kind_of self.now) }
+    {
+        match &self.kind {
+            ErrorKind::Custom(text) => Some(text.as_str()),
+            _ => None,
         }
     }
 
@@ -90,6 +142,16 @@ impl Error {
         self.server_response.as_ref()
     }
 
+    /// How long the server asks to wait, in milliseconds. Only a command error tells it.
+    pub fn base_backoff(&self) -> Option<u64>
+        ensures { result ≡ backoff_of (kind_of self.now) }
+    {
+        match &self.kind {
+            ErrorKind::Command(error) => error.base_backoff,
+            _ => None,
+        }
+    }
+
     /// Whether this error has a label, without a look at its source.
     pub fn has_own_label(&self, label: &str) -> bool
         ensures { result ≡ has_label (labels_of self.now) label.now }
@@ -105,42 +167,39 @@ impl Error {
     {
         self.labels.add(alloc, label)
     }
-}
 
-impl From<IoKind> for Error {
-    ghost use Rattle.driver_error.specs.Error.{IsAlone};
-    ghost use Rattle.driver_error.specs.LabelTexts.{no_labels};
-    ghost use Rattle.driver_error.specs.declared.kind.ErrorKind.TheVariants.{Io};
-
-    ghost from_gives = { λ kind error. IsAlone (Io kind) no_labels error };
-
-    fn from(kind: IoKind) -> Error {
-        Error::from_kind(ErrorKind::Io(kind))
+    /// The same error with this source, or without one.
+    pub fn with_source(
+        self,
+        alloc: Global,
+        source: Option<Error>,
+    ) -> std::result::Result<Error, AllocError>
+        ensures { IfOk result (λ error. HasSource source self error) }
+    {
+        let source = match source {
+            None => None,
+            Some(source) => Some(Boxed::new(alloc, source)?),
+        };
+        Ok(Error { source, ..self })
     }
-}
 
-impl From<EncodeFault> for Error {
-    ghost use Rattle.driver_error.specs.Error.{IsAlone, kind_of_fault};
-    ghost use Rattle.driver_error.specs.LabelTexts.{no_labels};
-
-    ghost from_gives = { λ fault error. IsAlone (kind_of_fault fault) no_labels error };
-
-    fn from(fault: EncodeFault) -> Error {
-        match fault {
-            EncodeFault::Memory => Error::from_kind(ErrorKind::Memory),
-            refused => Error::from_kind(ErrorKind::BsonSerialization(refused)),
+    /// The same error, as it came on a connection with this wire version. It takes no memory.
+    pub fn with_wire_version(self, wire_version: Option<i32>) -> Error
+        ensures { HasVersion wire_version self result }
+    {
+        Error {
+            wire_version,
+            ..self
         }
     }
-}
 
-impl From<AllocError> for Error {
-    ghost use Rattle.driver_error.specs.Error.{IsAlone};
-    ghost use Rattle.driver_error.specs.LabelTexts.{no_labels};
-    ghost use Rattle.driver_error.specs.declared.kind.ErrorKind.TheVariants.{Memory};
-
-    ghost from_gives = { λ _ error. IsAlone Memory no_labels error };
-
-    fn from(_refused: AllocError) -> Error {
-        Error::from_kind(ErrorKind::Memory)
+    /// The same error, as this reply spelled it. It takes no memory.
+    pub fn with_server_response(self, response: Option<RawDocumentBuf>) -> Error
+        ensures { HasResponse response self result }
+    {
+        Error {
+            server_response: response,
+            ..self
+        }
     }
 }

@@ -4,14 +4,41 @@
 //! `specs/Error.antt`, read one level of it.
 #![tactic(auto)]
 
+pub mod command;
+pub mod conversions;
+mod copy;
+mod display;
 pub mod error;
+pub mod gridfs;
 pub mod kind;
 pub mod labels;
+pub mod predicates;
+pub mod redact;
+pub mod redaction;
 pub mod results;
+pub mod specifications;
 #[cfg(test)]
 mod tests;
+pub mod write;
 
+pub use command::{CommandError, CommandErrorBody};
+pub use conversions::convert_insert_many_error;
 pub use error::{Error, Result};
+pub use gridfs::{GridFsErrorKind, GridFsFileIdentifier};
 pub use kind::{ErrorKind, IoKind};
-pub use labels::{Labels, RETRYABLE_WRITE_ERROR};
-pub use results::InsertOneResult;
+pub use labels::{
+    Labels, NO_WRITES_PERFORMED, RESUMABLE_CHANGE_STREAM_ERROR, RETRYABLE_ERROR,
+    RETRYABLE_WRITE_ERROR, SYSTEM_OVERLOADED_ERROR, TRANSIENT_TRANSACTION_ERROR,
+    UNKNOWN_TRANSACTION_COMMIT_RESULT,
+};
+pub use redact::Redact;
+pub use results::{
+    CreateIndexResult, CreateIndexesResult, DeleteResult, InsertManyResult, InsertOneResult,
+    PartialBulkWriteResult, SummaryBulkWriteResult, UpdateResult, VerboseBulkWriteResult,
+};
+pub use specifications::{
+    CollectionSpecification, CollectionSpecificationInfo, CollectionType, DatabaseSpecification,
+};
+pub use write::{
+    BulkWriteError, IndexedWriteError, InsertManyError, WriteConcernError, WriteError, WriteFailure,
+};

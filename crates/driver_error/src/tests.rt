@@ -1,7 +1,48 @@
-//! What no clause says: that calls succeed with ample memory, and the texts of kinds.
-use crate::{Error, ErrorKind, IoKind, Labels, RETRYABLE_WRITE_ERROR};
-use bson_lite::{EncodeFault, Text};
+//! What no clause says: that calls succeed with ample memory, and the texts of errors.
+mod codes;
+mod copies;
+mod texts;
+
+use crate::{
+    CommandError, CreateIndexesResult, Error, ErrorKind, IoKind, Labels, RETRYABLE_WRITE_ERROR,
+    Redact,
+};
+use bson_lite::{Bson, Document, List, RawDocumentBuf, Text};
+use std::alloc::{AllocError, Global};
 use std::test::Fail;
+
+fn text_list(alloc: Global, words: &[&str]) -> Result<List<Text>, AllocError> {
+    let mut list = List::new(alloc);
+    for word in words {
+        list.push(Text::from_str(alloc, word)?)?;
+    }
+    Ok(list)
+}
+
+fn command(
+    alloc: Global,
+    code: i32,
+    name: &str,
+    message: &str,
+) -> Result<CommandError, AllocError> {
+    Ok(CommandError {
+        code,
+        code_name: Text::from_str(alloc, name)?,
+        message: Text::from_str(alloc, message)?,
+        base_backoff: Some(200),
+    })
+}
+
+fn command_failed(alloc: Global, code: i32) -> Result<Error, AllocError> {
+    let error = command(alloc, code, "Name", "x")?;
+    Ok(Error::from_kind(ErrorKind::Command(error)))
+}
+
+fn reset(alloc: Global, labels: &[&str]) -> Result<Error, AllocError> {
+    let labels = text_list(alloc, labels)?;
+    let kind = ErrorKind::Io(IoKind::ConnectionReset);
+    Ok(Error::new(alloc, kind, labels.as_slice()))
+}
 
 #[test]
 fn labels_are_a_set_in_order(rt: HostRuntime) -> Result<(), Fail> {
@@ -22,8 +63,7 @@ fn labels_are_a_set_in_order(rt: HostRuntime) -> Result<(), Fail> {
 
 #[test]
 fn an_error_keeps_kind_and_labels(rt: HostRuntime) -> Result<(), Fail> {
-    let label = Text::from_str(rt.alloc(), RETRYABLE_WRITE_ERROR)?;
-    let mut error = Error::new(rt.alloc(), ErrorKind::Io(IoKind::ConnectionReset), &[label]);
+    let mut error = reset(rt.alloc(), &[RETRYABLE_WRITE_ERROR])?;
     error.add_label(rt.alloc(), "more")?;
     assert!(rt; error.has_own_label("RetryableWriteError"));
     assert!(rt; error.has_own_label("more"));
@@ -35,26 +75,92 @@ fn an_error_keeps_kind_and_labels(rt: HostRuntime) -> Result<(), Fail> {
 }
 
 #[test]
-fn kinds_print_their_texts(rt: HostRuntime) -> Result<(), Fail> {
-    let message = Text::from_str(rt.alloc(), "m")?;
-    let internal = ErrorKind::Internal { message };
+fn a_label_of_a_source_is_contained_and_not_own(rt: HostRuntime) -> Result<(), Fail> {
+    let source = reset(rt.alloc(), &["RetryableWriteError"])?;
+    let error = command_failed(rt.alloc(), 1)?.with_source(rt.alloc(), Some(source))?;
+    assert!(rt; error.contains_label("RetryableWriteError"));
+    assert!(rt; !error.has_own_label("RetryableWriteError"));
+    assert!(rt; error.is_write_retryable());
+    assert_eq!(rt; error.base_backoff(), Some(200));
+    Ok(())
+}
+
+#[test]
+fn a_custom_error_gives_its_text_back(rt: HostRuntime) -> Result<(), Fail> {
+    let error = Error::custom(rt.alloc(), "mine");
+    assert_eq!(rt; error.get_custom(), Some("mine"));
+    assert_eq!(rt; command_failed(rt.alloc(), 1)?.get_custom(), None);
+    Ok(())
+}
+
+fn reply(alloc: Global) -> Result<Option<RawDocumentBuf>, AllocError> {
+    let mut document = Document::new(alloc);
+    document.push("secret", Bson::Int32(7))?;
+    Ok(RawDocumentBuf::from_document(alloc, &document).ok())
+}
+
+/// The error without all that may tell of the data.
+fn redact(alloc: Global, error: Error) -> Result<Error, AllocError> {
+    let mut error = error;
+    error.redact(alloc)?;
+    Ok(error)
+}
+
+/// An error with a source and a reply.
+fn told(alloc: Global) -> Result<Error, AllocError> {
+    let below = command_failed(alloc, 11600)?;
+    let error = command_failed(alloc, 1)?.with_source(alloc, Some(below))?;
+    Ok(error.with_server_response(reply(alloc)?))
+}
+
+fn redacted(alloc: Global) -> Result<Error, AllocError> {
+    redact(alloc, told(alloc)?)
+}
+
+#[test]
+fn redaction_leaves_no_message(rt: HostRuntime) -> Result<(), Fail> {
+    let text = redacted(rt.alloc())?.to_string(rt.alloc())?;
     assert_eq!(rt;
-        internal.to_string(rt.alloc())?.as_str(),
-        "Internal error: m"
+        text.as_str(),
+        "Kind: Command failed: Error code 1 (Name): REDACTED, labels: -, source: Kind: Command failed: Error code 11600 (Name): REDACTED, labels: -, source: None"
     );
-    let message = Text::from_str(rt.alloc(), "m")?;
-    let invalid = ErrorKind::InvalidResponse { message };
+    Ok(())
+}
+
+#[test]
+fn redaction_leaves_no_reply(rt: HostRuntime) -> Result<(), Fail> {
+    let error = redacted(rt.alloc())?;
+    let bytes = error.server_response().map(|reply| reply.as_bytes());
     assert_eq!(rt;
-        invalid.to_string(rt.alloc())?.as_str(),
-        "The server returned an invalid reply to a database operation: m"
+        bytes,
+        Some(b"\x10\x00\x00\x00\x08redacted\x00\x01\x00".as_slice())
     );
-    let io = ErrorKind::Io(IoKind::BrokenPipe);
-    assert_eq!(rt; io.to_string(rt.alloc())?.as_str(), "I/O error: BrokenPipe");
+    Ok(())
+}
+
+#[test]
+fn a_redacted_value_is_not_printed(rt: HostRuntime) -> Result<(), Fail> {
+    let open = Redact {
+        inner: 7,
+        on: false,
+    };
+    let hidden = Redact { inner: 7, on: true };
+    assert_eq!(rt; open.to_string(rt.alloc())?.as_str(), "7");
+    assert_eq!(rt; hidden.to_string(rt.alloc())?.as_str(), "<redacted>");
+    assert_eq!(rt; format!(in rt.alloc(); "{open:?}")?.as_str(), "7");
     assert_eq!(rt;
-        ErrorKind::Memory.to_string(rt.alloc())?.as_str(),
-        "out of memory"
+        format!(in rt.alloc(); "{hidden:?}")?.as_str(),
+        "<redacted>"
     );
-    let deep = ErrorKind::BsonSerialization(EncodeFault::TooDeep);
-    assert_eq!(rt; deep.to_string(rt.alloc())?.as_str(), "TooDeep");
+    Ok(())
+}
+
+#[test]
+fn the_first_index_is_the_result(rt: HostRuntime) -> Result<(), Fail> {
+    let index_names = text_list(rt.alloc(), &["a_1", "b_1"])?;
+    if !index_names.is_empty() {
+        let result = CreateIndexesResult { index_names }.into_create_index_result();
+        assert_eq!(rt; result.index_name.as_str(), "a_1");
+    }
     Ok(())
 }

@@ -5,7 +5,7 @@ use mir.Val.{SFits}
 use Rattle.driver_actions.specs.Turns.{send_under}
 use Rattle.std.proofs.lemmas.Result.{err_from_is_err_and}
 use Rattle.driver_actions.proofs.Attempts.{raises, reads_under, attempts_replied, attempts_failed, attempts_unframed}
-use Rattle.driver_actions.proofs.Causes.{caused_end, caused_body}
+use Rattle.driver_actions.proofs.Causes.{caused_end, caused_body, caused_exchange}
 use Rattle.driver_actions.proofs.attempt.send_under.Goals as goal
 
 pub exchange-requires : goal.exchange-requires
@@ -42,3 +42,8 @@ returns-in_err-frame-clause-cause g c =
     let p = err_from_is_err_and c.from_residual-in_err-frame.result c.from_residual-in_err-frame.ensures.1 in
     rw (p.1, p.2) (caused_body (g.L.Link.faults c.args.link.now) (g.L.Link.answers c.args.link.now) c.args.session.now c.next_number.new.self _
     c.args.write.now.written.namespace _ _ _ c.in_ok-number.ensures c.in_err-frame.ensures.sixteen c.in_err-frame.ensures.builds)
+
+pub returns-clause-cause : goal.returns-clause-cause
+returns-clause-cause g c =
+    caused_exchange (g.L.Link.faults c.args.link.now) (g.L.Link.faults c.exchange.new.self) (g.L.Link.answers c.args.link.now) (g.L.Link.answers c.exchange.new.self)
+    c.args.session.now c.next_number.new.self _ _ c.in-Err.failure _ c.in_ok-number.ensures c.in-Err.ensures.cause c.in-Err.ensures.answers c.link_error.ensures

@@ -1,0 +1,29 @@
+//! A value that is printed only where it may be.
+use std::fmt;
+
+/// A value that prints `<redacted>` in its place where `on` is true.
+#[derive(Drop)]
+pub struct Redact<T> {
+    pub inner: T,
+    pub on: bool,
+}
+
+impl<T: fmt::Display> fmt::Display for Redact<T> {
+    fn fmt<W: fmt::Write>(&self, f: &mut fmt::Formatter<W>) -> fmt::Result {
+        if self.on {
+            f.write_str("<redacted>")
+        } else {
+            self.inner.fmt(f)
+        }
+    }
+}
+
+impl<T: fmt::Debug> fmt::Debug for Redact<T> {
+    fn fmt<W: fmt::Write>(&self, f: &mut fmt::Formatter<W>) -> fmt::Result {
+        if self.on {
+            f.write_str("<redacted>")
+        } else {
+            self.inner.fmt(f)
+        }
+    }
+}

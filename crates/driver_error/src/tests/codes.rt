@@ -1,0 +1,117 @@
+//! The codes by which errors are judged.
+use super::command_failed;
+use crate::{Error, ErrorKind, IoKind};
+use std::test::Fail;
+
+/// What a code says: a read may be tried again, the server recovers, takes no writes, shuts down, the
+/// time is over, it asks for authentication, a commit's result is unknown, the cursor is not known, the
+/// namespace is not there.
+type Says = [bool; 9];
+
+const T: bool = true;
+
+const F: bool = false;
+
+fn rows() -> &'static [(i32, Says)] {
+    &CODES
+}
+
+const CODES: [(i32, Says); 21] = [
+    (11600, [T, T, F, T, F, F, F, F, F]),
+    (11602, [T, T, F, F, F, F, F, F, F]),
+    (13436, [T, T, F, F, F, F, F, F, F]),
+    (189, [T, T, F, F, F, F, F, F, F]),
+    (91, [T, T, F, T, F, F, T, F, F]),
+    (10107, [T, F, T, F, F, F, F, F, F]),
+    (13435, [T, F, T, F, F, F, F, F, F]),
+    (10058, [F, F, T, F, F, F, F, F, F]),
+    (7, [T, F, F, F, F, F, F, F, F]),
+    (6, [T, F, F, F, F, F, F, F, F]),
+    (89, [T, F, F, F, F, F, F, F, F]),
+    (9001, [T, F, F, F, F, F, F, F, F]),
+    (134, [T, F, F, F, F, F, F, F, F]),
+    (262, [T, F, F, F, F, F, F, F, F]),
+    (50, [F, F, F, F, T, F, T, F, F]),
+    (64, [F, F, F, F, F, F, T, F, F]),
+    (391, [F, F, F, F, F, T, F, F, F]),
+    (43, [F, F, F, F, F, F, F, T, F]),
+    (26, [F, F, F, F, F, F, F, F, T]),
+    (0, [F, F, F, F, F, F, F, F, F]),
+    (-50, [F, F, F, F, F, F, F, F, F]),
+];
+
+fn may_read_again(error: &Error) -> bool {
+    error.is_read_retryable()
+}
+
+fn recovers(error: &Error) -> bool {
+    error.is_recovering()
+}
+
+fn takes_no_writes(error: &Error) -> bool {
+    error.is_notwritableprimary()
+}
+
+fn shuts_down(error: &Error) -> bool {
+    error.is_shutting_down()
+}
+
+fn is_out_of_time(error: &Error) -> bool {
+    error.is_max_time_ms_expired_error()
+}
+
+fn asks_who(error: &Error) -> bool {
+    error.is_reauthentication_required()
+}
+
+fn leaves_commit_unknown(error: &Error) -> bool {
+    error.should_add_unknown_transaction_commit_result_label()
+}
+
+fn may_resume(error: &Error) -> bool {
+    error.is_resumable()
+}
+
+fn has_no_namespace(error: &Error) -> bool {
+    error.is_ns_not_found()
+}
+
+fn said(error: &Error) -> Says {
+    [
+        may_read_again(error),
+        recovers(error),
+        takes_no_writes(error),
+        shuts_down(error),
+        is_out_of_time(error),
+        asks_who(error),
+        leaves_commit_unknown(error),
+        may_resume(error),
+        has_no_namespace(error),
+    ]
+}
+
+fn says(error: &Error, code: i32, row: &Says) -> bool {
+    error.sdam_code() == Some(code) && said(error) == *row
+}
+
+#[test]
+fn each_code_says_what_the_table_says(rt: HostRuntime) -> Result<(), Fail> {
+    for (code, row) in rows() {
+        let error = command_failed(rt.alloc(), *code)?;
+        assert!(rt; says(&error, *code, row));
+    }
+    Ok(())
+}
+
+#[test]
+fn a_lost_connection_is_a_network_error(rt: HostRuntime) -> Result<(), Fail> {
+    let error = Error::from(IoKind::TimedOut);
+    assert!(rt; error.is_network_error());
+    assert!(rt; error.is_network_timeout());
+    assert!(rt; !error.is_non_timeout_network_error());
+    assert!(rt; error.should_add_retryable_write_label());
+    let error = Error::from_kind(ErrorKind::Shutdown);
+    assert!(rt; !error.is_network_error());
+    assert!(rt; error.is_resumable());
+    Ok(())
+}

@@ -1,0 +1,147 @@
+//! Copies and conversions with ample memory.
+use super::{command, redact, reset, text_list};
+use crate::{
+    CommandErrorBody, Error, ErrorKind, IndexedWriteError, InsertManyError, WriteConcernError,
+    WriteFailure, convert_insert_many_error,
+};
+use bson_lite::{Bson, ByIndex, List, Text, TryClone};
+use std::alloc::{AllocError, Global};
+use std::test::Fail;
+
+fn write_errors(alloc: Global) -> Result<List<IndexedWriteError>, AllocError> {
+    let mut errors = List::new(alloc);
+    for index in [3, 1] {
+        errors.push(IndexedWriteError {
+            index,
+            code: 11000,
+            code_name: None,
+            message: Text::from_str(alloc, "duplicate")?,
+            details: None,
+        })?;
+    }
+    Ok(errors)
+}
+
+fn concern(alloc: Global) -> Result<WriteConcernError, AllocError> {
+    Ok(WriteConcernError {
+        code: 64,
+        code_name: Text::from_str(alloc, "WriteConcernFailed")?,
+        message: Text::from_str(alloc, "waited")?,
+        details: None,
+        labels: text_list(alloc, &["inner"])?,
+    })
+}
+
+fn many(
+    alloc: Global,
+    write_errors: Option<List<IndexedWriteError>>,
+    write_concern_error: Option<WriteConcernError>,
+) -> Result<Error, AllocError> {
+    let mut inserted_ids = ByIndex::new(alloc);
+    inserted_ids.insert(0, Bson::Int32(1))?;
+    let labels = text_list(alloc, &["outer"])?;
+    let kind = ErrorKind::InsertMany(InsertManyError {
+        write_errors,
+        write_concern_error,
+        inserted_ids,
+    });
+    Ok(Error::new(alloc, kind, labels.as_slice()))
+}
+
+fn same_text(alloc: Global, a: &Error, b: &Error) -> Result<bool, AllocError> {
+    Ok(a.to_string(alloc)?.as_str() == b.to_string(alloc)?.as_str())
+}
+
+fn with_source(alloc: Global) -> Result<Error, AllocError> {
+    let errors = write_errors(alloc)?;
+    let concern = concern(alloc)?;
+    let error = many(alloc, Some(errors), Some(concern))?;
+    let source = reset(alloc, &["a"])?;
+    error.with_source(alloc, Some(source))
+}
+
+fn copy(alloc: Global, error: &Error) -> Result<Error, AllocError> {
+    error.try_clone(alloc)
+}
+
+#[test]
+fn a_copy_prints_alike(rt: HostRuntime) -> Result<(), Fail> {
+    let error = with_source(rt.alloc())?;
+    let copy = copy(rt.alloc(), &error)?;
+    assert!(rt; same_text(rt.alloc(), &error, &copy)?);
+    let error = redact(rt.alloc(), error)?;
+    assert!(rt; !same_text(rt.alloc(), &error, &copy)?);
+    Ok(())
+}
+
+fn write_code(error: &Error) -> Option<i32> {
+    match error.kind() {
+        ErrorKind::Write(WriteFailure::WriteError(error)) => Some(error.code),
+        ErrorKind::Write(WriteFailure::WriteConcernError(error)) => Some(error.code),
+        _ => None,
+    }
+}
+
+#[test]
+fn the_write_error_comes_before_the_write_concern_error(rt: HostRuntime) -> Result<(), Fail> {
+    let errors = write_errors(rt.alloc())?;
+    let concern = concern(rt.alloc())?;
+    let error = converted(rt.alloc(), Some(errors), Some(concern))?;
+    assert_eq!(rt; write_code(&error), Some(11000));
+    assert_eq!(rt; error.sdam_code(), None);
+    assert!(rt; error.has_own_label("outer") && error.has_own_label("inner"));
+    Ok(())
+}
+
+fn converted(
+    alloc: Global,
+    write_errors: Option<List<IndexedWriteError>>,
+    concern: Option<WriteConcernError>,
+) -> Result<Error, AllocError> {
+    let error = many(alloc, write_errors, concern)?;
+    Ok(convert_insert_many_error(alloc, error))
+}
+
+#[test]
+fn an_empty_list_of_write_errors_is_none(rt: HostRuntime) -> Result<(), Fail> {
+    let concern = concern(rt.alloc())?;
+    let none = List::new(rt.alloc());
+    let error = converted(rt.alloc(), Some(none), Some(concern))?;
+    assert_eq!(rt; write_code(&error), Some(64));
+    Ok(())
+}
+
+#[test]
+fn no_failure_is_an_invalid_response(rt: HostRuntime) -> Result<(), Fail> {
+    let error = converted(rt.alloc(), None, None)?;
+    let text = error.to_string(rt.alloc())?;
+    assert_eq!(rt;
+        text.as_str(),
+        "Kind: The server returned an invalid reply to a database operation: error missing write errors and write concern errors, labels: -, source: None"
+    );
+    Ok(())
+}
+
+fn body(alloc: Global) -> Result<CommandErrorBody, AllocError> {
+    Ok(CommandErrorBody {
+        error_labels: text_list(alloc, &["told"])?,
+        command_error: command(alloc, 5, "Name", "x")?,
+    })
+}
+
+#[test]
+fn a_body_becomes_an_error(rt: HostRuntime) -> Result<(), Fail> {
+    let error = Error::from(body(rt.alloc())?);
+    assert!(rt; error.has_own_label("told"));
+    assert_eq!(rt; error.sdam_code(), Some(5));
+    Ok(())
+}
+
+#[test]
+fn a_kind_becomes_an_error(rt: HostRuntime) -> Result<(), Fail> {
+    let failure = WriteFailure::WriteConcernError(concern(rt.alloc())?);
+    let error = Error::from(ErrorKind::Write(failure));
+    assert!(rt; error.has_own_label("inner"));
+    assert_eq!(rt; write_code(&error), Some(64));
+    Ok(())
+}

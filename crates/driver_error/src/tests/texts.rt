@@ -1,0 +1,132 @@
+//! The texts of errors.
+use super::{command, command_failed, reset};
+use crate::{BulkWriteError, Error, ErrorKind, InsertManyError, IoKind, WriteError, WriteFailure};
+use bson_lite::{ByIndex, EncodeFault, List, Text};
+use std::alloc::{AllocError, Global};
+use std::test::Fail;
+
+const TEXTS: [&str; 19] = [
+    "An invalid argument was provided: m",
+    "The server returned an invalid reply to a database operation: m",
+    "The server does not support a database operation: m",
+    "An error occurred during DNS resolution: m",
+    "Internal error: m",
+    "I/O error: BrokenPipe",
+    "Command failed: Error code 11600 (InterruptedAtShutdown): x",
+    "m",
+    "m",
+    "m",
+    "m",
+    "m",
+    "Custom user error: m",
+    "Attempted to start a session on a deployment that does not support sessions",
+    "Cannot provide resume functionality when the resume token is missing",
+    "Client has been shut down",
+    "out of memory",
+    "TooDeep",
+    "ZeroByte",
+];
+
+fn texts() -> &'static [&'static str] {
+    &TEXTS
+}
+
+fn text_of(alloc: Global, at: usize) -> Result<String, AllocError> {
+    kind(alloc, at)?.to_string(alloc)
+}
+
+fn kind(alloc: Global, at: usize) -> Result<ErrorKind, AllocError> {
+    let message = Text::from_str(alloc, "m")?;
+    Ok(match at {
+        0 => ErrorKind::InvalidArgument { message },
+        1 => ErrorKind::InvalidResponse { message },
+        2 => ErrorKind::IncompatibleServer { message },
+        3 => ErrorKind::DnsResolve { message },
+        4 => ErrorKind::Internal { message },
+        5 => ErrorKind::Io(IoKind::BrokenPipe),
+        6 => ErrorKind::Command(command(alloc, 11600, "InterruptedAtShutdown", "x")?),
+        7 => ErrorKind::Authentication { message },
+        8 => ErrorKind::ConnectionPoolCleared { message },
+        9 => ErrorKind::ServerSelection { message },
+        10 => ErrorKind::InvalidTlsConfig { message },
+        11 => ErrorKind::Transaction { message },
+        12 => ErrorKind::Custom(message),
+        13 => ErrorKind::SessionsNotSupported,
+        14 => ErrorKind::MissingResumeToken,
+        15 => ErrorKind::Shutdown,
+        16 => ErrorKind::Memory,
+        17 => ErrorKind::BsonSerialization(EncodeFault::TooDeep),
+        _ => ErrorKind::BsonSerialization(EncodeFault::ZeroByte),
+    })
+}
+
+#[test]
+fn kinds_print_their_texts(rt: HostRuntime) -> Result<(), Fail> {
+    for (at, text) in texts().iter().enumerate() {
+        let printed = text_of(rt.alloc(), at)?;
+        assert_eq!(rt; printed.as_str(), *text);
+    }
+    Ok(())
+}
+
+fn many(alloc: Global) -> ErrorKind {
+    ErrorKind::InsertMany(InsertManyError {
+        write_errors: None,
+        write_concern_error: None,
+        inserted_ids: ByIndex::new(alloc),
+    })
+}
+
+fn bulk(alloc: Global) -> ErrorKind {
+    ErrorKind::BulkWrite(BulkWriteError {
+        write_concern_errors: List::new(alloc),
+        write_errors: ByIndex::new(alloc),
+        partial_result: None,
+    })
+}
+
+fn write(alloc: Global) -> ErrorKind {
+    ErrorKind::Write(WriteFailure::WriteError(WriteError {
+        code: 1,
+        code_name: None,
+        message: Text::new(alloc),
+        details: None,
+    }))
+}
+
+#[test]
+fn failures_of_writes_begin_with_their_texts(rt: HostRuntime) -> Result<(), Fail> {
+    let text = many(rt.alloc()).to_string(rt.alloc())?;
+    assert!(rt;
+        text.as_str().starts_with(
+            "An error occurred when trying to execute an insert_many operation: "
+        )
+    );
+    let text = bulk(rt.alloc()).to_string(rt.alloc())?;
+    assert!(rt;
+        text.as_str()
+            .starts_with("An error occurred when executing Client::bulk_write: ")
+    );
+    let text = write(rt.alloc()).to_string(rt.alloc())?;
+    assert!(rt;
+        text.as_str().starts_with("An error occurred when trying to execute a write operation: ")
+    );
+    Ok(())
+}
+
+#[test]
+fn an_error_prints_kind_labels_and_source(rt: HostRuntime) -> Result<(), Fail> {
+    let source = reset(rt.alloc(), &["b", "a", "B"])?;
+    let error = Error::from_kind(ErrorKind::Shutdown).with_source(rt.alloc(), Some(source))?;
+    let text = error.to_string(rt.alloc())?;
+    assert_eq!(rt;
+        text.as_str(),
+        "Kind: Client has been shut down, labels: -, source: Kind: I/O error: ConnectionReset, labels: B,a,b, source: None"
+    );
+    let text = command_failed(rt.alloc(), -1)?.to_string(rt.alloc())?;
+    assert_eq!(rt;
+        text.as_str(),
+        "Kind: Command failed: Error code -1 (Name): x, labels: -, source: None"
+    );
+    Ok(())
+}
