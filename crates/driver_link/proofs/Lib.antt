@@ -1,4 +1,10 @@
 pub mod Counting
 pub mod SessionIds
+pub mod Lists
+pub mod Following
+pub mod Placing
+pub mod Serving
+pub mod Plain
 pub mod Exchanged
-pub mod Replaying
+pub mod Growing
+pub mod Replying

@@ -1,84 +1,97 @@
--- What serving a send makes of the model server's state. The rules are those of MongoDB's specification
--- of retryable writes: a number below a session's greatest is refused, a greater one begins anew, and a
--- statement that has a kept result under the number does not run again.
-use Rattle.std.specs.Prelude.{ℕ, ◌+◌, ℤ, pos, Bool, false, List, [], ◌∷◌, ◌++◌, map, Option, None, Some, is_some, if◌then◌else◌, int_lt}
+-- What serving a send makes of the model server's state, by its case (Cases).
+use Rattle.std.specs.Prelude.{ℕ, ◌||◌, ℤ, Bool, true, false, List, [], ◌∷◌, ◌++◌, Option, None, Some, if◌then◌else◌}
 use Rattle.std.specs.Ordering.{nat_cmp}
+use Rattle.std.specs.Cmp.Lexicographic.{slice_cmp}
 use Rattle.std.specs.FinMap as finite
-use Rattle.driver_link.specs.declared.machine.Counted.{Counted}
 use Rattle.driver_link.specs.declared.machine.Entry.{Entry}
+use Rattle.driver_link.specs.declared.machine.Failing.{Failing}
 use Rattle.driver_link.specs.declared.machine.KnownSession.{KnownSession}
-use Rattle.driver_link.specs.declared.machine.PlacedWrite.{PlacedWrite}
+use Rattle.driver_link.specs.declared.machine.Planned.{Planned}
+use Rattle.driver_link.specs.declared.machine.PlannedConcern.{PlannedConcern}
 use Rattle.driver_link.specs.declared.machine.Send.{Send}
 use Rattle.driver_link.specs.declared.machine.SendBody.{SendBody}
-use Rattle.driver_link.specs.declared.machine.SendBody.TheVariants.{Write}
 use Rattle.driver_link.specs.declared.machine.Server.{Server}
+use Rattle.driver_link.specs.declared.machine.ServerTransaction.{ServerTransaction}
+use Rattle.driver_link.specs.declared.machine.ServerTransaction.TheVariants as transaction
+use Rattle.driver_link.specs.declared.machine.Statement.{Statement}
+use Rattle.driver_link.specs.Cases.{Case, too_old, outside, gathers, commits, aborts, of_cursor, nothing, denied, case_of, known_of, known_under, results_of, body_writes, is_ordered, writes_of}
+use Rattle.driver_link.specs.Cursors.{Reply, cursors_with, without_cursor}
+use Rattle.driver_link.specs.Sessions.{denied_transaction}
+use Rattle.driver_link.specs.Statements.{Results, no_results, statements, before_failing, has_run, has_failed, entries_of, kept_with}
 
--- the results kept under a number, by the position of the statement
-abbrev pub Kept : Type 0
-Kept = finite.FinMap nat_cmp Counted
+-- how a send is served: what its statements count and which fail, a write concern error, and how many
+-- results the first page holds
+pub record Plan : Type 0 where
+  pub results : List Planned
+  pub fail : List Failing
+  pub concern : Option PlannedConcern
+  pub page : Option ℕ
 
--- what a statement counts where no schedule says otherwise
-abbrev pub default_count : Counted
-default_count = record { n = pos 1; modified = pos 0; upserted = None; value = None }
+-- as usual
+abbrev pub usual : Plan
+usual = record { results = []; fail = []; concern = None; page = None }
 
--- the writes of what a command asks for
-abbrev pub body_writes : SendBody → List PlacedWrite
-body_writes (Write command ordered writes) = writes
+-- the statements of a case: only writes that are not denied have some, and none is kept in a transaction
+abbrev pub done_in : Case → Plan → Results → SendBody → List Statement
+done_in outside plan kept body = statements plan.results plan.fail (is_ordered body) kept 0 (body_writes body)
+done_in (gathers entries) plan kept body = statements plan.results plan.fail (is_ordered body) no_results 0 (body_writes body)
+done_in other plan kept body = []
 
--- the writes of a send
-abbrev pub writes_of : Send → List PlacedWrite
-writes_of send = body_writes send.body
+-- a transaction that has gathered entries, unless a statement failed
+abbrev pub gathered : Bool → List Entry → ServerTransaction
+gathered failed entries = if failed then transaction.Aborted else transaction.Running entries
 
--- the entry of a write that ran
-abbrev pub entry_of : Option (List ℕ) → Option ℤ → PlacedWrite → Entry
-entry_of session number write =
-    record { place = write.place; written = write.written; result = default_count; session = session; number = number }
+-- there are entries
+abbrev pub has_entries : List Entry → Bool
+has_entries [] = false
+has_entries (entry ∷ entries) = true
 
--- the entries of the writes without a kept result, the first at the given position
-unfoldable pub entries_left : Option (List ℕ) → Option ℤ → Kept → ℕ → List PlacedWrite → List Entry
-entries_left session number kept at [] = []
-entries_left session number kept at (write ∷ writes) =
-    (if is_some (finite.get kept at) then [] else entry_of session number write ∷ [])
-    ++ entries_left session number kept (at + 1) writes
+-- what is known of a session once a send of a case was served, with what its statements came to and the
+-- entries of those that ran
+abbrev pub session_after : Case → List Statement → List Entry → KnownSession → KnownSession
+session_after outside done ran known = record known { kept = kept_with known.kept 0 done; ran = known.ran || has_run done }
+session_after (gathers entries) done ran known =
+    record known { ran = known.ran || has_run (before_failing done); transaction = gathered (has_failed done) (entries ++ ran) }
+session_after (commits entries) done ran known = record known { ran = known.ran || has_entries entries; transaction = transaction.Committed }
+session_after aborts done ran known = record known { transaction = transaction.Aborted }
+session_after denied done ran known = record known { transaction = denied_transaction known.transaction }
+session_after other done ran known = known
 
--- the kept results once those writes have run
-unfoldable pub kept_after : Kept → ℕ → List PlacedWrite → Kept
-kept_after kept at [] = kept
-kept_after kept at (write ∷ writes) =
-    kept_after (if is_some (finite.get kept at) then kept else finite.insert kept at default_count) (at + 1) writes
+-- what the log gains
+abbrev pub log_gains : Case → List Entry → List Entry
+log_gains outside ran = ran
+log_gains (commits entries) ran = entries
+log_gains other ran = []
 
--- a session begins, or begins anew, with a number
-abbrev pub begun : ℤ → KnownSession
-begun number = record { greatest = number; kept = finite.empty }
+-- the cursors once a send of a case was served
+abbrev pub cursors_after : Case → Option ℕ → List Statement → Send → Server → List (Option (List Reply))
+cursors_after outside page done send server = cursors_with page done send.body server.cursors
+cursors_after (gathers entries) page done send server = cursors_with page done send.body server.cursors
+cursors_after of_cursor page done send server = without_cursor send.body server.cursors
+cursors_after other page done send server = server.cursors
 
--- what is known of a session once a send with this number has come
-unfoldable pub taken : ℤ → Option KnownSession → KnownSession
-taken number None = begun number
-taken number (Some known) = if int_lt known.greatest number then begun number else known
+-- sessions by their ids
+abbrev pub Sessions : Type 0
+Sessions = finite.FinMap {K = List ℕ} (slice_cmp nat_cmp) KnownSession
 
--- the number is below the greatest of its session
-unfoldable pub is_below : ℤ → Option KnownSession → Bool
-is_below number None = false
-is_below number (Some known) = int_lt number known.greatest
+-- the sessions with that of a send changed; one that is too old, or has no number, changes none
+abbrev pub sessions_as : Option (List ℕ) → Option ℤ → Case → (KnownSession → KnownSession) → Server → Send → Sessions
+sessions_as session number too_old change server send = server.sessions
+sessions_as (Some id) (Some number) case change server send = finite.insert server.sessions id (change (known_under id number server send))
+sessions_as session number case change server send = server.sessions
 
--- the statements without a kept result run under a number that was taken
-unfoldable pub ran : List ℕ → ℤ → KnownSession → List PlacedWrite → Server → Server
-ran id number known writes server = record server {
-  sessions = finite.insert server.sessions id (record known { kept = kept_after known.kept 0 writes });
-  log = server.log ++ entries_left (Some id) (Some number) known.kept 0 writes;
-}
+-- a send in its case, with what its statements came to
+unfoldable pub served_in : Case → List Statement → Option ℕ → Server → Send → Server
+served_in case done page server send =
+    let ran = entries_of send.session send.number (writes_of send) done in
+    record server {
+      sessions = sessions_as send.session send.number case (session_after case done ran) server send;
+      log = server.log ++ log_gains case ran;
+      cursors = cursors_after case page done send server;
+    }
 
--- the server after a numbered send: a number below the greatest changes nothing
-unfoldable pub served_numbered : List ℕ → ℤ → List PlacedWrite → Server → Server
-served_numbered id number writes server =
-    if is_below number (finite.get server.sessions id) then server
-    else ran id number (taken number (finite.get server.sessions id)) writes server
-
--- without session or number all statements run, and nothing is kept
-unfoldable pub served_as : Option (List ℕ) → Option ℤ → List PlacedWrite → Server → Server
-served_as (Some id) (Some number) writes server = served_numbered id number writes server
-served_as session number writes server = record server { log = server.log ++ map (entry_of session number) writes }
-
--- the server after a send was served
-unfoldable pub served : Server → Send → Server
-served server send = served_as send.session send.number (writes_of send) server
+-- the server after a send was served by a plan
+unfoldable pub served : Plan → Server → Send → Server
+served plan server send =
+    let case = case_of server send in
+    served_in case (done_in case plan (results_of (known_of server send)) send.body) plan.page server send

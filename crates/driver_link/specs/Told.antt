@@ -17,26 +17,35 @@ use Rattle.driver_link.specs.declared.machine.Server.{Server}
 use Rattle.driver_link.specs.declared.machine.Setup.{Setup}
 use Rattle.driver_link.specs.declared.options.Address.{Address}
 use Rattle.driver_link.specs.declared.options.Conn.{Conn}
-use Rattle.driver_link.specs.Exchange.{exchanged, answered, next_item, empty_server}
+use Rattle.driver_link.specs.WellFormed.{IsWellFormed}
+use Rattle.driver_link.specs.Exchange.{exchanged, answered, next_step, empty_server}
 
--- a server with the setup and the schedule of its making
+-- how many calls of each kind a link has had, beside exchanges
+pub record CallCounts : Type 0 where
+  pub selects : ℕ
+  pub supports : ℕ
+  pub check_outs : ℕ
+  pub reauthentications : ℕ
+
+-- a server with the setup and the schedule of its making, and how many calls were made
 pub record Told : Type 0 where
   pub server : Server
   pub setup : Setup
   pub schedule : Schedule
+  pub counts : CallCounts
 
--- the link tells a server that has seen nothing
+-- the link tells a server that has seen nothing, with a schedule that a model server takes
 abbrev pub IsFresh : Option Told → Type 0
 IsFresh None = ⊥
-IsFresh (Some told) = told.server ≡ empty_server
+IsFresh (Some told) = (told.server ≡ empty_server) × IsWellFormed told.schedule
 
 -- the told server after the send of the next exchange
 abbrev pub told_after : Told → Send → Told
-told_after told send = record told { server = exchanged told.server send (next_item told.schedule told.server) }
+told_after told send = record told { server = exchanged told.server send (next_step told.schedule told.server) }
 
 -- what the machine answers to the send of the next exchange
 abbrev pub told_answer : Told → Send → Option (List (Pair Bson))
-told_answer told send = answered told.server send (next_item told.schedule told.server)
+told_answer told send = answered told.server send (next_step told.schedule told.server)
 
 -- bytes spell the reply that the machine gives
 abbrev pub IsReply : Option (List (Pair Bson)) → List ℕ → Type 0
@@ -56,17 +65,10 @@ Steps (Some told) now send (Err (Fault fault labels)) =
     (now ≡ Some (told_after told send)) × (told_answer told send ≡ None) × IsReset fault labels
 Steps (Some told) now send (Err Memory) = (now ≡ Some told) ⊎ (now ≡ Some (told_after told send))
 
--- a call that is no exchange: it leaves what is told, and over a told server it does not fail
-abbrev pub Stays : {A : Type 0} → Option Told → Option Told → Result A LinkError → Type 0
-Stays None now result = now ≡ None
-Stays (Some told) now (Ok given) = now ≡ Some told
-Stays (Some told) now (Err (Fault fault labels)) = ⊥
-Stays (Some told) now (Err Memory) = now ≡ Some told
-
--- a connection to the address asked for, with the description that is told
-abbrev pub IsTo : Option Told → Address → Conn → Type 0
+-- a connection to the address asked for, with the description of the setup that is told
+abbrev pub IsTo : Option Setup → Address → Conn → Type 0
 IsTo None address conn = Unit {0}
-IsTo (Some told) address conn = (conn.address ≡ address) × (conn.description ≡ told.setup.description)
+IsTo (Some setup) address conn = (conn.address ≡ address) × (conn.description ≡ setup.description)
 
 -- what a call adds to the answers that are told: a fault is noted, and of an exchange its reply too
 abbrev pub noted : {A : Type 0} → LinkCall → (A → List Answered) → Result A LinkError → List Answered
@@ -86,3 +88,10 @@ nothing_noted given = []
 abbrev pub Notes : Option (List Answered) → Option (List Answered) → List Answered → Type 0
 Notes None now items = now ≡ None
 Notes (Some answers) now items = now ≡ Some (answers ++ items)
+
+-- a told list gains one item, which after want of memory may be missing
+abbrev pub MayNote : {A B : Type 0} → Option (List A) → Option (List A) → A → Result B LinkError → Type 0
+MayNote None now item result = now ≡ None
+MayNote (Some items) now item (Ok given) = now ≡ Some (items ++ item ∷ [])
+MayNote (Some items) now item (Err (Fault fault labels)) = now ≡ Some (items ++ item ∷ [])
+MayNote (Some items) now item (Err Memory) = (now ≡ Some items) ⊎ (now ≡ Some (items ++ item ∷ []))

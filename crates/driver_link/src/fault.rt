@@ -7,6 +7,11 @@ use std::alloc::AllocError;
 #[derive(Debug, Drop)]
 pub enum LinkFault {
     Io(IoKind),
+    /// The connections to a server were given up.
+    PoolCleared(Text),
+    /// No server was found.
+    Selection(Text),
+    Authentication(Text),
 }
 
 /// Why a call of a link gave no answer.
@@ -34,8 +39,10 @@ impl From<AllocError> for LinkError {
 #[derive(Clone, Copy, Debug, PartialEq, Eq)]
 pub enum LinkCall {
     Select,
+    Support,
     CheckOut,
     Exchange,
+    Reauthenticate,
 }
 
 /// One answer of a link: the reply to an exchange, or the fault of a call.

@@ -3,7 +3,7 @@ ghost use Rattle.std.specs.Prelude.{◌≡◌, ◌<◌, length, slice_get, Some}
 ghost use Rattle.driver_link.specs.Framed.{Framed};
 ghost use Rattle.driver_link.specs.Sequences.{name_at, documents_at};
 
-use bson_lite::{Bytes, List, Text};
+use bson_lite::{Bytes, Document, List, Text};
 use std::marker::Model;
 
 /// A named list of documents beside a body.
@@ -11,6 +11,13 @@ use std::marker::Model;
 pub struct Sequence {
     pub name: Text,
     pub documents: List<Bytes>,
+}
+
+/// A sequence whose documents were read.
+#[derive(Debug, Drop)]
+pub struct Documents {
+    pub name: Text,
+    pub documents: List<Document>,
 }
 
 /// One command in bytes: a body, and sequences of documents beside it.

@@ -4,6 +4,7 @@
 
 pub mod by_id;
 pub mod clock;
+pub mod command;
 pub mod counting_ids;
 pub mod fault;
 pub mod frame;
@@ -18,16 +19,17 @@ pub mod stream;
 
 pub use by_id::ById;
 pub use clock::Clock;
+pub use command::{CommandName, command_named};
 pub use counting_ids::{CountingIds, counting_ids_differ};
 pub use fault::{Answered, LinkCall, LinkError, LinkFault};
-pub use frame::{Frame, Sequence};
+pub use frame::{Documents, Frame, Sequence};
 pub use ids::IdSource;
 pub use link::Link;
 pub use machine::{
-    Counted, Entry, Item, KnownSession, Place, PlacedWrite, Schedule, Send, SendBody, SendCommand,
-    Server, Setup, WriteKind, Written,
+    Counted, Entry, Failing, Item, KnownSession, Place, PlacedWrite, Planned, PlannedConcern, Schedule, Scheduled, Send,
+    SendBody, SendCommand, Server, ServerTransaction, Setup, Statement, WriteKind, Written,
 };
 pub use mem_clock::MemClock;
 pub use mem_stream::{MemSink, MemSource};
-pub use options::{Address, ClientOptions, Conn, Description, ReadPreference, SelectionCriteria};
+pub use options::{Address, Asked, ClientOptions, Conn, Description, ReadPreference, SelectionCriteria};
 pub use stream::{Failed, Sink, Source};

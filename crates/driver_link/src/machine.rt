@@ -2,7 +2,7 @@
 //! lets happen. Its steps are the definitions of `specs/Exchange.antt`.
 use crate::by_id::ById;
 use crate::options::Description;
-use bson_lite::{Bson, ByIndex, Document, List, Namespace, TryClone};
+use bson_lite::{Bson, ByIndex, Document, List, Namespace, Text, TryClone};
 use std::alloc::{AllocError, Global};
 
 /// The place of a write in a list of calls: the number of the call, and the write's index in it.
@@ -16,9 +16,13 @@ pub struct Place {
 #[derive(Clone, Copy, Debug, PartialEq, Eq)]
 pub enum WriteKind {
     Insert,
+    Update,
+    Delete,
+    FindAndModify,
 }
 
-/// A write as the server sees it: for an insert, the document that enters the collection.
+/// A write as the server sees it: the inserted document, the statement or the op without its index, or
+/// the body of a findAndModify without the executor's fields.
 #[derive(Debug, Drop)]
 pub struct Written {
     pub kind: WriteKind,
@@ -43,10 +47,14 @@ pub struct PlacedWrite {
     pub written: Written,
 }
 
-/// Which command carries writes.
+/// Which command carries writes. It decides the form of the reply.
 #[derive(Clone, Copy, Debug, PartialEq, Eq)]
 pub enum SendCommand {
     Insert,
+    Update,
+    Delete,
+    FindAndModify,
+    BulkWrite,
 }
 
 /// What a command asks for.
@@ -54,9 +62,16 @@ pub enum SendCommand {
 pub enum SendBody {
     Write {
         command: SendCommand,
+        /// Whether the first statement that fails stops the others.
         ordered: bool,
         writes: List<PlacedWrite>,
     },
+    Commit,
+    Abort,
+    /// The next page of a cursor's results.
+    More { cursor: i64 },
+    /// An end to a cursor.
+    Kill { cursor: i64 },
 }
 
 /// One command as the server sees it.
@@ -64,6 +79,9 @@ pub enum SendBody {
 pub struct Send {
     pub session: Option<[u8; 16]>,
     pub number: Option<i64>,
+    /// Whether it starts a transaction.
+    pub start: bool,
+    pub in_transaction: bool,
     pub body: SendBody,
 }
 
@@ -86,12 +104,35 @@ pub struct Entry {
     pub number: Option<i64>,
 }
 
-/// What a server knows of a session: its greatest number, and the results kept under that number by
-/// the position of the statement.
+/// What a statement of a send came to.
+#[derive(Debug, Drop)]
+pub enum Statement {
+    /// It ran before, and its result was kept.
+    Kept(Counted),
+    /// It ran now.
+    Ran(Counted),
+    /// It failed with a code.
+    Failed(i32),
+}
+
+/// A session's transaction as the server has it.
+#[derive(Debug, Drop)]
+pub enum ServerTransaction {
+    None,
+    /// It gathers entries, the oldest first.
+    Running { entries: List<Entry> },
+    Committed,
+    Aborted,
+}
+
+/// What a server knows of a session: its greatest number, and for that number the results kept by the
+/// position of the statement, whether a statement ran, and the transaction.
 #[derive(Debug, Drop)]
 pub struct KnownSession {
     pub greatest: i64,
     pub kept: ByIndex<Counted>,
+    pub ran: bool,
+    pub transaction: ServerTransaction,
 }
 
 /// The state of the model server.
@@ -102,23 +143,86 @@ pub struct Server {
     pub log: List<Entry>,
     /// The late sends by the order of their lateness; `None` where one has been served.
     pub waiting: List<Option<Send>>,
+    /// What is left of the results of each cursor, the cursor numbered 1 first; `None` where it is closed.
+    pub cursors: List<Option<List<Document>>>,
     /// All sends, the oldest first.
     pub trace: List<Send>,
+}
+
+/// What a schedule says of one statement. What it leaves out counts as usual.
+#[derive(Debug, Drop)]
+pub struct Planned {
+    pub n: Option<i64>,
+    pub modified: Option<i64>,
+    pub upserted: Option<Bson>,
+    pub value: Option<Document>,
+}
+
+/// The statement at a position fails with a code.
+#[derive(Clone, Copy, Debug, PartialEq, Eq)]
+pub struct Failing {
+    pub at: u64,
+    pub code: i32,
+}
+
+/// A write concern error that a reply has.
+#[derive(Debug, Drop)]
+pub struct PlannedConcern {
+    pub code: i32,
+    pub message: Text,
 }
 
 /// What happens to one exchange.
 #[derive(Debug, Drop)]
 pub enum Item {
     /// The send is served and answered.
-    Serve,
+    Serve {
+        results: List<Planned>,
+        fail: List<Failing>,
+        write_concern_error: Option<PlannedConcern>,
+        /// How many results the first page holds.
+        page: Option<u64>,
+    },
     /// The send is lost on its way: nothing runs, and the caller sees its connection reset.
     Lost,
+    /// The send waits to be served later; the caller sees its connection reset.
+    Late,
+    /// The send is served and the reply is lost: the caller sees its connection reset.
+    ReplyLost,
+    /// The first statements without a kept result run, so many as `after` says, and then an error is
+    /// answered. In a transaction that aborts it. A commit goes through first where `after` is not 0; an
+    /// abort never does.
+    Interrupted {
+        after: u64,
+        code: i32,
+        labels: List<Text>,
+    },
+    /// Nothing runs, and an error is answered. No number is taken, but where the answer is that the
+    /// send's transaction is transient: then its number is taken and its transaction aborted.
+    Refused { code: i32, labels: List<Text> },
+    /// Nothing runs, and the reply asks for another authentication.
+    Reauthenticate,
 }
 
-/// What happens to the exchanges of a run, one item each. Past its end each exchange is served.
+/// One step of a schedule: the waiting sends that are served first, and what happens to the exchange.
+#[derive(Debug, Drop)]
+pub struct Scheduled {
+    pub deliver: List<u64>,
+    pub item: Item,
+}
+
+/// What happens to the exchanges of a run, one item each, and which calls fail by their number, from 0.
+/// Past the end of the items each exchange is served.
 #[derive(Debug, Drop)]
 pub struct Schedule {
-    pub items: List<Item>,
+    pub items: List<Scheduled>,
+    pub selects: List<u64>,
+    pub check_outs: List<u64>,
+    /// These fail with both labels of overload.
+    pub overloaded_check_outs: List<u64>,
+    pub reauthentications: List<u64>,
+    /// Questions whether transactions are supported.
+    pub supports: List<u64>,
 }
 
 /// How a model server describes itself. The timeout of sessions is in milliseconds.

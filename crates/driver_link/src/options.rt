@@ -1,5 +1,5 @@
 //! Options, addresses and connections, as plain data.
-use bson_lite::Text;
+use bson_lite::{List, Text};
 
 /// Where a server listens.
 #[derive(Debug, Drop)]
@@ -23,6 +23,13 @@ pub enum ReadPreference {
 pub enum SelectionCriteria {
     ReadPreference(ReadPreference),
     Address(Address),
+}
+
+/// What a selection asked for: criteria, and servers to be avoided where others are there.
+#[derive(Debug, Drop)]
+pub struct Asked {
+    pub criteria: Option<SelectionCriteria>,
+    pub deprioritized: List<Address>,
 }
 
 /// What a client is made with.

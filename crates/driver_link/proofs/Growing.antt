@@ -1,0 +1,112 @@
+-- Entries stay in the log, whatever plain sends are served or arrive late, and the trace gains the send alone.
+use Rattle.std.proofs.Common.{◌≡◌, ℕ, Bool, true, false, cond, List, [], ◌∷◌, ◌++◌, refl, sym, ap, subst, ◌∙◌, inl, inr, append_assoc}
+use Rattle.std.specs.Prelude.{ℤ, Option, None, Some, ◌⊎◌, slice_get, slice_set, if◌then◌else◌}
+use Rattle.std.specs.FinMap as finite
+use Rattle.std.proofs.lemmas.List.{append-nil}
+use Rattle.driver_link.specs.declared.machine.Entry.{Entry}
+use Rattle.driver_link.specs.declared.machine.Item.{Item}
+use Rattle.driver_link.specs.declared.machine.Item.TheVariants.{Serve, Lost, Late, ReplyLost, Interrupted, Refused, Reauthenticate}
+use Rattle.driver_link.specs.declared.machine.Scheduled.{Scheduled}
+use Rattle.driver_link.specs.declared.machine.Send.{Send}
+use Rattle.driver_link.specs.declared.machine.Server.{Server}
+use Rattle.driver_link.specs.Cases.{outside, writes_of}
+use Rattle.driver_link.specs.Exchange.{after_picks, arrived, delivered, exchanged, interrupted, met, plan_of, refused_labels, traced}
+use Rattle.driver_link.specs.Interrupting.{interrupted_in}
+use Rattle.driver_link.specs.Serving.{Plan, usual, served, served_in}
+use Rattle.driver_link.specs.Sessions.{is_below}
+use Rattle.driver_link.specs.Settled.{Has, IsOrderly, IsPlain, IsSettled}
+use Rattle.driver_link.specs.Statements.{entries_of}
+use Rattle.driver_link.proofs.Exchanged.{after_settled, orderly_front}
+use Rattle.driver_link.proofs.Plain.{begun_done, below_nothing, error_nothing, interrupted_above, interrupted_below, planned, served_above}
+
+-- the log keeps its front and the trace stays
+pub record Keeps (old now : Server) : Type 0 where
+  pub more : List Entry
+  pub log : now.log ≡ old.log ++ more
+  pub trace : now.trace ≡ old.trace
+
+keeps_same : (server : Server) → Keeps server server
+keeps_same server = record { more = []; log = sym (append-nil server.log); trace = refl }
+
+keeps_twice : (a b c : Server) → Keeps a b → Keeps b c → Keeps a c
+keeps_twice a b c first second = record {
+  more = first.more ++ second.more;
+  log = second.log ∙ ap (λ log. log ++ second.more) first.log ∙ append_assoc a.log first.more second.more;
+  trace = second.trace ∙ first.trace;
+}
+
+module _ (send : Send) (plain : IsPlain send) (server : Server) where
+  served_in_keeps : (plan : Plan) → Keeps server (served_in outside (planned send plain server plan) plan.page server send)
+  unfolding served_in
+  served_in_keeps plan =
+      record { more = entries_of send.session send.number (writes_of send) (planned send plain server plan); log = refl; trace = refl }
+
+  served_keeps : (plan : Plan) → Keeps server (served plan server send)
+  served_keeps plan =
+      elim (is_below plain.number (finite.get server.sessions plain.id))
+      as (λ b. is_below plain.number (finite.get server.sessions plain.id) ≡ b → Keeps server (served plan server send)) [
+        | true ↦ λ below. subst (Keeps server) (sym (below_nothing send plain server plan below)) (keeps_same server)
+        | false ↦ λ above. subst (Keeps server) (sym (served_above send plain server plan above)) (served_in_keeps plan)
+      ] refl
+
+  begun_in_keeps : (most : ℕ) → Keeps server (interrupted_in outside (begun_done send plain server most) server send)
+  unfolding interrupted_in
+  begun_in_keeps most = record { more = entries_of send.session send.number (writes_of send) (begun_done send plain server most); log = refl; trace = refl }
+
+  interrupted_keeps : (most : ℕ) (labels : List (List ℕ)) → Keeps server (interrupted most labels server send)
+  interrupted_keeps most labels =
+      elim (is_below plain.number (finite.get server.sessions plain.id))
+      as (λ b. is_below plain.number (finite.get server.sessions plain.id) ≡ b → Keeps server (interrupted most labels server send)) [
+        | true ↦ λ below. subst (Keeps server) (sym (interrupted_below send plain server most labels below)) (keeps_same server)
+        | false ↦ λ above. subst (Keeps server) (sym (interrupted_above send plain server most labels above)) (begun_in_keeps most)
+      ] refl
+
+  met_keeps : (item : Item) → Keeps server (met server send item)
+  unfolding met
+  met_keeps (Serve results fail concern page) = served_keeps (plan_of results fail concern page)
+  met_keeps Lost = keeps_same server
+  met_keeps Late = record { more = []; log = sym (append-nil server.log); trace = refl }
+  met_keeps ReplyLost = served_keeps usual
+  met_keeps (Interrupted most code labels) = interrupted_keeps most labels
+  met_keeps (Refused code labels) = subst (Keeps server) (sym (error_nothing send plain server (refused_labels labels server send) server)) (keeps_same server)
+  met_keeps Reauthenticate = keeps_same server
+
+arrived_keeps : (trace : List Send) (server : Server) (at : ℕ) (found : Option (Option Send)) → IsOrderly trace → slice_get server.waiting at ≡ found → IsSettled trace server
+    → Keeps server (arrived server at found)
+unfolding arrived
+arrived_keeps trace server at None orderly is settled = keeps_same server
+arrived_keeps trace server at (Some None) orderly is settled = keeps_same server
+arrived_keeps trace server at (Some (Some send)) orderly is settled =
+    let less : Server = record server { waiting = slice_set server.waiting at None } in
+    let keeps = served_keeps send (orderly.plain send (settled.waiting at send is)) less usual in
+    record { more = keeps.more; log = keeps.log; trace = keeps.trace }
+
+delivered_keeps : (trace : List Send) (server : Server) (pick : ℕ) → IsOrderly trace → IsSettled trace server → Keeps server (delivered server pick)
+unfolding delivered
+delivered_keeps trace server pick orderly settled = arrived_keeps trace server pick (slice_get server.waiting pick) orderly refl settled
+
+-- late deliveries
+pub after_keeps : (trace : List Send) (server : Server) (picks : List ℕ) → IsOrderly trace → IsSettled trace server → Keeps server (after_picks server picks)
+unfolding after_picks
+after_keeps trace server [] orderly settled = keeps_same server
+after_keeps trace server (pick ∷ picks) orderly settled =
+    keeps_twice server (delivered server pick) (after_picks (delivered server pick) picks) (delivered_keeps trace server pick orderly settled)
+    (after_keeps trace (delivered server pick) picks orderly (after_settled trace server (pick ∷ []) orderly settled))
+
+-- what one exchange keeps of the log, and the trace after it
+pub record Exchanges (old now : Server) (send : Send) : Type 0 where
+  pub more : List Entry
+  pub log : now.log ≡ old.log ++ more
+  pub trace : now.trace ≡ old.trace ++ send ∷ []
+
+pub exchanged_keeps : (trace : List Send) (server : Server) (send : Send) (step : Scheduled) → IsOrderly (trace ++ send ∷ []) → IsPlain send → IsSettled trace server
+    → Exchanges server (exchanged server send step) send
+unfolding exchanged
+exchanged_keeps trace server send step orderly plain settled =
+    let came = after_keeps trace server step.deliver (orderly_front trace send orderly) settled in
+    let keeps = met_keeps send plain (traced (after_picks server step.deliver) send) step.item in
+    record {
+      more = came.more ++ keeps.more;
+      log = keeps.log ∙ ap (λ log. log ++ keeps.more) came.log ∙ append_assoc server.log came.more keeps.more;
+      trace = keeps.trace ∙ ap (λ sends. sends ++ send ∷ []) came.trace;
+    }

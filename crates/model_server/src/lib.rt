@@ -1,0 +1,17 @@
+//! A server in memory that answers by a schedule: the machine of `driver_link`, computed.
+//!
+//! Each function computes one of the machine's definitions, and its clause is the equation with it.
+#![tactic(auto)]
+
+pub mod cases;
+pub mod change;
+pub mod counts;
+pub mod cursors;
+pub mod delivery;
+pub mod exchange;
+pub mod fields;
+pub mod honesty;
+pub mod refusing;
+pub mod replying;
+pub mod serving;
+pub mod statements;
