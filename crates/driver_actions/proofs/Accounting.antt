@@ -11,17 +11,16 @@ use Rattle.bson_lite.specs.Spelling.{refusal}
 use Rattle.driver_error.specs.declared.error.Error.{Error}
 use Rattle.driver_error.specs.declared.kind.ErrorKind.TheVariants as kind
 use Rattle.driver_error.specs.Error.{ErrorKind, kind_of}
-use Rattle.driver_link.specs.declared.machine.Item.{Item}
-use Rattle.driver_link.specs.declared.machine.Item.TheVariants.{Serve, Lost}
 use Rattle.driver_link.specs.declared.machine.PlacedWrite.{PlacedWrite}
 use Rattle.driver_link.specs.declared.machine.Schedule.{Schedule}
 use Rattle.driver_link.specs.declared.machine.Send.{Send}
 use Rattle.driver_link.specs.declared.machine.Server.{Server}
-use Rattle.driver_link.specs.Exchange.{item_at, next_item}
-use Rattle.driver_link.specs.Serving.{writes_of}
+use Rattle.driver_link.specs.Exchange.{next_step, step_at}
+use Rattle.driver_link.specs.Cases.{writes_of}
+use Rattle.driver_link.specs.Counting.{FailsNothing, KeepsServer, OnlyCounts}
 use Rattle.driver_link.specs.Told.{Told, told_after}
-use Rattle.driver_link.proofs.Exchanged.{unanswered_lost}
-use Rattle.driver_link.proofs.Replaying.{trace_exchanged}
+use Rattle.driver_link.proofs.Lists.{earlier_or_last, get_last, get_left}
+use Rattle.driver_link.proofs.Replaying.{exchanged_trace}
 use Rattle.driver_actions.specs.declared.call.Answer.{Answer}
 use Rattle.driver_actions.specs.declared.call.Answer.TheVariants as answer
 use Rattle.driver_actions.specs.declared.call.Call.{Call}
@@ -31,29 +30,30 @@ use Rattle.driver_actions.specs.declared.call.SingleWrite.TheVariants.{InsertOne
 use Rattle.driver_actions.specs.Calls.{inserted}
 use Rattle.driver_actions.specs.Causes.{Failure, failure_of}
 use Rattle.driver_actions.specs.Inputs.{InputRefused}
-use Rattle.driver_actions.specs.Inserts.{insert_body, is_done_reply}
+use Rattle.driver_actions.specs.Inserts.{IsGentleItem, insert_body}
 use Rattle.driver_actions.specs.MainTheorem.{Completes, EndsWell, IsValid, IsValidInsert, HasWriteOf}
 use Rattle.driver_actions.specs.Pool.{Pool, ToldStore, AllApart, empty_pool}
 use Rattle.driver_actions.specs.Session.{Session, last_number}
-use Rattle.driver_actions.specs.Turns.{Turn, Made, Makes, MakesCall, Explains, ComesEarly, WasLost, send_under}
+use Rattle.driver_actions.specs.Turns.{Attempts, ComesEarly, Explains, Made, Makes, MakesCall, MayAttempt, Turn, send_under}
 use Rattle.driver_actions.proofs.Knowing.{Between}
 use Rattle.driver_actions.proofs.Logging.{first_place}
 use Rattle.driver_actions.proofs.Moving.{Moves}
 use Rattle.driver_actions.proofs.Numbering.{NumbersWithin, turn_within, within_staying}
 use Rattle.driver_actions.proofs.Refusals.{accepted_not_refused}
-use Rattle.driver_actions.proofs.Turning.{lent_of, answer_is, is_done_one}
+use Rattle.driver_actions.proofs.Joining.{Sound}
+use Rattle.driver_actions.proofs.Turning.{Lent, denied_rough, lent_mid, lost_rough, sound_mid}
 
--- a send of a call was lost
-pub record LostSend (schedule : Schedule) (trace : List Send) (call : ℕ) : Type 0 where
+-- a send of a call was not served as usual
+pub record RoughSend (schedule : Schedule) (trace : List Send) (call : ℕ) : Type 0 where
   pub at : ℕ
   pub send : Send
   pub stands : slice_get trace at ≡ Some send
   pub of_call : HasWriteOf call (writes_of send)
-  pub lost : item_at schedule at ≡ Lost
+  pub rough : IsGentleItem (step_at schedule at).item → ⊥
 
--- a call ended well, or one of its sends was lost
+-- a call ended well, or the schedule was not gentle to it
 abbrev pub Accounted : Schedule → List Send → ℕ → Result Answer Error → Type 0
-Accounted schedule trace call result = EndsWell result ⊎ LostSend schedule trace call
+Accounted schedule trace call result = EndsWell result ⊎ ((FailsNothing schedule → ⊥) ⊎ RoughSend schedule trace call)
 
 -- the valid calls so far are accounted for, and the sessions' numbers are at most as many as the calls
 pub record Accounts (calls : List Call) (outcomes : List Outcome) (schedule : Schedule) (pool : Pool) (server : Server) : Type 0 where
@@ -61,36 +61,13 @@ pub record Accounts (calls : List Call) (outcomes : List Outcome) (schedule : Sc
   pub accounted : (at : ℕ) (call : Call) (outcome : Outcome) → slice_get calls at ≡ Some call → slice_get outcomes at ≡ Some outcome
       → IsValid at call → Accounted schedule server.trace at outcome.result
 
-get_left : {A : Type 0} (xs more : List A) (at : ℕ) (x : A) → slice_get xs at ≡ Some x → slice_get (xs ++ more) at ≡ Some x
-get_left [] more at x is = absurd (none_is_some x is)
-  where
-    none_is_some : {A : Type 0} (x : A) → ◌≡◌ {A = Option A} None (Some x) → ⊥
-    none_is_some x is = cc
-get_left (y ∷ ys) more zero x is = is
-get_left (y ∷ ys) more (suc at) x is = get_left ys more at x is
-
-get_last : {A : Type 0} (xs : List A) (x : A) → slice_get (xs ++ x ∷ []) (length xs) ≡ Some x
-get_last [] x = refl
-get_last (y ∷ ys) x = get_last ys x
-
--- an element is an earlier one or the last
-earlier_or_last : {A : Type 0} (xs : List A) (last : A) (at : ℕ) (x : A) → slice_get (xs ++ last ∷ []) at ≡ Some x
-    → (slice_get xs at ≡ Some x) ⊎ ((at ≡ length xs) × (last ≡ x))
-earlier_or_last [] last zero x is = inr (refl, cc is)
-earlier_or_last {A = A} [] last (suc at) x is = absurd (let e : ◌≡◌ {A = Option A} None (Some x) = is in cc)
-earlier_or_last (y ∷ ys) last zero x is = inl is
-earlier_or_last (y ∷ ys) last (suc at) x is = elim (earlier_or_last ys last at x is) [
-  | inl earlier ↦ inl earlier
-  | inr now ↦ inr (ap suc now.0, now.1)
-]
-
-lost_left : (schedule : Schedule) (trace more : List Send) (call : ℕ) → LostSend schedule trace call → LostSend schedule (trace ++ more) call
-lost_left schedule trace more call lost = record {
-  at = lost.at;
-  send = lost.send;
-  stands = get_left trace more lost.at lost.send lost.stands;
-  of_call = lost.of_call;
-  lost = lost.lost;
+rough_left : (schedule : Schedule) (trace more : List Send) (call : ℕ) → RoughSend schedule trace call → RoughSend schedule (trace ++ more) call
+rough_left schedule trace more call sent = record {
+  at = sent.at;
+  send = sent.send;
+  stands = get_left trace more sent.at sent.send sent.stands;
+  of_call = sent.of_call;
+  rough = sent.rough;
 }
 
 -- a trace only grows
@@ -99,71 +76,100 @@ record Grown (trace now : List Send) : Type 0 where
   is : now ≡ trace ++ more
 
 grown : (told told_now : Told) → Moves (Some told) (Some told_now) → Grown told.server.trace told_now.server.trace
-grown told told_now moves = elim moves [
-  | inl same ↦ let is : told_now ≡ told = cc same in record { more = []; is = ap (λ t. t.server.trace) is ∙ sym (append-nil told.server.trace) }
-  | inr sent ↦
-      let is : told_now ≡ told_after told sent.0 = cc sent.1 in
-      record { more = sent.0 ∷ []; is = ap (λ t. t.server.trace) is ∙ trace_exchanged told.server sent.0 (next_item told.schedule told.server) }
+grown told told_now moves = elim moves.server [
+  | inl same ↦ record { more = []; is = ap (λ s. s.trace) same ∙ sym (append-nil told.server.trace) }
+  | inr sent ↦ record {
+    more = sent.0 ∷ [];
+    is = ap (λ s. s.trace) sent.1 ∙ exchanged_trace told.server sent.0 (next_step told.schedule told.server);
+  }
 ]
 
 accounted_left : (schedule : Schedule) (trace now : List Send) (call : ℕ) (result : Result Answer Error) → Grown trace now
     → Accounted schedule trace call result → Accounted schedule now call result
 accounted_left schedule trace now call result grows accounted = elim accounted [
   | inl well ↦ inl well
-  | inr lost ↦ inr (subst (λ t. LostSend schedule t call) (sym grows.is) (lost_left schedule trace grows.more call lost))
+  | inr not ↦ inr (elim not [
+    | inl fails ↦ inl fails
+    | inr rough ↦ inr (subst (λ t. RoughSend schedule t call) (sym grows.is) (rough_left schedule trace grows.more call rough))
+  ])
 ]
 
 -- a call that made no send
-unsent_well : (told : Told) (made : ℕ) (namespace : Namespace) (document : List (Pair Bson)) (why : ErrorKind) → IsValidInsert made namespace document
-    → ComesEarly (Some told) (InputRefused namespace document) why → why ≡ kind.Memory
-unsent_well told made namespace document (kind.InvalidArgument message) valid reason =
+unsent_accounted : (told : Told) (trace : List Send) (made : ℕ) (namespace : Namespace) (document : List (Pair Bson)) (error : Error) (why : ErrorKind) → kind_of error ≡ why
+    → IsValidInsert made namespace document → ComesEarly (Some told) (InputRefused namespace document) why → Accounted told.schedule trace made (Err error)
+unsent_accounted told trace made namespace document error (kind.Io io) is valid reason = inr (inl reason)
+unsent_accounted told trace made namespace document error (kind.ServerSelection message) is valid reason = inr (inl reason)
+unsent_accounted told trace made namespace document error (kind.InvalidArgument message) is valid reason =
     absurd (accepted_not_refused namespace document (kind.InvalidArgument message) valid.accepted reason)
-unsent_well told made namespace document (kind.BsonSerialization fault) valid reason =
+unsent_accounted told trace made namespace document error (kind.BsonSerialization fault) is valid reason =
     absurd (accepted_not_refused namespace document (kind.BsonSerialization fault) valid.accepted reason)
-unsent_well told made namespace document kind.Memory valid reason = refl
-unsent_well told made namespace document _ valid reason = absurd reason
+unsent_accounted told trace made namespace document error kind.Memory is valid reason = inl is
+unsent_accounted told trace made namespace document error _ is valid reason = absurd reason
 
--- the send that was lost
-lost_send : (told told_now : Told) (session : Session) (write : PlacedWrite) (made : ℕ) → write.place ≡ first_place made
-    → WasLost told (Some told_now) (send_under session write) → LostSend told.schedule told_now.server.trace made
-lost_send told told_now session write made placed lost =
-    let send = send_under session write in
-    let item = next_item told.schedule told.server in
-    let is : told_now ≡ told_after told send = cc lost.0 in
-    let trace : told_now.server.trace ≡ told.server.trace ++ send ∷ [] = ap (λ t. t.server.trace) is ∙ trace_exchanged told.server send item in
-    record {
-      at = length told.server.trace;
-      send = send;
-      stands = ap (λ t. slice_get t (length told.server.trace)) trace ∙ get_last told.server.trace send;
-      of_call = inl (ap (λ place. place.call) placed);
-      lost = unanswered_lost told.server send item lost.1;
-    }
+-- the send of a turn that was not served as usual
+rough_send : (mid : Told) (now : Server) (back : Session) (write : PlacedWrite) (made : ℕ) → write.place ≡ first_place made
+    → now.trace ≡ mid.server.trace ++ send_under back write ∷ [] → (IsGentleItem (next_step mid.schedule mid.server).item → ⊥)
+    → RoughSend mid.schedule now.trace made
+rough_send mid now back write made placed trace rough = record {
+  at = length mid.server.trace;
+  send = send_under back write;
+  stands = ap (λ t. slice_get t (length mid.server.trace)) trace ∙ get_last mid.server.trace (send_under back write);
+  of_call = inl (ap (λ place. place.call) placed);
+  rough = rough;
+}
 
--- a call that made a send
-sent_accounted : (old now : ToldStore) (told told_now : Told) (made : ℕ) (namespace : Namespace) (document : List (Pair Bson)) (error : Error) (why : ErrorKind)
-    → kind_of error ≡ why → IsValidInsert made namespace document
-    → (sent : Made (Some old) (Some now) (Some told) (Some told_now) (inserted namespace document) (first_place made) (Err error))
-    → AllApart now.pool.drawn → Between old.pool told.server → sent.turn.session.number ≤ℤ pos made
-    → Explains (Some told) (Some told_now) sent.turn.session sent.turn.back sent.write why
-    → Accounted told.schedule told_now.server.trace made (Err error)
-sent_accounted old now told told_now made namespace document error (kind.Io io) is valid sent apart between number explains =
-    inr (lost_send told told_now sent.turn.back sent.write made sent.placed explains)
-sent_accounted old now told told_now made namespace document error (kind.BsonSerialization fault) is valid sent apart between number explains =
-    let spelled : refusal (insert_body sent.write.written.namespace explains.id explains.number) ≡ None
-    = ap (λ n. refusal (insert_body n explains.id explains.number)) sent.own.namespace ∙ valid.command explains.id explains.number explains.sixteen in
-    absurd (let e : ◌≡◌ {A = Option EncodeFault} None (Some fault) = sym spelled ∙ explains.is in cc)
-sent_accounted old now told told_now made namespace document error (kind.Internal message) is valid sent apart between number explains =
-    absurd (past_end made sent.turn.session.number explains number valid.number)
-  where
-    past_end : (made : ℕ) (number : ℤ) → number ≡ last_number → number ≤ℤ pos made → pos made <ℤ last_number → ⊥
-    past_end made number is within below = omega (arith, ints)
-sent_accounted old now told told_now made namespace document error (kind.InvalidResponse message) is valid sent apart between number explains =
-    let turn = sent.turn in
-    let lent = lent_of old now turn.lent turn.caller turn.out_at turn.back_at turn.session turn.back told.server turn.lends turn.takes apart between in
-    let reply = answer_is told lent.pool turn.session turn.back sent.write turn.id explains.0 lent.holds explains.1.reply explains.1.is in
-    absurd (let e : ◌≡◌ {A = Bool} true false = sym is_done_one ∙ ap is_done_reply (sym reply) ∙ explains.1.denied in cc)
-sent_accounted old now told told_now made namespace document error kind.Memory is valid sent apart between number explains = inl is
-sent_accounted old now told told_now made namespace document error _ is valid sent apart between number explains = absurd explains
+sent_trace : (mid told_now : Told) (back : Session) (write : PlacedWrite) → ◌≡◌ {A = Option Told} (Some told_now) (Some (told_after mid (send_under back write)))
+    → told_now.server.trace ≡ mid.server.trace ++ send_under back write ∷ []
+sent_trace mid told_now back write is =
+    let same : told_now ≡ told_after mid (send_under back write) = cc is in
+    ap (λ t. t.server.trace) same ∙ exchanged_trace mid.server (send_under back write) (next_step mid.schedule mid.server)
+
+module _ (old now : ToldStore) (told told_now : Told) (made : ℕ) (namespace : Namespace) (document : List (Pair Bson)) (error : Error) (valid : IsValidInsert made namespace document)
+    (sent : Made (Some old) (Some now) (Some told) (Some told_now) (inserted namespace document) (first_place made) (Err error))
+    (apart : AllApart now.pool.drawn) (between : Between old.pool told.server.trace) (sound : Sound made told.server) (number : sent.turn.session.number ≤ℤ pos made) where
+  placed_call : sent.write.place.call ≡ made
+  placed_call = ap (λ place. place.call) sent.placed
+
+  module _ (mid : Told) (keeps : KeepsServer told mid) where
+    lent : Lent now mid.server.trace sent.turn.session sent.turn.back
+    lent = lent_mid made old now told told_now sent.write apart between sound placed_call mid keeps (Some (failure_of error)) sent.turn
+
+    sound_here : Sound made mid.server
+    sound_here = sound_mid made old now told told_now sent.write apart between sound placed_call mid keeps
+
+    rough_here : ◌≡◌ {A = Option Told} (Some told_now) (Some (told_after mid (send_under sent.turn.back sent.write)))
+        → (IsGentleItem (next_step mid.schedule mid.server).item → ⊥) → Accounted told.schedule told_now.server.trace made (Err error)
+    rough_here is rough =
+        let P : Schedule → Type 0 = λ schedule. RoughSend schedule told_now.server.trace made in
+        inr (inr (subst P keeps.schedule
+        (rough_send mid told_now.server sent.turn.back sent.write made sent.placed (sent_trace mid told_now sent.turn.back sent.write is) rough)))
+
+    -- a call that made a send
+    accounted_mid : (why : ErrorKind) → kind_of error ≡ why → MayAttempt (Some mid) (Some told_now) sent.turn.session sent.turn.back sent.write
+        → Explains (Some mid) (Some told_now) sent.turn.session sent.turn.back sent.write why → Accounted told.schedule told_now.server.trace made (Err error)
+    accounted_mid (kind.Io io) is may explains =
+        rough_here explains.1.0 (lost_rough made now mid told_now sent.turn.session sent.turn.back sent.write lent sent.turn.id sound_here placed_call explains.0 explains.1)
+    accounted_mid (kind.BsonSerialization fault) is may explains =
+        let spelled : refusal (insert_body sent.write.written.namespace explains.id explains.number) ≡ None
+        = ap (λ n. refusal (insert_body n explains.id explains.number)) sent.own.namespace ∙ valid.command explains.id explains.number explains.sixteen in
+        absurd (let e : ◌≡◌ {A = Option EncodeFault} None (Some fault) = sym spelled ∙ explains.is in cc)
+    accounted_mid (kind.Internal message) is may explains = absurd (past_end made sent.turn.session.number explains number valid.number)
+      where
+        past_end : (made : ℕ) (number : ℤ) → number ≡ last_number → number ≤ℤ pos made → pos made <ℤ last_number → ⊥
+        past_end made number is within below = omega (arith, ints)
+    accounted_mid (kind.InvalidResponse message) is may explains =
+        rough_here explains.1.sent
+        (denied_rough made now mid told_now sent.turn.session sent.turn.back sent.write lent sent.turn.id sound_here placed_call explains.0 explains.1)
+    accounted_mid kind.Memory is may explains = inl is
+    accounted_mid _ is may explains = absurd explains
+
+  accounted_by : (mid : Option Told) → OnlyCounts (Some told) mid → Attempts mid (Some told_now) sent.turn.session sent.turn.back sent.write (Some (failure_of error))
+      → Accounted told.schedule told_now.server.trace made (Err error)
+  accounted_by None reached attempt = absurd reached
+  accounted_by (Some mid) reached attempt = accounted_mid mid reached (kind_of error) refl attempt.0 attempt.1
+
+  sent_accounted : Accounted told.schedule told_now.server.trace made (Err error)
+  sent_accounted = accounted_by sent.turn.mid sent.turn.reached sent.turn.attempt
 
 -- what a call leaves: the numbers of idle sessions, and that it is accounted for where it is valid
 record One (made : ℕ) (call : Call) (schedule : Schedule) (result : Result Answer Error) (store_now : ToldStore) (server_now : Server) : Type 0 where
@@ -171,7 +177,7 @@ record One (made : ℕ) (call : Call) (schedule : Schedule) (result : Result Ans
   accounted : IsValid made call → Accounted schedule server_now.trace made result
 
 module _ (made : ℕ) (namespace : Namespace) (document : List (Pair Bson)) (old now : ToldStore) (told told_now : Told) (apart : AllApart now.pool.drawn)
-    (between : Between old.pool told.server) (within : NumbersWithin (pos made) old.pool.idle) where
+    (between : Between old.pool told.server.trace) (sound : Sound made told.server) (within : NumbersWithin (pos made) old.pool.idle) where
   abbrev insert : Call
   insert = Single (InsertOne namespace document)
 
@@ -187,14 +193,14 @@ module _ (made : ℕ) (namespace : Namespace) (document : List (Pair Bson)) (old
   one_failed error makes = elim makes [
     | inl unsent ↦ record {
       numbers = within_staying made old now unsent.store_stays.0 within;
-      accounted = λ valid. inl (unsent_well told made namespace document (kind_of error) valid unsent.reason);
+      accounted = λ valid. unsent_accounted told told_now.server.trace made namespace document error (kind_of error) refl valid unsent.reason;
     }
     | inr sent ↦
         let turned = turn_within made old now (Some told) (Some told_now) sent.write (Some (failure_of error)) sent.turn within in
         record {
           numbers = turned.within;
           accounted = λ valid.
-              sent_accounted old now told told_now made namespace document error (kind_of error) refl valid sent apart between turned.number sent.turn.attempt.1;
+              sent_accounted old now told told_now made namespace document error valid sent apart between sound turned.number;
         }
   ]
 
@@ -204,19 +210,19 @@ module _ (made : ℕ) (namespace : Namespace) (document : List (Pair Bson)) (old
   one_made (Err error) makes = one_failed error makes
 
 one_of : (made : ℕ) (call : Call) (old now : ToldStore) (told told_now : Told) (result : Result Answer Error) → AllApart now.pool.drawn
-    → Between old.pool told.server → NumbersWithin (pos made) old.pool.idle → MakesCall (Some old) (Some now) (Some told) (Some told_now) call made result
-    → One made call told.schedule result now told_now.server
-one_of made (Single (InsertOne namespace document)) old now told told_now result apart between within makes =
-    one_made made namespace document old now told told_now apart between within result makes
+    → Between old.pool told.server.trace → Sound made told.server → NumbersWithin (pos made) old.pool.idle
+    → MakesCall (Some old) (Some now) (Some told) (Some told_now) call made result → One made call told.schedule result now told_now.server
+one_of made (Single (InsertOne namespace document)) old now told told_now result apart between sound within makes =
+    one_made made namespace document old now told told_now apart between sound within result makes
 
 -- one call more
 pub accounts_more : (calls : List Call) (outcomes : List Outcome) (old now : ToldStore) (told told_now : Told) (last : Outcome) (call : Call)
     → slice_get calls (length outcomes) ≡ Some call → MakesCall (Some old) (Some now) (Some told) (Some told_now) call (length outcomes) last.result
-    → AllApart now.pool.drawn → Moves (Some told) (Some told_now) → Between old.pool told.server
+    → AllApart now.pool.drawn → Moves (Some told) (Some told_now) → Between old.pool told.server.trace → Sound (length outcomes) told.server
     → Accounts calls outcomes told.schedule old.pool told.server → Accounts calls (outcomes ++ last ∷ []) told.schedule now.pool told_now.server
-accounts_more calls outcomes old now told told_now last call at makes apart moves between accounts =
+accounts_more calls outcomes old now told told_now last call at makes apart moves between sound accounts =
     let made = length outcomes in
-    let one = one_of made call old now told told_now last.result apart between accounts.numbers makes in
+    let one = one_of made call old now told told_now last.result apart between sound accounts.numbers makes in
     let count : made + 1 ≡ length (outcomes ++ last ∷ []) = sym (length-append outcomes (last ∷ [])) in
     record {
       numbers = subst (λ n. NumbersWithin (pos n) now.pool.idle) count one.numbers;
@@ -250,9 +256,9 @@ pub accounts_complete : (calls : List Call) (outcomes : List Outcome) (schedule 
 accounts_complete calls outcomes schedule pool server accounts = record {
   complete = λ at call outcome is_call is_outcome valid gentle. elim (accounts.accounted at call outcome is_call is_outcome valid) [
     | inl well ↦ well
-    | inr lost ↦ absurd (differ (sym (gentle lost.at lost.send lost.stands lost.of_call) ∙ lost.lost))
+    | inr not ↦ elim not [
+      | inl fails ↦ absurd (fails gentle.fails_nothing)
+      | inr sent ↦ absurd (sent.rough (gentle.served sent.at sent.send sent.stands sent.of_call))
+    ]
   ];
 }
-  where
-    differ : ◌≡◌ {A = Item} Serve Lost → ⊥
-    differ is = cc

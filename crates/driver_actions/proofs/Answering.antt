@@ -11,7 +11,8 @@ use Rattle.bson_lite.specs.Fields.{value_of, id_key}
 use Rattle.driver_link.specs.declared.machine.Entry.{Entry}
 use Rattle.driver_link.specs.declared.machine.Place.{Place}
 use Rattle.driver_link.specs.declared.machine.Written.{Written}
-use Rattle.driver_link.specs.Once.{NoneAt}
+use Rattle.driver_link.specs.Once.{Once}
+use Rattle.driver_link.specs.Settled.{Has}
 use Rattle.driver_actions.specs.declared.call.Answer.{Answer}
 use Rattle.driver_actions.specs.declared.call.Answer.TheVariants as answer
 use Rattle.driver_actions.specs.declared.call.Call.{Call}
@@ -21,7 +22,7 @@ use Rattle.driver_actions.specs.declared.call.SingleAnswer.TheVariants.{Inserted
 use Rattle.driver_actions.specs.declared.call.SingleWrite.TheVariants.{InsertOne}
 use Rattle.driver_actions.specs.Calls.{OwnAt, IsOwn, Done, inserted, write_at, write_in, entry_at, entry_id, result_of, call_result}
 use Rattle.driver_actions.specs.MainTheorem.{answer_at}
-use Rattle.driver_actions.proofs.Logging.{first_place, done_left, stands_last, entry_left, entry_last}
+use Rattle.driver_actions.proofs.Logging.{first_place, done_left, entry_found, entry_left, stands_has}
 
 -- what the log spells of the calls that answered
 pub record Answered (calls : List Call) (outcomes : List Outcome) (log : List Entry) : Type 0 where
@@ -79,21 +80,21 @@ is_there : (b : Bool) (given : Written) → IsSome (if b then Some given else No
 is_there true given there = refl
 is_there false given there = there
 
-done_last : (calls : List Call) (call : ℕ) (namespace : Namespace) (document : List (Pair Bson)) (log : List Entry) (last : Entry)
-    → slice_get calls call ≡ Some (Single (InsertOne namespace document)) → last.place ≡ first_place call → Done calls call (log ++ last ∷ [])
-done_last calls call namespace document log last at placed = λ index given.
+done_now : (calls : List Call) (call : ℕ) (namespace : Namespace) (document : List (Pair Bson)) (log : List Entry) (entry : Entry)
+    → slice_get calls call ≡ Some (Single (InsertOne namespace document)) → Has log entry → entry.place ≡ first_place call → Done calls call log
+done_now calls call namespace document log entry at has placed = λ index given.
     let there = subst (λ write. IsSome write) (write_is calls call index namespace document at) given in
     let first : index ≡ 0 = (Decides-eqb index 0).0 (is_there (index == 0) (inserted namespace document) there) in
-    stands_last (record { call = call; index = index }) log last (placed ∙ ap (λ i. record { call = call; index = i }) (sym first))
+    stands_has (record { call = call; index = index }) log entry has (placed ∙ ap (λ i. record { call = call; index = i }) (sym first))
 
-result_last : (calls : List Call) (call : ℕ) (namespace : Namespace) (document : List (Pair Bson)) (log : List Entry) (last : Entry) (id : Bson)
-    → slice_get calls call ≡ Some (Single (InsertOne namespace document)) → NoneAt (first_place call) log → last.place ≡ first_place call
-    → value_of id_key last.written.document ≡ Some id
-    → call_result calls call (log ++ last ∷ []) ≡ Some (answer.Single (Inserted (record { inserted_id = id })))
+result_now : (calls : List Call) (call : ℕ) (namespace : Namespace) (document : List (Pair Bson)) (log : List Entry) (entry : Entry) (id : Bson)
+    → slice_get calls call ≡ Some (Single (InsertOne namespace document)) → Once log → Has log entry → entry.place ≡ first_place call
+    → value_of id_key entry.written.document ≡ Some id
+    → call_result calls call log ≡ Some (answer.Single (Inserted (record { inserted_id = id })))
 unfolding call_result
-result_last calls call namespace document log last id at none placed found =
-    ap (λ made. option_and_then (λ m. result_of m call (log ++ last ∷ [])) made) at
-    ∙ ap spelled (entry_last (first_place call) log last none placed)
+result_now calls call namespace document log entry id at once has placed found =
+    ap (λ made. option_and_then (λ m. result_of m call log) made) at
+    ∙ ap spelled (entry_found (first_place call) log entry once has placed)
     ∙ ap (λ value. option_map (λ v. answer.Single (Inserted (record { inserted_id = v }))) value) found
 
 -- a call without an answer, whatever it added to the log
@@ -110,23 +111,23 @@ answered_none calls outcomes log more last none answered = record {
   ];
 }
 
--- a call that answered after its one entry
-pub answered_more : (calls : List Call) (outcomes : List Outcome) (namespace : Namespace) (document : List (Pair Bson)) (log : List Entry) (entry : Entry) (id : Bson)
-    (last : Outcome) → slice_get calls (length outcomes) ≡ Some (Single (InsertOne namespace document)) → NoneAt (first_place (length outcomes)) log
+-- a call that answered, whose entry stands
+pub answered_more : (calls : List Call) (outcomes : List Outcome) (namespace : Namespace) (document : List (Pair Bson)) (log more : List Entry) (entry : Entry) (id : Bson)
+    (last : Outcome) → slice_get calls (length outcomes) ≡ Some (Single (InsertOne namespace document)) → Once (log ++ more) → Has (log ++ more) entry
     → entry.place ≡ first_place (length outcomes) → value_of id_key entry.written.document ≡ Some id
     → result_ok last.result ≡ Some (answer.Single (Inserted (record { inserted_id = id })))
-    → Answered calls outcomes log → Answered calls (outcomes ++ last ∷ []) (log ++ entry ∷ [])
-answered_more calls outcomes namespace document log entry id last at none placed found is_answer answered =
+    → Answered calls outcomes log → Answered calls (outcomes ++ last ∷ []) (log ++ more)
+answered_more calls outcomes namespace document log more entry id last at once has placed found is_answer answered =
     let n = length outcomes in
-    let done_now = done_last calls n namespace document log entry at placed in
-    let result_now = result_last calls n namespace document log entry id at none placed found in
+    let done_here = done_now calls n namespace document (log ++ more) entry at has placed in
+    let result_here = result_now calls n namespace document (log ++ more) entry id at once has placed found in
     record {
       done = λ call given is. elim (answer_last outcomes last call given is) [
-        | inl earlier ↦ done_left calls call log (entry ∷ []) (answered.done call given earlier)
-        | inr now ↦ subst (λ c. Done calls c (log ++ entry ∷ [])) (sym now.0) done_now
+        | inl earlier ↦ done_left calls call log more (answered.done call given earlier)
+        | inr now ↦ subst (λ c. Done calls c (log ++ more)) (sym now.0) done_here
       ];
       result = λ call given is. elim (answer_last outcomes last call given is) [
-        | inl earlier ↦ result_left calls call log (entry ∷ []) given (answered.result call given earlier)
-        | inr now ↦ ap (λ c. call_result calls c (log ++ entry ∷ [])) now.0 ∙ result_now ∙ sym is_answer ∙ now.1
+        | inl earlier ↦ result_left calls call log more given (answered.result call given earlier)
+        | inr now ↦ ap (λ c. call_result calls c (log ++ more)) now.0 ∙ result_here ∙ sym is_answer ∙ now.1
       ];
     }

@@ -10,22 +10,23 @@ use Rattle.std.proofs.lemmas.List.{take_more, take_all}
 use Rattle.driver_error.specs.declared.error.Error.{Error}
 use Rattle.driver_error.specs.declared.kind.ErrorKind.TheVariants as kind
 use Rattle.driver_error.specs.Error.{ErrorKind, kind_of, labels_of}
-use Rattle.driver_error.specs.LabelTexts.{LabelSet}
+use Rattle.driver_error.specs.LabelTexts.{LabelSet, label_set}
 use Rattle.driver_link.specs.declared.fault.Answered.{Answered}
 use Rattle.driver_link.specs.declared.fault.Answered.TheVariants as answer
 use Rattle.driver_link.specs.declared.fault.LinkCall.{LinkCall}
 use Rattle.driver_link.specs.declared.fault.LinkCall.TheVariants.{Select, CheckOut, Exchange}
 use Rattle.driver_link.specs.declared.fault.LinkError.{LinkError}
 use Rattle.driver_link.specs.declared.fault.LinkError.TheVariants.{Fault, Memory}
-use Rattle.driver_link.specs.declared.fault.LinkFault.TheVariants.{Io}
-use Rattle.driver_link.specs.Faults.{HasLinkCause}
+use Rattle.driver_link.specs.declared.fault.LinkFault.{LinkFault}
+use Rattle.driver_link.specs.declared.fault.LinkFault.TheVariants.{Io, PoolCleared, Selection, Authentication}
+use Rattle.driver_link.specs.Faults.{HasLinkCause, Rose}
 use Rattle.driver_link.specs.Told.{Notes, noted, reply_noted}
-use Rattle.driver_actions.specs.Causes.{Failure, failure_of, KindNeeds, KindAtLast, EndNeeds, EndAtLast, AllEarly, MayBeLast, IsLast, Refused, never, refused_body, refused_insert, next_number, lent_number, Caused, TellsOwnRefusal}
+use Rattle.driver_actions.specs.Causes.{Failure, failure_of, KindNeeds, KindAtLast, EndNeeds, EndAtLast, AllEarly, MayBeLast, IsLast, Refused, never, refused_body, refused_insert, next_number, lent_number, labels_by, Caused, TellsOwnRefusal}
 use Rattle.driver_actions.specs.Inputs.{InputRefused, TellsInput}
 use Rattle.driver_actions.specs.Inserts.{TellsRefusal, TellsNoReply, ReadsReply, insert_body}
 use Rattle.driver_actions.specs.Pool.{ToldStore, Lends, StaysTold, session_out}
 use Rattle.driver_actions.specs.Session.{Session, Numbers, TellsEnd}
-use Rattle.driver_actions.specs.Turns.{IsFailure}
+use Rattle.driver_actions.specs.Turns.{IsFailure, fault_kind}
 use Rattle.driver_actions.specs.declared.pool.IdleSession.{IdleSession}
 use Rattle.driver_actions.specs.declared.call.Call.{Call}
 use Rattle.driver_actions.specs.declared.call.Outcome.{Outcome}
@@ -137,14 +138,23 @@ abbrev pub failure_noted : LinkCall → LinkError → List Answered
 failure_noted call (Fault fault own) = answer.Fault call fault own ∷ []
 failure_noted call Memory = []
 
+-- what the kind of a fault needs
+fault_needs : (before now : ℕ) (number : Option ℤ) (refused : Refused) (call : LinkCall) (fault : LinkFault) (own : List (List ℕ)) (labels : LabelSet)
+    → Rose before now → labels ≡ label_set (labels_by call fault own)
+    → KindNeeds before now (answer.Fault call fault own ∷ []) number refused labels (fault_kind fault)
+fault_needs before now number refused call (Io io) own labels rose is = (rose, inl (refl, is))
+fault_needs before now number refused call (PoolCleared message) own labels rose is = (rose, inl (refl, is))
+fault_needs before now number refused call (Selection message) own labels rose is = (rose, inl (refl, is))
+fault_needs before now number refused call (Authentication message) own labels rose is = (rose, inl (refl, is))
+
 failure_needs : (before now : ℕ) (number : Option ℤ) (refused : Refused) (call : LinkCall) (failure : LinkError) (error : Error)
     → HasLinkCause {A = Unit {0}} before now (Err failure) → IsFailure call failure error
     → KindNeeds before now (failure_noted call failure) number refused (labels_of error) (kind_of error)
-failure_needs before now number refused call (Fault (Io io) own) error cause is = elim is [
+failure_needs before now number refused call (Fault fault own) error cause is = elim is [
   | inl alone ↦
-      subst (KindNeeds before now (answer.Fault call (Io io) own ∷ []) number refused (labels_of error)) (sym alone.kind_is)
-      (cause.0, inl (refl, alone.labels_are))
-  | inr alone ↦ subst (KindNeeds before now (answer.Fault call (Io io) own ∷ []) number refused (labels_of error)) (sym alone.kind_is) tt
+      subst (KindNeeds before now (answer.Fault call fault own ∷ []) number refused (labels_of error)) (sym alone.kind_is)
+      (fault_needs before now number refused call fault own (labels_of error) cause.0 alone.labels_are)
+  | inr alone ↦ subst (KindNeeds before now (answer.Fault call fault own ∷ []) number refused (labels_of error)) (sym alone.kind_is) tt
 ]
 failure_needs before now number refused call Memory error cause is = subst (KindNeeds before now [] number refused (labels_of error)) (sym is.kind_is) tt
 
@@ -188,9 +198,15 @@ pub exchange_not_last : (session back : Session) (given : ℤ) (items : List Ans
     → Numbers session back (Ok given) → IsLast (Some session.number) → EndAtLast items early ended
 exchange_not_last session back given items early ended numbers last = absurd (numbers.0 last)
 
+fault_at_last : (early : ErrorKind → Type 0) (fault : LinkFault) → KindAtLast early (fault_kind fault)
+fault_at_last early (Io io) = tt
+fault_at_last early (PoolCleared message) = tt
+fault_at_last early (Selection message) = tt
+fault_at_last early (Authentication message) = tt
+
 early_kind : (call : LinkCall) (failure : LinkError) (error : Error) (early : ErrorKind → Type 0) → IsFailure call failure error → KindAtLast early (kind_of error)
-early_kind call (Fault (Io io) own) error early is = elim is [
-  | inl alone ↦ subst (KindAtLast early) (sym alone.kind_is) tt
+early_kind call (Fault fault own) error early is = elim is [
+  | inl alone ↦ subst (KindAtLast early) (sym alone.kind_is) (fault_at_last early fault)
   | inr alone ↦ subst (KindAtLast early) (sym alone.kind_is) tt
 ]
 early_kind call Memory error early is = subst (KindAtLast early) (sym is.kind_is) tt
@@ -218,6 +234,9 @@ caused_check_out before now answers answers_now number refused failure error cau
 kind_under : (before now : ℕ) (items : List Answered) (number next : Option ℤ) (refused : Refused) (labels : LabelSet) (why : ErrorKind)
     → (MayBeLast number → MayBeLast next) → KindNeeds before now items number refused labels why → KindNeeds before now items next refused labels why
 kind_under before now items number next refused labels (kind.Io io) is needs = needs
+kind_under before now items number next refused labels (kind.ConnectionPoolCleared message) is needs = needs
+kind_under before now items number next refused labels (kind.ServerSelection message) is needs = needs
+kind_under before now items number next refused labels (kind.Authentication message) is needs = needs
 kind_under before now items number next refused labels (kind.InvalidArgument message) is needs = needs
 kind_under before now items number next refused labels (kind.BsonSerialization fault) is needs = needs
 kind_under before now items number next refused labels (kind.Internal message) is needs = is needs
@@ -266,6 +285,9 @@ number_stays (Some told) (Some now) stays = ap (λ pool. Some (lent_number pool.
 kind_of_more : (before now : ℕ) (items : List Answered) (number : Option ℤ) (namespace : Namespace) (document : List (Pair Bson)) (labels : LabelSet) (why : ErrorKind)
     → KindNeeds before now items number (refused_body namespace) labels why → KindNeeds before now items number (refused_insert namespace document) labels why
 kind_of_more before now items number namespace document labels (kind.Io io) needs = needs
+kind_of_more before now items number namespace document labels (kind.ConnectionPoolCleared message) needs = needs
+kind_of_more before now items number namespace document labels (kind.ServerSelection message) needs = needs
+kind_of_more before now items number namespace document labels (kind.Authentication message) needs = needs
 kind_of_more before now items number namespace document labels (kind.InvalidArgument message) needs = absurd needs
 kind_of_more before now items number namespace document labels (kind.BsonSerialization fault) needs = elim needs [ inl none ↦ absurd none | inr body ↦ inr body ]
 kind_of_more before now items number namespace document labels (kind.Internal message) needs = needs
@@ -276,6 +298,9 @@ kind_of_more before now items number namespace document labels _ needs = absurd 
 last_of_more : (namespace : Namespace) (document : List (Pair Bson)) (why : ErrorKind) → KindAtLast never why → KindAtLast (InputRefused namespace document) why
 last_of_more namespace document (kind.InvalidArgument message) needs = absurd needs
 last_of_more namespace document (kind.Io io) needs = needs
+last_of_more namespace document (kind.ConnectionPoolCleared message) needs = needs
+last_of_more namespace document (kind.ServerSelection message) needs = needs
+last_of_more namespace document (kind.Authentication message) needs = needs
 last_of_more namespace document (kind.BsonSerialization fault) needs = absurd needs
 last_of_more namespace document (kind.Internal message) needs = needs
 last_of_more namespace document kind.Memory needs = needs

@@ -6,6 +6,8 @@ pub mod Drawing
 pub mod Moving
 pub mod Ids
 pub mod Knowing
+pub mod Joining
+pub mod Standing
 pub mod Logging
 pub mod Answering
 pub mod Turning

@@ -1,75 +1,22 @@
--- What one more entry makes of a log: no write twice, each the caller's own, and what was done stays.
-use Rattle.std.proofs.Common.{◌≡◌, ◌≢◌, ℕ, ◌+◌, ◌<◌, Bool, true, false, cond, List, [], ◌∷◌, ◌++◌, refl, sym, ap, subst, ◌∙◌, inl, inr, arith}
+-- What stands in a log at a place, and what stays of it as the log grows.
+use Rattle.std.proofs.Common.{◌≡◌, ◌≢◌, ℕ, Bool, true, false, cond, List, [], ◌∷◌, ◌++◌, refl, sym, ap, ◌∙◌, inl, inr}
 use Rattle.std.specs.Prelude.{Option, None, Some, ◌==◌, ◌&&◌}
 use Rattle.std.proofs.lemmas.Bool.{cond-true, cond-false, false_from_ne_true}
 use Rattle.std.proofs.lemmas.Bool.Decides.{Decides-eqb}
 use Rattle.driver_link.specs.declared.machine.Entry.{Entry}
 use Rattle.driver_link.specs.declared.machine.Place.{Place}
 use Rattle.driver_link.specs.Once.{Once, NoneAt}
+use Rattle.driver_link.specs.Settled.{Has}
 use Rattle.driver_actions.specs.declared.call.Call.{Call}
 use Rattle.driver_actions.specs.Calls.{OwnAt, Mine, Stands, Done, write_at, same_place, entry_at}
-
--- all entries are of calls before this one
-abbrev pub AllBelow : ℕ → List Entry → Type 0
-AllBelow made [] = Unit {0}
-AllBelow made (entry ∷ log) = (entry.place.call < made) × AllBelow made log
 
 -- the first place of a call
 abbrev pub first_place : ℕ → Place
 first_place call = record { call = call; index = 0 }
 
--- what stands in a log after a number of calls
-pub record Logged (calls : List Call) (made : ℕ) (log : List Entry) : Type 0 where
-  pub below : AllBelow made log
-  pub once : Once log
-  pub mine : Mine calls log
-
-below_more : (made : ℕ) (log : List Entry) → AllBelow made log → AllBelow (made + 1) log
-below_more made [] below = tt
-below_more made (entry ∷ log) below = (omega (arith, below.0), below_more made log below.1)
-
-below_last : (made : ℕ) (log : List Entry) (last : Entry) → AllBelow made log → last.place ≡ first_place made → AllBelow (made + 1) (log ++ last ∷ [])
-below_last made [] last below at = (let e : last.place.call ≡ made = ap (λ place. place.call) at in omega arith, tt)
-below_last made (entry ∷ log) last below at = (omega (arith, below.0), below_last made log last below.1 at)
-
-pub none_at : (made : ℕ) (log : List Entry) → AllBelow made log → NoneAt (first_place made) log
-none_at made [] below = tt
-none_at made (entry ∷ log) below =
-    (λ at. let e : entry.place.call ≡ made = ap (λ place. place.call) at in absurd (omega (arith, below.0)), none_at made log below.1)
-
-none_last : (place : Place) (log : List Entry) (last : Entry) → NoneAt place log → (last.place ≢ place) → NoneAt place (log ++ last ∷ [])
-none_last place [] last none differs = (differs, tt)
-none_last place (entry ∷ log) last none differs = (none.0, none_last place log last none.1 differs)
-
-once_last : (log : List Entry) (last : Entry) → Once log → NoneAt last.place log → Once (log ++ last ∷ [])
-once_last [] last once none = (tt, tt)
-once_last (entry ∷ log) last once none =
-    (none_last entry.place log last once.0 (λ same. none.0 (sym same)), once_last log last once.1 none.1)
-
-mine_last : (calls : List Call) (log : List Entry) (last : Entry) → Mine calls log → OwnAt (write_at calls last.place) last.written → Mine calls (log ++ last ∷ [])
-mine_last calls [] last mine own = (own, tt)
-mine_last calls (entry ∷ log) last mine own = (mine.0, mine_last calls log last mine.1 own)
-
--- a call that wrote nothing
-pub logged_same : (calls : List Call) (made : ℕ) (log : List Entry) → Logged calls made log → Logged calls (made + 1) log
-logged_same calls made log logged = record { below = below_more made log logged.below; once = logged.once; mine = logged.mine }
-
--- a call that wrote its one write
-pub logged_more : (calls : List Call) (made : ℕ) (log : List Entry) (last : Entry) → last.place ≡ first_place made
-    → OwnAt (write_at calls (first_place made)) last.written → Logged calls made log → Logged calls (made + 1) (log ++ last ∷ [])
-logged_more calls made log last at own logged = record {
-  below = below_last made log last logged.below at;
-  once = once_last log last logged.once (subst (λ place. NoneAt place log) (sym at) (none_at made log logged.below));
-  mine = mine_last calls log last logged.mine (subst (λ place. OwnAt (write_at calls place) last.written) (sym at) own);
-}
-
 stands_left : (place : Place) (log more : List Entry) → Stands place log → Stands place (log ++ more)
 stands_left place [] more stands = absurd stands
 stands_left place (entry ∷ log) more stands = elim stands [ inl at ↦ inl at | inr rest ↦ inr (stands_left place log more rest) ]
-
-pub stands_last : (place : Place) (log : List Entry) (last : Entry) → last.place ≡ place → Stands place (log ++ last ∷ [])
-stands_last place [] last at = inl at
-stands_last place (entry ∷ log) last at = inr (stands_last place log last at)
 
 pub done_left : (calls : List Call) (call : ℕ) (log more : List Entry) → Done calls call log → Done calls call (log ++ more)
 done_left calls call log more done = λ index given. stands_left (record { call = call; index = index }) log more (done index given)
@@ -108,10 +55,35 @@ entry_left place (first ∷ log) more entry found =
       | false ↦ λ is. entry_left place log more entry is
     ] found
 
--- where none is at the place, the last is found
-pub entry_last : (place : Place) (log : List Entry) (last : Entry) → NoneAt place log → last.place ≡ place → entry_at place (log ++ last ∷ []) ≡ Some last
+none_has : (place : Place) (log : List Entry) (entry : Entry) → NoneAt place log → Has log entry → entry.place ≡ place → ⊥
+none_has place [] entry none has at = has
+none_has place (first ∷ log) entry none has at = elim has [
+  | inl same ↦ none.0 (ap (λ e. e.place) same ∙ at)
+  | inr rest ↦ none_has place log entry none.1 rest at
+]
+
+-- where no place stands twice, the entry that stands at a place is found
+pub entry_found : (place : Place) (log : List Entry) (entry : Entry) → Once log → Has log entry → entry.place ≡ place → entry_at place log ≡ Some entry
 unfolding entry_at
-entry_last place [] last none at = cond-true (same_place last.place place) (Some last) None (is_same last.place place at)
-entry_last place (first ∷ log) last none at =
-    cond-false (same_place first.place place) (Some first) (entry_at place (log ++ last ∷ [])) (not_same first.place place none.0)
-    ∙ entry_last place log last none.1 at
+entry_found place [] entry once has at = absurd has
+entry_found place (first ∷ log) entry once has at = elim has [
+  | inl same ↦
+      cond-true (same_place first.place place) (Some first) (entry_at place log) (is_same first.place place (ap (λ e. e.place) same ∙ at))
+      ∙ ap (λ e. Some e) same
+  | inr rest ↦
+      cond-false (same_place first.place place) (Some first) (entry_at place log)
+      (not_same first.place place (λ is. none_has first.place log entry once.0 rest (at ∙ sym is)))
+      ∙ entry_found place log entry once.1 rest at
+]
+
+pub stands_has : (place : Place) (log : List Entry) (entry : Entry) → Has log entry → entry.place ≡ place → Stands place log
+stands_has place [] entry has at = absurd has
+stands_has place (first ∷ log) entry has at = elim has [
+  | inl same ↦ inl (ap (λ e. e.place) same ∙ at)
+  | inr rest ↦ inr (stands_has place log entry rest at)
+]
+
+-- each entry is the caller's own where each that stands is
+pub mine_all : (calls : List Call) (log : List Entry) → ((entry : Entry) → Has log entry → OwnAt (write_at calls entry.place) entry.written) → Mine calls log
+mine_all calls [] own = tt
+mine_all calls (entry ∷ log) own = (own entry (inl refl), mine_all calls log (λ other has. own other (inr has)))

@@ -19,6 +19,7 @@ use Rattle.driver_actions.specs.Pool.{ToldStore, Lends, LendsFrom, StaysTold, se
 use Rattle.driver_actions.specs.Session.{Session}
 use Rattle.driver_actions.specs.Causes.{Failure, failure_of, never}
 use Rattle.driver_actions.specs.Inputs.{InputRefused, TellsInput}
+use Rattle.driver_actions.proofs.Attempts.{counts_refl}
 use Rattle.driver_actions.specs.Turns.{Turn, Unsent, ComesEarly, HasOwnId, Owns, Made, Makes}
 
 -- a document that has an id keeps it
@@ -66,6 +67,8 @@ turn_later store mid now link link_now write ended stays turn = record {
   lends = stays_then_lends store mid turn.lent turn.caller turn.out_at turn.session stays turn.lends;
   takes = turn.takes;
   id = turn.id;
+  mid = turn.mid;
+  reached = turn.reached;
   attempt = turn.attempt;
 }
 
@@ -92,6 +95,8 @@ made_ok store mid now link link_now namespace document place write bytes id stay
 -- a reason without a refusal is one with any
 early_more : (link : Option Told) (early : ErrorKind → Type 0) (why : ErrorKind) → ComesEarly link never why → ComesEarly link early why
 early_more None early why reason = tt
+early_more (Some told) early (kind.Io io) reason = reason
+early_more (Some told) early (kind.ServerSelection message) reason = reason
 early_more (Some told) early (kind.InvalidArgument message) reason = absurd reason
 early_more (Some told) early (kind.BsonSerialization fault) reason = absurd reason
 early_more (Some told) early kind.Memory reason = tt
@@ -110,7 +115,7 @@ comes_input (Some told) namespace document _ tells = absurd tells
 pub unmade : (store now : Option ToldStore) (link : Option Told) (namespace : Namespace) (document : List (Pair Bson)) (place : Place) (error : Error)
     → StaysTold store now → kind_of error ≡ kind.Memory → Makes store now link link (inserted namespace document) place (Err error)
 unmade store now link namespace document place error stays is =
-    inl (record { store_stays = stays; link_stays = refl; reason = comes_memory link (kind_of error) is })
+    inl (record { store_stays = stays; link_stays = counts_refl link; reason = comes_memory link (kind_of error) is })
   where
     comes_memory : (link : Option Told) (why : ErrorKind) → why ≡ kind.Memory → ComesEarly link (InputRefused namespace document) why
     comes_memory None why is = tt

@@ -113,7 +113,7 @@ turn_within made old now link link_now write ended turn within =
     of_lent None lends takes = absurd lends
     of_lent (Some mid) lends takes =
         turned made old mid now turn.caller turn.out_at turn.back_at turn.session turn.back lends takes.0
-        (raised_within link link_now turn.session turn.back write ended turn.attempt) within
+        (raised_within turn.mid link_now turn.session turn.back write ended turn.attempt) within
 
 -- a store that stays
 pub within_staying : (made : ℕ) (old now : ToldStore) → now.pool ≡ old.pool → NumbersWithin (pos made) old.pool.idle → NumbersWithin (pos (made + 1)) now.pool.idle

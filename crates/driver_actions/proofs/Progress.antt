@@ -18,6 +18,8 @@ use Rattle.driver_actions.specs.Calls.{written}
 use Rattle.driver_actions.specs.MainTheorem.{Begins, HoldsTold, CompletesTold, IsReplayed, KeepsMaking}
 use Rattle.driver_actions.specs.Pool.{ToldStore, Draws, DrawnApart, AllApart, LendsAsBefore, first_ids}
 use Rattle.driver_actions.specs.Session.{Session}
+use Rattle.driver_link.specs.Counting.{OnlyCounts}
+use Rattle.driver_link.specs.Exchange.{exchanged, next_step}
 use Rattle.driver_actions.specs.Turns.{Turn, Made, MakesCall, Attempts, HasAnswer, MaySend, send_under}
 use Rattle.driver_actions.specs.Causes.{Failure, end_of}
 use Rattle.driver_link.specs.declared.machine.Schedule.{Schedule}
@@ -43,17 +45,23 @@ pub record Progress (calls : List Call) (store : Option ToldStore) (link : Optio
   pub drawn : Draws store store_now
   pub lent : LendsAsBefore store store_now
 
+moves_refl : (link : Option Told) → Moves link link
+moves_refl None = refl
+moves_refl (Some told) = record { setup = refl; schedule = refl; server = inl refl }
+
 moves_same : (link now : Option Told) → now ≡ link → Moves link now
-moves_same None now same = same
-moves_same (Some told) now same = inl same
+moves_same link now same = subst (Moves link) (sym same) (moves_refl link)
+
+moves_sent : (told : Told) (now : Option Told) (send : Send) → now ≡ Some (told_after told send) → Moves (Some told) now
+moves_sent told now send is = subst (Moves (Some told)) (sym is) (record { setup = refl; schedule = refl; server = inr (send, refl) })
 
 moves_answered : (link now : Option Told) (send : Send) → HasAnswer link now send → Moves link now
 moves_answered None now send sent = sent
-moves_answered (Some told) now send sent = inr (send, sent.0)
+moves_answered (Some told) now send was = moves_sent told now send was.sent
 
 moves_may : (link now : Option Told) (send : Send) → MaySend link now send → Moves link now
 moves_may None now send may = may
-moves_may (Some told) now send may = elim may [ inl same ↦ inl same | inr sent ↦ inr (send, sent) ]
+moves_may (Some told) now send may = elim may [ inl same ↦ moves_same (Some told) now same | inr is ↦ moves_sent told now send is ]
 
 moves_attempt : (link now : Option Told) (session back : Session) (write : PlacedWrite) (ended : Option Failure) → Attempts link now session back write ended → Moves link now
 moves_attempt link now session back write None attempt = moves_answered link now (send_under back write) attempt.1
@@ -62,9 +70,33 @@ moves_attempt link now session back write (Some why) attempt = elim attempt.0 [
   | inr may ↦ moves_may link now (send_under back write) may.1
 ]
 
+-- calls that are only counted send nothing
+moves_counted : (link now : Option Told) → OnlyCounts link now → Moves link now
+moves_counted None now same = same
+moves_counted (Some told) None keeps = absurd keeps
+moves_counted (Some told) (Some now) keeps = record { setup = keeps.setup; schedule = keeps.schedule; server = inl keeps.server }
+
+counted_then_moves : (link mid now : Option Told) → OnlyCounts link mid → Moves mid now → Moves link now
+counted_then_moves None mid now same moves = subst (λ l. Moves l now) same moves
+counted_then_moves (Some told) None now keeps moves = absurd keeps
+counted_then_moves (Some told) (Some mid) None keeps moves = absurd moves
+counted_then_moves (Some told) (Some mid) (Some now) keeps moves = record {
+  setup = moves.setup ∙ keeps.setup;
+  schedule = moves.schedule ∙ keeps.schedule;
+  server = elim moves.server [
+    | inl same ↦ inl (same ∙ keeps.server)
+    | inr sent ↦ inr (
+      sent.0,
+      sent.1 ∙ ap (λ schedule. exchanged mid.server sent.0 (next_step schedule mid.server)) keeps.schedule
+      ∙ ap (λ server. exchanged server sent.0 (next_step told.schedule server)) keeps.server,
+    )
+  ];
+}
+
 module _ (store store_now : Option ToldStore) (link link_now : Option Told) where
   turn_moves : (write : PlacedWrite) (ended : Option Failure) → Turn store store_now link link_now write ended → Moves link link_now
-  turn_moves write ended turn = moves_attempt link link_now turn.session turn.back write ended turn.attempt
+  turn_moves write ended turn =
+      counted_then_moves link turn.mid link_now turn.reached (moves_attempt turn.mid link_now turn.session turn.back write ended turn.attempt)
 
   turn_lends : (write : PlacedWrite) (ended : Option Failure) → Turn store store_now link link_now write ended → LendsAsBefore store store_now
   turn_lends write ended turn =
@@ -94,7 +126,7 @@ module _ (store store_now : Option ToldStore) (link link_now : Option Told) wher
   call_moves : (call : Call) (number : ℕ) (result : Result Answer Error) → MakesCall store store_now link link_now call number result → Moves link link_now
   call_moves (Single write) number (Ok (answer.Single given)) makes = made_moves (written write) (record { call = number; index = 0 }) (Ok given) makes
   call_moves (Single write) number (Err error) makes = elim makes [
-    | inl unsent ↦ moves_same link link_now unsent.link_stays
+    | inl unsent ↦ moves_counted link link_now unsent.link_stays
     | inr made ↦ made_moves (written write) (record { call = number; index = 0 }) (Err error) made
   ]
 
@@ -121,15 +153,15 @@ ran_more_told calls outcomes last call (Some store) None (Some told) link_now at
 ran_more_told calls outcomes last call (Some store) (Some store_now) (Some told) None at makes draws keeps moves apart ran = absurd keeps
 ran_more_told calls outcomes last call (Some store) (Some store_now) (Some told) (Some told_now) at makes draws keeps moves apart ran =
     let P : Schedule → Type 0 = λ schedule. Accounts calls (outcomes ++ last ∷ []) schedule store_now.pool told_now.server in (
-      ran_more calls outcomes store store_now told told_now last call last.result refl at makes apart ran.0,
-      subst P (sym keeps.1) (accounts_more calls outcomes store store_now told told_now last call at makes apart moves ran.0.between ran.1),
+      ran_more calls outcomes store store_now told told_now last apart ran.0 call last.result refl at makes,
+      subst P (sym keeps.1) (accounts_more calls outcomes store store_now told told_now last call at makes apart moves ran.0.between ran.0.sound ran.1),
     )
 
 ran_none_told : (calls : List Call) (store : Option ToldStore) (link : Option Told) → Begins store link store → RanTold calls [] store link
 ran_none_told calls None link begins = absurd begins.new
 ran_none_told calls (Some store) None begins = absurd begins.fresh
 ran_none_told calls (Some store) (Some told) begins =
-    (ran_none calls store.pool told.server begins.new begins.fresh, accounts_none calls told.schedule store.pool told.server begins.new)
+    (ran_none calls store.pool told.server begins.new begins.fresh.0, accounts_none calls told.schedule store.pool told.server begins.new)
 
 -- before the first call
 pub progress_none : (calls : List Call) (store : Option ToldStore) (link : Option Told) → Progress calls store link [] store link

@@ -1,5 +1,5 @@
 -- Why a call ended as it did, by what the link answered in it, over any link and any store.
-use Rattle.std.specs.Prelude.{◌≡◌, ℕ, ◌≤◌, ℤ, pos, List, [], ◌∷◌, ◌++◌, length, Option, None, Some, ◌⊎◌, Result, Ok, Err}
+use Rattle.std.specs.Prelude.{◌≡◌, ℕ, ◌≤◌, ℤ, pos, Bool, true, false, ◌&&◌, List, [], ◌∷◌, ◌++◌, length, Option, None, Some, ◌⊎◌, Result, Ok, Err, if◌then◌else◌}
 use Rattle.bson_lite.specs.declared.bson.Bson.{Bson}
 use Rattle.bson_lite.specs.declared.bson.ObjectId.{ObjectId}
 use Rattle.bson_lite.specs.declared.document.Pair.{Pair}
@@ -9,15 +9,15 @@ use Rattle.bson_lite.specs.Fields.{with_id}
 use Rattle.bson_lite.specs.Spelling.{refusal}
 use Rattle.driver_error.specs.declared.error.Error.{Error}
 use Rattle.driver_error.specs.declared.kind.ErrorKind.TheVariants as kind
-use Rattle.driver_error.specs.declared.kind.IoKind.{IoKind}
 use Rattle.driver_error.specs.declared.labels.TheConstants.{RETRYABLE_WRITE_ERROR}
 use Rattle.driver_error.specs.Error.{ErrorKind, kind_of, labels_of}
 use Rattle.driver_error.specs.LabelTexts.{LabelSet, label_set}
 use Rattle.driver_link.specs.declared.fault.Answered.{Answered}
 use Rattle.driver_link.specs.declared.fault.Answered.TheVariants as answer
 use Rattle.driver_link.specs.declared.fault.LinkCall.{LinkCall}
-use Rattle.driver_link.specs.declared.fault.LinkCall.TheVariants.{Select, CheckOut, Exchange}
-use Rattle.driver_link.specs.declared.fault.LinkFault.TheVariants.{Io}
+use Rattle.driver_link.specs.declared.fault.LinkCall.TheVariants.{CheckOut, Exchange}
+use Rattle.driver_link.specs.declared.fault.LinkFault.{LinkFault}
+use Rattle.driver_link.specs.declared.fault.LinkFault.TheVariants.{Io, PoolCleared, Selection, Authentication}
 use Rattle.driver_link.specs.Faults.{Rose}
 use Rattle.driver_link.specs.Told.{Notes}
 use Rattle.driver_actions.specs.declared.call.Call.{Call}
@@ -37,18 +37,29 @@ HasReply P [] = ⊥
 HasReply P (answer.Reply bytes ∷ items) = P bytes ⊎ HasReply P items
 HasReply P (answer.Fault call fault labels ∷ items) = HasReply P items
 
+-- the network failed, or the connections were given up
+abbrev pub is_network : LinkFault → Bool
+is_network (Io io) = true
+is_network (PoolCleared message) = true
+is_network other = false
+
+-- a call after whose failure the write may be tried again
+abbrev pub is_of_write : LinkCall → Bool
+is_of_write CheckOut = true
+is_of_write Exchange = true
+is_of_write other = false
+
 -- the labels of the error of a fault, by the call that met it: after a check-out or an exchange a failure
 -- of the network has the label that lets the write be tried again beside the link's own labels
-abbrev pub labels_by : LinkCall → List (List ℕ) → List (List ℕ)
-labels_by Select own = own
-labels_by CheckOut own = own ++ RETRYABLE_WRITE_ERROR.now ∷ []
-labels_by Exchange own = own ++ RETRYABLE_WRITE_ERROR.now ∷ []
+abbrev pub labels_by : LinkCall → LinkFault → List (List ℕ) → List (List ℕ)
+labels_by call fault own = if is_of_write call && is_network fault then own ++ RETRYABLE_WRITE_ERROR.now ∷ [] else own
 
--- one of the faults is of this kind, and its error has these labels
-abbrev pub HasFault : IoKind → LabelSet → List Answered → Type 0
-HasFault io labels [] = ⊥
-HasFault io labels (answer.Reply bytes ∷ items) = HasFault io labels items
-HasFault io labels (answer.Fault call fault own ∷ items) = ((fault ≡ Io io) × (labels ≡ label_set (labels_by call own))) ⊎ HasFault io labels items
+-- this is one of the faults, and its error has these labels
+abbrev pub HasFault : LinkFault → LabelSet → List Answered → Type 0
+HasFault fault labels [] = ⊥
+HasFault fault labels (answer.Reply bytes ∷ items) = HasFault fault labels items
+HasFault fault labels (answer.Fault call found own ∷ items) =
+    ((found ≡ fault) × (labels ≡ label_set (labels_by call found own))) ⊎ HasFault fault labels items
 
 -- nothing was exchanged: all that was answered is a fault of an earlier call
 abbrev pub AllEarly : List Answered → Type 0
@@ -92,7 +103,10 @@ failure_of error = record { kind = kind_of error; labels = labels_of error }
 -- what an error of each kind needs, by the count of faults before and now, by what the link answered, and
 -- by the number of the session that is lent next; want of memory needs nothing
 abbrev pub KindNeeds : ℕ → ℕ → List Answered → Option ℤ → Refused → LabelSet → ErrorKind → Type 0
-KindNeeds before now items number refused labels (kind.Io io) = Rose before now × HasFault io labels items
+KindNeeds before now items number refused labels (kind.Io io) = Rose before now × HasFault (Io io) labels items
+KindNeeds before now items number refused labels (kind.ConnectionPoolCleared message) = Rose before now × HasFault (PoolCleared message) labels items
+KindNeeds before now items number refused labels (kind.ServerSelection message) = Rose before now × HasFault (Selection message) labels items
+KindNeeds before now items number refused labels (kind.Authentication message) = Rose before now × HasFault (Authentication message) labels items
 KindNeeds before now items number refused labels (kind.InvalidArgument message) = refused.early (kind.InvalidArgument message)
 KindNeeds before now items number refused labels (kind.BsonSerialization fault) = refused.early (kind.BsonSerialization fault) ⊎ refused.late fault
 KindNeeds before now items number refused labels (kind.Internal message) = MayBeLast number
@@ -114,6 +128,9 @@ EndNeeds before now items number refused (Some why) = KindNeeds before now items
 -- lent and for want of memory
 abbrev pub KindAtLast : (ErrorKind → Type 0) → ErrorKind → Type 0
 KindAtLast early (kind.Io io) = Unit {0}
+KindAtLast early (kind.ConnectionPoolCleared message) = Unit {0}
+KindAtLast early (kind.ServerSelection message) = Unit {0}
+KindAtLast early (kind.Authentication message) = Unit {0}
 KindAtLast early (kind.InvalidArgument message) = early (kind.InvalidArgument message)
 KindAtLast early (kind.BsonSerialization fault) = early (kind.BsonSerialization fault)
 KindAtLast early (kind.Internal message) = Unit {0}

@@ -1,5 +1,5 @@
 -- The insert command that the driver builds, and the reply that it takes as done.
-use Rattle.std.specs.Prelude.{◌≡◌, ℕ, ℤ, pos, Bool, true, false, ◌&&◌, List, [], ◌∷◌, Option, None, Some, Result, Ok, Err}
+use Rattle.std.specs.Prelude.{◌≡◌, ℕ, ℤ, pos, Bool, true, false, ◌&&◌, List, [], ◌∷◌, Option, None, Some, unwrap_or, Result, Ok, Err}
 use Rattle.std.specs.Option.{option_and_then}
 use Rattle.std.specs.Ordering.{int_eq}
 use Rattle.bson_lite.specs.declared.bson.Bson.{Bson}
@@ -14,9 +14,16 @@ use Rattle.driver_error.specs.Error.{ErrorKind, kind_of}
 use Rattle.driver_link.specs.declared.keys.TheConstants.{INSERT, ORDERED, SESSION, SESSION_ID, TRANSACTION_NUMBER, DATABASE, DOCUMENTS, OK, N, UUID_SUBTYPE}
 use Rattle.driver_link.specs.declared.machine.Place.{Place}
 use Rattle.driver_link.specs.declared.machine.Send.{Send}
-use Rattle.driver_link.specs.Commands.{insert_send, insert_write}
 use Rattle.driver_link.specs.Framed.{Framed}
-use Rattle.driver_link.specs.Reads.{Reads, OneSequence}
+use Rattle.driver_link.specs.declared.machine.Item.{Item}
+use Rattle.driver_link.specs.declared.machine.Item.TheVariants.{Serve}
+use Rattle.driver_link.specs.declared.machine.SendBody.TheVariants.{Write}
+use Rattle.driver_link.specs.declared.machine.SendCommand.TheVariants as command
+use Rattle.driver_link.specs.declared.machine.WriteKind.TheVariants as write_kind
+use Rattle.driver_link.specs.declared.machine.PlacedWrite.{PlacedWrite}
+use Rattle.driver_link.specs.Reads.{Reads}
+use Rattle.driver_link.specs.Statements.{planned_at}
+use Rattle.driver_link.specs.Writes.{write_on}
 use Rattle.driver_link.specs.declared.frame.Sequence.{Sequence}
 use Rattle.driver_actions.specs.declared.insert.TheConstants.{NOT_INSERTED}
 
@@ -38,10 +45,19 @@ insert_body namespace id number =
     ∷ field DATABASE.now (bson.String namespace.db)
     ∷ []
 
+-- the write that inserts a document
+abbrev pub insert_write : Namespace → List (Pair Bson) → Place → PlacedWrite
+insert_write namespace document place = record { place = place; written = write_on write_kind.Insert namespace document }
+
 -- the send that inserts one document under a session and a number
 abbrev pub insert_one_send : List ℕ → ℤ → Namespace → List (Pair Bson) → Place → Send
-insert_one_send id number namespace document place =
-    insert_send (Some id) (Some number) true (insert_write namespace document place ∷ [])
+insert_one_send id number namespace document place = record {
+  session = Some id;
+  number = Some number;
+  start = false;
+  in_transaction = false;
+  body = Write command.Insert true (insert_write namespace document place ∷ []);
+}
 
 -- an error that tells why a document has no spelling, or want of memory
 abbrev pub TellsRefusal : List (Pair Bson) → ErrorKind → Type 0
@@ -62,7 +78,7 @@ IsInsertFrame frame id number namespace bytes =
 
 -- the sequence of one document
 abbrev pub IsOneDocument : List Sequence → List ℕ → Type 0
-IsOneDocument sequences bytes = OneSequence sequences DOCUMENTS.now (bytes ∷ [])
+IsOneDocument sequences bytes = sequences ≡ record { name = DOCUMENTS.now; documents = bytes ∷ [] } ∷ []
 
 -- the frame of an insert, or the error that tells why its body has no spelling
 abbrev pub BuildsInsert : List ℕ → ℤ → Namespace → List ℕ → Result Framed Error → Type 0
@@ -104,3 +120,9 @@ TellsNotInserted _ = ⊥
 abbrev pub ReadsReply : {A : Type 0} → List ℕ → Result A Error → Type 0
 ReadsReply bytes (Ok answer) = IsDoneReply bytes
 ReadsReply bytes (Err error) = TellsNoReply bytes (kind_of error)
+
+-- an item by which an insert of one document is served as usual: its statement does not fail, there is no write
+-- concern error, and it counts one document
+abbrev pub IsGentleItem : Item → Type 0
+IsGentleItem (Serve results fail concern page) = (fail ≡ []) × (concern ≡ None) × (unwrap_or (planned_at results 0).n (pos 1) ≡ pos 1)
+IsGentleItem _ = ⊥

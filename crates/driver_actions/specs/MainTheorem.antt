@@ -11,13 +11,13 @@ use Rattle.bson_lite.specs.Spelling.{refusal}
 use Rattle.driver_error.specs.declared.error.Error.{Error}
 use Rattle.driver_error.specs.declared.kind.ErrorKind.TheVariants as kind
 use Rattle.driver_error.specs.Error.{kind_of}
-use Rattle.driver_link.specs.declared.machine.Item.TheVariants.{Serve}
 use Rattle.driver_link.specs.declared.machine.PlacedWrite.{PlacedWrite}
 use Rattle.driver_link.specs.declared.machine.Schedule.{Schedule}
 use Rattle.driver_link.specs.declared.machine.Send.{Send}
 use Rattle.driver_link.specs.declared.machine.Server.{Server}
-use Rattle.driver_link.specs.Exchange.{after, replayed, empty_server, item_at}
-use Rattle.driver_link.specs.Serving.{writes_of}
+use Rattle.driver_link.specs.Cases.{writes_of}
+use Rattle.driver_link.specs.Counting.{FailsNothing}
+use Rattle.driver_link.specs.Exchange.{after_picks, replayed, empty_server, step_at}
 use Rattle.driver_link.specs.Once.{Once}
 use Rattle.driver_link.specs.Told.{Told, IsFresh}
 use Rattle.driver_actions.specs.declared.call.Answer.{Answer}
@@ -27,7 +27,7 @@ use Rattle.driver_actions.specs.declared.call.Call.TheVariants.{Single}
 use Rattle.driver_actions.specs.declared.call.SingleWrite.TheVariants.{InsertOne}
 use Rattle.driver_actions.specs.Calls.{Mine, Done, call_result}
 use Rattle.driver_actions.specs.Inputs.{IsAccepted}
-use Rattle.driver_actions.specs.Inserts.{insert_body}
+use Rattle.driver_actions.specs.Inserts.{IsGentleItem, insert_body}
 use Rattle.driver_actions.specs.Session.{last_number}
 use Rattle.driver_actions.specs.Pool.{ToldStore, IsNewStore, DrawnApart}
 
@@ -38,8 +38,8 @@ answer_at outcomes call = option_and_then (λ outcome. result_ok outcome.result)
 -- what a run of calls leaves on the server
 pub record Holds (calls : List Call) (outcomes : List Outcome) (server : Server) : Type 0 where
   pub one_each : length outcomes ≡ length calls
-  pub once : (picks : List ℕ) → Once (after server picks).log
-  pub mine : (picks : List ℕ) → Mine calls (after server picks).log
+  pub once : (picks : List ℕ) → Once (after_picks server picks).log
+  pub mine : (picks : List ℕ) → Mine calls (after_picks server picks).log
   pub done : (call : ℕ) (answer : Answer) → answer_at outcomes call ≡ Some answer → Done calls call server.log
   pub result : (call : ℕ) (answer : Answer) → answer_at outcomes call ≡ Some answer → call_result calls call server.log ≡ Some answer
 
@@ -64,10 +64,11 @@ abbrev pub HasWriteOf : ℕ → List PlacedWrite → Type 0
 HasWriteOf call [] = ⊥
 HasWriteOf call (write ∷ writes) = (write.place.call ≡ call) ⊎ HasWriteOf call writes
 
--- the part of a schedule that a call takes is gentle: each of its sends was served
-abbrev pub IsGentle : Schedule → Server → ℕ → Type 0
-IsGentle schedule server call =
-    (at : ℕ) (send : Send) → slice_get server.trace at ≡ Some send → HasWriteOf call (writes_of send) → item_at schedule at ≡ Serve
+-- the part of a schedule that a call takes is gentle: no selection and no check-out is listed to fail, and each
+-- of its sends was served as usual
+pub record IsGentle (schedule : Schedule) (server : Server) (call : ℕ) : Type 0 where
+  pub fails_nothing : FailsNothing schedule
+  pub served : (at : ℕ) (send : Send) → slice_get server.trace at ≡ Some send → HasWriteOf call (writes_of send) → IsGentleItem (step_at schedule at).item
 
 -- completeness: a valid call whose part of the schedule is gentle ends well, whatever came before it
 pub record Completes (calls : List Call) (outcomes : List Outcome) (schedule : Schedule) (server : Server) : Type 0 where

@@ -1,6 +1,6 @@
 -- One turn of a write: a session is lent, at most one command goes out under its next number, and the
 -- session comes back.
-use Rattle.std.specs.Prelude.{◌≡◌, ℕ, ◌≤ℤ◌, ◌+ℤ◌, pos, Bool, true, false, List, length, Option, None, Some, ◌⊎◌, Result, Ok, Err, IsSome}
+use Rattle.std.specs.Prelude.{◌≡◌, ℕ, ◌≤ℤ◌, ◌+ℤ◌, pos, Bool, true, false, List, length, Option, None, Some, ◌⊎◌, Result, Ok, Err, if◌then◌else◌}
 use Rattle.bson_lite.specs.declared.bson.Bson.{Bson}
 use Rattle.bson_lite.specs.declared.bson.ObjectId.{ObjectId}
 use Rattle.bson_lite.specs.declared.document.Pair.{Pair}
@@ -16,12 +16,13 @@ use Rattle.driver_link.specs.declared.fault.LinkCall.{LinkCall}
 use Rattle.driver_link.specs.declared.fault.LinkError.{LinkError}
 use Rattle.driver_link.specs.declared.fault.LinkError.TheVariants.{Fault, Memory}
 use Rattle.driver_link.specs.declared.fault.LinkFault.{LinkFault}
-use Rattle.driver_link.specs.declared.fault.LinkFault.TheVariants.{Io}
+use Rattle.driver_link.specs.declared.fault.LinkFault.TheVariants.{Io, PoolCleared, Selection, Authentication}
 use Rattle.driver_link.specs.declared.machine.Place.{Place}
 use Rattle.driver_link.specs.declared.machine.PlacedWrite.{PlacedWrite}
 use Rattle.driver_link.specs.declared.machine.Send.{Send}
 use Rattle.driver_link.specs.declared.machine.WriteKind.TheVariants as write_kind
 use Rattle.driver_link.specs.declared.machine.Written.{Written}
+use Rattle.driver_link.specs.Counting.{OnlyCounts, FailsNothing}
 use Rattle.driver_link.specs.Told.{Told, told_after, told_answer}
 use Rattle.driver_actions.specs.declared.call.Answer.{Answer}
 use Rattle.driver_actions.specs.declared.call.Answer.TheVariants as answer
@@ -30,7 +31,7 @@ use Rattle.driver_actions.specs.declared.call.Call.TheVariants.{Single}
 use Rattle.driver_actions.specs.declared.call.SingleAnswer.{SingleAnswer}
 use Rattle.driver_actions.specs.declared.call.SingleAnswer.TheVariants.{Inserted}
 use Rattle.driver_actions.specs.Calls.{IsOwn, written}
-use Rattle.driver_actions.specs.Causes.{Failure, failure_of, end_of, labels_by, never, BodyRefused}
+use Rattle.driver_actions.specs.Causes.{Failure, failure_of, end_of, labels_by, is_network, never, BodyRefused}
 use Rattle.driver_actions.specs.Inputs.{InputRefused}
 use Rattle.driver_actions.specs.Inserts.{insert_one_send, is_done_reply}
 use Rattle.driver_actions.specs.Pool.{ToldStore, Lends, TakesBack, StaysTold}
@@ -39,25 +40,36 @@ use Rattle.driver_actions.specs.Session.{Session, last_number}
 -- the kind of a link's fault
 abbrev pub fault_kind : LinkFault → ErrorKind
 fault_kind (Io io) = kind.Io io
+fault_kind (PoolCleared message) = kind.ConnectionPoolCleared message
+fault_kind (Selection message) = kind.ServerSelection message
+fault_kind (Authentication message) = kind.Authentication message
 
 -- the error of a link's failure in one of its calls, with the labels that it then has and nothing else
 abbrev pub IsFailure : LinkCall → LinkError → Error → Type 0
-IsFailure call (Fault fault own) error = IsAlone (fault_kind fault) (label_set (labels_by call own)) error ⊎ IsAlone kind.Memory no_labels error
+IsFailure call (Fault fault own) error =
+    IsAlone (fault_kind fault) (label_set (labels_by call fault own)) error ⊎ IsAlone kind.Memory no_labels error
 IsFailure call Memory error = IsAlone kind.Memory no_labels error
 
 -- a fault of the network makes a session dirty
 abbrev pub dirty_after : Bool → LinkError → Bool
-dirty_after dirty (Fault fault labels) = true
+dirty_after dirty (Fault fault labels) = if is_network fault then true else dirty
 dirty_after dirty Memory = dirty
 
 -- the insert of a placed document under a session and its number
 abbrev pub send_under : Session → PlacedWrite → Send
 send_under session write = insert_one_send session.id session.number write.written.namespace write.written.document write.place
 
--- a send went out, and where the link tells its server it was answered
+-- a send went out and got the reply that tells of an insert that was done
+pub record WasDone (told : Told) (now : Option Told) (send : Send) : Type 0 where
+  pub reply : List (Pair Bson)
+  pub sent : now ≡ Some (told_after told send)
+  pub is : told_answer told send ≡ Some reply
+  pub done : is_done_reply reply ≡ true
+
+-- the same where the link tells its server
 abbrev pub HasAnswer : Option Told → Option Told → Send → Type 0
 HasAnswer None now send = now ≡ None
-HasAnswer (Some told) now send = (now ≡ Some (told_after told send)) × IsSome (told_answer told send)
+HasAnswer (Some told) now send = WasDone told now send
 
 -- a send went out or did not
 abbrev pub MaySend : Option Told → Option Told → Send → Type 0
@@ -90,7 +102,7 @@ pub record WasDenied (told : Told) (now : Option Told) (send : Send) : Type 0 wh
 -- what an error of an attempt tells of a link that tells its server
 abbrev pub Explains : Option Told → Option Told → Session → Session → PlacedWrite → ErrorKind → Type 0
 Explains None now session back write why = Unit {0}
-Explains (Some told) now session back write (kind.Io io) = WasLost told now (send_under back write)
+Explains (Some told) now session back write (kind.Io io) = Raises session back × WasLost told now (send_under back write)
 Explains (Some told) now session back write (kind.BsonSerialization fault) = BodyRefused write.written.namespace fault
 Explains (Some told) now session back write (kind.Internal message) = session.number ≡ last_number
 Explains (Some told) now session back write (kind.InvalidResponse message) = Raises session back × WasDenied told now (send_under back write)
@@ -102,9 +114,10 @@ abbrev pub Attempts : Option Told → Option Told → Session → Session → Pl
 Attempts old now session back write None = Raises session back × HasAnswer old now (send_under back write)
 Attempts old now session back write (Some why) = MayAttempt old now session back write × Explains old now session back write why.kind
 
--- a session was lent for an attempt and came back
+-- a session was lent for an attempt and came back; before it calls of the link were counted
 pub record Turn (store store_now : Option ToldStore) (link link_now : Option Told) (write : PlacedWrite) (ended : Option Failure) : Type 0 where
   pub lent : Option ToldStore
+  pub mid : Option Told
   pub caller : ℕ
   pub out_at : ℕ
   pub back_at : ℕ
@@ -113,21 +126,24 @@ pub record Turn (store store_now : Option ToldStore) (link link_now : Option Tol
   pub lends : Lends store lent caller out_at session
   pub takes : TakesBack lent store_now caller back back_at
   pub id : back.id ≡ session.id
-  pub attempt : Attempts link link_now session back write ended
+  pub reached : OnlyCounts link mid
+  pub attempt : Attempts mid link_now session back write ended
 
--- why an error came before a session was lent, over a link that tells its server: something was refused, or
--- there was no memory
+-- why an error came before a session was lent, over a link that tells its server: something was refused, the
+-- schedule lists a call that fails, or there was no memory
 abbrev pub ComesEarly : Option Told → (ErrorKind → Type 0) → ErrorKind → Type 0
 ComesEarly None early why = Unit {0}
+ComesEarly (Some told) early (kind.Io io) = FailsNothing told.schedule → ⊥
+ComesEarly (Some told) early (kind.ServerSelection message) = FailsNothing told.schedule → ⊥
 ComesEarly (Some told) early (kind.InvalidArgument message) = early (kind.InvalidArgument message)
 ComesEarly (Some told) early (kind.BsonSerialization fault) = early (kind.BsonSerialization fault)
 ComesEarly (Some told) early kind.Memory = Unit {0}
 ComesEarly (Some told) early _ = ⊥
 
--- nothing that is told changed, and the error has its reason
+-- nothing was lent or sent, and the error has its reason
 pub record Unsent (store store_now : Option ToldStore) (link link_now : Option Told) (early : ErrorKind → Type 0) (why : ErrorKind) : Type 0 where
   pub store_stays : StaysTold store store_now
-  pub link_stays : link_now ≡ link
+  pub link_stays : OnlyCounts link link_now
   pub reason : ComesEarly link early why
 
 -- one turn of a write; an error may come before a session is lent

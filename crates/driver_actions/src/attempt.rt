@@ -2,7 +2,7 @@
 ghost use Rattle.std.specs.Prelude.{◌≡◌, IfOk, Some};
 ghost use Rattle.bson_lite.specs.Spelling.{Spells};
 ghost use Rattle.driver_actions.specs.Turns.{Attempts, Turns, IsFailure, fault_kind, dirty_after};
-ghost use Rattle.driver_actions.specs.Causes.{Caused, refused_body, next_number, end_of, labels_by};
+ghost use Rattle.driver_actions.specs.Causes.{Caused, refused_body, next_number, end_of, labels_by, is_network, is_of_write};
 
 use crate::insert::{insert_frame, read_insert_reply};
 use crate::session::ServerSession;
@@ -17,7 +17,7 @@ fn link_error(alloc: Global, call: LinkCall, failure: LinkError) -> Error
     ensures { IsFailure call failure result }
 {
     match failure {
-        LinkError::Fault { fault, labels } => match labels_by(alloc, call, labels) {
+        LinkError::Fault { fault, labels } => match labels_by(alloc, call, &fault, labels) {
             Ok(labels) => Error::new(alloc, fault_kind(fault), labels.as_slice()),
             Err(AllocError) => Error::from_kind(ErrorKind::Memory),
         },
@@ -29,18 +29,36 @@ fn link_error(alloc: Global, call: LinkCall, failure: LinkError) -> Error
 fn labels_by(
     alloc: Global,
     call: LinkCall,
+    fault: &LinkFault,
     own: List<Text>,
 ) -> std::result::Result<List<Text>, AllocError>
-    ensures { IfOk result (λ labels. labels ≡ labels_by call own) }
+    ensures { IfOk result (λ labels. labels ≡ labels_by call fault.now own) }
 {
     let mut labels = own;
-    match call {
-        LinkCall::Select => {}
-        LinkCall::CheckOut | LinkCall::Exchange => {
-            labels.push(Text::from_str(alloc, RETRYABLE_WRITE_ERROR)?)?;
-        }
+    if is_of_write(call) && is_network(fault) {
+        labels.push(Text::from_str(alloc, RETRYABLE_WRITE_ERROR)?)?;
     }
     Ok(labels)
+}
+
+/// Whether a write may be tried again after a failure of this call.
+fn is_of_write(call: LinkCall) -> bool
+    ensures { result ≡ is_of_write call }
+{
+    match call {
+        LinkCall::CheckOut | LinkCall::Exchange => true,
+        _ => false,
+    }
+}
+
+/// Whether the network failed, or the connections were given up.
+fn is_network(fault: &LinkFault) -> bool
+    ensures { result ≡ is_network fault.now }
+{
+    match fault {
+        LinkFault::Io(_) | LinkFault::PoolCleared(_) => true,
+        _ => false,
+    }
 }
 
 fn fault_kind(fault: LinkFault) -> ErrorKind
@@ -48,6 +66,9 @@ fn fault_kind(fault: LinkFault) -> ErrorKind
 {
     match fault {
         LinkFault::Io(kind) => ErrorKind::Io(kind),
+        LinkFault::PoolCleared(message) => ErrorKind::ConnectionPoolCleared { message },
+        LinkFault::Selection(message) => ErrorKind::ServerSelection { message },
+        LinkFault::Authentication(message) => ErrorKind::Authentication { message },
     }
 }
 
@@ -55,8 +76,10 @@ fn fault_kind(fault: LinkFault) -> ErrorKind
 fn mark_failure(session: &mut ServerSession, failure: &LinkError)
     ensures { session.new ≡ record session.old { dirty = dirty_after session.old.dirty failure.now } }
 {
-    if let LinkError::Fault { .. } = failure {
-        session.mark_dirty();
+    if let LinkError::Fault { fault, .. } = failure {
+        if is_network(fault) {
+            session.mark_dirty();
+        }
     }
 }
 

@@ -91,7 +91,7 @@ module _ (trace : List Send) (send : Send) (orderly : IsOrderly (trace ++ send �
   }
 
   -- the send joins the trace
-  longer : (server : Server) → IsSettled trace server → IsSettled (trace ++ send ∷ []) (traced server send)
+  pub longer : (server : Server) → IsSettled trace server → IsSettled (trace ++ send ∷ []) (traced server send)
   longer server settled = record {
     waiting = λ at other is. has_left trace (send ∷ []) other (settled.waiting at other is);
     sessions = λ id known is. longer_session server.log id known (settled.sessions id known is);

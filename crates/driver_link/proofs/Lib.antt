@@ -8,3 +8,4 @@ pub mod Plain
 pub mod Exchanged
 pub mod Growing
 pub mod Replying
+pub mod Replaying

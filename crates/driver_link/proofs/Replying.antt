@@ -77,6 +77,15 @@ one_planned send write one server plan =
     both_nothing true = refl
     both_nothing false = refl
 
+-- the reply to one insert whose number is not below the greatest
+pub served_one : (send : Send) (write : PlacedWrite) (one : IsOneInsert send write) (server : Server) (plan : Plan)
+    → is_below one.plain.number (finite.get server.sessions one.plain.id) ≡ false
+    → served_reply plan server send ≡ one_reply plan server write (one_statement send one.plain server plan write)
+served_one send write one server plan above =
+    reply_above send one.plain server plan above
+    ∙ ap (λ done. body_reply send.body plan server.cursors done) (one_planned send write one server plan)
+    ∙ ap (λ body. body_reply body plan server.cursors (one_statement send one.plain server plan write ∷ [])) one.body
+
 -- the reply to one insert that is served by a plan
 pub record IsServed (send : Send) (write : PlacedWrite) (one : IsOneInsert send write) (server : Server) (plan : Plan) (found : Reply) : Type 0 where
   pub above : is_below one.plain.number (finite.get server.sessions one.plain.id) ≡ false
@@ -89,13 +98,7 @@ by_plan send write one server plan found is =
     as (λ b. is_below one.plain.number (finite.get server.sessions one.plain.id) ≡ b → IsError found ⊎ IsServed send write one server plan found) [
       | true ↦ λ below. inl (record { code = transaction_too_old; labels = []; is = is ∙ reply_below send one.plain server plan below })
       | false ↦ λ above.
-          inr (record {
-            above = above;
-            is =
-                is ∙ reply_above send one.plain server plan above
-                ∙ ap (λ done. body_reply send.body plan server.cursors done) (one_planned send write one server plan)
-                ∙ ap (λ body. body_reply body plan server.cursors (one_statement send one.plain server plan write ∷ [])) one.body;
-          })
+          inr (record { above = above; is = is ∙ served_one send write one server plan above })
     ] refl
 
 interrupted_is_error : (most : ℕ) (code : ℤ) (labels : List (List ℕ)) (send : Send) (plain : IsPlain send) (server : Server) → IsError (interrupted_reply most code labels server send)

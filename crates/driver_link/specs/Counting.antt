@@ -71,3 +71,20 @@ Counts next fault (Some told) now (Ok given) = (now ≡ Some (next told)) × (fa
 Counts next fault (Some told) now (Err (Fault found labels)) =
     (now ≡ Some (next told)) × (fault told ≡ Some (record { fault = found; labels = labels }))
 Counts next fault (Some told) now (Err Memory) = (now ≡ Some told) ⊎ (now ≡ Some (next told))
+
+-- only calls were counted: the server, its setup and its schedule are as before
+pub record KeepsServer (old now : Told) : Type 0 where
+  pub server : now.server ≡ old.server
+  pub setup : now.setup ≡ old.setup
+  pub schedule : now.schedule ≡ old.schedule
+
+abbrev pub OnlyCounts : Option Told → Option Told → Type 0
+OnlyCounts None now = now ≡ None
+OnlyCounts (Some told) None = ⊥
+OnlyCounts (Some told) (Some now) = KeepsServer told now
+
+-- no selection and no check-out is listed to fail
+pub record FailsNothing (schedule : Schedule) : Type 0 where
+  pub selects : schedule.selects ≡ []
+  pub check_outs : schedule.check_outs ≡ []
+  pub overloaded : schedule.overloaded_check_outs ≡ []
