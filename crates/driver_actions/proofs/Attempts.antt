@@ -61,8 +61,7 @@ reads_under frame id number old now write bytes numbers is_id built spelled =
 
 -- bytes spell one document alone
 spells_one : (a b : List (Pair Bson)) (bytes : List ℕ) → Spells a bytes → Spells b bytes → a ≡ b
-spells_one a b bytes first second =
-    let same : Ok {E = ℕ} a ≡ Ok b = sym (read_again a first.has) ∙ ap read (sym first.is ∙ second.is) ∙ read_again b second.has in cc same
+spells_one a b bytes first second = cc (sym (read_again a first.has) ∙ ap read (sym first.is ∙ second.is) ∙ read_again b second.has)
 
 -- bytes of a told reply
 module _ (told : Told) (now : Option Told) (send : Send) (bytes : List ℕ) where
@@ -241,23 +240,20 @@ check_out_gives : (told : Told) (found : LinkFault) (own : List (List ℕ)) → 
     → Gives told (Io ConnectionRefused) found
 check_out_gives told found own is = by_overload (is_listed told.schedule.overloaded_check_outs told.counts.check_outs) refl is
   where
-    abbrev given_fault : Listed
-    given_fault = record { fault = found; labels = own }
-
     by_test : (b : Bool) → is_listed told.schedule.check_outs told.counts.check_outs ≡ b
-        → fault_where b (Io ConnectionRefused) [] None ≡ Some given_fault → Gives told (Io ConnectionRefused) found
+        → fault_where b (Io ConnectionRefused) [] None ≡ Some (record { fault = found; labels = own }) → Gives told (Io ConnectionRefused) found
     by_test true test given = record {
-      fault = sym (ap (λ l. l.fault) (one_listed (record { fault = Io ConnectionRefused; labels = [] }) given_fault given));
+      fault = sym (ap (λ l. l.fault) (one_listed (record { fault = Io ConnectionRefused; labels = [] }) (record { fault = found; labels = own }) given));
       listed = λ nothing. differ (sym test ∙ ap (λ numbers. is_listed numbers told.counts.check_outs) nothing.check_outs);
     }
-    by_test false test given = absurd (none_listed given_fault given)
+    by_test false test given = absurd (none_listed (record { fault = found; labels = own }) given)
 
     by_overload : (b : Bool) → is_listed told.schedule.overloaded_check_outs told.counts.check_outs ≡ b
         → fault_where b (Io ConnectionRefused) overload_labels
-          (fault_where (is_listed told.schedule.check_outs told.counts.check_outs) (Io ConnectionRefused) [] None) ≡ Some given_fault
+        (fault_where (is_listed told.schedule.check_outs told.counts.check_outs) (Io ConnectionRefused) [] None) ≡ Some (record { fault = found; labels = own })
         → Gives told (Io ConnectionRefused) found
     by_overload true test given = record {
-      fault = sym (ap (λ l. l.fault) (one_listed (record { fault = Io ConnectionRefused; labels = overload_labels }) given_fault given));
+      fault = sym (ap (λ l. l.fault) (one_listed (record { fault = Io ConnectionRefused; labels = overload_labels }) (record { fault = found; labels = own }) given));
       listed = λ nothing. differ (sym test ∙ ap (λ numbers. is_listed numbers told.counts.check_outs) nothing.overloaded);
     }
     by_overload false test given = by_test (is_listed told.schedule.check_outs told.counts.check_outs) refl given

@@ -20,7 +20,7 @@ use Rattle.driver_link.specs.declared.fault.LinkError.TheVariants.{Fault, Memory
 use Rattle.driver_link.specs.declared.fault.LinkFault.{LinkFault}
 use Rattle.driver_link.specs.declared.fault.LinkFault.TheVariants.{Io, PoolCleared, Selection, Authentication}
 use Rattle.driver_link.specs.Faults.{HasLinkCause, Rose}
-use Rattle.driver_link.specs.Told.{Notes, noted, reply_noted}
+use Rattle.driver_link.specs.Told.{Notes, noted, nothing_noted, reply_noted}
 use Rattle.driver_actions.specs.Causes.{Failure, failure_of, KindNeeds, KindAtLast, EndNeeds, EndAtLast, AllEarly, MayBeLast, IsLast, Refused, never, refused_body, refused_insert, next_number, lent_number, labels_by, Caused, TellsOwnRefusal}
 use Rattle.driver_actions.specs.Inputs.{InputRefused, TellsInput}
 use Rattle.driver_actions.specs.Inserts.{TellsRefusal, TellsNoReply, ReadsReply, insert_body}
@@ -230,6 +230,31 @@ pub caused_check_out : (before now : ℕ) (answers answers_now : Option (List An
 caused_check_out before now answers answers_now number refused failure error cause noted is =
     caused_failure before now answers answers_now number refused CheckOut failure error cause noted is
     (λ last. ((early_items failure).1, early_kind CheckOut failure error refused.early is))
+
+-- the end where a check-out failed after a selection that did not
+module _ (start before now : ℕ) (answers mid answers_now : Option (List Answered)) (number : Option ℤ) (refused : Refused) (error : Error) (later : start ≤ before)
+    (same : Notes answers mid []) (A : Type 0) where
+  notes_mid : (answers mid : Option (List Answered)) (items : List Answered) → Notes answers mid [] → Notes mid answers_now items → Notes answers answers_now items
+  notes_mid None mid items same noted = subst (λ told. Notes told answers_now items) same noted
+  notes_mid (Some told) mid items same noted =
+      subst (λ all. Notes (Some all) answers_now items) (append-nil told) (subst (λ told. Notes told answers_now items) same noted)
+
+  rose_since : Rose before now → Rose start now
+  rose_since rose = omega arith
+
+  check_out_cause : (failure : LinkError) → HasLinkCause {A = A} before now (Err failure) → HasLinkCause {A = Unit {0}} start now (Err failure)
+  check_out_cause (Fault fault own) cause = (rose_since cause.0, omega (arith, cause.1))
+  check_out_cause Memory cause = omega (arith, cause)
+
+  check_out_noted : (failure : LinkError) → Notes mid answers_now (noted {A = A} CheckOut nothing_noted (Err failure)) → Notes answers answers_now (failure_noted CheckOut failure)
+  check_out_noted (Fault fault own) noted = notes_mid answers mid (answer.Fault CheckOut fault own ∷ []) same noted
+  check_out_noted Memory noted = notes_mid answers mid [] same noted
+
+  pub caused_check_out_since : (failure : LinkError) → HasLinkCause {A = A} before now (Err failure)
+      → Notes mid answers_now (noted {A = A} CheckOut nothing_noted (Err failure)) → IsFailure CheckOut failure error
+      → Caused start now answers answers_now number refused (Some (failure_of error))
+  caused_check_out_since failure cause noted is =
+      caused_check_out start now answers answers_now number refused failure error (check_out_cause failure cause) (check_out_noted failure noted) is
 
 kind_under : (before now : ℕ) (items : List Answered) (number next : Option ℤ) (refused : Refused) (labels : LabelSet) (why : ErrorKind)
     → (MayBeLast number → MayBeLast next) → KindNeeds before now items number refused labels why → KindNeeds before now items next refused labels why

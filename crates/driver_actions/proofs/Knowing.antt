@@ -154,7 +154,7 @@ module _ (trace : List Send) (sent : Send) (id : List ℕ) (number : ℤ) (under
       | inl same ↦
           let here : IsUnder other n sent = subst (λ s. IsUnder other n s) (sym same) is in
           absurd (differs (one_session sent other id here.session under.session))
-      | inr no ↦ absurd no
+      | inr nothing ↦ absurd nothing
     ]
   ]
 

@@ -7,7 +7,7 @@ use Rattle.driver_link.specs.declared.machine.Place.{Place}
 use Rattle.driver_link.specs.declared.machine.PlacedWrite.{PlacedWrite}
 use Rattle.driver_link.specs.declared.machine.Send.{Send}
 use Rattle.driver_link.specs.declared.machine.Written.{Written}
-use Rattle.driver_link.specs.Told.{Told, IsFresh}
+use Rattle.driver_link.specs.Told.{Told, IsFresh, told_after}
 use Rattle.driver_actions.specs.declared.call.Answer.{Answer}
 use Rattle.driver_actions.specs.declared.call.Answer.TheVariants as answer
 use Rattle.driver_actions.specs.declared.call.Call.{Call}
@@ -88,7 +88,7 @@ counted_then_moves (Some told) (Some mid) (Some now) keeps moves = record {
     | inr sent ↦ inr (
       sent.0,
       sent.1 ∙ ap (λ schedule. exchanged mid.server sent.0 (next_step schedule mid.server)) keeps.schedule
-      ∙ ap (λ server. exchanged server sent.0 (next_step told.schedule server)) keeps.server,
+          ∙ ap (λ server. exchanged server sent.0 (next_step told.schedule server)) keeps.server,
     )
   ];
 }

@@ -13,6 +13,7 @@ use Rattle.driver_link.specs.declared.machine.PlacedWrite.{PlacedWrite}
 use Rattle.driver_link.specs.declared.machine.KnownSession.{KnownSession}
 use Rattle.driver_link.specs.declared.machine.Send.{Send}
 use Rattle.driver_link.specs.declared.machine.Server.{Server}
+use Rattle.driver_link.specs.declared.machine.Written.{Written}
 use Rattle.driver_link.specs.Cases.{writes_of}
 use Rattle.driver_link.specs.Exchange.{after_picks, empty_server}
 use Rattle.driver_link.specs.Once.{Once}
@@ -232,8 +233,8 @@ ran_holds calls outcomes pool server count ran = record {
   one_each = count;
   once = λ picks. (after_settled server.trace server picks ran.sound.orderly ran.sound.settled).once;
   mine = λ picks. mine_all calls (after_picks server picks).log (λ entry has.
-    own_origin calls server.trace (after_picks server picks) entry ran.own
-    ((after_settled server.trace server picks ran.sound.orderly ran.sound.settled).origin entry has));
+      own_origin calls server.trace (after_picks server picks) entry ran.own
+      ((after_settled server.trace server picks ran.sound.orderly ran.sound.settled).origin entry has));
   done = ran.answered.done;
   result = ran.answered.result;
 }

@@ -1,7 +1,7 @@
 -- What a reply tells of the insert that was sent: where it tells of one that was done the entry stands, and a send
 -- that is served as usual gets such a reply.
 use Rattle.std.proofs.Common.{◌≡◌, ℕ, Bool, true, false, cond, List, [], ◌∷◌, ◌++◌, refl, sym, ap, subst, ◌∙◌, inl, inr, arith}
-use Rattle.std.specs.Prelude.{ℤ, pos, ◌+ℤ◌, ◌<ℤ◌, ◌≤ℤ◌, int_lt, Option, None, Some, ◌⊎◌, IsSome}
+use Rattle.std.specs.Prelude.{ℤ, pos, ◌+ℤ◌, ◌<ℤ◌, ◌≤ℤ◌, int_lt, Option, None, Some, ◌⊎◌, IsSome, if◌then◌else◌}
 use Rattle.std.specs.FinMap as finite
 use Rattle.std.specs.Ordering.{nat_cmp}
 use Rattle.std.proofs.lemmas.Int.{ints}
@@ -30,7 +30,7 @@ use Rattle.driver_link.specs.Cursors.{Reply}
 use Rattle.driver_link.specs.Exchange.{after_picks, answered, exchanged, met, plan_of, reply, traced}
 use Rattle.driver_link.specs.Numbers.{reply_number}
 use Rattle.driver_link.specs.Replies.{error_reply, sum_of, write_errors, write_reply}
-use Rattle.driver_link.specs.Serving.{Plan, served, served_reply}
+use Rattle.driver_link.specs.Serving.{Plan, served}
 use Rattle.driver_link.specs.Sessions.{begun, is_below, taken}
 use Rattle.driver_link.specs.Settled.{Has, IsOrderly, IsPlain, IsSettled}
 use Rattle.driver_link.specs.Statements.{code_at, counted, entry_of, no_results, planned_at, statement_of}
@@ -42,7 +42,7 @@ use Rattle.driver_actions.specs.Inserts.{IsGentleItem, insert_one_send, insert_w
 use Rattle.driver_actions.proofs.Knowing.{SentUpTo}
 
 -- the send of one insert
-pub one_insert : (id : List ℕ) (number : ℤ) (namespace : Namespace) (document : List (Pair Bson)) (place : Place)
+abbrev pub one_insert : (id : List ℕ) (number : ℤ) (namespace : Namespace) (document : List (Pair Bson)) (place : Place)
     → IsOneInsert (insert_one_send id number namespace document place) (insert_write namespace document place)
 one_insert id number namespace document place = record {
   plain = record { id = id; number = number; session = refl; numbered = refl; outside = refl; writes = tt };
@@ -142,11 +142,12 @@ module _ (trace : List Send) (server : Server) (send : Send) (write : PlacedWrit
     unfolding reply
     gentle_by (Serve results fail concern page) gentle =
         let plan = plan_of results fail concern page in
-        let one_done = counted write.written.kind (planned_at results 0) in
-        (
+        let one_done = counted write.written.kind (planned_at results 0) in (
           one_reply plan before write (Ran one_done),
-          ap (λ r. Some r) (served_one send write one before plan begins.0 ∙ ap (one_reply plan before write) (runs plan gentle.0)),
-          ran_done plan before write one_done gentle.2,
+          (
+            ap (λ r. Some r) (served_one send write one before plan begins.0 ∙ ap (one_reply plan before write) (runs plan gentle.0)),
+            ran_done plan before write one_done gentle.2,
+          ),
         )
     gentle_by Lost gentle = absurd gentle
     gentle_by Late gentle = absurd gentle

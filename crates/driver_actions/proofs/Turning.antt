@@ -1,6 +1,6 @@
 -- One turn of a write over a told store and a told server: its send joins the trace, and where it is done its entry
 -- stands.
-use Rattle.std.proofs.Common.{◌≡◌, ℕ, ◌+◌, Bool, true, List, [], ◌∷◌, ◌++◌, refl, sym, ap, subst, ◌∙◌, inl, inr, arith}
+use Rattle.std.proofs.Common.{◌≡◌, ℕ, ◌+◌, Bool, true, false, List, [], ◌∷◌, ◌++◌, refl, sym, ap, subst, ◌∙◌, inl, inr, arith}
 use Rattle.std.specs.Prelude.{ℤ, pos, ◌+ℤ◌, ◌<ℤ◌, ◌≤ℤ◌, Option, None, Some, ◌⊎◌}
 use Rattle.std.proofs.lemmas.Int.{ints}
 use Rattle.bson_lite.specs.declared.bson.Bson.{Bson}
