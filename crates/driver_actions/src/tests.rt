@@ -5,7 +5,7 @@ use crate::outside::Outside;
 use crate::plain::PlainStore;
 use crate::run::run_calls;
 use bson_lite::{Bson, Bytes, Document, EncodeFault, List, Namespace, Text, TryClone};
-use driver_error::ErrorKind;
+use driver_error::{Error, ErrorKind};
 use driver_link::{
     Address, Answered, ClientOptions, Conn, CountingIds, Description, Frame, Link, LinkError,
     MemClock, Place, SelectionCriteria,
@@ -27,7 +27,13 @@ impl Link for OneReply {
 
     ghost told = { λ link. None };
 
+    ghost setup = { λ link. None };
+
     ghost answers = { λ link. Some link.answered };
+
+    ghost frames = { λ link. None };
+
+    ghost asked = { λ link. None };
 
     ghost faults = { λ link. 0 };
 
@@ -39,6 +45,18 @@ impl Link for OneReply {
     ) -> Result<Address, LinkError> {
         let host = Text::from_str(alloc, "test")?;
         Ok(Address { host, port: 1 })
+    }
+
+    fn is_sharded(&self) -> bool {
+        false
+    }
+
+    fn session_timeout_ms(&self) -> Option<u64> {
+        None
+    }
+
+    fn transaction_support(&mut self, _alloc: Global) -> Result<bool, LinkError> {
+        Ok(true)
     }
 
     fn check_out(&mut self, alloc: Global, address: &Address) -> Result<Conn, LinkError> {
@@ -66,7 +84,13 @@ impl Link for OneReply {
         Ok(reply)
     }
 
+    fn reauthenticate(&mut self, _alloc: Global, _conn: &Conn) -> Result<(), LinkError> {
+        Ok(())
+    }
+
     fn check_in(&mut self, _conn: Conn) {}
+
+    fn report(&mut self, _address: &Address, _error: &Error) {}
 }
 
 fn description() -> Description {

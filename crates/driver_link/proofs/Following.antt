@@ -39,13 +39,14 @@ pub follows_statements : (results : List Planned) (fail : List Failing) (ordered
     → Follows kept at writes (statements results fail ordered kept at writes)
 unfolding statements
 follows_statements results fail ordered kept at [] = tt
-follows_statements results fail ordered kept at (write ∷ writes) =
-    (fits_of (finite.get kept at) (code_at fail at) (counted write.written.kind (planned_at results at)),
-    elim (ordered && is_failed (statement_at results fail kept at write))
-    as (λ stop. Follows kept (at + 1) writes (cond stop [] (statements results fail ordered kept (at + 1) writes))) [
-      | true ↦ nothing (at + 1) writes
-      | false ↦ follows_statements results fail ordered kept (at + 1) writes
-    ])
+follows_statements results fail ordered kept at (write ∷ writes) = (
+  fits_of (finite.get kept at) (code_at fail at) (counted write.written.kind (planned_at results at)),
+  elim (ordered && is_failed (statement_at results fail kept at write))
+      as (λ stop. Follows kept (at + 1) writes (cond stop [] (statements results fail ordered kept (at + 1) writes))) [
+        | true ↦ nothing (at + 1) writes
+        | false ↦ follows_statements results fail ordered kept (at + 1) writes
+      ],
+)
   where
     nothing : (at : ℕ) (writes : List PlacedWrite) → Follows kept at writes []
     nothing at [] = tt

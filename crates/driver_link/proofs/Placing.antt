@@ -22,9 +22,10 @@ none_append place (entry ∷ log) more none rest = (none.0, none_append place lo
 -- two logs without a common place
 pub once_append : (log more : List Entry) → Once log → Once more → ((a b : Entry) → Has log a → Has more b → a.place ≢ b.place) → Once (log ++ more)
 once_append [] more once rest apart = rest
-once_append (entry ∷ log) more once rest apart =
-    (none_append entry.place log more once.0 (none_at entry.place more (λ other has same. apart entry other (inl refl) has (sym same))),
-    once_append log more once.1 rest (λ a b left right. apart a b (inr left) right))
+once_append (entry ∷ log) more once rest apart = (
+  none_append entry.place log more once.0 (none_at entry.place more (λ other has same. apart entry other (inl refl) has (sym same))),
+  once_append log more once.1 rest (λ a b left right. apart a b (inr left) right),
+)
 
 -- the places of writes differ
 abbrev pub AllPlaces : List PlacedWrite → Type 0
@@ -41,9 +42,10 @@ once_entries session number [] done apart = tt
 once_entries session number (write ∷ writes) [] apart = tt
 once_entries session number (write ∷ writes) (Kept result ∷ done) apart = once_entries session number writes done (tail_places write writes apart)
 once_entries session number (write ∷ writes) (Failed code ∷ done) apart = once_entries session number writes done (tail_places write writes apart)
-once_entries session number (write ∷ writes) (Ran result ∷ done) apart =
-    (none_at write.place (entries_of session number writes done) (λ other has same.
-        let is = entry_from session number writes done other has in
-        let place : is.write.place ≡ write.place = sym (ap (λ e. e.place) is.is) ∙ same in
-        let e = apart 0 (suc is.at) write is.write refl is.stands (sym place) in absurd (omega (arith, e))),
-    once_entries session number writes done (tail_places write writes apart))
+once_entries session number (write ∷ writes) (Ran result ∷ done) apart = (
+  none_at write.place (entries_of session number writes done) (λ other has same.
+      let is = entry_from session number writes done other has in
+      let place : is.write.place ≡ write.place = sym (ap (λ e. e.place) is.is) ∙ same in
+      let e = apart 0 (suc is.at) write is.write refl is.stands (sym place) in absurd (omega (arith, e))),
+  once_entries session number writes done (tail_places write writes apart),
+)

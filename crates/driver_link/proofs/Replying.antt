@@ -206,7 +206,7 @@ module _ (send : Send) (write : PlacedWrite) (one : IsOneInsert send write) (ser
   stands_or_failed =
       elim (one_statement send one.plain server plan write)
       as (λ s. one_statement send one.plain server plan write ≡ s → ((code : ℤ) × (one_statement send one.plain server plan write ≡ Failed code))
-        ⊎ StandsFor send write one.plain (served plan server send).log) [
+      ⊎ StandsFor send write one.plain (served plan server send).log) [
         | Kept result ↦ λ is. inr (stands_kept result is)
         | Ran result ↦ λ is. inr (stands_ran result is)
         | Failed code ↦ λ is. inl (code, is)

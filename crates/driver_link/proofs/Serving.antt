@@ -237,8 +237,10 @@ module _ (trace : List Send) (send : Send) (id : List ℕ) (number : ℤ) (known
     is = new.is;
     is_known = known_here;
     has_run =
-        inr (sym (runs.greatest ∙ is_taken.greatest),
-        ap is_some (ap (λ kept. finite.get kept new.at) runs.kept ∙ at_zero new.at ∙ kept_ran known.kept 0 done new.at new.result new.ran));
+        inr (
+          sym (runs.greatest ∙ is_taken.greatest),
+          ap is_some (ap (λ kept. finite.get kept new.at) runs.kept ∙ at_zero new.at ∙ kept_ran known.kept 0 done new.at new.result new.ran),
+        );
   }
     where
       at_zero : (k : ℕ) → finite.get (kept_with known.kept 0 done) k ≡ finite.get (kept_with known.kept 0 done) (0 + k)

@@ -149,10 +149,10 @@ first_value (statement ∷ done) = value_of_result (result_of statement)
 abbrev pub cursor_field : List ℕ → ℕ → List Reply → Pair Bson
 cursor_field batch number page =
     field CURSOR.now (bson.Document (
-      field CURSOR_ID.now (reply_count number)
-      ∷ field CURSOR_NAMESPACE.now (bson.String BULK_NAMESPACE.now)
-      ∷ field batch (bson.Array (map (λ result. bson.Document result) page))
-      ∷ []))
+    field CURSOR_ID.now (reply_count number)
+    ∷ field CURSOR_NAMESPACE.now (bson.String BULK_NAMESPACE.now)
+    ∷ field batch (bson.Array (map (λ result. bson.Document result) page))
+    ∷ []))
 
 -- the counts of a bulk write's reply, and its cursor
 abbrev pub bulk_fields : Option ℕ → List (Option (List Reply)) → List PlacedWrite → List Statement → Reply

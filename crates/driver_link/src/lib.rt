@@ -5,6 +5,7 @@
 pub mod by_id;
 pub mod clock;
 pub mod command;
+mod copy;
 pub mod counting_ids;
 pub mod fault;
 pub mod frame;
@@ -26,10 +27,13 @@ pub use frame::{Documents, Frame, Sequence};
 pub use ids::IdSource;
 pub use link::Link;
 pub use machine::{
-    Counted, Entry, Failing, Item, KnownSession, Place, PlacedWrite, Planned, PlannedConcern, Schedule, Scheduled, Send,
-    SendBody, SendCommand, Server, ServerTransaction, Setup, Statement, WriteKind, Written,
+    Counted, Entry, Failing, Item, KnownSession, Place, PlacedWrite, Planned, PlannedConcern,
+    Schedule, Scheduled, Send, SendBody, SendCommand, Server, ServerTransaction, Setup, Statement,
+    WriteKind, Written,
 };
 pub use mem_clock::MemClock;
 pub use mem_stream::{MemSink, MemSource};
-pub use options::{Address, Asked, ClientOptions, Conn, Description, ReadPreference, SelectionCriteria};
+pub use options::{
+    Address, Asked, ClientOptions, Conn, Description, ReadPreference, SelectionCriteria,
+};
 pub use stream::{Failed, Sink, Source};

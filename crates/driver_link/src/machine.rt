@@ -69,9 +69,13 @@ pub enum SendBody {
     Commit,
     Abort,
     /// The next page of a cursor's results.
-    More { cursor: i64 },
+    More {
+        cursor: i64,
+    },
     /// An end to a cursor.
-    Kill { cursor: i64 },
+    Kill {
+        cursor: i64,
+    },
 }
 
 /// One command as the server sees it.
@@ -199,7 +203,10 @@ pub enum Item {
     },
     /// Nothing runs, and an error is answered. No number is taken, but where the answer is that the
     /// send's transaction is transient: then its number is taken and its transaction aborted.
-    Refused { code: i32, labels: List<Text> },
+    Refused {
+        code: i32,
+        labels: List<Text>,
+    },
     /// Nothing runs, and the reply asks for another authentication.
     Reauthenticate,
 }
