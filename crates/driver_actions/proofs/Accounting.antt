@@ -29,19 +29,20 @@ use Rattle.driver_actions.specs.declared.call.Call.TheVariants.{Single}
 use Rattle.driver_actions.specs.declared.call.Outcome.{Outcome}
 use Rattle.driver_actions.specs.declared.call.SingleWrite.TheVariants.{InsertOne}
 use Rattle.driver_actions.specs.Calls.{inserted}
-use Rattle.driver_actions.specs.Causes.{Failure, failure_of}
+use Rattle.driver_exec.specs.Causes.{Failure, failure_of}
 use Rattle.driver_actions.specs.Inputs.{InputRefused}
-use Rattle.driver_actions.specs.Inserts.{insert_body, is_done_reply}
+use Rattle.driver_exec.specs.Inserts.{insert_body, is_done_reply}
 use Rattle.driver_actions.specs.MainTheorem.{Completes, EndsWell, IsValid, IsValidInsert, HasWriteOf}
-use Rattle.driver_actions.specs.Pool.{Pool, ToldStore, AllApart, empty_pool}
-use Rattle.driver_actions.specs.Session.{Session, last_number}
-use Rattle.driver_actions.specs.Turns.{Turn, Made, Makes, MakesCall, Explains, ComesEarly, WasLost, send_under}
-use Rattle.driver_actions.proofs.Knowing.{Between}
+use Rattle.driver_exec.specs.Pool.{Pool, ToldStore, AllApart, empty_pool}
+use Rattle.driver_exec.specs.Session.{Session, last_number}
+use Rattle.driver_exec.specs.Turns.{Turn, Explains, ComesEarly, WasLost, send_under}
+use Rattle.driver_actions.specs.Turns.{Made, Makes, MakesCall}
+use Rattle.driver_exec.proofs.Knowing.{Between}
 use Rattle.driver_actions.proofs.Logging.{first_place}
-use Rattle.driver_actions.proofs.Moving.{Moves}
-use Rattle.driver_actions.proofs.Numbering.{NumbersWithin, turn_within, within_staying}
+use Rattle.driver_exec.proofs.Moves.{Moves}
+use Rattle.driver_exec.proofs.Numbering.{NumbersWithin, turn_within, within_staying}
 use Rattle.driver_actions.proofs.Refusals.{accepted_not_refused}
-use Rattle.driver_actions.proofs.Turning.{lent_of, answer_is, is_done_one}
+use Rattle.driver_exec.proofs.Turning.{lent_of, answer_is, is_done_one}
 
 -- a send of a call was lost
 pub record LostSend (schedule : Schedule) (trace : List Send) (call : ℕ) : Type 0 where

@@ -1,16 +1,7 @@
-pub mod Frames
-pub mod DoneReplies
-pub mod Attempts
 pub mod Making
-pub mod Drawing
 pub mod Moving
-pub mod Ids
-pub mod Knowing
 pub mod Logging
 pub mod Answering
-pub mod Turning
-pub mod Lending
-pub mod Numbering
 pub mod Accounting
 pub mod Running
 pub mod Progress

@@ -1,17 +1,13 @@
 -- What sends make of a told server's making and of the fold of its trace.
 use Rattle.std.proofs.Common.{◌≡◌, List, refl, sym, ap, subst, ◌∙◌, inl, inr}
-use Rattle.std.specs.Prelude.{Option, None, Some, ◌⊎◌}
+use Rattle.std.specs.Prelude.{Option, None, Some}
 use Rattle.driver_link.specs.declared.machine.Send.{Send}
 use Rattle.driver_link.specs.declared.machine.Server.{Server}
 use Rattle.driver_link.specs.Exchange.{empty_server, exchanged, next_item, replayed}
 use Rattle.driver_link.specs.Told.{Told, IsFresh, told_after}
 use Rattle.driver_link.proofs.Replaying.{replayed_more, trace_exchanged}
+use Rattle.driver_exec.proofs.Moves.{Moves}
 use Rattle.driver_actions.specs.MainTheorem.{KeepsMaking, IsReplayed}
-
--- at most one send went out
-abbrev pub Moves : Option Told → Option Told → Type 0
-Moves None now = now ≡ None
-Moves (Some told) now = (now ≡ Some told) ⊎ ((send : Send) × (now ≡ Some (told_after told send)))
 
 pub keeps_twice : (a b c : Option Told) → KeepsMaking a b → KeepsMaking b c → KeepsMaking a c
 keeps_twice None b c first second = subst (λ link. KeepsMaking link c) first second

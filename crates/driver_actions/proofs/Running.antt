@@ -28,14 +28,14 @@ use Rattle.driver_actions.specs.declared.call.SingleAnswer.{SingleAnswer}
 use Rattle.driver_actions.specs.declared.call.SingleAnswer.TheVariants.{Inserted}
 use Rattle.driver_actions.specs.declared.call.SingleWrite.TheVariants.{InsertOne}
 use Rattle.driver_actions.specs.Calls.{IsOwn, Mine, inserted}
-use Rattle.driver_actions.specs.Causes.{failure_of}
+use Rattle.driver_exec.specs.Causes.{failure_of}
 use Rattle.driver_actions.specs.MainTheorem.{Holds}
-use Rattle.driver_actions.specs.Pool.{Pool, ToldStore, AllApart, empty_pool}
+use Rattle.driver_exec.specs.Pool.{Pool, ToldStore, AllApart, empty_pool}
 use Rattle.driver_actions.specs.Turns.{Made, Makes, MakesCall}
 use Rattle.driver_actions.proofs.Answering.{Answered, answered_none, answered_more, own_at}
-use Rattle.driver_actions.proofs.Knowing.{Between}
+use Rattle.driver_exec.proofs.Knowing.{Between}
 use Rattle.driver_actions.proofs.Logging.{Logged, first_place, logged_same, logged_more, none_at}
-use Rattle.driver_actions.proofs.Turning.{Adds, turn_done, turn_failed}
+use Rattle.driver_exec.proofs.Turning.{Adds, turn_done, turn_failed}
 
 -- what holds after a number of calls
 pub record Ran (calls : List Call) (outcomes : List Outcome) (pool : Pool) (server : Server) : Type 0 where
