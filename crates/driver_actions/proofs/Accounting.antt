@@ -28,20 +28,21 @@ use Rattle.driver_actions.specs.declared.call.Call.TheVariants.{Single}
 use Rattle.driver_actions.specs.declared.call.Outcome.{Outcome}
 use Rattle.driver_actions.specs.declared.call.SingleWrite.TheVariants.{InsertOne}
 use Rattle.driver_actions.specs.Calls.{inserted}
-use Rattle.driver_actions.specs.Causes.{Failure, failure_of}
+use Rattle.driver_exec.specs.Causes.{Failure, failure_of}
 use Rattle.driver_actions.specs.Inputs.{InputRefused}
-use Rattle.driver_actions.specs.Inserts.{IsGentleItem, insert_body}
+use Rattle.driver_exec.specs.Inserts.{IsGentleItem, insert_body}
 use Rattle.driver_actions.specs.MainTheorem.{Completes, EndsWell, IsValid, IsValidInsert, HasWriteOf}
-use Rattle.driver_actions.specs.Pool.{Pool, ToldStore, AllApart, empty_pool}
-use Rattle.driver_actions.specs.Session.{Session, last_number}
-use Rattle.driver_actions.specs.Turns.{Attempts, ComesEarly, Explains, Made, Makes, MakesCall, MayAttempt, Turn, send_under}
-use Rattle.driver_actions.proofs.Knowing.{Between}
+use Rattle.driver_exec.specs.Pool.{Pool, ToldStore, AllApart, empty_pool}
+use Rattle.driver_exec.specs.Session.{Session, last_number}
+use Rattle.driver_exec.specs.Turns.{Attempts, ComesEarly, Explains, MayAttempt, Turn, send_under}
+use Rattle.driver_actions.specs.Turns.{Made, Makes, MakesCall}
+use Rattle.driver_exec.proofs.Knowing.{Between}
 use Rattle.driver_actions.proofs.Logging.{first_place}
-use Rattle.driver_actions.proofs.Moving.{Moves}
-use Rattle.driver_actions.proofs.Numbering.{NumbersWithin, turn_within, within_staying}
+use Rattle.driver_exec.proofs.Moves.{Moves}
+use Rattle.driver_exec.proofs.Numbering.{NumbersWithin, turn_within, within_staying}
 use Rattle.driver_actions.proofs.Refusals.{accepted_not_refused}
-use Rattle.driver_actions.proofs.Joining.{Sound}
-use Rattle.driver_actions.proofs.Turning.{Lent, denied_rough, lent_mid, lost_rough, sound_mid}
+use Rattle.driver_exec.proofs.Joining.{Sound}
+use Rattle.driver_exec.proofs.Turning.{Lent, denied_rough, lent_mid, lost_rough, sound_mid}
 
 -- a send of a call was not served as usual
 pub record RoughSend (schedule : Schedule) (trace : List Send) (call : ℕ) : Type 0 where

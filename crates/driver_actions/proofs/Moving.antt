@@ -8,17 +8,7 @@ use Rattle.driver_link.specs.Exchange.{empty_server, exchanged, next_step, repla
 use Rattle.driver_link.specs.Told.{Told, IsFresh}
 use Rattle.driver_link.proofs.Replaying.{exchanged_trace, replayed_more}
 use Rattle.driver_actions.specs.MainTheorem.{KeepsMaking, IsReplayed}
-
--- at most one send went out, under the same making
-pub record MovesTold (told now : Told) : Type 0 where
-  pub setup : now.setup ≡ told.setup
-  pub schedule : now.schedule ≡ told.schedule
-  pub server : (now.server ≡ told.server) ⊎ ((send : Send) × (now.server ≡ exchanged told.server send (next_step told.schedule told.server)))
-
-abbrev pub Moves : Option Told → Option Told → Type 0
-Moves None now = now ≡ None
-Moves (Some told) None = ⊥
-Moves (Some told) (Some now) = MovesTold told now
+use Rattle.driver_exec.proofs.Moves.{Moves}
 
 pub keeps_twice : (a b c : Option Told) → KeepsMaking a b → KeepsMaking b c → KeepsMaking a c
 keeps_twice None b c first second = subst (λ link. KeepsMaking link c) first second

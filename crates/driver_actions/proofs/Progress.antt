@@ -4,10 +4,8 @@ use Rattle.std.specs.Prelude.{Option, None, Some, Result, Ok, Err, slice_get}
 use Rattle.std.proofs.lemmas.Option.{slice_get-get_or}
 use Rattle.driver_error.specs.declared.error.Error.{Error}
 use Rattle.driver_link.specs.declared.machine.Place.{Place}
-use Rattle.driver_link.specs.declared.machine.PlacedWrite.{PlacedWrite}
-use Rattle.driver_link.specs.declared.machine.Send.{Send}
 use Rattle.driver_link.specs.declared.machine.Written.{Written}
-use Rattle.driver_link.specs.Told.{Told, IsFresh, told_after}
+use Rattle.driver_link.specs.Told.{Told, IsFresh}
 use Rattle.driver_actions.specs.declared.call.Answer.{Answer}
 use Rattle.driver_actions.specs.declared.call.Answer.TheVariants as answer
 use Rattle.driver_actions.specs.declared.call.Call.{Call}
@@ -16,18 +14,15 @@ use Rattle.driver_actions.specs.declared.call.Outcome.{Outcome}
 use Rattle.driver_actions.specs.declared.call.SingleAnswer.{SingleAnswer}
 use Rattle.driver_actions.specs.Calls.{written}
 use Rattle.driver_actions.specs.MainTheorem.{Begins, HoldsTold, CompletesTold, IsReplayed, KeepsMaking}
-use Rattle.driver_actions.specs.Pool.{ToldStore, Draws, DrawnApart, AllApart, LendsAsBefore, first_ids}
-use Rattle.driver_actions.specs.Session.{Session}
-use Rattle.driver_link.specs.Counting.{OnlyCounts}
-use Rattle.driver_link.specs.Exchange.{exchanged, next_step}
-use Rattle.driver_actions.specs.Turns.{Turn, Made, MakesCall, Attempts, HasAnswer, MaySend, send_under}
-use Rattle.driver_actions.specs.Causes.{Failure, end_of}
+use Rattle.driver_exec.specs.Pool.{ToldStore, Draws, DrawnApart, LendsAsBefore}
+use Rattle.driver_actions.specs.Turns.{Made, MakesCall}
+use Rattle.driver_exec.specs.Causes.{end_of}
 use Rattle.driver_link.specs.declared.machine.Schedule.{Schedule}
 use Rattle.driver_actions.proofs.Accounting.{Accounts, accounts_none, accounts_more, accounts_complete}
-use Rattle.driver_actions.proofs.Lending.{lends_refl, lends_twice, lends_staying, lends_turning}
-use Rattle.driver_actions.proofs.Drawing.{draws_twice, draws_staying, draws_lending, draws_taking, draws_refl}
-use Rattle.driver_actions.proofs.Ids.{apart_left}
-use Rattle.driver_actions.proofs.Moving.{Moves, keeps_twice, keeps_refl, moves_keeps, moves_replayed, fresh_replayed}
+use Rattle.driver_exec.proofs.Lending.{lends_refl, lends_twice, lends_staying}
+use Rattle.driver_exec.proofs.Drawing.{apart_before, draws_twice, draws_staying, draws_refl}
+use Rattle.driver_exec.proofs.Moves.{Moves, moves_counted, turn_moves, turn_lends, turn_draws}
+use Rattle.driver_actions.proofs.Moving.{keeps_twice, keeps_refl, moves_keeps, moves_replayed, fresh_replayed}
 use Rattle.driver_actions.proofs.Running.{Ran, ran_none, ran_more, ran_holds}
 
 -- what holds after a number of calls, where store and link tell
@@ -45,76 +40,15 @@ pub record Progress (calls : List Call) (store : Option ToldStore) (link : Optio
   pub drawn : Draws store store_now
   pub lent : LendsAsBefore store store_now
 
-moves_refl : (link : Option Told) → Moves link link
-moves_refl None = refl
-moves_refl (Some told) = record { setup = refl; schedule = refl; server = inl refl }
-
-moves_same : (link now : Option Told) → now ≡ link → Moves link now
-moves_same link now same = subst (Moves link) (sym same) (moves_refl link)
-
-moves_sent : (told : Told) (now : Option Told) (send : Send) → now ≡ Some (told_after told send) → Moves (Some told) now
-moves_sent told now send is = subst (Moves (Some told)) (sym is) (record { setup = refl; schedule = refl; server = inr (send, refl) })
-
-moves_answered : (link now : Option Told) (send : Send) → HasAnswer link now send → Moves link now
-moves_answered None now send sent = sent
-moves_answered (Some told) now send was = moves_sent told now send was.sent
-
-moves_may : (link now : Option Told) (send : Send) → MaySend link now send → Moves link now
-moves_may None now send may = may
-moves_may (Some told) now send may = elim may [ inl same ↦ moves_same (Some told) now same | inr is ↦ moves_sent told now send is ]
-
-moves_attempt : (link now : Option Told) (session back : Session) (write : PlacedWrite) (ended : Option Failure) → Attempts link now session back write ended → Moves link now
-moves_attempt link now session back write None attempt = moves_answered link now (send_under back write) attempt.1
-moves_attempt link now session back write (Some why) attempt = elim attempt.0 [
-  | inl none ↦ moves_same link now none.0
-  | inr may ↦ moves_may link now (send_under back write) may.1
-]
-
--- calls that are only counted send nothing
-moves_counted : (link now : Option Told) → OnlyCounts link now → Moves link now
-moves_counted None now same = same
-moves_counted (Some told) None keeps = absurd keeps
-moves_counted (Some told) (Some now) keeps = record { setup = keeps.setup; schedule = keeps.schedule; server = inl keeps.server }
-
-counted_then_moves : (link mid now : Option Told) → OnlyCounts link mid → Moves mid now → Moves link now
-counted_then_moves None mid now same moves = subst (λ l. Moves l now) same moves
-counted_then_moves (Some told) None now keeps moves = absurd keeps
-counted_then_moves (Some told) (Some mid) None keeps moves = absurd moves
-counted_then_moves (Some told) (Some mid) (Some now) keeps moves = record {
-  setup = moves.setup ∙ keeps.setup;
-  schedule = moves.schedule ∙ keeps.schedule;
-  server = elim moves.server [
-    | inl same ↦ inl (same ∙ keeps.server)
-    | inr sent ↦ inr (
-      sent.0,
-      sent.1 ∙ ap (λ schedule. exchanged mid.server sent.0 (next_step schedule mid.server)) keeps.schedule
-          ∙ ap (λ server. exchanged server sent.0 (next_step told.schedule server)) keeps.server,
-    )
-  ];
-}
-
 module _ (store store_now : Option ToldStore) (link link_now : Option Told) where
-  turn_moves : (write : PlacedWrite) (ended : Option Failure) → Turn store store_now link link_now write ended → Moves link link_now
-  turn_moves write ended turn =
-      counted_then_moves link turn.mid link_now turn.reached (moves_attempt turn.mid link_now turn.session turn.back write ended turn.attempt)
-
-  turn_lends : (write : PlacedWrite) (ended : Option Failure) → Turn store store_now link link_now write ended → LendsAsBefore store store_now
-  turn_lends write ended turn =
-      lends_turning store turn.lent store_now turn.caller turn.out_at turn.back_at turn.session turn.back turn.lends turn.id turn.takes
-
-  turn_draws : (write : PlacedWrite) (ended : Option Failure) → Turn store store_now link link_now write ended → Draws store store_now
-  turn_draws write ended turn =
-      draws_twice store turn.lent store_now (draws_lending store turn.lent turn.caller turn.out_at turn.session turn.lends)
-      (draws_taking turn.lent store_now turn.caller turn.back turn.back_at turn.takes)
-
   made_moves : (given : Written) (place : Place) (result : Result SingleAnswer Error) → Made store store_now link link_now given place result → Moves link link_now
-  made_moves given place result made = turn_moves made.write (end_of result) made.turn
+  made_moves given place result made = turn_moves store store_now link link_now made.write (end_of result) made.turn
 
   made_draws : (given : Written) (place : Place) (result : Result SingleAnswer Error) → Made store store_now link link_now given place result → Draws store store_now
-  made_draws given place result made = turn_draws made.write (end_of result) made.turn
+  made_draws given place result made = turn_draws store store_now link link_now made.write (end_of result) made.turn
 
   made_lends : (given : Written) (place : Place) (result : Result SingleAnswer Error) → Made store store_now link link_now given place result → LendsAsBefore store store_now
-  made_lends given place result made = turn_lends made.write (end_of result) made.turn
+  made_lends given place result made = turn_lends store store_now link link_now made.write (end_of result) made.turn
 
   call_lends : (call : Call) (number : ℕ) (result : Result Answer Error) → MakesCall store store_now link link_now call number result → LendsAsBefore store store_now
   call_lends (Single write) number (Ok (answer.Single given)) makes = made_lends (written write) (record { call = number; index = 0 }) (Ok given) makes
@@ -136,12 +70,6 @@ module _ (store store_now : Option ToldStore) (link link_now : Option Told) wher
     | inl unsent ↦ draws_staying store store_now unsent.store_stays
     | inr made ↦ made_draws (written write) (record { call = number; index = 0 }) (Err error) made
   ]
-
-apart_before : (old now : Option ToldStore) → Draws old now → DrawnApart now → DrawnApart old
-apart_before None now draws apart = tt
-apart_before (Some old) None draws apart = absurd draws
-apart_before (Some old) (Some now) draws apart =
-    apart_left old.pool.drawn (first_ids draws.count old.to_come) (subst AllApart draws.drawn apart)
 
 ran_more_told : (calls : List Call) (outcomes : List Outcome) (last : Outcome) (call : Call) (store store_now : Option ToldStore) (link link_now : Option Told)
     → slice_get calls (length outcomes) ≡ Some call → MakesCall store store_now link link_now call (length outcomes) last.result

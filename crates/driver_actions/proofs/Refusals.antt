@@ -17,8 +17,9 @@ use Rattle.driver_error.specs.declared.error.Error.{Error}
 use Rattle.driver_error.specs.Conversions.{IsMade}
 use Rattle.driver_error.specs.Error.{ErrorKind, IsAlone, kind_of}
 use Rattle.driver_error.specs.LabelTexts.{no_labels}
-use Rattle.driver_actions.specs.Causes.{Failure, RefusesFirst, TellsKind, TellsOwnRefusal}
-use Rattle.driver_actions.specs.Inputs.{has_dot, dotted_text, RefusesInsert, DocumentRefused, InputRefused, IsAccepted, TellsInput}
+use Rattle.driver_exec.specs.Causes.{Failure}
+use Rattle.driver_actions.specs.Causes.{RefusesFirst, TellsOwnRefusal}
+use Rattle.driver_actions.specs.Inputs.{has_dot, dotted_text, RefusesInsert, InputRefused, IsAccepted, TellsInput}
 
 -- the pair of an id
 abbrev pub named : ObjectId → Pair Bson

@@ -1,9 +1,5 @@
 pub mod Calls
 pub mod Causes
-pub mod Client
 pub mod Inputs
-pub mod Inserts
 pub mod MainTheorem
-pub mod Pool
-pub mod Session
 pub mod Turns

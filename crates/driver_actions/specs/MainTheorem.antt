@@ -27,9 +27,9 @@ use Rattle.driver_actions.specs.declared.call.Call.TheVariants.{Single}
 use Rattle.driver_actions.specs.declared.call.SingleWrite.TheVariants.{InsertOne}
 use Rattle.driver_actions.specs.Calls.{Mine, Done, call_result}
 use Rattle.driver_actions.specs.Inputs.{IsAccepted}
-use Rattle.driver_actions.specs.Inserts.{IsGentleItem, insert_body}
-use Rattle.driver_actions.specs.Session.{last_number}
-use Rattle.driver_actions.specs.Pool.{ToldStore, IsNewStore, DrawnApart}
+use Rattle.driver_exec.specs.Inserts.{IsGentleItem, insert_body}
+use Rattle.driver_exec.specs.Session.{last_number}
+use Rattle.driver_exec.specs.Pool.{ToldStore, IsNewStore, DrawnApart}
 
 -- the answer of the call at a number, where it is Ok
 abbrev pub answer_at : List Outcome → ℕ → Option Answer

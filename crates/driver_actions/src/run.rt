@@ -1,19 +1,18 @@
 //! A list of calls, made one after another.
 ghost use Rattle.std.specs.Prelude.{◌≡◌, IfOk, OnOk, OnErr};
 ghost use Rattle.driver_actions.specs.declared.call.Call.TheVariants.{Single};
-ghost use Rattle.driver_actions.specs.Causes.{HasCause, HaveCauses, end_of, moment};
-ghost use Rattle.driver_actions.specs.Client.{options_of, store_of};
+ghost use Rattle.driver_exec.specs.Causes.{end_of};
+ghost use Rattle.driver_exec.specs.Client.{options_of, store_of};
+ghost use Rattle.driver_exec.specs.Pool.{Draws, LendsAsBefore};
+ghost use Rattle.driver_actions.specs.Causes.{HasCause, HaveCauses, moment};
 ghost use Rattle.driver_actions.specs.MainTheorem.{Begins, HoldsTold, CompletesTold, IsReplayed, KeepsMaking};
-ghost use Rattle.driver_actions.specs.Pool.{Draws, LendsAsBefore};
 ghost use Rattle.driver_actions.specs.Turns.{MakesCall};
 ghost use Rattle.driver_link.specs.Told.{IsFresh};
 
 use crate::call::{Answer, Call, Outcome, SingleWrite};
-use crate::client::Client;
-use crate::outside::Outside;
 use crate::single::single;
-use crate::store::SessionStore;
 use bson_lite::List;
+use driver_exec::{Client, Outside, SessionStore};
 use driver_link::{Clock, Link, Place};
 use rand_core::Rng;
 use std::alloc::{AllocError, Global};
@@ -39,7 +38,7 @@ pub fn run_calls<S: SessionStore, L: Link, K: Clock, R: Rng>(
     let mut outcomes = Vec::with_capacity(alloc, calls.len())?;
     for (number, call) in calls.iter().enumerate() {
         outside.call = number as u64;
-        let outcome = make_call(alloc, &mut client.store, outside, call);
+        let outcome = make_call(alloc, client, outside, call);
         outcomes.push_reserved(outcome);
     }
     Ok(List::from_vec(outcomes))
@@ -48,15 +47,16 @@ pub fn run_calls<S: SessionStore, L: Link, K: Clock, R: Rng>(
 /// Makes the current call, and reads the clock before and after it.
 fn make_call<S: SessionStore, L: Link, K: Clock, R: Rng>(
     alloc: Global,
-    store: &mut S,
+    client: &mut Client<S>,
     outside: &mut Outside<L, K, R>,
     call: &Call,
 ) -> Outcome
-    ensures makes { MakesCall (S.told store.old) (S.told store.new) (L.told outside.old.link) (L.told outside.new.link) call.now outside.old.call result.result }
-    ensures cause { HasCause (moment (L.faults outside.old.link) (L.answers outside.old.link) (S.told store.old)) (moment (L.faults outside.new.link) (L.answers outside.new.link) (S.told store.new)) call.now (end_of result.result) }
+    ensures makes { MakesCall (S.told (store_of client.old)) (S.told (store_of client.new)) (L.told outside.old.link) (L.told outside.new.link) call.now outside.old.call result.result }
+    ensures cause { HasCause (moment (L.faults outside.old.link) (L.answers outside.old.link) (S.told (store_of client.old))) (moment (L.faults outside.new.link) (L.answers outside.new.link) (S.told (store_of client.new))) call.now (end_of result.result) }
+    ensures options { options_of client.new ≡ options_of client.old }
 {
     let started_ms = outside.clock.now_ms();
-    let result = answer_call(alloc, store, outside, call);
+    let result = answer_call(alloc, client, outside, call);
     let ended_ms = outside.clock.now_ms();
     Outcome {
         result,
@@ -68,34 +68,35 @@ fn make_call<S: SessionStore, L: Link, K: Clock, R: Rng>(
 /// Makes the current call.
 fn answer_call<S: SessionStore, L: Link, K: Clock, R: Rng>(
     alloc: Global,
-    store: &mut S,
+    client: &mut Client<S>,
     outside: &mut Outside<L, K, R>,
     call: &Call,
 ) -> driver_error::Result<Answer>
-    ensures makes { MakesCall (S.told store.old) (S.told store.new) (L.told outside.old.link) (L.told outside.new.link) call.now outside.old.call result }
-    ensures cause { HasCause (moment (L.faults outside.old.link) (L.answers outside.old.link) (S.told store.old)) (moment (L.faults outside.new.link) (L.answers outside.new.link) (S.told store.new)) call.now (end_of result) }
+    ensures makes { MakesCall (S.told (store_of client.old)) (S.told (store_of client.new)) (L.told outside.old.link) (L.told outside.new.link) call.now outside.old.call result }
+    ensures cause { HasCause (moment (L.faults outside.old.link) (L.answers outside.old.link) (S.told (store_of client.old))) (moment (L.faults outside.new.link) (L.answers outside.new.link) (S.told (store_of client.new))) call.now (end_of result) }
+    ensures options { options_of client.new ≡ options_of client.old }
 {
     match call {
-        Call::Single { write } => answer_single(alloc, store, outside, write),
+        Call::Single { write } => answer_single(alloc, client, outside, write),
     }
 }
 
 /// Makes the current call, which is a single write: its place is the first of the call.
 fn answer_single<S: SessionStore, L: Link, K: Clock, R: Rng>(
     alloc: Global,
-    store: &mut S,
+    client: &mut Client<S>,
     outside: &mut Outside<L, K, R>,
     write: &SingleWrite,
 ) -> driver_error::Result<Answer>
-    ensures makes { MakesCall (S.told store.old) (S.told store.new) (L.told outside.old.link) (L.told outside.new.link) (Single write.now) outside.old.call result }
-    ensures cause { HasCause (moment (L.faults outside.old.link) (L.answers outside.old.link) (S.told store.old)) (moment (L.faults outside.new.link) (L.answers outside.new.link) (S.told store.new)) (Single write.now) (end_of result) }
+    ensures makes { MakesCall (S.told (store_of client.old)) (S.told (store_of client.new)) (L.told outside.old.link) (L.told outside.new.link) (Single write.now) outside.old.call result }
+    ensures cause { HasCause (moment (L.faults outside.old.link) (L.answers outside.old.link) (S.told (store_of client.old))) (moment (L.faults outside.new.link) (L.answers outside.new.link) (S.told (store_of client.new))) (Single write.now) (end_of result) }
+    ensures options { options_of client.new ≡ options_of client.old }
 {
     let place = Place {
         call: outside.call,
         index: 0,
     };
-    let Outside { link, clock, .. } = outside;
-    match single(alloc, store, link, clock, write, place) {
+    match single(alloc, client, outside, write, place) {
         Ok(answer) => Ok(Answer::Single(answer)),
         Err(error) => Err(error),
     }

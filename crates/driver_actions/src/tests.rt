@@ -1,11 +1,9 @@
 //! What no clause shows: that a call succeeds with ample memory, over a link whose replies a test chooses.
 use crate::call::{Call, Outcome, SingleWrite};
-use crate::client::Client;
-use crate::outside::Outside;
-use crate::plain::PlainStore;
 use crate::run::run_calls;
 use bson_lite::{Bson, Bytes, Document, EncodeFault, List, Namespace, Text, TryClone};
 use driver_error::{Error, ErrorKind};
+use driver_exec::{Client, Outside, PlainStore};
 use driver_link::{
     Address, Answered, ClientOptions, Conn, CountingIds, Description, Frame, Link, LinkError,
     MemClock, Place, SelectionCriteria,

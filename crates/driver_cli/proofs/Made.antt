@@ -8,11 +8,11 @@ use Rattle.driver_link.specs.Told.{Told}
 use Rattle.driver_link.specs.declared.machine.Schedule.{Schedule}
 use Rattle.driver_actions.specs.declared.call.Call.{Call}
 use Rattle.driver_actions.specs.declared.call.Outcome.{Outcome}
-use Rattle.driver_actions.specs.declared.client.Client.{Client}
+use Rattle.driver_exec.specs.declared.client.Client.{Client}
 use Rattle.driver_actions.specs.Causes.{Moment, moment, HaveCauses}
-use Rattle.driver_actions.specs.Client.{options_of}
+use Rattle.driver_exec.specs.Client.{options_of}
 use Rattle.driver_actions.specs.MainTheorem.{Begins, Holds, Completes}
-use Rattle.driver_actions.specs.Pool.{Stock, ToldStore, DrawsMore, AllApart, NotAmong, first_ids, empty_pool}
+use Rattle.driver_exec.specs.Pool.{Stock, ToldStore, DrawsMore, AllApart, NotAmong, first_ids, empty_pool}
 use Rattle.driver_cli.specs.declared.script.Script.{Script}
 use Rattle.driver_cli.specs.Ended.{IsRunOf, begun_moment, moment_of}
 use Rattle.driver_cli.specs.ModelServerState.{ModelState}

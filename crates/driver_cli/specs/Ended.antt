@@ -5,12 +5,12 @@ use Rattle.driver_link.specs.Exchange.{replayed, empty_server}
 use Rattle.driver_link.specs.Faults.{Rose}
 use Rattle.driver_link.specs.Streams.{Appends}
 use Rattle.driver_actions.specs.Causes.{Moment, moment, HaveCauses}
-use Rattle.driver_actions.specs.Client.{options_of, store_of}
+use Rattle.driver_exec.specs.Client.{options_of, store_of}
 use Rattle.driver_actions.specs.MainTheorem.{Holds}
 use Rattle.driver_actions.specs.MainTheorem.{Completes as CompletesCalls}
-use Rattle.driver_actions.specs.Pool.{Stock, empty_pool}
+use Rattle.driver_exec.specs.Pool.{Stock, empty_pool}
 use Rattle.driver_actions.specs.declared.call.Outcome.{Outcome}
-use Rattle.driver_actions.specs.declared.client.Client.{Client}
+use Rattle.driver_exec.specs.declared.client.Client.{Client}
 use Rattle.driver_cli.specs.declared.program.Command.{Command}
 use Rattle.driver_cli.specs.declared.program.Command.TheVariants as command
 use Rattle.driver_cli.specs.declared.running.Run.{Run}

@@ -6,9 +6,9 @@ use Rattle.driver_link.specs.CountingIds.{IdsDrawn}
 use Rattle.driver_link.specs.Exchange.{empty_server}
 use Rattle.driver_actions.specs.declared.call.Call.{Call}
 use Rattle.driver_actions.specs.declared.call.Outcome.{Outcome}
-use Rattle.driver_actions.specs.declared.client.Client.{Client}
-use Rattle.driver_actions.specs.Client.{store_of}
-use Rattle.driver_actions.specs.Pool.{Stock}
+use Rattle.driver_exec.specs.declared.client.Client.{Client}
+use Rattle.driver_exec.specs.Client.{store_of}
+use Rattle.driver_exec.specs.Pool.{Stock}
 use Rattle.driver_cli.specs.declared.running.Run.{Run}
 use Rattle.driver_cli.specs.declared.script.Script.{Script}
 use Rattle.driver_cli.specs.Distinct.{distinct}

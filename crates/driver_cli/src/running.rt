@@ -4,7 +4,8 @@ ghost use Rattle.std.specs.Prelude.{◌≡◌, None};
 use crate::model_server::ModelServer;
 use crate::script::Script;
 use bson_lite::List;
-use driver_actions::{Client, Outcome, PlainStore};
+use driver_actions::Outcome;
+use driver_exec::{Client, PlainStore};
 use driver_link::CountingIds;
 
 /// The script of a run, the outcomes of its calls, its client and its server, where it has come so far.

@@ -3,7 +3,7 @@ use Rattle.std.proofs.Common.{◌≡◌, ◌+◌, List, length, refl, sym, ap, s
 use Rattle.driver_actions.specs.declared.call.Outcome.{Outcome}
 use Rattle.driver_actions.specs.Causes.{HaveCauses, moment}
 use Rattle.driver_actions.proofs.Causes.{causes_start, causes_more, causes_all}
-use Rattle.driver_actions.specs.Client.{store_of}
+use Rattle.driver_exec.specs.Client.{store_of}
 use Rattle.driver_actions.specs.MainTheorem.{HoldsTold, CompletesTold}
 use Rattle.driver_actions.proofs.Progress.{progress_starts, progress_steps, progress_holds, progress_completes}
 use Rattle.driver_actions.proofs.run.run_calls.Goals as goal
@@ -27,7 +27,7 @@ loop-number-preserved g c =
       made = omega (arith, c.push_reserved.ensures.len, c.loop-number.invariant.made);
       count = ap length c.push_reserved.ensures.items ∙ length-append outcomes _ ∙ ap (λ n. n + 1) c.loop-number.invariant.count;
       room = c.push_reserved.ensures.capacity ∙ c.loop-number.invariant.room;
-      options = c.loop-number.invariant.options;
+      options = c.make_call-outcome.ensures.options ∙ c.loop-number.invariant.options;
       progress = progress_steps c.args.calls.now (g.S.SessionStore.told (store_of c.args.client.now)) (g.L.Link.told c.args.outside.now.link)
           outcomes c.push_reserved.new.self.items (g.S.SessionStore.told (store_of c.loop-number.client)) _
           (g.L.Link.told c.loop-number.outside.link) _ c.index-calls-number.result outcome c.loop-number.number

@@ -1,7 +1,7 @@
 -- The calls before this one have their outcomes, and what holds of them.
 use Rattle.std.proofs.Common.{◌≡◌, length, take, vec_len, vec_capacity}
 use Rattle.driver_actions.specs.Causes.{HaveCauses, moment}
-use Rattle.driver_actions.specs.Client.{options_of, store_of}
+use Rattle.driver_exec.specs.Client.{options_of, store_of}
 use Rattle.driver_actions.proofs.Progress.{Progress}
 use Rattle.driver_actions.proofs.run.run_calls.Given as goal
 

@@ -1,6 +1,6 @@
 -- The run of a script.
 use Rattle.std.proofs.Common.{ap, ◌∙◌}
-use Rattle.driver_actions.specs.Pool.{empty_pool}
+use Rattle.driver_exec.specs.Pool.{empty_pool}
 use Rattle.driver_cli.proofs.Made.{run_made, counted_apart, begins}
 use Rattle.driver_cli.proofs.program.run_of.Goals as goal
 

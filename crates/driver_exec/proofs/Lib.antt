@@ -1,0 +1,14 @@
+pub mod Frames
+pub mod DoneReplies
+pub mod Attempts
+pub mod Drawing
+pub mod Ids
+pub mod Knowing
+pub mod Turning
+pub mod Lending
+pub mod Numbering
+pub mod Causes
+pub mod Staying
+pub mod Moves
+pub mod Joining
+pub mod Standing

@@ -1,0 +1,11 @@
+-- What a client holds.
+use Rattle.driver_exec.specs.declared.client.Client.{Client}
+use Rattle.driver_link.specs.declared.options.ClientOptions.{ClientOptions}
+
+-- the options of its making
+abbrev pub options_of : {S : Type 0} → Client S → ClientOptions
+options_of client = client.options
+
+-- its store of sessions
+abbrev pub store_of : {S : Type 0} → Client S → S
+store_of client = client.store

@@ -1,0 +1,6 @@
+pub mod Causes
+pub mod Client
+pub mod Inserts
+pub mod Pool
+pub mod Session
+pub mod Turns

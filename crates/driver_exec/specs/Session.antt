@@ -1,0 +1,29 @@
+-- What a lent session holds, and its next number.
+use Rattle.std.specs.Prelude.{◌≡◌, ◌≢◌, ℕ, ℤ, pos, ◌+ℤ◌, Bool, List, Result, Ok, Err}
+use Rattle.driver_error.specs.declared.error.Error.{Error}
+use Rattle.driver_error.specs.declared.kind.ErrorKind.TheVariants.{Internal, Memory}
+use Rattle.driver_error.specs.Error.{ErrorKind, kind_of}
+use Rattle.driver_exec.specs.declared.session.TheConstants.{NUMBER_AT_ITS_END}
+
+-- an id, the last transaction number that was used, the moment of the last use in milliseconds, and
+-- whether the network failed under it
+pub record Session : Type 0 where
+  pub id : List ℕ
+  pub number : ℤ
+  pub last_use : ℕ
+  pub dirty : Bool
+
+-- the greatest transaction number
+abbrev pub last_number : ℤ
+last_number = pos 9223372036854775807
+
+-- an error that tells that this session's numbers are at their end, or want of memory
+abbrev pub TellsEnd : Session → ErrorKind → Type 0
+TellsEnd session (Internal message) = (session.number ≡ last_number) × (message ≡ NUMBER_AT_ITS_END.now)
+TellsEnd session Memory = Unit {0}
+TellsEnd session _ = ⊥
+
+-- a session gives its next number, which it then has, unless its number is the greatest; an error changes nothing
+abbrev pub Numbers : Session → Session → Result ℤ Error → Type 0
+Numbers old now (Ok number) = (old.number ≢ last_number) × (number ≡ (old.number +ℤ pos 1)) × (now ≡ record old { number = number })
+Numbers old now (Err error) = (now ≡ old) × TellsEnd old (kind_of error)
