@@ -1,10 +1,6 @@
-pub mod ChangeLaws
-pub mod ExchangeLaws
-pub mod InsertReads
-pub mod ReadLaws
+mod Schedules
 mod Bytes
 mod IdSets
 mod Made
 mod Pieces
 mod ValueLaws
-pub mod ReplyLaws

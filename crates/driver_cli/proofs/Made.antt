@@ -1,10 +1,11 @@
 -- What running the calls of a script on a new client over a new server makes.
-use Rattle.std.proofs.Common.{◌≡◌, ℕ, zero, suc, ◌+◌, ◌<◌, ◌^◌, List, [], ◌∷◌, ◌++◌, Some, length, refl, ap, ◌∙◌, arith, subst}
+use Rattle.std.proofs.Common.{◌≡◌, ℕ, zero, suc, ◌+◌, ◌<◌, ◌^◌, List, [], ◌∷◌, ◌++◌, Some, length, refl, ap, ◌∙◌, arith, subst, sym}
 use Rattle.driver_link.proofs.Counting.{sessions_apart}
 use Rattle.driver_link.specs.Apart as source
 use Rattle.driver_link.specs.CountingIds.{IdsDrawn, none_drawn, session_at}
 use Rattle.driver_link.specs.Exchange.{replayed, empty_server}
 use Rattle.driver_link.specs.Told.{Told}
+use Rattle.driver_link.specs.WellFormed.{IsWellFormed}
 use Rattle.driver_link.specs.declared.machine.Schedule.{Schedule}
 use Rattle.driver_actions.specs.declared.call.Call.{Call}
 use Rattle.driver_actions.specs.declared.call.Outcome.{Outcome}
@@ -15,7 +16,7 @@ use Rattle.driver_actions.specs.MainTheorem.{Begins, Holds, Completes}
 use Rattle.driver_exec.specs.Pool.{Stock, ToldStore, DrawsMore, AllApart, NotAmong, first_ids, empty_pool}
 use Rattle.driver_cli.specs.declared.script.Script.{Script}
 use Rattle.driver_cli.specs.Ended.{IsRunOf, begun_moment, moment_of}
-use Rattle.driver_cli.specs.ModelServerState.{ModelState}
+use Rattle.model_server.specs.ModelState.{ModelState}
 
 -- so many ids are as many
 pub length-first_ids : (count : ℕ) (to_come : ℕ → List ℕ) → length (first_ids count to_come) ≡ count
@@ -60,16 +61,17 @@ pub run_made : (asked : Script) (calls : List Call) (outcomes : List Outcome) (c
     → DrawsMore store store_now
     → (Begins (Some store) (Some told) (Some store_now) → Holds calls outcomes model.server)
     → (Begins (Some store) (Some told) (Some store_now) → Completes calls outcomes model.schedule model.server)
-    → (told.server ≡ empty_server → model.server ≡ replayed model.schedule empty_server model.server.trace)
+    → ((told.server ≡ empty_server) × IsWellFormed told.schedule → model.server ≡ replayed model.schedule empty_server model.server.trace)
     → (model.setup ≡ told.setup) × (model.schedule ≡ told.schedule)
     → calls ≡ asked.calls → options_of client ≡ asked.options
-    → store.pool ≡ empty_pool → told.server ≡ empty_server → told.setup ≡ asked.setup → told.schedule ≡ asked.schedule
+    → store.pool ≡ empty_pool → told.server ≡ empty_server → told.setup ≡ asked.setup → told.schedule ≡ asked.schedule → IsWellFormed asked.schedule
     → ((count : ℕ) → count < 2 ^ 64 → AllApart (first_ids count store.to_come))
     → length store_now.pool.drawn < 2 ^ 64
     → IsRunOf asked (record { script = Some asked; outcomes = Some outcomes; client = Some client; server = Some model })
-run_made asked calls outcomes client model store store_now told first caused begun draws main complete replays keeps same options new fresh setup schedule apart few =
+run_made asked calls outcomes client model store store_now told first caused begun draws main complete replays keeps same options new fresh setup schedule well_formed apart few =
+    let begun_well : IsWellFormed told.schedule = subst (λ (s : Schedule). IsWellFormed s) (sym schedule) well_formed in
     let kept : model.schedule ≡ asked.schedule = keeps.1 ∙ schedule in
-    let start : Begins (Some store) (Some told) (Some store_now) = record { new = new; fresh = fresh; apart = drawn_apart store store_now new draws few apart } in
+    let start : Begins (Some store) (Some told) (Some store_now) = record { new = new; fresh = (fresh, begun_well); apart = drawn_apart store store_now new draws few apart } in
     let holds : Holds calls outcomes model.server = main start in
     let completes : Completes calls outcomes asked.schedule model.server
     = subst (λ (s : Schedule). Completes calls outcomes s model.server) kept (complete start) in
@@ -84,7 +86,7 @@ run_made asked calls outcomes client model store store_now told first caused beg
       options = options;
       setup = keeps.0 ∙ setup;
       schedule = kept;
-      replayed = subst (λ (s : Schedule). model.server ≡ replayed s empty_server model.server.trace) kept (replays fresh);
+      replayed = subst (λ (s : Schedule). model.server ≡ replayed s empty_server model.server.trace) kept (replays (fresh, begun_well));
       holds = subst (λ (c : List Call). Holds c outcomes model.server) same holds;
       completes = subst (λ (c : List Call). Completes c outcomes asked.schedule model.server) same completes;
       causes = subst (λ (c : List Call). HaveCauses c outcomes begun_moment (moment_of client model)) same

@@ -19,7 +19,7 @@ use Rattle.driver_cli.specs.declared.script.Script.{Script}
 use Rattle.driver_cli.specs.declared.status.Status.{Status}
 use Rattle.driver_cli.specs.declared.status.Status.TheVariants as status
 use Rattle.driver_cli.specs.declared.streams.TheConstants.{LIMIT}
-use Rattle.driver_cli.specs.ModelServerState.{ModelState}
+use Rattle.model_server.specs.ModelState.{ModelState}
 use Rattle.driver_cli.specs.Lines.{newline}
 use Rattle.driver_cli.specs.Report.{report}
 use Rattle.driver_cli.specs.Script.{script}

@@ -1,6 +1,3 @@
-pub mod ModelServerChange
-pub mod ModelServerExchange
-pub mod ModelServerState
 pub mod Distinct
 pub mod Ended
 pub mod Json

@@ -2,13 +2,14 @@
 use Rattle.std.specs.Prelude.{ℕ, ◌+◌, List, [], ◌∷◌, ◌++◌, map, codes, decimal, Result, Ok, Err}
 use Rattle.std.specs.Fmt.{signed_decimal}
 use Rattle.driver_error.specs.declared.error.Error.{Error}
+use Rattle.driver_link.specs.declared.keys.TheConstants.{ABORT_TRANSACTION, BULK_WRITE, COMMIT_TRANSACTION, DELETE, FIND_AND_MODIFY, GET_MORE, INSERT, KILL_CURSORS, UPDATE}
 use Rattle.driver_link.specs.declared.machine.Entry.{Entry}
 use Rattle.driver_link.specs.declared.machine.Send.{Send}
 use Rattle.driver_link.specs.declared.machine.SendBody.{SendBody}
-use Rattle.driver_link.specs.declared.machine.SendBody.TheVariants.{Write}
+use Rattle.driver_link.specs.declared.machine.SendBody.TheVariants.{Write, Commit, Abort, More, Kill}
 use Rattle.driver_link.specs.declared.machine.SendCommand.{SendCommand}
 use Rattle.driver_link.specs.declared.machine.SendCommand.TheVariants as command
-use Rattle.driver_link.specs.Serving.{writes_of}
+use Rattle.driver_link.specs.Cases.{writes_of}
 use Rattle.driver_actions.specs.declared.call.Answer.{Answer}
 use Rattle.driver_actions.specs.declared.call.Answer.TheVariants as answer
 use Rattle.driver_actions.specs.declared.call.Call.{Call}
@@ -49,11 +50,19 @@ call_lines at (called ∷ calls) (outcome ∷ outcomes) = call_line at called ou
 
 -- the name of a command that carries writes
 unfoldable pub write_name : SendCommand → List ℕ
-write_name command.Insert = codes "insert"
+write_name command.Insert = INSERT.now
+write_name command.Update = UPDATE.now
+write_name command.Delete = DELETE.now
+write_name command.FindAndModify = FIND_AND_MODIFY.now
+write_name command.BulkWrite = BULK_WRITE.now
 
 -- the name of what a send asks for
 unfoldable pub command_name : SendBody → List ℕ
 command_name (Write written ordered writes) = write_name written
+command_name Commit = COMMIT_TRANSACTION.now
+command_name Abort = ABORT_TRANSACTION.now
+command_name (More cursor) = GET_MORE.now
+command_name (Kill cursor) = KILL_CURSORS.now
 
 -- the places of a send's writes
 abbrev pub place_texts : Send → List (List ℕ)

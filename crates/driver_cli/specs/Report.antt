@@ -13,7 +13,7 @@ use Rattle.driver_cli.specs.declared.running.Run.{Run}
 use Rattle.driver_cli.specs.declared.script.Script.{Script}
 use Rattle.driver_cli.specs.Distinct.{distinct}
 use Rattle.driver_cli.specs.Lines.{call_lines, send_lines, entry_lines, newline}
-use Rattle.driver_cli.specs.ModelServerState.{ModelState}
+use Rattle.model_server.specs.ModelState.{ModelState}
 
 -- the calls of a script, or none
 abbrev pub calls_of : Option Script → List Call

@@ -3,8 +3,10 @@ use Rattle.std.specs.Prelude.{◌≡◌, ℕ, ◌<◌, ◌≤◌, true, false, i
 use Rattle.std.specs.Option.{option_and_then, option_map, ok_or}
 use Rattle.std.specs.Str.{is_utf8}
 use Rattle.driver_link.specs.declared.machine.Item.{Item}
-use Rattle.driver_link.specs.declared.machine.Item.TheVariants.{Serve, Lost}
+use Rattle.driver_link.specs.declared.machine.Item.TheVariants.{Lost}
 use Rattle.driver_link.specs.declared.machine.Schedule.{Schedule}
+use Rattle.driver_link.specs.declared.machine.Scheduled.{Scheduled}
+use Rattle.driver_link.specs.Exchange.{usual_item}
 use Rattle.driver_link.specs.declared.machine.Setup.{Setup}
 use Rattle.driver_link.specs.declared.options.ClientOptions.{ClientOptions}
 use Rattle.driver_actions.specs.declared.call.Call.{Call}
@@ -40,22 +42,31 @@ usual_setup = record {
   timeout_ms = Some 1800000;
 }
 
+-- the schedule of these steps, in which no other call fails
+abbrev pub schedule_with : List Scheduled → Schedule
+schedule_with steps =
+    record { items = steps; selects = []; check_outs = []; overloaded_check_outs = []; reauthentications = []; supports = [] }
+
 -- the schedule that lets each exchange be served
 abbrev pub empty_schedule : Schedule
-empty_schedule = record { items = [] }
+empty_schedule = schedule_with []
 
 -- the item of a name
 unfoldable pub item_named : List ℕ → Option Item
-item_named name = if bytes_eq name SERVE.now then Some Serve else if bytes_eq name LOST.now then Some Lost else None
+item_named name = if bytes_eq name SERVE.now then Some usual_item else if bytes_eq name LOST.now then Some Lost else None
 
--- an item of a schedule: the text that names it
-unfoldable pub item_of : Data → Option Item
-item_of (string name) = item_named name
-item_of d = None
+-- a step before which no waiting send is served
+abbrev pub step_with : Item → Scheduled
+step_with item = record { deliver = []; item = item }
 
--- a schedule: the list of its items
+-- a step of a schedule: the text that names its item
+unfoldable pub step_of : Data → Option Scheduled
+step_of (string name) = option_map step_with (item_named name)
+step_of d = None
+
+-- a schedule: the list of its steps
 unfoldable pub schedule_of : Data → Option Schedule
-schedule_of d = option_map (λ items. record { items = items }) (list_of item_of d)
+schedule_of d = option_map schedule_with (list_of step_of d)
 
 -- an insert of one document, with its namespace
 unfoldable pub insert_one_of : Data → Option Call

@@ -1,6 +1,6 @@
 //! The lines of a report, each put behind a text.
 ghost use Rattle.std.specs.Prelude.{◌≡◌, ◌++◌, map, string_bytes, OnOk};
-ghost use Rattle.driver_link.specs.Serving.{body_writes};
+ghost use Rattle.driver_link.specs.Cases.{body_writes};
 ghost use Rattle.driver_cli.specs.Words.{listed, place_text};
 ghost use Rattle.driver_cli.specs.Lines.{answer_text, result_text, call_name, call_line, call_lines, write_name, command_name, send_line, send_lines, entry_line, entry_lines};
 
@@ -8,6 +8,10 @@ use crate::keys::INSERT_ONE;
 use crate::words::{push_error, push_number, push_place, push_places, push_session, push_value};
 use driver_actions::{Answer, Call, Outcome, SingleAnswer, SingleWrite};
 use driver_error::Error;
+use driver_link::keys::{
+    ABORT_TRANSACTION, BULK_WRITE, COMMIT_TRANSACTION, DELETE, FIND_AND_MODIFY, GET_MORE, INSERT,
+    KILL_CURSORS, UPDATE,
+};
 use driver_link::{Entry, Send, SendBody, SendCommand};
 use std::alloc::{AllocError, Global};
 
@@ -78,23 +82,39 @@ pub(crate) fn push_calls(
     Ok(())
 }
 
-#[tactic(auto, unfolding(crate::specs::Lines::command_name, crate::specs::Lines::write_name))]
+#[tactic(auto, unfolding(crate::specs::Lines::command_name))]
 fn name_of_command(body: &SendBody) -> &'static str
     ensures { result.now ≡ command_name body.now }
 {
     match body {
-        SendBody::Write {
-            command: SendCommand::Insert,
-            ..
-        } => "insert",
+        SendBody::Write { command, .. } => name_of_writes(*command),
+        SendBody::Commit => COMMIT_TRANSACTION,
+        SendBody::Abort => ABORT_TRANSACTION,
+        SendBody::More { .. } => GET_MORE,
+        SendBody::Kill { .. } => KILL_CURSORS,
+    }
+}
+
+#[tactic(auto, unfolding(crate::specs::Lines::write_name))]
+fn name_of_writes(command: SendCommand) -> &'static str
+    ensures { result.now ≡ write_name command }
+{
+    match command {
+        SendCommand::Insert => INSERT,
+        SendCommand::Update => UPDATE,
+        SendCommand::Delete => DELETE,
+        SendCommand::FindAndModify => FIND_AND_MODIFY,
+        SendCommand::BulkWrite => BULK_WRITE,
     }
 }
 
 fn push_placed(out: &mut String, body: &SendBody) -> Result<(), AllocError>
     ensures { OnOk result (string_bytes out.new ≡ string_bytes out.old ++ listed (map (λ write. place_text write.place) (body_writes body.now))) }
 {
-    let SendBody::Write { writes, .. } = body;
-    push_places(out, writes.as_slice())
+    match body {
+        SendBody::Write { writes, .. } => push_places(out, writes.as_slice()),
+        _ => push_places(out, &[]),
+    }
 }
 
 #[tactic(auto, unfolding(crate::specs::Lines::send_line))]

@@ -10,7 +10,6 @@ mod json;
 mod keys;
 mod leaves;
 mod lines;
-pub mod model_server;
 mod namespaces;
 pub mod program;
 pub mod report;
@@ -26,7 +25,6 @@ mod words;
 
 use crate::standard::{Reading, Writing};
 use bson_lite::Text;
-pub use model_server::ModelServer;
 pub use program::{run_script, top};
 pub use report::report_text;
 pub use running::Run;

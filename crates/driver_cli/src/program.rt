@@ -1,19 +1,20 @@
 //! The program: words to a command, and a script from its input to its report.
 ghost use Rattle.std.specs.Prelude.{◌≡◌, ◌≢◌, ◌≤◌, ◌↔◌, Some, None, IfOk, length, ◌<◌, ◌^◌, ◌+◌, ◌-◌};
 ghost use Rattle.driver_link.specs.Faults.{Rose};
+ghost use Rattle.driver_link.specs.WellFormed.{IsWellFormed};
 ghost use Rattle.driver_cli.specs.Ended.{Completes, Ended, EndsWith, HasRun, IsRefused, IsRunOf, IsTooLarge, SaysTo, Refusal, Reported, command_of, refused_line, usage_line};
 ghost use Rattle.driver_cli.specs.Report.{drawn_of};
 
-use crate::model_server::ModelServer;
 use crate::report::report_text;
 use crate::running::Run;
 use crate::script::{Script, ScriptFault, read_script};
 use crate::status::Status;
 use crate::streams::{LIMIT, ReadFault, read_all, write_all};
-use bson_lite::{Bytes, List, Text};
+use bson_lite::{Bytes, Text, TryClone};
 use driver_actions::run_calls;
 use driver_exec::{Client, Outside, PlainStore};
-use driver_link::{ClientOptions, CountingIds, Failed, Item, MemClock, Schedule, Sink, Source};
+use driver_link::{ClientOptions, CountingIds, Failed, MemClock, Sink, Source};
+use model_server::ModelServer;
 use rand_core::SeedableRng;
 use rand_pcg::Pcg32;
 use std::alloc::{AllocError, Global};
@@ -55,13 +56,14 @@ fn say<O: Sink>(sink: &mut O, line: &[u8])
 
 /// Makes the calls of a script on a new client over a new model server.
 fn run_of(alloc: Global, asked: Script) -> Result<Run, AllocError>
+    requires { IsWellFormed asked.schedule }
     ensures { IfOk result (λ run. IsRunOf asked run) }
 {
     let options = ClientOptions {
         client_number: asked.options.client_number,
     };
     let mut client = Client::new(options, PlainStore::new(alloc, CountingIds::new()));
-    let schedule = copied_schedule(alloc, &asked.schedule)?;
+    let schedule = asked.schedule.try_clone(alloc)?;
     let mut outside = Outside {
         link: ModelServer::new(alloc, asked.setup, schedule),
         clock: MemClock::new(0, 0),
@@ -91,26 +93,6 @@ fn bound_drawn(client: &Client<PlainStore<CountingIds>>)
     ensures { length (drawn_of (Some client.now)) < 2 ^ 64 }
 {
     let _ = client.store().drawn().len();
-}
-
-fn copied_schedule(alloc: Global, schedule: &Schedule) -> Result<Schedule, AllocError>
-    ensures { IfOk result (λ copy. copy ≡ schedule.now) }
-{
-    let items = schedule.items.as_slice();
-    let mut copies = List::new(alloc);
-    for item in items {
-        copies.push(copied_item(item))?;
-    }
-    Ok(Schedule { items: copies })
-}
-
-fn copied_item(item: &Item) -> Item
-    ensures { result ≡ item.now }
-{
-    match item {
-        Item::Serve => Item::Serve,
-        Item::Lost => Item::Lost,
-    }
 }
 
 /// Runs the script of an input, and writes its report. It waits for nobody.

@@ -43,6 +43,7 @@ fn untouched(alloc: Global) -> Server
         sessions: ById::new(alloc),
         log: List::new(alloc),
         waiting: List::new(alloc),
+        cursors: List::new(alloc),
         trace: List::new(alloc),
     }
 }

@@ -1,12 +1,12 @@
 //! What a run of a script leaves.
 ghost use Rattle.std.specs.Prelude.{◌≡◌, None};
 
-use crate::model_server::ModelServer;
 use crate::script::Script;
 use bson_lite::List;
 use driver_actions::Outcome;
 use driver_exec::{Client, PlainStore};
 use driver_link::CountingIds;
+use model_server::ModelServer;
 
 /// The script of a run, the outcomes of its calls, its client and its server, where it has come so far.
 #[derive(Drop)]

@@ -1,15 +1,17 @@
 //! The script: one JSON object with the calls to be made and the schedule of the model server.
-ghost use Rattle.std.specs.Prelude.{◌≡◌, codes, option_and_then};
+ghost use Rattle.std.specs.Prelude.{◌≡◌, codes, option_and_then, IfOk};
+ghost use Rattle.driver_link.specs.WellFormed.{IsWellFormed};
 ghost use Rattle.serde_json.specs.Data.{Data};
 ghost use Rattle.serde_json.specs.View.{view};
+ghost use Rattle.driver_link.specs.Exchange.{usual_item};
 ghost use Rattle.driver_cli.specs.Json.{Gives};
-ghost use Rattle.driver_cli.specs.Script.{insert_one_of, call_of, item_of, schedule_of, script_of, script, value_read, usual_options, usual_setup, IsWrong, Reads};
+ghost use Rattle.driver_cli.specs.Script.{insert_one_of, call_of, item_named, step_of, schedule_of, schedule_with, script_of, script, value_read, usual_options, usual_setup, IsWrong, Reads};
 
 use crate::json::{FromJson, Unread, is_object_of, read_needed, read_optional};
 use crate::keys::{CALLS, DOC, INSERT_ONE, LOST, NS, SCHEDULE, SERVE};
 use bson_lite::{List, Text};
 use driver_actions::{Call, SingleWrite};
-use driver_link::{ClientOptions, Description, Item, Schedule, Setup};
+use driver_link::{ClientOptions, Description, Item, Schedule, Scheduled, Setup};
 use serde_json::Value;
 use std::alloc::{AllocError, Global};
 
@@ -38,7 +40,8 @@ pub enum ScriptFault {
 /// The script that the bytes are, where it has no more than 10000 calls.
 #[tactic(auto, unfolding(crate::specs::Script::script))]
 pub fn read_script(alloc: Global, bytes: &[u8]) -> Result<Script, ScriptFault>
-    ensures { Reads result (script bytes.now) }
+    ensures reads { Reads result (script bytes.now) }
+    ensures well_formed { IfOk result (λ asked. IsWellFormed asked.schedule) }
 {
     match any_script(alloc, bytes) {
         Ok(script) => {
@@ -95,9 +98,7 @@ impl FromJson for Script {
             options: options_of_scripts(),
             setup: setup_of_scripts(),
             calls,
-            schedule: schedule.unwrap_or(Schedule {
-                items: List::new(alloc),
-            }),
+            schedule: schedule.unwrap_or(schedule_with(alloc, List::new(alloc))),
         })
     }
 }
@@ -131,26 +132,66 @@ impl FromJson for Schedule {
 
     #[tactic(auto, unfolding(crate::specs::Script::schedule_of))]
     fn read(alloc: Global, value: &Value) -> Result<Schedule, Unread> {
-        let items = List::<Item>::read(alloc, value)?;
-        Ok(Schedule { items })
+        let steps = List::<Scheduled>::read(alloc, value)?;
+        Ok(schedule_with(alloc, steps))
     }
 }
 
-impl FromJson for Item {
-    ghost spec = { item_of };
+/// The schedule of these steps, in which no other call fails.
+fn schedule_with(alloc: Global, steps: List<Scheduled>) -> Schedule
+    ensures { result ≡ schedule_with steps }
+{
+    Schedule {
+        items: steps,
+        selects: List::new(alloc),
+        check_outs: List::new(alloc),
+        overloaded_check_outs: List::new(alloc),
+        reauthentications: List::new(alloc),
+        supports: List::new(alloc),
+    }
+}
 
-    #[tactic(auto, unfolding(crate::specs::Script::item_of, crate::specs::Script::item_named))]
-    fn read(_alloc: Global, value: &Value) -> Result<Item, Unread> {
+impl FromJson for Scheduled {
+    ghost spec = { step_of };
+
+    #[tactic(auto, unfolding(crate::specs::Script::step_of))]
+    fn read(alloc: Global, value: &Value) -> Result<Scheduled, Unread> {
         let Value::String(name) = value else {
             return Err(Unread::Wrong);
         };
-        if name.as_str() == SERVE {
-            return Ok(Item::Serve);
+        match item_named(alloc, name.as_str()) {
+            Some(item) => Ok(Scheduled {
+                deliver: List::new(alloc),
+                item,
+            }),
+            None => Err(Unread::Wrong),
         }
-        if name.as_str() == LOST {
-            return Ok(Item::Lost);
-        }
-        Err(Unread::Wrong)
+    }
+}
+
+/// The item of a name.
+#[tactic(auto, unfolding(crate::specs::Script::item_named))]
+fn item_named(alloc: Global, name: &str) -> Option<Item>
+    ensures { result ≡ item_named name.now }
+{
+    if name == SERVE {
+        return Some(usual_item(alloc));
+    }
+    if name == LOST {
+        return Some(Item::Lost);
+    }
+    None
+}
+
+/// The item by which an exchange is served and answered as usual.
+fn usual_item(alloc: Global) -> Item
+    ensures { result ≡ usual_item }
+{
+    Item::Serve {
+        results: List::new(alloc),
+        fail: List::new(alloc),
+        write_concern_error: None,
+        page: None,
     }
 }
 

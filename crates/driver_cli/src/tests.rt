@@ -44,8 +44,7 @@ totals: calls=1 ok=0 sends=0 entries=0
 const ZERO: &str =
     "{\"calls\":[{\"insertOne\":{\"ns\":\"shop.items\",\"doc\":[[\"a\\u0000b\",1]]}}]}";
 
-const REPORT_OF_ZERO: &str =
-    "call 0 insertOne: err BsonSerialization ZeroByte labels=- source=-
+const REPORT_OF_ZERO: &str = "call 0 insertOne: err BsonSerialization ZeroByte labels=- source=-
 ids: distinct
 waiting: 0
 totals: calls=1 ok=0 sends=0 entries=0

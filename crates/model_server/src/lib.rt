@@ -1,17 +1,6 @@
-//! A server in memory that answers by a schedule: the machine of `driver_link`, computed.
-//!
-//! Each function computes one of the machine's definitions, and its clause is the equation with it.
+//! A stand-in.
 #![tactic(auto)]
 
-pub mod cases;
-pub mod change;
-pub mod counts;
-pub mod cursors;
-pub mod delivery;
-pub mod exchange;
-pub mod fields;
-pub mod honesty;
-pub mod refusing;
-pub mod replying;
-pub mod serving;
-pub mod statements;
+pub mod server;
+
+pub use server::ModelServer;

@@ -15,6 +15,6 @@ returns c =
     made.drawn made.main made.complete made.replayed made.making
     c.as_slice.ensures (made.options ∙ c.new-client.ensures.options)
     (ap (λ s. s.pool) (c.new-client.ensures.store ∙ c.new-2.ensures)) (ap (λ s. s.server) c.new-3.ensures)
-    (ap (λ s. s.setup) c.new-3.ensures) (ap (λ s. s.schedule) c.new-3.ensures ∙ c.in_ok-schedule.ensures)
+    (ap (λ s. s.setup) c.new-3.ensures) (ap (λ s. s.schedule) c.new-3.ensures ∙ c.in_ok-schedule.ensures.same) c.requires
     (λ count few. rw (c.new-client.ensures.store ∙ c.new-2.ensures, c.new.ensures) (counted_apart count few))
     c.bound_drawn.ensures
