@@ -17,6 +17,7 @@ use Rattle.driver_link.specs.declared.fault.LinkFault.{LinkFault}
 use Rattle.driver_link.specs.declared.fault.LinkFault.TheVariants.{Io}
 use Rattle.driver_link.specs.declared.machine.PlacedWrite.{PlacedWrite}
 use Rattle.driver_link.specs.declared.machine.Send.{Send}
+use Rattle.driver_link.specs.Failures.{fault_kind}
 use Rattle.driver_link.specs.Framed.{Framed}
 use Rattle.driver_link.specs.Reads.{Reads}
 use Rattle.driver_link.specs.Told.{Told, Steps, Stays, IsReply, told_after, told_answer}
@@ -24,7 +25,7 @@ use Rattle.driver_actions.specs.Causes.{failure_of, end_of, never}
 use Rattle.driver_actions.specs.Inserts.{IsInsertFrame, IsDoneReply, ReadsReply, TellsNoReply, TellsRefusal, insert_body, insert_one_send, is_done_reply}
 use Rattle.driver_actions.specs.Pool.{ToldStore, StaysTold}
 use Rattle.driver_actions.specs.Session.{Session, Numbers, TellsEnd}
-use Rattle.driver_actions.specs.Turns.{Attempts, ComesEarly, Explains, Unsent, HasAnswer, IsFailure, MaySend, MayRaise, Raises, WasDenied, fault_kind, send_under}
+use Rattle.driver_actions.specs.Turns.{Attempts, ComesEarly, Explains, Unsent, HasAnswer, IsFailure, MaySend, MayRaise, Raises, WasDenied, send_under}
 
 -- a next number is the last one and one more
 pub raises : (old now : Session) (number : ℤ) → Numbers old now (Ok number) → Raises old now

@@ -2,6 +2,7 @@ pub mod Apart
 pub mod Commands
 pub mod CountingIds
 pub mod Exchange
+pub mod Failures
 pub mod Faults
 pub mod Framed
 pub mod MemClock

@@ -1,6 +1,6 @@
 //! How a call of a link can fail, and what a link tells of its answers.
 use bson_lite::{Bytes, List, Text};
-use driver_error::IoKind;
+use driver_error::{Error, ErrorKind, IoKind};
 use std::alloc::AllocError;
 
 /// What went wrong outside.
@@ -27,6 +27,24 @@ impl From<AllocError> for LinkError {
 
     fn from(_refused: AllocError) -> LinkError {
         LinkError::Memory
+    }
+}
+
+/// The kind of the fault, with the labels that came with it and nothing else. Where their list's
+/// allocator finds no memory for them it is an error of kind Memory.
+impl From<LinkError> for Error {
+    ghost use Rattle.driver_link.specs.Failures.{BecomesError};
+
+    ghost from_gives = { BecomesError };
+
+    fn from(failure: LinkError) -> Error {
+        match failure {
+            LinkError::Fault { fault, labels } => {
+                let LinkFault::Io(kind) = fault;
+                Error::new(labels.allocator(), ErrorKind::Io(kind), labels.as_slice())
+            }
+            LinkError::Memory => Error::from_kind(ErrorKind::Memory),
+        }
     }
 }
 
