@@ -2,11 +2,11 @@
 use crate::call::{Call, Outcome, SingleWrite};
 use crate::run::run_calls;
 use bson_lite::{Bson, Bytes, Document, EncodeFault, List, Namespace, Text, TryClone};
-use driver_error::{Error, ErrorKind};
+use driver_error::{Error, ErrorKind, IoKind};
 use driver_exec::{Client, Outside, PlainStore};
 use driver_link::{
     Address, Answered, ClientOptions, Conn, CountingIds, Description, Frame, Link, LinkError,
-    MemClock, Place, SelectionCriteria,
+    LinkFault, MemClock, Place, SelectionCriteria,
 };
 use rand_core::SeedableRng;
 use rand_pcg::Pcg32;
@@ -226,5 +226,22 @@ fn a_callers_document_nests_at_most_96_levels(rt: HostRuntime) -> Result<(), Fai
         let outcomes = outcomes_over(alloc, DONE, nested(alloc, levels)?)?;
         assert_eq!(rt; is_too_deep(&outcomes), Some(refused), "of {levels} levels");
     }
+    Ok(())
+}
+
+/// The error of a fault that came with one label.
+fn labelled_fault(alloc: Global) -> Result<Error, AllocError> {
+    let mut labels = List::new(alloc);
+    labels.push(Text::from_str(alloc, "told")?)?;
+    let fault = LinkFault::Io(IoKind::BrokenPipe);
+    Ok(Error::from(LinkError::Fault { fault, labels }))
+}
+
+#[test]
+fn a_fault_becomes_an_error_with_its_labels(rt: HostRuntime) -> Result<(), Fail> {
+    let error = labelled_fault(rt.alloc())?;
+    assert!(rt; matches!(error.kind(), ErrorKind::Io(IoKind::BrokenPipe)));
+    assert!(rt; error.has_own_label("told"));
+    assert!(rt; !error.has_own_label("RetryableWriteError"));
     Ok(())
 }

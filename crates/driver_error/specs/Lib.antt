@@ -6,4 +6,5 @@ pub mod Kinds
 pub mod LabelTexts
 pub mod Predicates
 pub mod Redaction
+pub mod Shown
 pub mod SortedLabels

@@ -4,6 +4,7 @@
 //! `specs/Error.antt`, read one level of it.
 #![tactic(auto)]
 
+mod codes;
 pub mod command;
 pub mod conversions;
 mod copy;

@@ -5,24 +5,15 @@ ghost use Rattle.driver_error.specs.Kinds.{own_code};
 ghost use Rattle.driver_error.specs.Error.{kind_of};
 ghost use Rattle.driver_error.specs.Predicates.{is_network_error, is_network_timeout, is_non_timeout_network_error, is_server_selection_error, is_auth_error, is_pool_cleared, is_incompatible_server, is_invalid_argument, is_ns_not_found, is_server_error, is_read_retryable, is_write_retryable, is_recovering, is_notwritableprimary, is_shutting_down, is_state_change_error, is_max_time_ms_expired_error, is_reauthentication_required, is_resumable, should_add_retryable_write_label, should_add_unknown_transaction_commit_result_label, code_among};
 
+use crate::codes::{
+    not_writable_codes, read_retryable_codes, recovering_codes, shutting_down_codes,
+    unknown_commit_codes,
+};
 use crate::error::{Error, concern_of};
 use crate::kind::{ErrorKind, IoKind};
 use crate::labels::{
     RESUMABLE_CHANGE_STREAM_ERROR, RETRYABLE_WRITE_ERROR, TRANSIENT_TRANSACTION_ERROR,
 };
-
-/// After these a read may be tried again.
-const READ_RETRYABLE: [i32; 13] = [
-    11600, 11602, 10107, 13435, 13436, 189, 91, 7, 6, 89, 9001, 134, 262,
-];
-/// A server that recovers.
-const RECOVERING: [i32; 5] = [11600, 11602, 13436, 189, 91];
-/// A server that takes no writes.
-const NOT_WRITABLE: [i32; 3] = [10107, 13435, 10058];
-/// A server that shuts down.
-const SHUTTING_DOWN: [i32; 2] = [11600, 91];
-/// After these it is unknown whether a commit was made.
-const UNKNOWN_COMMIT: [i32; 3] = [50, 64, 91];
 
 const NAMESPACE_NOT_FOUND: i32 = 26;
 
@@ -193,7 +184,7 @@ impl Error {
     pub fn is_read_retryable(&self) -> bool
         ensures { result ≡ is_read_retryable self.now }
     {
-        self.is_network_error() || is_among(self.sdam_code(), &READ_RETRYABLE)
+        self.is_network_error() || is_among(self.sdam_code(), read_retryable_codes())
     }
 
     /// Whether a write may be tried again, by its label or one below.
@@ -208,21 +199,21 @@ impl Error {
     pub fn is_recovering(&self) -> bool
         ensures { result ≡ is_recovering self.now }
     {
-        is_among(self.sdam_code(), &RECOVERING)
+        is_among(self.sdam_code(), recovering_codes())
     }
 
     /// Whether the server takes no writes.
     pub fn is_notwritableprimary(&self) -> bool
         ensures { result ≡ is_notwritableprimary self.now }
     {
-        is_among(self.sdam_code(), &NOT_WRITABLE)
+        is_among(self.sdam_code(), not_writable_codes())
     }
 
     /// Whether the server shuts down.
     pub fn is_shutting_down(&self) -> bool
         ensures { result ≡ is_shutting_down self.now }
     {
-        is_among(self.sdam_code(), &SHUTTING_DOWN)
+        is_among(self.sdam_code(), shutting_down_codes())
     }
 
     /// Whether the server recovers or takes no writes.
@@ -272,6 +263,6 @@ impl Error {
             && (self.is_network_error()
                 || self.is_server_selection_error()
                 || self.is_write_retryable()
-                || is_among(self.sdam_code(), &UNKNOWN_COMMIT))
+                || is_among(self.sdam_code(), unknown_commit_codes()))
     }
 }

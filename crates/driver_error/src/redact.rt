@@ -9,6 +9,11 @@ pub struct Redact<T> {
 }
 
 impl<T: fmt::Display> fmt::Display for Redact<T> {
+    ghost use Rattle.driver_error.specs.Shown.{shown};
+
+    ghost output = { λ value. shown value.on (T.output value.inner) };
+
+    #[tactic(auto, unfolding(crate::specs::Shown::hidden_text))]
     fn fmt<W: fmt::Write>(&self, f: &mut fmt::Formatter<W>) -> fmt::Result {
         if self.on {
             f.write_str("<redacted>")
@@ -19,6 +24,11 @@ impl<T: fmt::Display> fmt::Display for Redact<T> {
 }
 
 impl<T: fmt::Debug> fmt::Debug for Redact<T> {
+    ghost use Rattle.driver_error.specs.Shown.{shown};
+
+    ghost debug_output = { λ value. shown value.on (T.debug_output value.inner) };
+
+    #[tactic(auto, unfolding(crate::specs::Shown::hidden_text))]
     fn fmt<W: fmt::Write>(&self, f: &mut fmt::Formatter<W>) -> fmt::Result {
         if self.on {
             f.write_str("<redacted>")

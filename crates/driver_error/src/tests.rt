@@ -1,13 +1,15 @@
 //! What no clause says: that calls succeed with ample memory, and the texts of errors.
 mod codes;
 mod copies;
+mod kinds;
+mod results;
 mod texts;
 
 use crate::{
     CommandError, CreateIndexesResult, Error, ErrorKind, IoKind, Labels, RETRYABLE_WRITE_ERROR,
     Redact,
 };
-use bson_lite::{Bson, Document, List, RawDocumentBuf, Text};
+use bson_lite::{Bson, Document, List, RawDocumentBuf, Text, TryClone};
 use std::alloc::{AllocError, Global};
 use std::test::Fail;
 
@@ -58,6 +60,21 @@ fn labels_are_a_set_in_order(rt: HostRuntime) -> Result<(), Fail> {
     assert_eq!(rt; names[2].as_str(), "c");
     assert!(rt; labels.contains("a"));
     assert!(rt; !labels.contains("d"));
+    Ok(())
+}
+
+/// The set of `b` and `a`, with `c` and `a` added, as it prints.
+fn joined_labels(alloc: Global) -> Result<String, AllocError> {
+    let first = text_list(alloc, &["b", "a"])?;
+    let more = text_list(alloc, &["c", "a"])?;
+    let labels = Labels::from_texts(alloc, first.as_slice())?;
+    let labels = labels.with_all(alloc, more.as_slice())?;
+    labels.try_clone(alloc)?.to_string(alloc)
+}
+
+#[test]
+fn labels_are_joined_and_copied(rt: HostRuntime) -> Result<(), Fail> {
+    assert_eq!(rt; joined_labels(rt.alloc())?.as_str(), "a,b,c");
     Ok(())
 }
 

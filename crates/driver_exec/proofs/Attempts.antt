@@ -24,12 +24,13 @@ use Rattle.driver_link.specs.declared.machine.Send.{Send}
 use Rattle.driver_link.specs.Framed.{Framed}
 use Rattle.driver_link.specs.Reads.{Reads}
 use Rattle.driver_link.specs.Counting.{Counts, FailsNothing, KeepsServer, Listed, OnlyCounts, check_out_fault, checked_out, fault_where, is_listed, overload_labels, select_fault, selected}
+use Rattle.driver_link.specs.Failures.{fault_kind}
 use Rattle.driver_link.specs.Told.{Told, Steps, IsReply, told_after, told_answer}
 use Rattle.driver_exec.specs.Causes.{Failure, failure_of, end_of, never}
 use Rattle.driver_exec.specs.Inserts.{IsInsertFrame, IsDoneReply, ReadsReply, TellsNoReply, TellsRefusal, insert_body, insert_one_send, is_done_reply}
 use Rattle.driver_exec.specs.Pool.{Lends, StaysTold, TakesBack, ToldStore}
 use Rattle.driver_exec.specs.Session.{Session, Numbers, TellsEnd}
-use Rattle.driver_exec.specs.Turns.{Attempts, ComesEarly, Explains, HasAnswer, IsFailure, MaySend, MayRaise, Raises, Turn, Turns, Unsent, WasDenied, WasDone, fault_kind, send_under}
+use Rattle.driver_exec.specs.Turns.{Attempts, ComesEarly, Explains, HasAnswer, IsFailure, MaySend, MayRaise, Raises, Turn, Turns, Unsent, WasDenied, WasDone, send_under}
 
 -- a next number is the last one and one more
 pub raises : (old now : Session) (number : ℤ) → Numbers old now (Ok number) → Raises old now

@@ -20,12 +20,13 @@ use Rattle.driver_link.specs.declared.fault.LinkError.TheVariants.{Fault, Memory
 use Rattle.driver_link.specs.declared.fault.LinkFault.{LinkFault}
 use Rattle.driver_link.specs.declared.fault.LinkFault.TheVariants.{Io, PoolCleared, Selection, Authentication}
 use Rattle.driver_link.specs.Faults.{HasLinkCause, Rose}
+use Rattle.driver_link.specs.Failures.{fault_kind}
 use Rattle.driver_link.specs.Told.{Notes, noted, nothing_noted, reply_noted}
 use Rattle.driver_exec.specs.Causes.{Failure, failure_of, KindNeeds, KindAtLast, EndNeeds, EndAtLast, AllEarly, MayBeLast, IsLast, Refused, never, refused_body, next_number, lent_number, labels_by, Caused}
 use Rattle.driver_exec.specs.Inserts.{TellsRefusal, TellsNoReply, ReadsReply, insert_body}
 use Rattle.driver_exec.specs.Pool.{ToldStore, Lends, StaysTold, session_out}
 use Rattle.driver_exec.specs.Session.{Session, Numbers, TellsEnd}
-use Rattle.driver_exec.specs.Turns.{IsFailure, fault_kind}
+use Rattle.driver_exec.specs.Turns.{IsFailure}
 use Rattle.driver_exec.specs.declared.pool.IdleSession.{IdleSession}
 use Rattle.driver_exec.specs.Causes.{end_of}
 

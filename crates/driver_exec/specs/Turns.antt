@@ -15,26 +15,18 @@ use Rattle.bson_lite.specs.declared.fault.EncodeFault.{EncodeFault}
 use Rattle.driver_link.specs.declared.fault.LinkCall.{LinkCall}
 use Rattle.driver_link.specs.declared.fault.LinkError.{LinkError}
 use Rattle.driver_link.specs.declared.fault.LinkError.TheVariants.{Fault, Memory}
-use Rattle.driver_link.specs.declared.fault.LinkFault.{LinkFault}
-use Rattle.driver_link.specs.declared.fault.LinkFault.TheVariants.{Io, PoolCleared, Selection, Authentication}
 use Rattle.driver_link.specs.declared.machine.Place.{Place}
 use Rattle.driver_link.specs.declared.machine.PlacedWrite.{PlacedWrite}
 use Rattle.driver_link.specs.declared.machine.Send.{Send}
 use Rattle.driver_link.specs.declared.machine.WriteKind.TheVariants as write_kind
 use Rattle.driver_link.specs.declared.machine.Written.{Written}
 use Rattle.driver_link.specs.Counting.{OnlyCounts, FailsNothing}
+use Rattle.driver_link.specs.Failures.{fault_kind}
 use Rattle.driver_link.specs.Told.{Told, told_after, told_answer}
 use Rattle.driver_exec.specs.Causes.{Failure, failure_of, end_of, labels_by, is_network, never, BodyRefused}
 use Rattle.driver_exec.specs.Inserts.{insert_one_send, is_done_reply}
 use Rattle.driver_exec.specs.Pool.{ToldStore, Lends, TakesBack, StaysTold}
 use Rattle.driver_exec.specs.Session.{Session, last_number}
-
--- the kind of a link's fault
-abbrev pub fault_kind : LinkFault → ErrorKind
-fault_kind (Io io) = kind.Io io
-fault_kind (PoolCleared message) = kind.ConnectionPoolCleared message
-fault_kind (Selection message) = kind.ServerSelection message
-fault_kind (Authentication message) = kind.Authentication message
 
 -- the error of a link's failure in one of its calls, with the labels that it then has and nothing else
 abbrev pub IsFailure : LinkCall → LinkError → Error → Type 0

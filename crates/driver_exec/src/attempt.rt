@@ -1,7 +1,7 @@
 //! One attempt of an insert: a server, a connection, a session, one command and its reply.
 ghost use Rattle.std.specs.Prelude.{◌≡◌, IfOk, Some};
 ghost use Rattle.bson_lite.specs.Spelling.{Spells};
-ghost use Rattle.driver_exec.specs.Turns.{Attempts, Turns, IsFailure, fault_kind, dirty_after};
+ghost use Rattle.driver_exec.specs.Turns.{Attempts, Turns, IsFailure, dirty_after};
 ghost use Rattle.driver_exec.specs.Client.{options_of, store_of};
 ghost use Rattle.driver_exec.specs.Causes.{Caused, refused_body, next_number, end_of, labels_by, is_network, is_of_write};
 
@@ -12,7 +12,7 @@ use crate::session::ServerSession;
 use crate::store::SessionStore;
 use bson_lite::{Bytes, List, Text};
 use driver_error::{Error, ErrorKind, RETRYABLE_WRITE_ERROR, Result};
-use driver_link::{Clock, Conn, Link, LinkCall, LinkError, LinkFault, PlacedWrite};
+use driver_link::{Clock, Conn, Link, LinkCall, LinkError, PlacedWrite};
 use std::alloc::{AllocError, Global};
 
 /// The error of a link's failure in one of its calls, with the labels that it then has.
@@ -21,7 +21,7 @@ fn link_error(alloc: Global, call: LinkCall, failure: LinkError) -> Error
 {
     match failure {
         LinkError::Fault { fault, labels } => match labels_by(alloc, call, &fault, labels) {
-            Ok(labels) => Error::new(alloc, fault_kind(fault), labels.as_slice()),
+            Ok(labels) => Error::from(LinkError::Fault { fault, labels }),
             Err(AllocError) => Error::from_kind(ErrorKind::Memory),
         },
         LinkError::Memory => Error::from_kind(ErrorKind::Memory),
@@ -61,17 +61,6 @@ fn is_network(fault: &LinkFault) -> bool
     match fault {
         LinkFault::Io(_) | LinkFault::PoolCleared(_) => true,
         _ => false,
-    }
-}
-
-fn fault_kind(fault: LinkFault) -> ErrorKind
-    ensures { result ≡ fault_kind fault }
-{
-    match fault {
-        LinkFault::Io(kind) => ErrorKind::Io(kind),
-        LinkFault::PoolCleared(message) => ErrorKind::ConnectionPoolCleared { message },
-        LinkFault::Selection(message) => ErrorKind::ServerSelection { message },
-        LinkFault::Authentication(message) => ErrorKind::Authentication { message },
     }
 }
 

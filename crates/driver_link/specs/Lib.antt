@@ -7,6 +7,7 @@ pub mod Counting
 pub mod CountingIds
 pub mod Cursors
 pub mod Exchange
+pub mod Failures
 pub mod Faults
 pub mod Framed
 pub mod Honesty

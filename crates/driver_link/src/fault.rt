@@ -1,6 +1,9 @@
 //! How a call of a link can fail, and what a link tells of its answers.
+ghost use Rattle.std.specs.Prelude.{◌≡◌};
+ghost use Rattle.driver_link.specs.Failures.{fault_kind};
+
 use bson_lite::{Bytes, List, Text};
-use driver_error::IoKind;
+use driver_error::{Error, ErrorKind, IoKind};
 use std::alloc::AllocError;
 
 /// What went wrong outside.
@@ -32,6 +35,35 @@ impl From<AllocError> for LinkError {
 
     fn from(_refused: AllocError) -> LinkError {
         LinkError::Memory
+    }
+}
+
+/// The kind of the fault, with the labels that came with it and nothing else. Where their list's
+/// allocator finds no memory for them it is an error of kind Memory.
+impl From<LinkError> for Error {
+    ghost use Rattle.driver_link.specs.Failures.{BecomesError};
+
+    ghost from_gives = { BecomesError };
+
+    fn from(failure: LinkError) -> Error {
+        match failure {
+            LinkError::Fault { fault, labels } => {
+                Error::new(labels.allocator(), fault_kind(fault), labels.as_slice())
+            }
+            LinkError::Memory => Error::from_kind(ErrorKind::Memory),
+        }
+    }
+}
+
+/// The kind of the error of a fault.
+fn fault_kind(fault: LinkFault) -> ErrorKind
+    ensures { result ≡ fault_kind fault }
+{
+    match fault {
+        LinkFault::Io(kind) => ErrorKind::Io(kind),
+        LinkFault::PoolCleared(message) => ErrorKind::ConnectionPoolCleared { message },
+        LinkFault::Selection(message) => ErrorKind::ServerSelection { message },
+        LinkFault::Authentication(message) => ErrorKind::Authentication { message },
     }
 }
 

@@ -3,10 +3,10 @@ use super::command_failed;
 use crate::{Error, ErrorKind, IoKind};
 use std::test::Fail;
 
-/// What a code says: a read may be tried again, the server recovers, takes no writes, shuts down, the
-/// time is over, it asks for authentication, a commit's result is unknown, the cursor is not known, the
-/// namespace is not there.
-type Says = [bool; 9];
+/// What a code says: a read may be tried again, the server recovers, takes no writes, changes its state,
+/// shuts down, the time is over, it asks for authentication, a commit's result is unknown, the cursor is
+/// not known, the namespace is not there.
+type Says = [bool; 10];
 
 const T: bool = true;
 
@@ -17,27 +17,27 @@ fn rows() -> &'static [(i32, Says)] {
 }
 
 const CODES: [(i32, Says); 21] = [
-    (11600, [T, T, F, T, F, F, F, F, F]),
-    (11602, [T, T, F, F, F, F, F, F, F]),
-    (13436, [T, T, F, F, F, F, F, F, F]),
-    (189, [T, T, F, F, F, F, F, F, F]),
-    (91, [T, T, F, T, F, F, T, F, F]),
-    (10107, [T, F, T, F, F, F, F, F, F]),
-    (13435, [T, F, T, F, F, F, F, F, F]),
-    (10058, [F, F, T, F, F, F, F, F, F]),
-    (7, [T, F, F, F, F, F, F, F, F]),
-    (6, [T, F, F, F, F, F, F, F, F]),
-    (89, [T, F, F, F, F, F, F, F, F]),
-    (9001, [T, F, F, F, F, F, F, F, F]),
-    (134, [T, F, F, F, F, F, F, F, F]),
-    (262, [T, F, F, F, F, F, F, F, F]),
-    (50, [F, F, F, F, T, F, T, F, F]),
-    (64, [F, F, F, F, F, F, T, F, F]),
-    (391, [F, F, F, F, F, T, F, F, F]),
-    (43, [F, F, F, F, F, F, F, T, F]),
-    (26, [F, F, F, F, F, F, F, F, T]),
-    (0, [F, F, F, F, F, F, F, F, F]),
-    (-50, [F, F, F, F, F, F, F, F, F]),
+    (11600, [T, T, F, T, T, F, F, F, F, F]),
+    (11602, [T, T, F, T, F, F, F, F, F, F]),
+    (13436, [T, T, F, T, F, F, F, F, F, F]),
+    (189, [T, T, F, T, F, F, F, F, F, F]),
+    (91, [T, T, F, T, T, F, F, T, F, F]),
+    (10107, [T, F, T, T, F, F, F, F, F, F]),
+    (13435, [T, F, T, T, F, F, F, F, F, F]),
+    (10058, [F, F, T, T, F, F, F, F, F, F]),
+    (7, [T, F, F, F, F, F, F, F, F, F]),
+    (6, [T, F, F, F, F, F, F, F, F, F]),
+    (89, [T, F, F, F, F, F, F, F, F, F]),
+    (9001, [T, F, F, F, F, F, F, F, F, F]),
+    (134, [T, F, F, F, F, F, F, F, F, F]),
+    (262, [T, F, F, F, F, F, F, F, F, F]),
+    (50, [F, F, F, F, F, T, F, T, F, F]),
+    (64, [F, F, F, F, F, F, F, T, F, F]),
+    (391, [F, F, F, F, F, F, T, F, F, F]),
+    (43, [F, F, F, F, F, F, F, F, T, F]),
+    (26, [F, F, F, F, F, F, F, F, F, T]),
+    (0, [F, F, F, F, F, F, F, F, F, F]),
+    (-50, [F, F, F, F, F, F, F, F, F, F]),
 ];
 
 fn may_read_again(error: &Error) -> bool {
@@ -50,6 +50,10 @@ fn recovers(error: &Error) -> bool {
 
 fn takes_no_writes(error: &Error) -> bool {
     error.is_notwritableprimary()
+}
+
+fn changes_its_state(error: &Error) -> bool {
+    error.is_state_change_error()
 }
 
 fn shuts_down(error: &Error) -> bool {
@@ -81,6 +85,7 @@ fn said(error: &Error) -> Says {
         may_read_again(error),
         recovers(error),
         takes_no_writes(error),
+        changes_its_state(error),
         shuts_down(error),
         is_out_of_time(error),
         asks_who(error),

@@ -1,5 +1,5 @@
 //! Copies and conversions with ample memory.
-use super::{command, redact, reset, text_list};
+use super::{command, redact, redacted, reset, text_list};
 use crate::{
     CommandErrorBody, Error, ErrorKind, IndexedWriteError, InsertManyError, WriteConcernError,
     WriteFailure, convert_insert_many_error,
@@ -8,7 +8,7 @@ use bson_lite::{Bson, ByIndex, List, Text, TryClone};
 use std::alloc::{AllocError, Global};
 use std::test::Fail;
 
-fn write_errors(alloc: Global) -> Result<List<IndexedWriteError>, AllocError> {
+pub(super) fn write_errors(alloc: Global) -> Result<List<IndexedWriteError>, AllocError> {
     let mut errors = List::new(alloc);
     for index in [3, 1] {
         errors.push(IndexedWriteError {
@@ -22,7 +22,7 @@ fn write_errors(alloc: Global) -> Result<List<IndexedWriteError>, AllocError> {
     Ok(errors)
 }
 
-fn concern(alloc: Global) -> Result<WriteConcernError, AllocError> {
+pub(super) fn concern(alloc: Global) -> Result<WriteConcernError, AllocError> {
     Ok(WriteConcernError {
         code: 64,
         code_name: Text::from_str(alloc, "WriteConcernFailed")?,
@@ -71,6 +71,32 @@ fn a_copy_prints_alike(rt: HostRuntime) -> Result<(), Fail> {
     assert!(rt; same_text(rt.alloc(), &error, &copy)?);
     let error = redact(rt.alloc(), error)?;
     assert!(rt; !same_text(rt.alloc(), &error, &copy)?);
+    Ok(())
+}
+
+fn redacted_copy(alloc: Global) -> Result<Error, AllocError> {
+    let error = redacted(alloc)?;
+    copy(alloc, &error)
+}
+
+#[test]
+fn a_copy_of_a_redacted_error_has_its_reply(rt: HostRuntime) -> Result<(), Fail> {
+    let copy = redacted_copy(rt.alloc())?;
+    let bytes = copy.server_response().map(|reply| reply.as_bytes());
+    assert_eq!(rt;
+        bytes,
+        Some(b"\x10\x00\x00\x00\x08redacted\x00\x01\x00".as_slice())
+    );
+    Ok(())
+}
+
+fn redacted_copy_prints_alike(alloc: Global) -> Result<bool, AllocError> {
+    same_text(alloc, &redacted(alloc)?, &redacted_copy(alloc)?)
+}
+
+#[test]
+fn a_copy_of_a_redacted_error_prints_alike(rt: HostRuntime) -> Result<(), Fail> {
+    assert!(rt; redacted_copy_prints_alike(rt.alloc())?);
     Ok(())
 }
 

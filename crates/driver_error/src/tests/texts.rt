@@ -1,11 +1,14 @@
 //! The texts of errors.
-use super::{command, command_failed, reset};
-use crate::{BulkWriteError, Error, ErrorKind, InsertManyError, IoKind, WriteError, WriteFailure};
+use super::{command, command_failed, redact, reset};
+use crate::{
+    BulkWriteError, Error, ErrorKind, GridFsErrorKind, InsertManyError, IoKind, WriteError,
+    WriteFailure,
+};
 use bson_lite::{ByIndex, EncodeFault, List, Text};
 use std::alloc::{AllocError, Global};
 use std::test::Fail;
 
-const TEXTS: [&str; 19] = [
+const TEXTS: [&str; 21] = [
     "An invalid argument was provided: m",
     "The server returned an invalid reply to a database operation: m",
     "The server does not support a database operation: m",
@@ -25,6 +28,8 @@ const TEXTS: [&str; 19] = [
     "out of memory",
     "TooDeep",
     "ZeroByte",
+    "MissingChunk { n: 3 }",
+    "WriteInProgress",
 ];
 
 fn texts() -> &'static [&'static str] {
@@ -35,7 +40,7 @@ fn text_of(alloc: Global, at: usize) -> Result<String, AllocError> {
     kind(alloc, at)?.to_string(alloc)
 }
 
-fn kind(alloc: Global, at: usize) -> Result<ErrorKind, AllocError> {
+pub(super) fn kind(alloc: Global, at: usize) -> Result<ErrorKind, AllocError> {
     let message = Text::from_str(alloc, "m")?;
     Ok(match at {
         0 => ErrorKind::InvalidArgument { message },
@@ -56,7 +61,9 @@ fn kind(alloc: Global, at: usize) -> Result<ErrorKind, AllocError> {
         15 => ErrorKind::Shutdown,
         16 => ErrorKind::Memory,
         17 => ErrorKind::BsonSerialization(EncodeFault::TooDeep),
-        _ => ErrorKind::BsonSerialization(EncodeFault::ZeroByte),
+        18 => ErrorKind::BsonSerialization(EncodeFault::ZeroByte),
+        19 => ErrorKind::GridFs(GridFsErrorKind::MissingChunk { n: 3 }),
+        _ => ErrorKind::GridFs(GridFsErrorKind::WriteInProgress),
     })
 }
 
@@ -66,6 +73,52 @@ fn kinds_print_their_texts(rt: HostRuntime) -> Result<(), Fail> {
         let printed = text_of(rt.alloc(), at)?;
         assert_eq!(rt; printed.as_str(), *text);
     }
+    Ok(())
+}
+
+#[test]
+fn failures_of_the_network_print_their_names(rt: HostRuntime) -> Result<(), Fail> {
+    let table = [
+        (IoKind::TimedOut, "TimedOut"),
+        (IoKind::ConnectionReset, "ConnectionReset"),
+        (IoKind::ConnectionRefused, "ConnectionRefused"),
+        (IoKind::BrokenPipe, "BrokenPipe"),
+        (IoKind::UnexpectedEof, "UnexpectedEof"),
+        (IoKind::Other, "Other"),
+    ];
+    for (kind, name) in table {
+        assert_eq!(rt; kind.to_string(rt.alloc())?.as_str(), name);
+    }
+    Ok(())
+}
+
+fn interrupted(alloc: Global) -> Result<Error, AllocError> {
+    let error = command(alloc, 11600, "InterruptedAtShutdown", "x")?;
+    Ok(Error::from_kind(ErrorKind::Command(error)))
+}
+
+/// The text of the command error in an error.
+fn command_text(alloc: Global, error: &Error) -> Result<String, AllocError> {
+    match error.kind() {
+        ErrorKind::Command(command) => command.to_string(alloc),
+        _ => Ok(String::new(alloc)),
+    }
+}
+
+#[test]
+fn a_command_error_prints_its_code_name_and_message(rt: HostRuntime) -> Result<(), Fail> {
+    let error = interrupted(rt.alloc())?;
+    let text = command_text(rt.alloc(), &error)?;
+    assert_eq!(rt;
+        text.as_str(),
+        "Error code 11600 (InterruptedAtShutdown): x"
+    );
+    let error = redact(rt.alloc(), error)?;
+    let text = command_text(rt.alloc(), &error)?;
+    assert_eq!(rt;
+        text.as_str(),
+        "Error code 11600 (InterruptedAtShutdown): REDACTED"
+    );
     Ok(())
 }
 

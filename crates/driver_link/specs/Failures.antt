@@ -1,0 +1,22 @@
+-- The errors that failures of a link become.
+use Rattle.driver_error.specs.declared.error.Error.{Error}
+use Rattle.driver_error.specs.declared.kind.ErrorKind.TheVariants as kind
+use Rattle.driver_error.specs.Conversions.{IsMade}
+use Rattle.driver_error.specs.Error.{ErrorKind, IsAlone}
+use Rattle.driver_error.specs.LabelTexts.{no_labels, label_set}
+use Rattle.driver_link.specs.declared.fault.LinkError.{LinkError}
+use Rattle.driver_link.specs.declared.fault.LinkError.TheVariants.{Fault, Memory}
+use Rattle.driver_link.specs.declared.fault.LinkFault.{LinkFault}
+use Rattle.driver_link.specs.declared.fault.LinkFault.TheVariants.{Io, PoolCleared, Selection, Authentication}
+
+-- the kind of a link's fault
+abbrev pub fault_kind : LinkFault → ErrorKind
+fault_kind (Io io) = kind.Io io
+fault_kind (PoolCleared message) = kind.ConnectionPoolCleared message
+fault_kind (Selection message) = kind.ServerSelection message
+fault_kind (Authentication message) = kind.Authentication message
+
+-- the kind of the fault with its labels and nothing else, or want of memory for them
+abbrev pub BecomesError : LinkError → Error → Type 0
+BecomesError (Fault fault labels) error = IsMade (fault_kind fault) (label_set labels) error
+BecomesError Memory error = IsAlone kind.Memory no_labels error
