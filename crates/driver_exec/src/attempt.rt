@@ -12,7 +12,7 @@ use crate::session::ServerSession;
 use crate::store::SessionStore;
 use bson_lite::{Bytes, List, Text};
 use driver_error::{Error, ErrorKind, RETRYABLE_WRITE_ERROR, Result};
-use driver_link::{Clock, Conn, Link, LinkCall, LinkError, PlacedWrite};
+use driver_link::{Clock, Conn, Link, LinkCall, LinkError, LinkFault, PlacedWrite};
 use std::alloc::{AllocError, Global};
 
 /// The error of a link's failure in one of its calls, with the labels that it then has.
