@@ -3,3 +3,10 @@ pub mod ServeLaws
 pub mod StepLaws
 pub mod TransientLaws
 pub mod WaitingLaws
+pub mod InterruptLaws
+pub mod ReadLaws
+pub mod WriteLaws
+pub mod CopyLaws
+pub mod TrackLaws
+pub mod StillLaws
+pub mod IndexLaws

@@ -16,7 +16,7 @@ use Rattle.model_server.specs.declared.change.CursorChange.{CursorChange}
 use Rattle.model_server.specs.declared.change.Effect.{Effect}
 
 -- what is known of a session does not depend on the trace
-known_traced : (session : Option (List ℕ)) (number : Option ℤ) (server : Server) (trace : List Send) (send : Send)
+pub known_traced : (session : Option (List ℕ)) (number : Option ℤ) (server : Server) (trace : List Send) (send : Send)
     → known_as session number (record server { trace = trace }) send ≡ known_as session number server send
 unfolding known_as
 known_traced None number server trace send = refl
@@ -24,7 +24,7 @@ known_traced (Some id) None server trace send = refl
 known_traced (Some id) (Some number) server trace send = refl
 
 -- nor does the case
-case_traced : (session : Option (List ℕ)) (number : Option ℤ) (server : Server) (trace : List Send) (send : Send)
+pub case_traced : (session : Option (List ℕ)) (number : Option ℤ) (server : Server) (trace : List Send) (send : Send)
     → case_as session number (record server { trace = trace }) send ≡ case_as session number server send
 unfolding case_as case_under
 case_traced None number server trace send = refl

@@ -45,7 +45,7 @@ cursors_stay (effect.Logged entries) server = refl
 cursors_stay (effect.Taken id number in_transaction start step transient) server = refl
 
 -- a number is not below itself
-not_below_itself : (number : ℤ) → int_lt number number ≡ false
+pub not_below_itself : (number : ℤ) → int_lt number number ≡ false
 not_below_itself number = grind (arith, ints)
 
 -- a step leaves the number
@@ -59,7 +59,7 @@ greatest_stays step.Commits known = refl
 greatest_stays step.Denied known = refl
 
 -- a number that was taken is not new
-not_new : (number : ℤ) (in_transaction start : Bool) (before : Option KnownSession)
+pub not_new : (number : ℤ) (in_transaction start : Bool) (before : Option KnownSession)
     → int_lt (taken number in_transaction start before).greatest number ≡ false
 unfolding taken
 not_new number in_transaction start None = not_below_itself number
@@ -70,7 +70,7 @@ not_new number in_transaction start (Some known) = by_test (int_lt known.greates
     by_test false is = is
 
 -- it is not taken again
-taken_again : (number : ℤ) (in_transaction start : Bool) (known : KnownSession) → int_lt known.greatest number ≡ false
+pub taken_again : (number : ℤ) (in_transaction start : Bool) (known : KnownSession) → int_lt known.greatest number ≡ false
     → taken number in_transaction start (Some known) ≡ known
 unfolding taken
 taken_again number in_transaction start known is = ap (λ b. if b then begun number in_transaction start else known) is

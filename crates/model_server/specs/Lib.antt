@@ -6,3 +6,8 @@ pub mod Changes
 pub mod Does
 pub mod Parts
 pub mod Waiting
+pub mod Transient
+pub mod Meets
+pub mod ModelState
+pub mod Tracked
+pub mod Indexes

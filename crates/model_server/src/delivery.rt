@@ -1,6 +1,6 @@
 //! Late deliveries: a waiting send is taken out of its place and served as usual.
 ghost use Rattle.std.specs.Prelude.{◌≡◌, None, Some, slice_set, is_some, IfOk, OnOk, OnErr};
-ghost use Rattle.driver_link.specs.Exchange.{delivered};
+ghost use Rattle.driver_link.specs.Exchange.{after_picks, delivered};
 ghost use Rattle.driver_link.specs.Serving.{served, usual};
 ghost use Rattle.model_server.specs.Waiting.{waits_at};
 
@@ -70,5 +70,16 @@ fn serve_late(server: &mut Server, alloc: Global, send: &Send) -> Result<(), All
         change,
     } = made;
     put(server, alloc, effect, change)?;
+    Ok(())
+}
+
+/// Serves the waiting sends of a list of picks in turn; a pick that is not waiting is passed over.
+#[tactic(auto, unfolding(driver_link::specs::Exchange::after_picks))]
+pub fn deliver_each(server: &mut Server, alloc: Global, picks: &[u64]) -> Result<(), AllocError>
+    ensures { OnOk result (server.new ≡ after_picks server.old picks.now) }
+{
+    for pick in picks {
+        deliver(server, alloc, *pick)?;
+    }
     Ok(())
 }

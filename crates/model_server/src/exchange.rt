@@ -1,6 +1,6 @@
-//! One send served by a model server: everything is made first, then put in place.
-ghost use Rattle.std.specs.Prelude.{◌≡◌, List as Listed, false, OnOk, OnErr, IfOk};
-ghost use Rattle.driver_link.specs.Exchange.{empty_server, plan_of, traced};
+//! What serving a send comes to, made in full before anything is put in place.
+ghost use Rattle.std.specs.Prelude.{◌≡◌, List as Listed, false, IfOk};
+ghost use Rattle.driver_link.specs.Exchange.{empty_server, plan_of};
 ghost use Rattle.driver_link.specs.Cases.{writes_of as writes_in};
 ghost use Rattle.driver_link.specs.Replies.{served_reply};
 ghost use Rattle.driver_link.specs.Serving.{session_after, served as serving};
@@ -8,11 +8,11 @@ ghost use Rattle.driver_link.specs.Statements.{entries_of};
 ghost use Rattle.driver_link.specs.declared.machine.Send.{Send as Sent};
 ghost use Rattle.driver_link.specs.declared.machine.Server.{Server as State};
 ghost use Rattle.model_server.specs.Changes.{changed, effect_in};
-ghost use Rattle.model_server.specs.Parts.{parts_as};
+ghost use Rattle.model_server.specs.Parts.{Makes, parts_as};
 ghost use Rattle.model_server.specs.Seen.{is_numbered};
 
 use crate::cases::{Case, case_of, is_in_transaction, is_too_old, writes_of};
-use crate::change::{CursorChange, Effect, put};
+use crate::change::{CursorChange, Effect};
 use crate::serving::{cursor_change, done_in, reply_in, step_in};
 use crate::statements::entries;
 use bson_lite::{Document, List};
@@ -61,14 +61,14 @@ fn effect_of(
 }
 
 /// What serving a send without a number does to the log.
-fn unnumbered_effect(
+pub(crate) fn unnumbered_effect(
     alloc: Global,
     send: &Send,
     case: Case,
     done: &[Statement],
 ) -> Result<Effect, AllocError>
     requires { is_numbered send.now.session send.now.number ≡ false }
-    ensures { IfOk result (λ effect. (state : State) → effect_in effect state ≡ parts_as session_after send.now.session send.now.number case done.now (entries_of send.now.session send.now.number (writes_in send.now) done.now) state send.now) }
+    ensures { IfOk result (λ effect. (makes : Makes) (state : State) → effect_in effect state ≡ parts_as makes send.now.session send.now.number case done.now (entries_of send.now.session send.now.number (writes_in send.now) done.now) state send.now) }
 {
     match case {
         Case::Outside => {
@@ -82,28 +82,6 @@ fn unnumbered_effect(
             Ok(Effect::Logged { entries })
         }
         _ => Ok(Effect::Nothing),
-    }
-}
-
-/// Puts a send into the trace, and what it does into the server. A refusal leaves the server as it was.
-pub(crate) fn advance(
-    server: &mut Server,
-    alloc: Global,
-    send: Send,
-    effect: Effect,
-    change: CursorChange,
-) -> Result<(), AllocError>
-    ensures ok { OnOk result (server.new ≡ changed effect change (traced server.old send)) }
-    ensures err { OnErr result (server.new ≡ server.old) }
-{
-    let had = server.trace.len();
-    server.trace.push(send)?;
-    match put(server, alloc, effect, change) {
-        Ok(()) => Ok(()),
-        Err(refused) => {
-            server.trace.truncate(had);
-            Err(refused)
-        }
     }
 }
 
@@ -138,29 +116,4 @@ pub(crate) fn prepare(
         effect,
         change,
     })
-}
-
-/// Puts a send into the trace and serves it. The answer is its reply. A refusal leaves the server as it
-/// was.
-pub fn serve(
-    server: &mut Server,
-    alloc: Global,
-    send: Send,
-    results: &[Planned],
-    fail: &[Failing],
-    concern: &Option<PlannedConcern>,
-    page: Option<u64>,
-) -> Result<Document, AllocError>
-    ensures reply { IfOk result (λ reply. reply ≡ served_reply (plan_of results.now fail.now concern.now page) (traced server.old send) send) }
-    ensures ok { OnOk result (server.new ≡ serving (plan_of results.now fail.now concern.now page) (traced server.old send) send) }
-    ensures err { OnErr result (server.new ≡ server.old) }
-{
-    let made = prepare(server, alloc, &send, results, fail, concern, page)?;
-    let Prepared {
-        reply,
-        effect,
-        change,
-    } = made;
-    advance(server, alloc, send, effect, change)?;
-    Ok(reply)
 }

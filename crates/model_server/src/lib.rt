@@ -3,15 +3,23 @@
 //! Each function computes one of the machine's definitions, and its clause is the equation with it.
 #![tactic(auto)]
 
+pub mod asking;
+pub mod body_fields;
 pub mod cases;
 pub mod change;
+pub mod copying;
 pub mod counts;
 pub mod cursors;
 pub mod delivery;
 pub mod exchange;
 pub mod fields;
 pub mod honesty;
+pub mod interrupting;
+pub mod meeting;
+pub mod ops;
+pub mod reading;
 pub mod refusing;
 pub mod replying;
 pub mod serving;
 pub mod statements;
+pub mod writing;

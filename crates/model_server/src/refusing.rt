@@ -1,19 +1,20 @@
 //! Refused sends: nothing runs, and an error is answered whose labels tell no lie.
-ghost use Rattle.std.specs.Prelude.{◌≡◌, IfOk, OnOk, OnErr};
-ghost use Rattle.driver_link.specs.Exchange.{refused_labels, traced};
+ghost use Rattle.std.specs.Prelude.{◌≡◌, List as Listed, IfOk};
+ghost use Rattle.driver_link.specs.Exchange.{refused_labels};
 ghost use Rattle.driver_link.specs.Honesty.{can_be_transient as transient_by_rule};
 ghost use Rattle.driver_link.specs.Interrupting.{told_of_error};
 ghost use Rattle.driver_link.specs.Replies.{error_reply};
 ghost use Rattle.driver_link.specs.Sessions.{is_committed as committed};
+ghost use Rattle.driver_link.specs.declared.machine.Send.{Send as Sent};
 ghost use Rattle.driver_link.specs.declared.machine.Server.{Server as State};
-ghost use Rattle.model_server.specs.Changes.{effect_in};
+ghost use Rattle.model_server.specs.Changes.{changed, effect_in};
 
 use crate::cases::{begun, is_in_transaction};
 use crate::change::{CursorChange, Effect, SessionStep};
-use crate::exchange::advance;
+use crate::exchange::Prepared;
 use crate::honesty::{Judgement, has_transient, honest, ran_before};
 use crate::replying::error;
-use bson_lite::{Document, Text};
+use bson_lite::Text;
 use driver_link::{Send, Server, ServerTransaction};
 use std::alloc::{AllocError, Global};
 
@@ -26,7 +27,7 @@ fn is_committed(transaction: &ServerTransaction) -> bool
 
 /// Whether a send's transaction can be called transient.
 #[tactic(auto, unfolding(driver_link::specs::Honesty::can_be_transient, driver_link::specs::Sessions::is_below, driver_link::specs::Sessions::taken))]
-fn can_be_transient(alloc: Global, server: &Server, send: &Send) -> bool
+pub(crate) fn can_be_transient(alloc: Global, server: &Server, send: &Send) -> bool
     ensures { result ≡ transient_by_rule send.now.session send.now.number server.now send.now }
 {
     let (Some(id), Some(number)) = (send.session, send.number) else {
@@ -73,27 +74,28 @@ fn refused_effect(send: &Send, labels: &[Text]) -> Effect
     }
 }
 
-/// Puts a send into the trace and refuses it. The answer is its reply. A refusal of memory leaves the
-/// server as it was.
-pub fn refuse(
-    server: &mut Server,
+/// Makes what a refused send comes to. It holds whatever the trace is by then.
+pub(crate) fn refuse(
+    server: &Server,
     alloc: Global,
-    send: Send,
+    send: &Send,
     code: i32,
     labels: &[Text],
-) -> Result<Document, AllocError>
-    ensures reply { IfOk result (λ reply. reply ≡ error_reply code (refused_labels labels.now (traced server.old send) send)) }
-    ensures ok { OnOk result (server.new ≡ told_of_error (refused_labels labels.now (traced server.old send) send) (traced server.old send) send) }
-    ensures err { OnErr result (server.new ≡ server.old) }
+) -> Result<Prepared, AllocError>
+    ensures reply { IfOk result (λ made. (trace : Listed Sent) → made.reply ≡ error_reply code (refused_labels labels.now (record server.now { trace = trace }) send.now)) }
+    ensures server { IfOk result (λ made. (trace : Listed Sent) → changed made.effect made.change (record server.now { trace = trace }) ≡ told_of_error (refused_labels labels.now (record server.now { trace = trace }) send.now) (record server.now { trace = trace }) send.now) }
 {
     let facts = Judgement {
         ran_now: false,
-        ran_before: ran_before(server, &send),
-        can_be_transient: can_be_transient(alloc, server, &send),
+        ran_before: ran_before(server, send),
+        can_be_transient: can_be_transient(alloc, server, send),
     };
     let answered = honest(alloc, facts, labels)?;
     let reply = error(alloc, code, answered.as_slice())?;
-    let effect = refused_effect(&send, answered.as_slice());
-    advance(server, alloc, send, effect, CursorChange::Nothing)?;
-    Ok(reply)
+    let effect = refused_effect(send, answered.as_slice());
+    Ok(Prepared {
+        reply,
+        effect,
+        change: CursorChange::Nothing,
+    })
 }

@@ -26,6 +26,9 @@ pub const TRANSACTION_TOO_OLD: i32 = 225;
 /// The code of a send that its transaction does not take.
 const NO_SUCH_TRANSACTION: i32 = 251;
 
+/// The code that asks for another authentication.
+pub const REAUTHENTICATION_REQUIRED: i32 = 391;
+
 /// The code of a cursor that is not open.
 const CURSOR_NOT_FOUND: i32 = 43;
 
