@@ -10,3 +10,8 @@ pub mod CopyLaws
 pub mod TrackLaws
 pub mod StillLaws
 pub mod IndexLaws
+pub mod StepsLaws
+pub mod SteadyLaws
+pub mod CommitLaws
+pub mod GrowLaws
+pub mod InsideLaws

@@ -108,7 +108,7 @@ free : Bool → ServerTransaction → Bool
 free inside transaction = if inside then negated (is_committed transaction) else true
 
 -- a number that was taken is not below the greatest of its session
-not_below_taken : (number : ℤ) (inside start : Bool) (before : Option KnownSession) → is_below number before ≡ false
+pub not_below_taken : (number : ℤ) (inside start : Bool) (before : Option KnownSession) → is_below number before ≡ false
     → int_lt number (taken number inside start before).greatest ≡ false
 unfolding taken is_below
 not_below_taken number inside start None above = not_below_itself number

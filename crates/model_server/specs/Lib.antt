@@ -11,3 +11,4 @@ pub mod Meets
 pub mod ModelState
 pub mod Tracked
 pub mod Indexes
+pub mod Steady

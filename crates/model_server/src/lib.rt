@@ -5,6 +5,7 @@
 
 pub mod asking;
 pub mod body_fields;
+mod calls;
 pub mod cases;
 pub mod change;
 pub mod copying;
@@ -15,11 +16,17 @@ pub mod exchange;
 pub mod fields;
 pub mod honesty;
 pub mod interrupting;
+pub mod laws;
+mod link;
 pub mod meeting;
 pub mod ops;
 pub mod reading;
 pub mod refusing;
 pub mod replying;
+pub mod server;
 pub mod serving;
 pub mod statements;
+mod stepping;
 pub mod writing;
+
+pub use server::ModelServer;
