@@ -1,1 +1,14 @@
+pub mod Ran
+pub mod Judged
+pub mod SomeField
+pub mod Seen
+pub mod Changes
+pub mod Does
+pub mod Parts
+pub mod Waiting
+pub mod Transient
+pub mod Meets
 pub mod ModelState
+pub mod Tracked
+pub mod Indexes
+pub mod Steady

@@ -1,11 +1,25 @@
--- What a model server is seen as.
-use Rattle.std.specs.Prelude.{ℕ, List}
-use Rattle.driver_link.specs.Told.{CallCounts, Told}
+-- What contracts see of the model server.
+use Rattle.std.specs.Prelude.{◌≡◌, ℕ, List, [], ◌∷◌, ◌++◌, Option, None, Some, Result, Ok, Err}
 use Rattle.driver_link.specs.declared.fault.Answered.{Answered}
+use Rattle.driver_link.specs.declared.fault.Answered.TheVariants as answer
+use Rattle.driver_link.specs.declared.fault.LinkCall.{LinkCall}
+use Rattle.driver_link.specs.declared.fault.LinkError.{LinkError}
+use Rattle.driver_link.specs.declared.fault.LinkError.TheVariants.{Fault, Memory}
 use Rattle.driver_link.specs.declared.machine.Schedule.{Schedule}
+use Rattle.driver_link.specs.declared.machine.Send.{Send}
 use Rattle.driver_link.specs.declared.machine.Server.{Server}
 use Rattle.driver_link.specs.declared.machine.Setup.{Setup}
+use Rattle.driver_link.specs.declared.options.Address.{Address}
+use Rattle.driver_link.specs.declared.options.SelectionCriteria.{SelectionCriteria}
+use Rattle.driver_link.specs.declared.options.SelectionCriteria.TheVariants as criteria
+use Rattle.driver_link.specs.Counting.{Listed, one_more}
+use Rattle.driver_link.specs.Exchange.{answered, exchanged, next_step}
+use Rattle.driver_link.specs.Told.{CallCounts, Told}
+use Rattle.model_server.specs.Meets.{IsSpelled, note_of}
+use Rattle.model_server.specs.declared.server.TheConstants.{HOST, PORT}
 
+-- the server, what it was made with, how many calls it has had beside exchanges, what it answered, and how
+-- many of its answers were faults
 pub record ModelState : Type 0 where
   pub server : Server
   pub setup : Setup
@@ -14,10 +28,58 @@ pub record ModelState : Type 0 where
   pub answers : List Answered
   pub faults : ℕ
 
--- what it tells
-abbrev pub told_of : ModelState → Told
-told_of state = record { server = state.server; setup = state.setup; schedule = state.schedule; counts = state.counts }
-
--- no call was counted
+-- no calls
 abbrev pub no_calls : CallCounts
 no_calls = record { selects = 0; supports = 0; check_outs = 0; reauthentications = 0 }
+
+-- what the model server tells
+abbrev pub told_of : ModelState → Told
+told_of model = record { server = model.server; setup = model.setup; schedule = model.schedule; counts = model.counts }
+
+-- the address of the model server
+abbrev pub model_address : Address
+model_address = record { host = HOST.now; port = PORT }
+
+-- the address that is selected: the one that is asked for, else that of the model server
+abbrev pub address_for : Option SelectionCriteria → Address
+address_for (Some (criteria.Address address)) = address
+address_for criteria = model_address
+
+-- the count of faults after a call: one more exactly where it answered a fault
+abbrev pub faults_after : {A : Type 0} → ℕ → Result A LinkError → ℕ
+faults_after faults (Err (Fault fault labels)) = one_more faults
+faults_after faults result = faults
+
+-- a fault is noted and counted
+abbrev pub failed : LinkCall → Listed → ModelState → ModelState
+failed call listed model =
+    record model { answers = model.answers ++ answer.Fault call listed.fault listed.labels ∷ []; faults = one_more model.faults }
+
+-- a call that is counted, and fails where the schedule lists it
+abbrev pub Called : {A : Type 0} → (CallCounts → CallCounts) → (Told → Option Listed) → LinkCall → ModelState → ModelState → Result A LinkError → Type 0
+Called next fault call old now (Ok given) = (now ≡ record old { counts = next old.counts }) × (fault (told_of old) ≡ None)
+Called next fault call old now (Err (Fault found labels)) =
+    (now ≡ failed call (record { fault = found; labels = labels }) (record old { counts = next old.counts }))
+    × (fault (told_of old) ≡ Some (record { fault = found; labels = labels }))
+Called next fault call old now (Err Memory) = now ≡ record old { counts = next old.counts }
+
+-- the counts after one call more of each kind
+abbrev pub one_select : CallCounts → CallCounts
+one_select counts = record counts { selects = one_more counts.selects }
+
+abbrev pub one_support : CallCounts → CallCounts
+one_support counts = record counts { supports = one_more counts.supports }
+
+abbrev pub one_check_out : CallCounts → CallCounts
+one_check_out counts = record counts { check_outs = one_more counts.check_outs }
+
+abbrev pub one_reauthentication : CallCounts → CallCounts
+one_reauthentication counts = record counts { reauthentications = one_more counts.reauthentications }
+
+-- one exchange of the machine, with the bytes of its reply, or none where the connection was reset
+pub record Stepped (old now : ModelState) (send : Send) (bytes : Option (List ℕ)) : Type 0 where
+  pub reply : IsSpelled (answered old.server send (next_step old.schedule old.server)) bytes
+  pub is : now ≡ record old {
+    server = exchanged old.server send (next_step old.schedule old.server);
+    answers = old.answers ++ note_of bytes ∷ [];
+  }

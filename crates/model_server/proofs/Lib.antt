@@ -1,0 +1,17 @@
+pub mod EffectLaws
+pub mod ServeLaws
+pub mod StepLaws
+pub mod TransientLaws
+pub mod WaitingLaws
+pub mod InterruptLaws
+pub mod ReadLaws
+pub mod WriteLaws
+pub mod CopyLaws
+pub mod TrackLaws
+pub mod StillLaws
+pub mod IndexLaws
+pub mod StepsLaws
+pub mod SteadyLaws
+pub mod CommitLaws
+pub mod GrowLaws
+pub mod InsideLaws

@@ -1,0 +1,45 @@
+-- A step of the model server is one exchange of the machine.
+use Rattle.std.proofs.Common.{◌≡◌, ℕ, List, [], Option, None, Some, Err, Ok, refl, sym, ap, subst, ◌∙◌}
+use Rattle.driver_error.specs.declared.kind.IoKind.TheVariants.{ConnectionReset}
+use Rattle.driver_link.specs.declared.fault.LinkError.{LinkError}
+use Rattle.driver_link.specs.declared.fault.LinkError.TheVariants.{Fault}
+use Rattle.driver_link.specs.declared.fault.LinkFault.TheVariants.{Io}
+use Rattle.driver_link.specs.declared.machine.Send.{Send}
+use Rattle.driver_link.specs.Cursors.{Reply}
+use Rattle.driver_link.specs.Exchange.{answered, next_step}
+use Rattle.driver_link.specs.Told.{IsReply, Steps}
+use Rattle.model_server.specs.Meets.{IsSpelled}
+use Rattle.model_server.specs.ModelState.{ModelState, Stepped, told_of}
+
+is_reply : (found : Option Reply) (bytes : List ℕ) → IsSpelled found (Some bytes) → IsReply found bytes
+is_reply None bytes spelled = spelled
+is_reply (Some document) bytes spelled = spelled
+
+is_none : (found : Option Reply) → IsSpelled found None → found ≡ None
+is_none None spelled = refl
+is_none (Some document) spelled = absurd spelled
+
+-- an exchange that was answered
+pub replied : (old now : ModelState) (send other : Send) (bytes : Option (List ℕ)) (reply : List ℕ)
+    → send ≡ other → bytes ≡ Some reply → Stepped old now send bytes → Steps (Some (told_of old)) (Some (told_of now)) other (Ok reply)
+replied old now send other bytes reply same some stepped =
+    subst (λ s. Steps (Some (told_of old)) (Some (told_of now)) s (Ok reply)) same (
+      ap (λ model. Some (told_of model)) stepped.is,
+      is_reply (answered old.server send (next_step old.schedule old.server)) reply
+          (subst (IsSpelled (answered old.server send (next_step old.schedule old.server))) some stepped.reply),
+    )
+
+-- an exchange whose connection was reset
+pub was_reset : (old middle now : ModelState) (send other : Send) (bytes : Option (List ℕ)) (failure : LinkError)
+    → send ≡ other → bytes ≡ None → Stepped old middle send bytes → told_of now ≡ told_of middle → failure ≡ Fault (Io ConnectionReset) []
+    → Steps (Some (told_of old)) (Some (told_of now)) other (Err failure)
+was_reset old middle now send other bytes failure same none stepped counted is =
+    let P : LinkError → Type 0 = λ why. Steps (Some (told_of old)) (Some (told_of now)) other (Err why) in
+    let Q : Send → Type 0 = λ s. Steps (Some (told_of old)) (Some (told_of now)) s (Err (Fault (Io ConnectionReset) [])) in
+    subst P (sym is)
+    (subst Q same (
+      ap (λ told. Some told) counted ∙ ap (λ model. Some (told_of model)) stepped.is,
+      is_none (answered old.server send (next_step old.schedule old.server))
+          (subst (IsSpelled (answered old.server send (next_step old.schedule old.server))) none stepped.reply),
+      (refl, refl),
+    ))

@@ -1,0 +1,24 @@
+-- What a send in its case makes of sessions and log, for serving and for interrupting alike.
+use Rattle.std.specs.Prelude.{ℕ, ℤ, List, ◌++◌, Option}
+use Rattle.driver_link.specs.Cases.{Case, known_as}
+use Rattle.driver_link.specs.Serving.{log_gains, sessions_as}
+use Rattle.driver_link.specs.declared.machine.Entry.{Entry}
+use Rattle.driver_link.specs.declared.machine.KnownSession.{KnownSession}
+use Rattle.driver_link.specs.declared.machine.Send.{Send}
+use Rattle.driver_link.specs.declared.machine.Server.{Server}
+use Rattle.driver_link.specs.declared.machine.Statement.{Statement}
+use Rattle.model_server.specs.Seen.{seen, gathered_by}
+use Rattle.model_server.specs.declared.cases.Case.{Case as Met}
+
+-- what a case makes of a session, by what its statements came to and the entries of those that ran
+abbrev pub Makes : Type 0
+Makes = Case → List Statement → List Entry → KnownSession → KnownSession
+
+-- sessions and log once a send under a session and a number was taken in its case
+unfoldable pub parts_as : Makes → Option (List ℕ) → Option ℤ → Met → List Statement → List Entry → Server → Send → Server
+parts_as makes session number case done ran server send =
+    let whole = seen case (gathered_by (known_as session number server send)) in
+    record server {
+      sessions = sessions_as session number whole (makes whole done ran) server send;
+      log = server.log ++ log_gains whole ran;
+    }

@@ -1,0 +1,174 @@
+//! The calls of a model server that are counted: each faults exactly where the schedule lists its number.
+ghost use Rattle.std.specs.Prelude.{◌≡◌, ◌≤◌, ◌++◌, ◌∷◌, [], IfOk, OnOk, OnErr};
+ghost use Rattle.driver_link.specs.Counting.{one_more, is_listed as listed_at, select_fault, support_fault, check_out_fault, reauthentication_fault, overload_labels};
+ghost use Rattle.driver_link.specs.Faults.{HasLinkCause};
+ghost use Rattle.driver_link.specs.declared.fault.Answered.TheVariants as answer;
+ghost use Rattle.driver_link.specs.declared.fault.LinkError.TheVariants.{Fault};
+ghost use Rattle.driver_link.specs.declared.fault.LinkCall.TheVariants as call_of;
+ghost use Rattle.model_server.specs.ModelState.{Called, one_select, one_support, one_check_out, one_reauthentication};
+
+use crate::server::ModelServer;
+use bson_lite::{List, Text, TryClone};
+use driver_error::{IoKind, RETRYABLE_ERROR, SYSTEM_OVERLOADED_ERROR};
+use driver_link::keys::{REAUTHENTICATION_FAILURE, SELECTION_FAILURE};
+use driver_link::{Answered, LinkCall, LinkError, LinkFault};
+use std::alloc::{AllocError, Global};
+
+/// Whether a number is listed.
+fn is_listed(numbers: &[u64], at: u64) -> bool
+    ensures { result ≡ listed_at numbers.now at }
+{
+    for number in numbers {
+        if *number == at {
+            return true;
+        }
+    }
+    false
+}
+
+/// Counts one call more.
+fn raise(count: &mut u64) -> u64
+    ensures number { result ≡ count.old }
+    ensures raised { count.new ≡ one_more count.old }
+    ensures later { count.old ≤ count.new }
+{
+    let number = *count;
+    *count = number.saturating_add(1);
+    number
+}
+
+/// The labels of overload.
+fn both_overload_labels(alloc: Global) -> Result<List<Text>, AllocError>
+    ensures { IfOk result (λ labels. labels ≡ overload_labels) }
+{
+    let mut labels = List::new(alloc);
+    labels.push(Text::from_str(alloc, SYSTEM_OVERLOADED_ERROR)?)?;
+    labels.push(Text::from_str(alloc, RETRYABLE_ERROR)?)?;
+    Ok(labels)
+}
+
+/// A copy of a fault.
+fn copied_fault(alloc: Global, fault: &LinkFault) -> Result<LinkFault, AllocError>
+    ensures { IfOk result (λ copy. copy ≡ fault.now) }
+{
+    Ok(match fault {
+        LinkFault::Io(kind) => LinkFault::Io(*kind),
+        LinkFault::PoolCleared(text) => LinkFault::PoolCleared(text.try_clone(alloc)?),
+        LinkFault::Selection(text) => LinkFault::Selection(text.try_clone(alloc)?),
+        LinkFault::Authentication(text) => LinkFault::Authentication(text.try_clone(alloc)?),
+    })
+}
+
+/// Notes a fault, and counts it. A refusal changes nothing.
+fn fail(
+    notes: &mut List<Answered>,
+    faults: &mut u64,
+    alloc: Global,
+    call: LinkCall,
+    fault: LinkFault,
+    labels: List<Text>,
+) -> Result<LinkError, AllocError>
+    ensures failure { IfOk result (λ failure. failure ≡ Fault fault labels) }
+    ensures notes { OnOk result (notes.new ≡ notes.old ++ answer.Fault call fault labels ∷ []) }
+    ensures faults { OnOk result (faults.new ≡ one_more faults.old) }
+    ensures later { faults.old ≤ faults.new }
+    ensures notes_err { OnErr result (notes.new ≡ notes.old) }
+    ensures faults_err { OnErr result (faults.new ≡ faults.old) }
+{
+    let note = Answered::Fault {
+        call,
+        fault: copied_fault(alloc, &fault)?,
+        labels: labels.try_clone(alloc)?,
+    };
+    notes.push(note)?;
+    raise(faults);
+    Ok(LinkError::Fault { fault, labels })
+}
+
+impl ModelServer {
+    /// Counts a selection, which fails where its number is listed.
+    pub(crate) fn count_select(&mut self, alloc: Global) -> Result<(), LinkError>
+        ensures called { Called one_select select_fault call_of.Select self.old self.new result }
+        ensures cause { HasLinkCause self.old.faults self.new.faults result }
+    {
+        let number = raise(&mut self.calls.selects);
+        if !is_listed(self.schedule.selects.as_slice(), number) {
+            return Ok(());
+        }
+        let fault = LinkFault::Selection(Text::from_str(alloc, SELECTION_FAILURE)?);
+        let (notes, faults) = (&mut self.answered, &mut self.faults);
+        Err(fail(
+            notes,
+            faults,
+            alloc,
+            LinkCall::Select,
+            fault,
+            List::new(alloc),
+        )?)
+    }
+
+    /// Counts a question for support of transactions, which fails where its number is listed.
+    pub(crate) fn count_support(&mut self, alloc: Global) -> Result<(), LinkError>
+        ensures called { Called one_support support_fault call_of.Support self.old self.new result }
+        ensures cause { HasLinkCause self.old.faults self.new.faults result }
+    {
+        let number = raise(&mut self.calls.supports);
+        if !is_listed(self.schedule.supports.as_slice(), number) {
+            return Ok(());
+        }
+        let fault = LinkFault::Selection(Text::from_str(alloc, SELECTION_FAILURE)?);
+        let (notes, faults) = (&mut self.answered, &mut self.faults);
+        Err(fail(
+            notes,
+            faults,
+            alloc,
+            LinkCall::Support,
+            fault,
+            List::new(alloc),
+        )?)
+    }
+
+    /// Counts a check-out, which fails where its number is listed: with the labels of overload where it is
+    /// listed as overloaded.
+    pub(crate) fn count_check_out(&mut self, alloc: Global) -> Result<(), LinkError>
+        ensures called { Called one_check_out check_out_fault call_of.CheckOut self.old self.new result }
+        ensures cause { HasLinkCause self.old.faults self.new.faults result }
+    {
+        let number = raise(&mut self.calls.check_outs);
+        let fault = LinkFault::Io(IoKind::ConnectionRefused);
+        let (notes, faults) = (&mut self.answered, &mut self.faults);
+        if is_listed(self.schedule.overloaded_check_outs.as_slice(), number) {
+            let labels = both_overload_labels(alloc)?;
+            return Err(fail(notes, faults, alloc, LinkCall::CheckOut, fault, labels)?);
+        }
+        if is_listed(self.schedule.check_outs.as_slice(), number) {
+            let labels = List::new(alloc);
+            return Err(fail(notes, faults, alloc, LinkCall::CheckOut, fault, labels)?);
+        }
+        Ok(())
+    }
+
+    /// Counts an authentication, which fails where its number is listed.
+    pub(crate) fn count_reauthentication(&mut self, alloc: Global) -> Result<(), LinkError>
+        ensures called { Called one_reauthentication reauthentication_fault call_of.Reauthenticate self.old self.new result }
+        ensures cause { HasLinkCause self.old.faults self.new.faults result }
+    {
+        let number = raise(&mut self.calls.reauthentications);
+        if !is_listed(self.schedule.reauthentications.as_slice(), number) {
+            return Ok(());
+        }
+        let message = Text::from_str(alloc, REAUTHENTICATION_FAILURE)?;
+        let fault = LinkFault::Authentication(message);
+        let (notes, faults) = (&mut self.answered, &mut self.faults);
+        let call = LinkCall::Reauthenticate;
+        Err(fail(notes, faults, alloc, call, fault, List::new(alloc))?)
+    }
+
+    /// Notes and counts the reset of a connection.
+    pub(crate) fn count_fault(&mut self)
+        ensures counted { self.new ≡ record self.old { faults = one_more self.old.faults } }
+        ensures later { self.old.faults ≤ self.new.faults }
+    {
+        raise(&mut self.faults);
+    }
+}

@@ -1,0 +1,119 @@
+//! What serving a send comes to, made in full before anything is put in place.
+ghost use Rattle.std.specs.Prelude.{◌≡◌, List as Listed, false, IfOk};
+ghost use Rattle.driver_link.specs.Exchange.{empty_server, plan_of};
+ghost use Rattle.driver_link.specs.Cases.{writes_of as writes_in};
+ghost use Rattle.driver_link.specs.Replies.{served_reply};
+ghost use Rattle.driver_link.specs.Serving.{session_after, served as serving};
+ghost use Rattle.driver_link.specs.Statements.{entries_of};
+ghost use Rattle.driver_link.specs.declared.machine.Send.{Send as Sent};
+ghost use Rattle.driver_link.specs.declared.machine.Server.{Server as State};
+ghost use Rattle.model_server.specs.Changes.{changed, effect_in};
+ghost use Rattle.model_server.specs.Parts.{Makes, parts_as};
+ghost use Rattle.model_server.specs.Seen.{is_numbered};
+
+use crate::cases::{Case, case_of, is_in_transaction, is_too_old, writes_of};
+use crate::change::{CursorChange, Effect};
+use crate::serving::{cursor_change, done_in, reply_in, step_in};
+use crate::statements::entries;
+use bson_lite::{Document, List};
+use driver_link::{ById, Failing, Planned, PlannedConcern, Send, Server, Statement};
+use std::alloc::{AllocError, Global};
+
+/// A server that has seen nothing. It takes no memory.
+pub fn new_server(alloc: Global) -> Server
+    ensures { result ≡ empty_server }
+{
+    Server {
+        sessions: ById::new(alloc),
+        log: List::new(alloc),
+        waiting: List::new(alloc),
+        cursors: List::new(alloc),
+        trace: List::new(alloc),
+    }
+}
+
+/// What serving a send does to sessions and log.
+fn effect_of(
+    alloc: Global,
+    send: &Send,
+    case: Case,
+    done: &[Statement],
+) -> Result<Effect, AllocError>
+    ensures { IfOk result (λ effect. (state : State) → effect_in effect state ≡ parts_as session_after send.now.session send.now.number case done.now (entries_of send.now.session send.now.number (writes_in send.now) done.now) state send.now) }
+{
+    if is_too_old(case) {
+        return Ok(Effect::Nothing);
+    }
+    match (send.session, send.number) {
+        (Some(id), Some(number)) => {
+            let step = step_in(alloc, send, case, done)?;
+            Ok(Effect::Taken {
+                id,
+                number,
+                in_transaction: is_in_transaction(send),
+                start: send.start,
+                step,
+                transient: false,
+            })
+        }
+        _ => unnumbered_effect(alloc, send, case, done),
+    }
+}
+
+/// What serving a send without a number does to the log.
+pub(crate) fn unnumbered_effect(
+    alloc: Global,
+    send: &Send,
+    case: Case,
+    done: &[Statement],
+) -> Result<Effect, AllocError>
+    requires { is_numbered send.now.session send.now.number ≡ false }
+    ensures { IfOk result (λ effect. (makes : Makes) (state : State) → effect_in effect state ≡ parts_as makes send.now.session send.now.number case done.now (entries_of send.now.session send.now.number (writes_in send.now) done.now) state send.now) }
+{
+    match case {
+        Case::Outside => {
+            let entries = entries(
+                alloc,
+                send.session,
+                send.number,
+                writes_of(&send.body),
+                done,
+            )?;
+            Ok(Effect::Logged { entries })
+        }
+        _ => Ok(Effect::Nothing),
+    }
+}
+
+/// What serving a send comes to, made in full.
+#[derive(Debug, Drop)]
+pub(crate) struct Prepared {
+    pub reply: Document,
+    pub effect: Effect,
+    pub change: CursorChange,
+}
+
+/// Makes what serving a send comes to. It holds whatever the trace is by then.
+pub(crate) fn prepare(
+    server: &Server,
+    alloc: Global,
+    send: &Send,
+    results: &[Planned],
+    fail: &[Failing],
+    concern: &Option<PlannedConcern>,
+    page: Option<u64>,
+) -> Result<Prepared, AllocError>
+    ensures reply { IfOk result (λ made. (trace : Listed Sent) → made.reply ≡ served_reply (plan_of results.now fail.now concern.now page) (record server.now { trace = trace }) send.now) }
+    ensures server { IfOk result (λ made. (trace : Listed Sent) → changed made.effect made.change (record server.now { trace = trace }) ≡ serving (plan_of results.now fail.now concern.now page) (record server.now { trace = trace }) send.now) }
+{
+    let case = case_of(alloc, server, send);
+    let done = done_in(alloc, server, send, case, results, fail)?;
+    let reply = reply_in(alloc, server, send, case, page, concern, done.as_slice())?;
+    let effect = effect_of(alloc, send, case, done.as_slice())?;
+    let change = cursor_change(alloc, send, case, page, done.as_slice())?;
+    Ok(Prepared {
+        reply,
+        effect,
+        change,
+    })
+}
