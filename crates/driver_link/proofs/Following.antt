@@ -1,6 +1,6 @@
 -- The statements of a send follow what is kept: one with a kept result is kept, and another is not.
-use Rattle.std.proofs.Common.{◌≡◌, ℕ, zero, suc, ◌+◌, ◌-◌, ◌<◌, nat_eq, Bool, true, false, cond, List, [], ◌∷◌, ◌++◌, refl, sym, ap, subst, ◌∙◌, inl, inr, arith}
-use Rattle.std.specs.Prelude.{ℤ, Option, None, Some, IsSome, ◌⊎◌, ◌==◌, ◌&&◌, slice_get, is_some, if◌then◌else◌}
+use Rattle.std.proofs.Common.{◌≡◌, ℕ, zero, suc, ◌+◌, ◌-◌, ◌<◌, nat_eq, Bool, true, false, cond, List, [], ◌∷◌, refl, sym, ap, subst, ◌∙◌, inl, inr, arith}
+use Rattle.std.specs.Prelude.{ℤ, Option, None, Some, IsSome, ◌⊎◌, ◌==◌, ◌&&◌, slice_get, is_some}
 use Rattle.std.specs.FinMap as finite
 use Rattle.std.specs.Cmp.{nat_cmp_total, unsigned_ties}
 use Rattle.std.specs.Ordering.{nat_cmp, eq_by_cmp}
@@ -15,7 +15,7 @@ use Rattle.driver_link.specs.declared.machine.Planned.{Planned}
 use Rattle.driver_link.specs.declared.machine.Statement.{Statement}
 use Rattle.driver_link.specs.declared.machine.Statement.TheVariants.{Kept, Ran, Failed}
 use Rattle.driver_link.specs.Settled.{Has}
-use Rattle.driver_link.specs.Statements.{Results, kept_by, kept_with, entry_of, entries_by, entries_of, statement_at, statement_of, statements, usual_statements, front, code_at, counted, planned_at, is_failed}
+use Rattle.driver_link.specs.Statements.{Results, kept_by, kept_with, entry_of, entries_by, entries_of, statement_at, statement_of, statements, front, code_at, counted, planned_at, is_failed}
 
 -- a statement fits what is kept at its position
 abbrev pub FitsKept : Option Counted → Statement → Type 0

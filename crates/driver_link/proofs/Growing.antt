@@ -1,6 +1,6 @@
 -- Entries stay in the log, whatever plain sends are served or arrive late, and the trace gains the send alone.
-use Rattle.std.proofs.Common.{◌≡◌, ℕ, Bool, true, false, cond, List, [], ◌∷◌, ◌++◌, refl, sym, ap, subst, ◌∙◌, inl, inr, append_assoc}
-use Rattle.std.specs.Prelude.{ℤ, Option, None, Some, ◌⊎◌, slice_get, slice_set, if◌then◌else◌}
+use Rattle.std.proofs.Common.{◌≡◌, ℕ, true, false, List, [], ◌∷◌, ◌++◌, refl, sym, ap, subst, ◌∙◌, append_assoc}
+use Rattle.std.specs.Prelude.{Option, None, Some, slice_get, slice_set}
 use Rattle.std.specs.FinMap as finite
 use Rattle.std.proofs.lemmas.List.{append-nil}
 use Rattle.driver_link.specs.declared.machine.Entry.{Entry}
@@ -14,7 +14,7 @@ use Rattle.driver_link.specs.Exchange.{after_picks, arrived, delivered, exchange
 use Rattle.driver_link.specs.Interrupting.{interrupted_in}
 use Rattle.driver_link.specs.Serving.{Plan, usual, served, served_in}
 use Rattle.driver_link.specs.Sessions.{is_below}
-use Rattle.driver_link.specs.Settled.{Has, IsOrderly, IsPlain, IsSettled}
+use Rattle.driver_link.specs.Settled.{IsOrderly, IsPlain, IsSettled}
 use Rattle.driver_link.specs.Statements.{entries_of}
 use Rattle.driver_link.proofs.Exchanged.{after_settled, orderly_front}
 use Rattle.driver_link.proofs.Plain.{begun_done, below_nothing, error_nothing, interrupted_above, interrupted_below, planned, served_above}

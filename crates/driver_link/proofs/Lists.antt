@@ -1,5 +1,5 @@
 -- Elements and positions of lists.
-use Rattle.std.proofs.Common.{◌≡◌, ℕ, zero, suc, ◌+◌, List, [], ◌∷◌, ◌++◌, length, refl, sym, ap, subst, ◌∙◌, inl, inr, arith}
+use Rattle.std.proofs.Common.{◌≡◌, ℕ, zero, suc, List, [], ◌∷◌, ◌++◌, length, refl, ap, inl, inr}
 use Rattle.std.specs.Prelude.{Option, None, Some, ◌⊎◌, slice_get, slice_set}
 use Rattle.driver_link.specs.Settled.{Has}
 

@@ -1,6 +1,6 @@
 -- No write twice: lists of entries whose places differ.
-use Rattle.std.proofs.Common.{◌≡◌, ◌≢◌, ℕ, zero, suc, ◌+◌, List, [], ◌∷◌, ◌++◌, refl, sym, ap, subst, ◌∙◌, inl, inr, arith}
-use Rattle.std.specs.Prelude.{ℤ, Option, None, Some, ◌⊎◌, slice_get}
+use Rattle.std.proofs.Common.{◌≡◌, ◌≢◌, ℕ, suc, List, [], ◌∷◌, ◌++◌, refl, sym, ap, ◌∙◌, inl, inr, arith}
+use Rattle.std.specs.Prelude.{ℤ, Option, Some, slice_get}
 use Rattle.driver_link.specs.declared.machine.Entry.{Entry}
 use Rattle.driver_link.specs.declared.machine.Place.{Place}
 use Rattle.driver_link.specs.declared.machine.PlacedWrite.{PlacedWrite}
@@ -8,8 +8,8 @@ use Rattle.driver_link.specs.declared.machine.Statement.{Statement}
 use Rattle.driver_link.specs.declared.machine.Statement.TheVariants.{Kept, Ran, Failed}
 use Rattle.driver_link.specs.Once.{NoneAt, Once}
 use Rattle.driver_link.specs.Settled.{Has}
-use Rattle.driver_link.specs.Statements.{entry_of, entries_by, entries_of}
-use Rattle.driver_link.proofs.Following.{IsEntryOf, entry_from}
+use Rattle.driver_link.specs.Statements.{entries_of}
+use Rattle.driver_link.proofs.Following.{entry_from}
 
 pub none_at : (place : Place) (log : List Entry) → ((entry : Entry) → Has log entry → entry.place ≢ place) → NoneAt place log
 none_at place [] differ = tt

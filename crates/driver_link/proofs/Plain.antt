@@ -1,7 +1,7 @@
 -- What serving and interrupting a plain send make of a server: its statements run under its number, or the
 -- number is below the greatest and nothing changes.
-use Rattle.std.proofs.Common.{◌≡◌, ℕ, Bool, true, false, cond, ◌||◌, List, [], ◌∷◌, ◌++◌, refl, sym, ap, subst, ◌∙◌, inl, inr}
-use Rattle.std.specs.Prelude.{ℤ, Option, None, Some, ◌⊎◌, slice_get, if◌then◌else◌}
+use Rattle.std.proofs.Common.{◌≡◌, ℕ, Bool, true, false, cond, ◌||◌, List, [], ◌++◌, refl, sym, ap, subst, ◌∙◌, inl, inr}
+use Rattle.std.specs.Prelude.{ℤ, Option, None, Some}
 use Rattle.std.specs.FinMap as finite
 use Rattle.std.proofs.lemmas.Bool.{cond-true, cond-false}
 use Rattle.std.proofs.lemmas.List.{append-nil}
@@ -12,16 +12,16 @@ use Rattle.driver_link.specs.declared.machine.SendBody.TheVariants.{Write, Commi
 use Rattle.driver_link.specs.declared.machine.Server.{Server}
 use Rattle.driver_link.specs.declared.machine.ServerTransaction.TheVariants as transaction
 use Rattle.driver_link.specs.declared.machine.Statement.{Statement}
-use Rattle.driver_link.specs.Cases.{Case, too_old, outside, case_as, case_of, case_under, known_as, known_of, known_under, results_of, numbered_case, body_writes, is_decided, is_end, is_in_transaction, is_ordered, writes_of}
+use Rattle.driver_link.specs.Cases.{too_old, outside, case_as, case_of, case_under, known_as, known_of, known_under, results_of, numbered_case, is_decided, is_end, is_in_transaction, is_ordered, writes_of}
 use Rattle.driver_link.specs.Exchange.{interrupted, interrupted_labels}
 use Rattle.driver_link.specs.Honesty.{has_transient}
 use Rattle.driver_link.specs.Interrupting.{interrupted_case, interrupted_done, interrupted_in, interruption, told_of_error, transient_as, session_interrupted}
-use Rattle.driver_link.specs.Serving.{Plan, usual, done_in, served, served_in, sessions_as, session_after, cursors_after, log_gains}
-use Rattle.driver_link.specs.Sessions.{begun, is_below, is_new, taken}
-use Rattle.driver_link.specs.Settled.{Has, IsOrderly, IsPlain, IsSettled, IsUnder, IsWrite}
-use Rattle.driver_link.specs.Statements.{Results, entries_of, front, statements, usual_statements}
+use Rattle.driver_link.specs.Serving.{Plan, usual, done_in, served, served_in, sessions_as, session_after}
+use Rattle.driver_link.specs.Sessions.{is_below, is_new, taken}
+use Rattle.driver_link.specs.Settled.{Has, IsOrderly, IsPlain, IsSettled, IsWrite}
+use Rattle.driver_link.specs.Statements.{entries_of, front, statements, usual_statements}
 use Rattle.driver_link.proofs.Following.{Follows, follows_front, follows_statements}
-use Rattle.driver_link.proofs.Serving.{IsTaken, Runs, taken_is, runs_settled}
+use Rattle.driver_link.proofs.Serving.{Runs, taken_is, runs_settled}
 
 -- what is known of a plain send's session once its number has come
 abbrev pub plain_known : List ℕ → ℤ → Server → KnownSession

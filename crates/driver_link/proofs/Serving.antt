@@ -1,5 +1,5 @@
 -- Serving a plain send keeps the invariant.
-use Rattle.std.proofs.Common.{◌≡◌, ◌≢◌, ℕ, ◌+◌, Bool, true, false, cond, ◌||◌, List, [], ◌∷◌, ◌++◌, refl, sym, ap, subst, ◌∙◌, inl, inr, arith}
+use Rattle.std.proofs.Common.{◌≡◌, ◌≢◌, ℕ, ◌+◌, Bool, true, false, List, ◌++◌, refl, sym, ap, subst, ◌∙◌, inl, inr, arith}
 use Rattle.std.specs.Prelude.{ℤ, ◌<ℤ◌, ◌≤ℤ◌, int_lt, Option, None, Some, IsSome, is_some, ◌⊎◌, slice_get, if◌then◌else◌}
 use Rattle.std.specs.FinMap as finite
 use Rattle.std.specs.Ordering.{nat_cmp}
@@ -18,12 +18,11 @@ use Rattle.driver_link.specs.declared.machine.Send.{Send}
 use Rattle.driver_link.specs.declared.machine.Server.{Server}
 use Rattle.driver_link.specs.declared.machine.ServerTransaction.TheVariants as transaction
 use Rattle.driver_link.specs.declared.machine.Statement.{Statement}
-use Rattle.driver_link.specs.declared.machine.Statement.TheVariants.{Kept, Ran, Failed}
 use Rattle.driver_link.specs.Once.{Once}
 use Rattle.driver_link.specs.Cases.{writes_of}
-use Rattle.driver_link.specs.Sessions.{begun, is_below, is_new, taken}
-use Rattle.driver_link.specs.Settled.{Has, HasOrigin, HasRun, IsOrderly, IsPlain, IsSamePlace, IsSettled, IsSettledSession, IsUnder}
-use Rattle.driver_link.specs.Statements.{Results, no_results, entry_of, entries_of, has_run, kept_with}
+use Rattle.driver_link.specs.Sessions.{begun, is_below, taken}
+use Rattle.driver_link.specs.Settled.{Has, HasOrigin, HasRun, IsOrderly, IsSettled, IsSettledSession, IsUnder}
+use Rattle.driver_link.specs.Statements.{entry_of, entries_of, has_run, kept_with}
 use Rattle.driver_link.proofs.Following.{Follows, IsEntryOf, entry_from, entry_there, kept_from, kept_ran, kept_still, ran_free}
 use Rattle.driver_link.proofs.Lists.{has_left, has_right, has_either}
 use Rattle.driver_link.proofs.Placing.{AllPlaces, once_append, once_entries}

@@ -1,6 +1,6 @@
 -- The fields of a command's body: by which it says its session, its transaction number and whether it is in
 -- a transaction, as MongoDB's sessions and transactions specifications have them.
-use Rattle.std.specs.Prelude.{ℕ, ℤ, Bool, true, false, List, length, Option, None, Some, ◌==◌, ◌&&◌, if◌then◌else◌, bytes_eq}
+use Rattle.std.specs.Prelude.{ℕ, Bool, true, false, List, length, Option, None, Some, ◌==◌, ◌&&◌, if◌then◌else◌, bytes_eq}
 use Rattle.std.specs.Option.{option_and_then, option_map, option_map_or}
 use Rattle.bson_lite.specs.declared.bson.Binary.{Binary}
 use Rattle.bson_lite.specs.declared.bson.Bson.{Bson}

@@ -1,5 +1,5 @@
 -- The calls of a link that are counted: each faults exactly where the schedule lists its number.
-use Rattle.std.specs.Prelude.{◌≡◌, ℕ, ◌+◌, ◌-◌, ◌^◌, ◌==◌, min, Bool, List, [], ◌∷◌, Option, None, Some, Result, Ok, Err, ◌⊎◌, codes, if◌then◌else◌}
+use Rattle.std.specs.Prelude.{◌≡◌, ℕ, ◌+◌, ◌-◌, ◌^◌, ◌==◌, min, Bool, List, [], ◌∷◌, Option, None, Some, Result, Ok, Err, ◌⊎◌, if◌then◌else◌}
 use Rattle.std.specs.List.{list_any}
 use Rattle.driver_error.specs.declared.kind.IoKind.TheVariants.{ConnectionRefused}
 use Rattle.driver_error.specs.declared.labels.TheConstants.{RETRYABLE_ERROR, SYSTEM_OVERLOADED_ERROR}

@@ -1,5 +1,5 @@
 -- What an interrupted and a refused send make of the model server's state.
-use Rattle.std.specs.Prelude.{ℕ, ◌==◌, ◌||◌, ◌&&◌, ℤ, Bool, List, [], ◌∷◌, ◌++◌, Option, Some, if◌then◌else◌}
+use Rattle.std.specs.Prelude.{ℕ, ◌==◌, ◌||◌, ℤ, Bool, List, [], ◌++◌, Option, Some, if◌then◌else◌}
 use Rattle.std.specs.FinMap as finite
 use Rattle.driver_link.specs.declared.machine.Entry.{Entry}
 use Rattle.driver_link.specs.declared.machine.KnownSession.{KnownSession}
@@ -11,7 +11,7 @@ use Rattle.driver_link.specs.declared.machine.Statement.{Statement}
 use Rattle.driver_link.specs.Cases.{Case, outside, gathers, commits, aborts, of_cursor, nothing, case_of, known_of, known_under, results_of, body_writes, is_in_transaction, writes_of}
 use Rattle.driver_link.specs.Honesty.{has_transient}
 use Rattle.driver_link.specs.Serving.{session_after, log_gains, sessions_as, has_entries}
-use Rattle.driver_link.specs.Statements.{Results, no_results, front, usual_statements, has_run, entries_of, negated}
+use Rattle.driver_link.specs.Statements.{Results, no_results, front, usual_statements, has_run, entries_of}
 
 -- the case as an interruption leaves it: a commit goes through where it comes after it, an abort and a
 -- command of a cursor never do

@@ -14,7 +14,7 @@ use Rattle.driver_link.specs.declared.machine.Server.{Server}
 use Rattle.driver_link.specs.declared.machine.ServerTransaction.{ServerTransaction}
 use Rattle.driver_link.specs.declared.machine.ServerTransaction.TheVariants as transaction
 use Rattle.driver_link.specs.declared.machine.Statement.{Statement}
-use Rattle.driver_link.specs.Cases.{Case, too_old, outside, gathers, commits, aborts, of_cursor, nothing, denied, case_of, known_of, known_under, results_of, body_writes, is_ordered, writes_of}
+use Rattle.driver_link.specs.Cases.{Case, too_old, outside, gathers, commits, aborts, of_cursor, denied, case_of, known_of, known_under, results_of, body_writes, is_ordered, writes_of}
 use Rattle.driver_link.specs.Cursors.{Reply, cursors_with, without_cursor}
 use Rattle.driver_link.specs.Sessions.{denied_transaction}
 use Rattle.driver_link.specs.Statements.{Results, no_results, statements, before_failing, has_run, has_failed, entries_of, kept_with}

@@ -1,6 +1,6 @@
 -- The invariant of one client's plain writes: sends that carry a list of writes under a session and a
 -- number, outside transactions, any number of times.
-use Rattle.std.specs.Prelude.{◌≡◌, ℕ, ◌+◌, ◌<ℤ◌, ℤ, false, List, [], ◌∷◌, ◌++◌, Option, None, Some, IsSome, ◌⊎◌, slice_get}
+use Rattle.std.specs.Prelude.{◌≡◌, ℕ, ◌<ℤ◌, ℤ, false, List, [], ◌∷◌, ◌++◌, Some, IsSome, ◌⊎◌, slice_get}
 use Rattle.std.specs.FinMap as finite
 use Rattle.driver_link.specs.declared.machine.Counted.{Counted}
 use Rattle.driver_link.specs.declared.machine.Entry.{Entry}
