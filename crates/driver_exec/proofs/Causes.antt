@@ -1,12 +1,8 @@
 -- The causes of ends, from those of their parts.
-use Rattle.std.proofs.Common.{◌≡◌, ℕ, ◌+◌, ◌≤◌, ◌<◌, take, get_or, List, [], ◌∷◌, ◌++◌, length, refl, sym, ap, subst, ◌∙◌, arith, inl, inr}
+use Rattle.std.proofs.Common.{◌≡◌, ℕ, ◌≤◌, List, [], ◌∷◌, length, refl, sym, ap, subst, ◌∙◌, arith, inl, inr}
 use Rattle.std.specs.Prelude.{ℤ, Option, None, Some, Result, Ok, Err}
-use Rattle.bson_lite.specs.declared.bson.Bson.{Bson}
-use Rattle.bson_lite.specs.declared.document.Pair.{Pair}
 use Rattle.std.proofs.lemmas.List.{append-nil}
-use Rattle.bson_lite.specs.declared.fault.EncodeFault.{EncodeFault}
 use Rattle.bson_lite.specs.declared.namespace.Namespace.{Namespace}
-use Rattle.std.proofs.lemmas.List.{take_more, take_all}
 use Rattle.driver_error.specs.declared.error.Error.{Error}
 use Rattle.driver_error.specs.declared.kind.ErrorKind.TheVariants as kind
 use Rattle.driver_error.specs.Error.{ErrorKind, kind_of, labels_of}
@@ -22,7 +18,7 @@ use Rattle.driver_link.specs.declared.fault.LinkFault.TheVariants.{Io, PoolClear
 use Rattle.driver_link.specs.Faults.{HasLinkCause, Rose}
 use Rattle.driver_link.specs.Failures.{fault_kind}
 use Rattle.driver_link.specs.Told.{Notes, noted, nothing_noted, reply_noted}
-use Rattle.driver_exec.specs.Causes.{Failure, failure_of, KindNeeds, KindAtLast, EndNeeds, EndAtLast, AllEarly, MayBeLast, IsLast, Refused, never, refused_body, next_number, lent_number, labels_by, Caused}
+use Rattle.driver_exec.specs.Causes.{Failure, failure_of, KindNeeds, KindAtLast, EndNeeds, EndAtLast, AllEarly, MayBeLast, IsLast, Refused, refused_body, next_number, lent_number, labels_by, Caused}
 use Rattle.driver_exec.specs.Inserts.{TellsRefusal, TellsNoReply, ReadsReply, insert_body}
 use Rattle.driver_exec.specs.Pool.{ToldStore, Lends, StaysTold, session_out}
 use Rattle.driver_exec.specs.Session.{Session, Numbers, TellsEnd}

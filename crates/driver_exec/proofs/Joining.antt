@@ -2,12 +2,11 @@
 use Rattle.std.proofs.Common.{◌≡◌, ℕ, zero, suc, ◌<◌, ◌+◌, List, [], ◌∷◌, ◌++◌, refl, sym, ap, subst, ◌∙◌, inl, inr, arith}
 use Rattle.std.specs.Prelude.{ℤ, ◌<ℤ◌, ◌≤ℤ◌, Option, None, Some, ◌⊎◌, slice_get}
 use Rattle.std.proofs.lemmas.Int.{ints}
-use Rattle.driver_link.specs.declared.machine.Place.{Place}
 use Rattle.driver_link.specs.declared.machine.PlacedWrite.{PlacedWrite}
 use Rattle.driver_link.specs.declared.machine.Send.{Send}
 use Rattle.driver_link.specs.declared.machine.Server.{Server}
 use Rattle.driver_link.specs.Cases.{body_writes, writes_of}
-use Rattle.driver_link.specs.Settled.{Has, IsOrderly, IsPlain, IsSamePlace, IsSettled, IsUnder}
+use Rattle.driver_link.specs.Settled.{Has, IsOrderly, IsPlain, IsSamePlace, IsSettled}
 use Rattle.driver_link.proofs.Lists.{has_either}
 use Rattle.driver_link.proofs.Replying.{IsOneInsert}
 use Rattle.driver_exec.proofs.Knowing.{SentUpTo}

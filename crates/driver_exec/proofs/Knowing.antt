@@ -1,7 +1,7 @@
 -- What the sends of a trace say of a pool's sessions: their numbers are at most the sessions', and no send is of
 -- an id that was not drawn.
 use Rattle.std.proofs.Common.{◌≡◌, ℕ, Bool, true, false, cond, List, [], ◌∷◌, ◌++◌, map, refl, sym, ap, subst, ◌∙◌, arith}
-use Rattle.std.specs.Prelude.{ℤ, pos, ◌<ℤ◌, ◌≤ℤ◌, ◌||◌, Option, None, Some, ◌⊎◌}
+use Rattle.std.specs.Prelude.{ℤ, ◌≤ℤ◌, ◌||◌, Option, Some}
 use Rattle.std.specs.Str.{bytes_eq}
 use Rattle.std.proofs.Common.{inl, inr}
 use Rattle.std.proofs.lemmas.Bool.{cond-true}

@@ -1,7 +1,7 @@
 -- What a reply tells of the insert that was sent: where it tells of one that was done the entry stands, and a send
 -- that is served as usual gets such a reply.
-use Rattle.std.proofs.Common.{◌≡◌, ℕ, Bool, true, false, cond, List, [], ◌∷◌, ◌++◌, refl, sym, ap, subst, ◌∙◌, inl, inr, arith}
-use Rattle.std.specs.Prelude.{ℤ, pos, ◌+ℤ◌, ◌<ℤ◌, ◌≤ℤ◌, int_lt, Option, None, Some, ◌⊎◌, IsSome, if◌then◌else◌}
+use Rattle.std.proofs.Common.{◌≡◌, ℕ, Bool, true, false, List, [], ◌∷◌, ◌++◌, refl, sym, ap, subst, ◌∙◌, inl, inr, arith}
+use Rattle.std.specs.Prelude.{ℤ, pos, ◌+ℤ◌, ◌<ℤ◌, ◌≤ℤ◌, int_lt, Option, None, Some, if◌then◌else◌}
 use Rattle.std.specs.FinMap as finite
 use Rattle.std.specs.Ordering.{nat_cmp}
 use Rattle.std.proofs.lemmas.Int.{ints}
@@ -12,32 +12,27 @@ use Rattle.bson_lite.specs.declared.namespace.Namespace.{Namespace}
 use Rattle.bson_lite.specs.Fields.{int_of}
 use denote.Hole.Carrier.{out}
 use Rattle.driver_link.specs.declared.machine.Counted.{Counted}
-use Rattle.driver_link.specs.declared.machine.Entry.{Entry}
-use Rattle.driver_link.specs.declared.machine.Failing.{Failing}
 use Rattle.driver_link.specs.declared.machine.Item.{Item}
 use Rattle.driver_link.specs.declared.machine.Item.TheVariants.{Serve, Lost, Late, ReplyLost, Interrupted, Refused, Reauthenticate}
 use Rattle.driver_link.specs.declared.machine.KnownSession.{KnownSession}
 use Rattle.driver_link.specs.declared.machine.Place.{Place}
 use Rattle.driver_link.specs.declared.machine.PlacedWrite.{PlacedWrite}
-use Rattle.driver_link.specs.declared.machine.Planned.{Planned}
-use Rattle.driver_link.specs.declared.machine.PlannedConcern.{PlannedConcern}
 use Rattle.driver_link.specs.declared.machine.Scheduled.{Scheduled}
 use Rattle.driver_link.specs.declared.machine.Send.{Send}
 use Rattle.driver_link.specs.declared.machine.Server.{Server}
-use Rattle.driver_link.specs.declared.machine.Statement.{Statement}
-use Rattle.driver_link.specs.declared.machine.Statement.TheVariants.{Kept, Ran, Failed}
+use Rattle.driver_link.specs.declared.machine.Statement.TheVariants.{Ran, Failed}
 use Rattle.driver_link.specs.Cursors.{Reply}
 use Rattle.driver_link.specs.Exchange.{after_picks, answered, exchanged, met, plan_of, reply, traced}
 use Rattle.driver_link.specs.Numbers.{reply_number}
 use Rattle.driver_link.specs.Replies.{error_reply, sum_of, write_errors, write_reply}
-use Rattle.driver_link.specs.Serving.{Plan, served}
+use Rattle.driver_link.specs.Serving.{Plan}
 use Rattle.driver_link.specs.Sessions.{begun, is_below, taken}
-use Rattle.driver_link.specs.Settled.{Has, IsOrderly, IsPlain, IsSettled}
-use Rattle.driver_link.specs.Statements.{code_at, counted, entry_of, no_results, planned_at, statement_of}
+use Rattle.driver_link.specs.Settled.{IsOrderly, IsSettled}
+use Rattle.driver_link.specs.Statements.{code_at, counted, planned_at, statement_of}
 use Rattle.driver_link.proofs.Exchanged.{after_settled, longer, orderly_front}
 use Rattle.driver_link.proofs.Lists.{has_last}
 use Rattle.driver_link.proofs.Plain.{known}
-use Rattle.driver_link.proofs.Replying.{IsError, IsOneInsert, IsServed, StandsFor, TellsServed, one_reply, one_statement, reply_tells, served_one, stands_or_failed}
+use Rattle.driver_link.proofs.Replying.{IsOneInsert, StandsFor, one_reply, one_statement, reply_tells, served_one, stands_or_failed}
 use Rattle.driver_exec.specs.Inserts.{IsGentleItem, insert_one_send, insert_write, is_done_reply, is_one}
 use Rattle.driver_exec.proofs.Knowing.{SentUpTo}
 

@@ -15,10 +15,10 @@ use Rattle.driver_link.specs.Counting.{KeepsServer, OnlyCounts}
 use Rattle.driver_link.specs.Exchange.{answered, exchanged, next_step}
 use Rattle.driver_link.specs.Settled.{Has, IsOrderly, IsSettled, IsUnder}
 use Rattle.driver_link.specs.Statements.{entry_of}
-use Rattle.driver_link.specs.Told.{Told, told_after, told_answer}
+use Rattle.driver_link.specs.Told.{Told, told_after}
 use Rattle.driver_link.proofs.Exchanged.{exchanged_settled}
 use Rattle.driver_link.proofs.Growing.{Exchanges, exchanged_keeps}
-use Rattle.driver_link.proofs.Replying.{IsOneInsert, StandsFor}
+use Rattle.driver_link.proofs.Replying.{IsOneInsert}
 use Rattle.driver_exec.specs.Causes.{Failure}
 use Rattle.driver_exec.specs.Inserts.{IsGentleItem, insert_write, is_done_reply}
 use Rattle.driver_exec.specs.Pool.{Pool, ToldStore, AllApart, Lends, TakesBack, taken_back}

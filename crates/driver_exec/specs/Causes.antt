@@ -1,11 +1,7 @@
 -- Why a call ended as it did, by what the link answered in it, over any link and any store.
 use Rattle.std.specs.Prelude.{◌≡◌, ℕ, ◌≤◌, ℤ, pos, Bool, true, false, ◌&&◌, List, [], ◌∷◌, ◌++◌, length, Option, None, Some, ◌⊎◌, Result, Ok, Err, if◌then◌else◌}
-use Rattle.bson_lite.specs.declared.bson.Bson.{Bson}
-use Rattle.bson_lite.specs.declared.bson.ObjectId.{ObjectId}
-use Rattle.bson_lite.specs.declared.document.Pair.{Pair}
 use Rattle.bson_lite.specs.declared.fault.EncodeFault.{EncodeFault}
 use Rattle.bson_lite.specs.declared.namespace.Namespace.{Namespace}
-use Rattle.bson_lite.specs.Fields.{with_id}
 use Rattle.bson_lite.specs.Spelling.{refusal}
 use Rattle.driver_error.specs.declared.error.Error.{Error}
 use Rattle.driver_error.specs.declared.kind.ErrorKind.TheVariants as kind

@@ -1,29 +1,21 @@
 -- One turn of a write: a session is lent, at most one command goes out under its next number, and the
 -- session comes back.
-use Rattle.std.specs.Prelude.{◌≡◌, ℕ, ◌≤ℤ◌, ◌+ℤ◌, pos, Bool, true, false, List, length, Option, None, Some, ◌⊎◌, Result, Ok, Err, if◌then◌else◌}
+use Rattle.std.specs.Prelude.{◌≡◌, ℕ, ◌≤ℤ◌, ◌+ℤ◌, pos, Bool, true, false, List, Option, None, Some, ◌⊎◌, Result, Ok, Err, if◌then◌else◌}
 use Rattle.bson_lite.specs.declared.bson.Bson.{Bson}
-use Rattle.bson_lite.specs.declared.bson.ObjectId.{ObjectId}
 use Rattle.bson_lite.specs.declared.document.Pair.{Pair}
-use Rattle.bson_lite.specs.declared.namespace.Namespace.{Namespace}
-use Rattle.bson_lite.specs.Fields.{value_of, id_key, with_id}
-use Rattle.bson_lite.specs.Spelling.{Spells}
 use Rattle.driver_error.specs.declared.error.Error.{Error}
 use Rattle.driver_error.specs.declared.kind.ErrorKind.TheVariants as kind
 use Rattle.driver_error.specs.Error.{ErrorKind, IsAlone, kind_of}
 use Rattle.driver_error.specs.LabelTexts.{no_labels, label_set}
-use Rattle.bson_lite.specs.declared.fault.EncodeFault.{EncodeFault}
 use Rattle.driver_link.specs.declared.fault.LinkCall.{LinkCall}
 use Rattle.driver_link.specs.declared.fault.LinkError.{LinkError}
 use Rattle.driver_link.specs.declared.fault.LinkError.TheVariants.{Fault, Memory}
-use Rattle.driver_link.specs.declared.machine.Place.{Place}
 use Rattle.driver_link.specs.declared.machine.PlacedWrite.{PlacedWrite}
 use Rattle.driver_link.specs.declared.machine.Send.{Send}
-use Rattle.driver_link.specs.declared.machine.WriteKind.TheVariants as write_kind
-use Rattle.driver_link.specs.declared.machine.Written.{Written}
 use Rattle.driver_link.specs.Counting.{OnlyCounts, FailsNothing}
 use Rattle.driver_link.specs.Failures.{fault_kind}
 use Rattle.driver_link.specs.Told.{Told, told_after, told_answer}
-use Rattle.driver_exec.specs.Causes.{Failure, failure_of, end_of, labels_by, is_network, never, BodyRefused}
+use Rattle.driver_exec.specs.Causes.{Failure, failure_of, labels_by, is_network, never, BodyRefused}
 use Rattle.driver_exec.specs.Inserts.{insert_one_send, is_done_reply}
 use Rattle.driver_exec.specs.Pool.{ToldStore, Lends, TakesBack, StaysTold}
 use Rattle.driver_exec.specs.Session.{Session, last_number}
