@@ -1,15 +1,14 @@
 -- Laws of transactions: what was aborted never enters the log, and what was committed enters it once.
-use Rattle.std.proofs.Common.{◌≡◌, ℕ, ℤ, Bool, true, false, List, [], ◌++◌, Option, None, Some, refl, sym, ap, subst, ◌∙◌, arith, if◌then◌else◌}
+use Rattle.std.proofs.Common.{◌≡◌, ℕ, ℤ, Bool, true, false, List, [], Option, refl, sym, subst, ◌∙◌, arith, if◌then◌else◌}
 use Rattle.std.specs.Prelude.{int_lt}
 use Rattle.std.proofs.lemmas.Int.{ints}
 use Rattle.std.specs.Cmp.Lexicographic.{nat_list_cmp_total}
 use Rattle.std.specs.FinMap as finite
 use Rattle.bson_lite.proofs.FinMaps.{get_inserted}
-use Rattle.driver_link.specs.Cases.{Case, case_of, case_under, is_in_transaction, known_of, known_under, numbered_case, results_of, too_old, commits}
+use Rattle.driver_link.specs.Cases.{case_of, case_under, is_in_transaction, known_of, known_under, numbered_case, results_of, too_old, commits}
 use Rattle.driver_link.specs.Serving.{Plan, done_in, served, served_in, session_after, sessions_as}
-use Rattle.driver_link.specs.Sessions.{is_below, is_new, taken}
+use Rattle.driver_link.specs.Sessions.{is_below, is_new}
 use Rattle.driver_link.specs.declared.machine.Entry.{Entry}
-use Rattle.driver_link.specs.declared.machine.KnownSession.{KnownSession}
 use Rattle.driver_link.specs.declared.machine.Send.{Send}
 use Rattle.driver_link.specs.declared.machine.SendBody.TheVariants.{Commit}
 use Rattle.driver_link.specs.declared.machine.Server.{Server}

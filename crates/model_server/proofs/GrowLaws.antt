@@ -1,8 +1,8 @@
 -- Entries only grow at the log's end, and a kept result adds none.
-use Rattle.std.proofs.Common.{◌≡◌, ℕ, ◌+◌, ℤ, ◌&&◌, Bool, true, false, List, [], ◌∷◌, ◌++◌, Option, None, Some, IsSome, refl, sym, ap, subst, ◌∙◌, append_assoc, if◌then◌else◌, slice_get, slice_set}
+use Rattle.std.proofs.Common.{◌≡◌, ℕ, ◌+◌, ℤ, ◌&&◌, Bool, true, false, List, [], ◌∷◌, ◌++◌, Option, None, Some, IsSome, refl, sym, ap, ◌∙◌, append_assoc, if◌then◌else◌, slice_get, slice_set}
 use Rattle.std.proofs.lemmas.List.{append-nil}
 use Rattle.std.specs.FinMap as finite
-use Rattle.driver_link.specs.Cases.{Case, case_of, is_decided, is_in_transaction, known_of, known_under, is_ordered, outside, results_of, writes_of}
+use Rattle.driver_link.specs.Cases.{case_of, is_decided, is_in_transaction, known_of, known_under, is_ordered, outside, results_of, writes_of}
 use Rattle.driver_link.specs.Exchange.{after_picks, arrived, delivered, exchanged, interrupted, interrupted_labels, met, plan_of, refused_labels, traced}
 use Rattle.driver_link.specs.Honesty.{has_transient}
 use Rattle.driver_link.specs.Interrupting.{aborted, done_before, interrupted_case, interrupted_in, interruption, told_of_error, transient_as}

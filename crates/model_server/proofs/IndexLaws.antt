@@ -1,5 +1,5 @@
 -- The namespace at an index.
-use Rattle.std.proofs.Common.{◌≡◌, ℕ, ℤ, pos, negsuc, List, Option, None, Some, refl, slice_get, ◌∙◌, ap, sym}
+use Rattle.std.proofs.Common.{◌≡◌, ℕ, ℤ, pos, negsuc, List, Option, refl, slice_get, ◌∙◌, ap}
 use Rattle.std.specs.Option.{option_and_then}
 use Rattle.bson_lite.specs.declared.namespace.Namespace.{Namespace}
 use Rattle.driver_link.specs.Writes.{namespace_at}

@@ -1,8 +1,8 @@
 -- Of a transaction a commit alone adds entries.
-use Rattle.std.proofs.Common.{◌≡◌, ◌≢◌, ℕ, ℤ, ◌&&◌, ◌||◌, Bool, true, false, List, [], ◌∷◌, ◌++◌, Option, None, Some, refl, sym, ap, ◌∙◌, if◌then◌else◌}
+use Rattle.std.proofs.Common.{◌≡◌, ◌≢◌, ℕ, ℤ, ◌&&◌, ◌||◌, Bool, true, false, List, [], ◌++◌, Option, None, Some, refl, ap, ◌∙◌, if◌then◌else◌}
 use Rattle.std.proofs.lemmas.List.{append-nil}
 use Rattle.std.specs.FinMap as finite
-use Rattle.driver_link.specs.Cases.{Case, abort_case, case_of, case_under, is_end, is_in_transaction, known_of, known_under, numbered_case, outside, results_of, too_old, write_case, writes_of}
+use Rattle.driver_link.specs.Cases.{Case, abort_case, case_under, is_end, is_in_transaction, known_of, known_under, numbered_case, outside, results_of, too_old, write_case, writes_of}
 use Rattle.driver_link.specs.Serving.{Plan, done_in, log_gains, served, served_in}
 use Rattle.driver_link.specs.Sessions.{is_below, is_new, running}
 use Rattle.driver_link.specs.Statements.{entries_of, negated}

@@ -1,31 +1,24 @@
 -- An interrupted send: its step, its effect, and the labels of its answer, whatever trace the server has.
-use Rattle.std.proofs.Common.{◌≡◌, ℕ, ℤ, ◌&&◌, ◌||◌, ◌==◌, Bool, true, false, List, ◌++◌, Option, None, Some, refl, sym, ap, subst, ◌∙◌, if◌then◌else◌}
-use Rattle.std.specs.Prelude.{int_lt}
+use Rattle.std.proofs.Common.{◌≡◌, ℕ, ℤ, ◌&&◌, ◌||◌, Bool, true, false, List, ◌++◌, Option, None, Some, refl, sym, ap, ◌∙◌, if◌then◌else◌}
 use Rattle.std.proofs.lemmas.List.{append-nil}
-use Rattle.std.specs.Cmp.Lexicographic.{nat_list_cmp_total}
 use Rattle.std.specs.FinMap as finite
-use Rattle.bson_lite.proofs.FinMaps.{get_inserted}
-use Rattle.driver_link.specs.Cases.{Case, is_end, unnumbered_case, write_case, case_as, case_of, case_under, is_decided, is_in_transaction, known_as, known_of, known_under, numbered_case, results_of, too_old, outside, gathers, commits, aborts, of_cursor, nothing, denied, writes_of}
+use Rattle.driver_link.specs.Cases.{Case, case_of, is_decided, is_in_transaction, known_of, known_under, results_of, writes_of}
 use Rattle.driver_link.specs.Exchange.{interrupted, interrupted_labels, interrupted_reply}
 use Rattle.driver_link.specs.Honesty.{can_be_transient, has_transient, honest, ran_before}
-use Rattle.driver_link.specs.Interrupting.{aborted, done_before, told_of_error, interrupted_case, interrupted_done, interrupted_in, interruption, runs_before, runs_in, session_interrupted, transient_as}
+use Rattle.driver_link.specs.Interrupting.{aborted, done_before, told_of_error, interrupted_case, interrupted_done, interrupted_in, interruption, runs_in, session_interrupted, transient_as}
 use Rattle.driver_link.specs.Replies.{error_reply, served_reply}
 use Rattle.driver_link.specs.Serving.{log_gains, served, session_after, sessions_as, usual}
-use Rattle.driver_link.specs.Sessions.{denied_transaction, begun, is_below, is_committed, is_new, running, taken}
-use Rattle.driver_link.specs.Statements.{entries_of, has_run, negated}
+use Rattle.driver_link.specs.Statements.{entries_of, has_run}
 use Rattle.driver_link.specs.declared.machine.Entry.{Entry}
 use Rattle.driver_link.specs.declared.machine.KnownSession.{KnownSession}
 use Rattle.driver_link.specs.declared.machine.Send.{Send}
 use Rattle.driver_link.specs.declared.machine.Server.{Server}
-use Rattle.driver_link.specs.declared.machine.SendBody.{SendBody}
-use Rattle.driver_link.specs.declared.machine.SendBody.TheVariants.{Write, Commit, Abort, More, Kill}
-use Rattle.driver_link.specs.declared.machine.ServerTransaction.{ServerTransaction}
 use Rattle.driver_link.specs.declared.machine.ServerTransaction.TheVariants as transaction
 use Rattle.driver_link.specs.declared.machine.Statement.{Statement}
 use Rattle.model_server.proofs.EffectLaws.{taken_law}
 use Rattle.model_server.proofs.ServeLaws.{case_traced, known_traced}
 use Rattle.model_server.proofs.StillLaws.{still_law}
-use Rattle.model_server.proofs.TransientLaws.{before_traced, cursors_stay, not_below_itself, not_new, taken_again, transient_law, transient_traced}
+use Rattle.model_server.proofs.TransientLaws.{before_traced, cursors_stay, transient_law, transient_traced}
 use Rattle.model_server.specs.Changes.{changed, effect_in}
 use Rattle.model_server.specs.Does.{Does}
 use Rattle.model_server.specs.Parts.{Makes, parts_as}

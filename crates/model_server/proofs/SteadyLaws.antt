@@ -1,31 +1,23 @@
 -- What serving leaves as it is, by the state of a send's session.
-use Rattle.std.proofs.Common.{◌≡◌, ℕ, ◌+◌, ℤ, ◌&&◌, ◌||◌, Bool, true, false, List, [], ◌∷◌, ◌++◌, Option, None, Some, IsSome, is_some, refl, sym, ap, subst, ◌∙◌, if◌then◌else◌}
+use Rattle.std.proofs.Common.{◌≡◌, ℕ, ℤ, ◌&&◌, ◌||◌, Bool, true, false, List, [], Option, None, Some, refl, ap, ◌∙◌, if◌then◌else◌}
 use Rattle.std.specs.Prelude.{int_lt}
-use Rattle.std.proofs.Common.{arith}
-use Rattle.std.proofs.lemmas.Int.{ints}
 use Rattle.std.proofs.lemmas.List.{append-nil}
 use Rattle.std.specs.Cmp.Lexicographic.{nat_list_cmp_total}
 use Rattle.std.specs.FinMap as finite
 use Rattle.bson_lite.proofs.FinMaps.{get_inserted}
-use Rattle.driver_link.specs.Cases.{Case, abort_case, case_as, case_of, case_under, commit_case, is_end, is_in_transaction, known_of, known_under, numbered_case, results_of, too_old, outside, gathers, commits, aborts, of_cursor, nothing, denied, write_case, writes_of}
-use Rattle.driver_link.specs.Serving.{Plan, done_in, log_gains, served, served_in, session_after, sessions_as}
+use Rattle.driver_link.specs.Cases.{Case, abort_case, case_as, case_of, case_under, commit_case, is_end, is_in_transaction, known_of, known_under, numbered_case, results_of, too_old, outside, gathers, commits, aborts, of_cursor, nothing, denied, write_case}
+use Rattle.driver_link.specs.Serving.{Plan, done_in, served, served_in, session_after, sessions_as}
 use Rattle.driver_link.specs.Sessions.{denied_transaction, is_below, is_new, running, taken}
-use Rattle.driver_link.specs.Statements.{Results, entries_of, negated, statement_of, statements, code_at, counted, planned_at, is_failed}
-use Rattle.driver_link.specs.declared.machine.Entry.{Entry}
-use Rattle.driver_link.specs.declared.machine.Failing.{Failing}
+use Rattle.driver_link.specs.Statements.{negated}
 use Rattle.driver_link.specs.declared.machine.KnownSession.{KnownSession}
-use Rattle.driver_link.specs.declared.machine.PlacedWrite.{PlacedWrite}
-use Rattle.driver_link.specs.declared.machine.Planned.{Planned}
 use Rattle.driver_link.specs.declared.machine.Send.{Send}
 use Rattle.driver_link.specs.declared.machine.SendBody.{SendBody}
 use Rattle.driver_link.specs.declared.machine.SendBody.TheVariants.{Write, Commit, Abort, More, Kill}
 use Rattle.driver_link.specs.declared.machine.Server.{Server}
-use Rattle.driver_link.specs.declared.machine.ServerTransaction.{ServerTransaction}
 use Rattle.driver_link.specs.declared.machine.ServerTransaction.TheVariants as transaction
 use Rattle.driver_link.specs.declared.machine.Statement.{Statement}
-use Rattle.model_server.proofs.TransientLaws.{not_below_itself, not_new, taken_again}
-use Rattle.model_server.proofs.StillLaws.{not_below_taken}
-use Rattle.model_server.specs.Steady.{GoesUnder, HasResults, HasTransaction}
+use Rattle.model_server.proofs.TransientLaws.{not_below_itself, taken_again}
+use Rattle.model_server.specs.Steady.{GoesUnder, HasTransaction}
 
 -- serving a send in a case that is known
 pub served_case : (plan : Plan) (server : Server) (send : Send) (case : Case) → case_of server send ≡ case

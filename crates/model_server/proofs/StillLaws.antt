@@ -1,17 +1,15 @@
 -- Whether a transaction can be called transient once its send was interrupted.
-use Rattle.std.proofs.Common.{◌≡◌, ℕ, ℤ, ◌&&◌, ◌||◌, ◌==◌, Bool, true, false, List, ◌++◌, Option, None, Some, refl, sym, ap, subst, ◌∙◌, if◌then◌else◌}
+use Rattle.std.proofs.Common.{◌≡◌, ℕ, ℤ, ◌&&◌, ◌||◌, ◌==◌, Bool, true, false, List, Option, None, Some, refl, sym, ap, ◌∙◌, if◌then◌else◌}
 use Rattle.std.specs.Prelude.{int_lt}
-use Rattle.std.proofs.lemmas.List.{append-nil}
 use Rattle.std.specs.Cmp.Lexicographic.{nat_list_cmp_total}
 use Rattle.std.specs.FinMap as finite
 use Rattle.bson_lite.proofs.FinMaps.{get_inserted}
-use Rattle.driver_link.specs.Cases.{Case, is_end, unnumbered_case, write_case, case_as, case_of, case_under, is_decided, is_in_transaction, known_as, known_of, known_under, numbered_case, results_of, too_old, outside, gathers, commits, aborts, of_cursor, nothing, denied, writes_of}
-use Rattle.driver_link.specs.Exchange.{interrupted_labels}
-use Rattle.driver_link.specs.Honesty.{can_be_transient, has_transient, honest, ran_before}
-use Rattle.driver_link.specs.Interrupting.{aborted, done_before, told_of_error, interrupted_case, interrupted_done, interrupted_in, interruption, runs_before, runs_in, session_interrupted, transient_as}
-use Rattle.driver_link.specs.Serving.{log_gains, session_after, sessions_as}
+use Rattle.driver_link.specs.Cases.{Case, is_end, unnumbered_case, write_case, case_as, case_of, case_under, is_decided, is_in_transaction, known_under, numbered_case, too_old, outside, gathers, commits, aborts, of_cursor, nothing, denied, writes_of}
+use Rattle.driver_link.specs.Honesty.{can_be_transient}
+use Rattle.driver_link.specs.Interrupting.{done_before, interrupted_case, interrupted_in, interruption, session_interrupted}
+use Rattle.driver_link.specs.Serving.{sessions_as}
 use Rattle.driver_link.specs.Sessions.{denied_transaction, begun, is_below, is_committed, is_new, running, taken}
-use Rattle.driver_link.specs.Statements.{entries_of, has_run, negated}
+use Rattle.driver_link.specs.Statements.{entries_of, negated}
 use Rattle.driver_link.specs.declared.machine.Entry.{Entry}
 use Rattle.driver_link.specs.declared.machine.KnownSession.{KnownSession}
 use Rattle.driver_link.specs.declared.machine.Send.{Send}
@@ -21,21 +19,8 @@ use Rattle.driver_link.specs.declared.machine.SendBody.TheVariants.{Write, Commi
 use Rattle.driver_link.specs.declared.machine.ServerTransaction.{ServerTransaction}
 use Rattle.driver_link.specs.declared.machine.ServerTransaction.TheVariants as transaction
 use Rattle.driver_link.specs.declared.machine.Statement.{Statement}
-use Rattle.model_server.proofs.EffectLaws.{taken_law}
-use Rattle.model_server.proofs.ServeLaws.{case_traced, known_traced}
-use Rattle.model_server.proofs.TransientLaws.{before_traced, cursors_stay, not_below_itself, not_new, taken_again, transient_law, transient_traced}
-use Rattle.model_server.specs.Changes.{changed, effect_in}
-use Rattle.model_server.specs.Does.{Does}
-use Rattle.model_server.specs.Parts.{Makes, parts_as}
-use Rattle.model_server.specs.Seen.{gathered_by, is_numbered, is_too_old, seen}
-use Rattle.model_server.specs.Transient.{called, still_transient}
-use Rattle.model_server.specs.declared.cases.Case.{Case as Met}
-use Rattle.model_server.specs.declared.cases.Case.TheVariants as met
-use Rattle.model_server.specs.declared.change.CursorChange.TheVariants as cursor
-use Rattle.model_server.specs.declared.change.Effect.{Effect}
-use Rattle.model_server.specs.declared.change.Effect.TheVariants as effect
-use Rattle.model_server.specs.declared.change.SessionStep.{SessionStep}
-use Rattle.model_server.specs.declared.change.SessionStep.TheVariants as step
+use Rattle.model_server.proofs.TransientLaws.{not_below_itself, not_new, taken_again}
+use Rattle.model_server.specs.Transient.{still_transient}
 
 -- a case in which a transaction commits, or is aborted at the client's wish
 is_commits : Case → Bool

@@ -1,6 +1,6 @@
-use Rattle.std.proofs.Common.{◌≡◌, List, ap, ◌∙◌, w32}
+use Rattle.std.proofs.Common.{ap, ◌∙◌, w32}
 use Rattle.std.proofs.lemmas.Int.{to_z-of_z}
-use Rattle.driver_link.specs.Cases.{Case, known_of, writes_of}
+use Rattle.driver_link.specs.Cases.{known_of, writes_of}
 use Rattle.driver_link.specs.Honesty.{has_transient}
 use Rattle.driver_link.specs.Interrupting.{interruption, runs_in, session_interrupted, told_of_error}
 use Rattle.driver_link.specs.Replies.{error_reply}

@@ -1,4 +1,4 @@
-use Rattle.std.proofs.Common.{IfOk, sym, subst}
+use Rattle.std.proofs.Common.{sym, subst}
 use Rattle.std.proofs.lemmas.Result.{IfOk-weaker}
 use Rattle.driver_link.specs.Cases.{writes_of}
 use Rattle.driver_link.specs.Interrupting.{session_interrupted}

@@ -1,6 +1,5 @@
-use Rattle.std.proofs.Common.{◌≡◌, ◌&&◌, ap, sym, ◌∙◌, rules, w64}
+use Rattle.std.proofs.Common.{◌≡◌, ◌&&◌, ap, ◌∙◌, rules, w64}
 use mir.Val.{of_z, to_z}
-use Rattle.driver_link.specs.Cases.{is_in_transaction}
 use Rattle.driver_link.specs.Interrupting.{session_interrupted}
 use Rattle.model_server.proofs.InterruptLaws.{effect_called}
 use Rattle.model_server.specs.Changes.{effect_in}

@@ -1,4 +1,4 @@
-use Rattle.std.proofs.Common.{◌≡◌, ◌<◌, ◌+◌, [], ◌∷◌, ◌++◌, Some, ap, sym, ◌∙◌, arith, drop, get_or, length}
+use Rattle.std.proofs.Common.{◌<◌, ◌+◌, ◌++◌, Some, ap, sym, ◌∙◌, arith, drop, get_or, length}
 use Rattle.std.proofs.lemmas.Option.{slice_get-get_or}
 use Rattle.std.specs.Option.{option_map}
 use Rattle.driver_link.specs.Writes.{placed}

@@ -1,5 +1,5 @@
 -- The send that was read is the one that the frame reads as.
-use Rattle.std.proofs.Common.{◌≡◌, Some, sym, ap, ◌∙◌}
+use Rattle.std.proofs.Common.{sym, ap, ◌∙◌}
 use Rattle.model_server.proofs.ReadLaws.{some_same}
 use Rattle.model_server.proofs.StepsLaws.{replied, was_reset}
 use Rattle.model_server.specs.ModelState.{told_of}
