@@ -102,11 +102,23 @@ fn a_label_of_a_source_is_contained_and_not_own(rt: HostRuntime) -> Result<(), F
     Ok(())
 }
 
+/// Whether the error is the caller's own, with this text.
+fn is_custom(error: &Error, text: &str) -> bool {
+    error.get_custom() == Some(text)
+}
+
 #[test]
 fn a_custom_error_gives_its_text_back(rt: HostRuntime) -> Result<(), Fail> {
     let error = Error::custom(rt.alloc(), "mine");
-    assert_eq!(rt; error.get_custom(), Some("mine"));
-    assert_eq!(rt; command_failed(rt.alloc(), 1)?.get_custom(), None);
+    assert!(rt; is_custom(&error, "mine"));
+    assert!(rt; !is_custom(&error, "yours"));
+    Ok(())
+}
+
+#[test]
+fn a_command_error_is_no_custom_error(rt: HostRuntime) -> Result<(), Fail> {
+    let error = command_failed(rt.alloc(), 1)?;
+    assert!(rt; !is_custom(&error, "mine"));
     Ok(())
 }
 
