@@ -27,7 +27,9 @@ use Rattle.driver_link.specs.Counting.{Counts, FailsNothing, KeepsServer, Listed
 use Rattle.driver_link.specs.Failures.{fault_kind}
 use Rattle.driver_link.specs.Told.{Told, Steps, IsReply, told_after, told_answer}
 use Rattle.driver_exec.specs.Causes.{Failure, failure_of, end_of, never}
-use Rattle.driver_exec.specs.Inserts.{IsInsertFrame, IsDoneReply, ReadsReply, TellsNoReply, TellsRefusal, insert_body, insert_one_send, is_done_reply}
+use Rattle.driver_exec.specs.InsertMeaning.{insert_meaning}
+use Rattle.driver_exec.specs.Inserts.{IsDoneReply, ReadsReply, TellsNoReply, is_done_reply}
+use Rattle.driver_exec.specs.Operations.{TellsUnframed}
 use Rattle.driver_exec.specs.Pool.{Lends, StaysTold, TakesBack, ToldStore}
 use Rattle.driver_exec.specs.Session.{Session, Numbers, TellsEnd}
 use Rattle.driver_exec.specs.Turns.{Attempts, ComesEarly, Explains, HasAnswer, IsFailure, MaySend, MayRaise, Raises, Turn, Turns, Unsent, WasDenied, WasDone, send_under}
@@ -49,16 +51,6 @@ stays session back same = within session.number back.number same
   where
     within : (number more : ℤ) → more ≡ number → (number ≤ℤ more) × (more ≤ℤ (number +ℤ pos 1))
     within number more is = (omega (arith, ints), omega (arith, ints))
-
--- the frame that was built under the next number reads as the send under the session
-pub reads_under : (frame : Framed) (id : List ℕ) (number : ℤ) (old now : Session) (write : PlacedWrite) (bytes : List ℕ)
-    → Numbers old now (Ok number) → id ≡ now.id → IsInsertFrame frame id number write.written.namespace bytes
-    → Spells write.written.document bytes → Reads frame (write.place ∷ []) (send_under now write)
-reads_under frame id number old now write bytes numbers is_id built spelled =
-    let send : List ℕ → ℤ → Send = λ i n. insert_one_send i n write.written.namespace write.written.document write.place in
-    let is_number : number ≡ now.number = sym (ap (λ session. session.number) numbers.2) in
-    subst (λ i. Reads frame (write.place ∷ []) (send i now.number)) is_id
-    (subst (λ n. Reads frame (write.place ∷ []) (send id n)) is_number (built write.written.document write.place spelled))
 
 -- bytes spell one document alone
 spells_one : (a b : List (Pair Bson)) (bytes : List ℕ) → Spells a bytes → Spells b bytes → a ≡ b
@@ -158,20 +150,20 @@ pub attempts_unnumbered : (link : Option Told) (session back : Session) (write :
 attempts_unnumbered link session back write error numbers =
     (inl (refl, stays session back (ap (λ held. held.number) numbers.0)), explains_end link link session back write (kind_of error) numbers.1)
 
-explains_body : (old now : Option Told) (session back : Session) (write : PlacedWrite) (id : List ℕ) (number : ℤ) (why : ErrorKind) → length id ≡ 16
-    → TellsRefusal (insert_body write.written.namespace id number) why → Explains old now session back write why
-explains_body None now session back write id number why sixteen tells = tt
-explains_body (Some told) now session back write id number (kind.BsonSerialization fault) sixteen tells =
-    record { id = id; sixteen = sixteen; number = number; is = tells }
-explains_body (Some told) now session back write id number kind.Memory sixteen tells = tt
-explains_body (Some told) now session back write id number _ sixteen tells = absurd tells
+explains_unframed : (old now : Option Told) (session back : Session) (write : PlacedWrite) (bytes : List ℕ) (why : ErrorKind)
+    → TellsUnframed {A = Unit {0}} (insert_meaning write.written.namespace bytes) why → Explains old now session back write why
+explains_unframed None now session back write bytes why tells = tt
+explains_unframed (Some told) now session back write bytes (kind.InvalidArgument message) tells = absurd tells
+explains_unframed (Some told) now session back write bytes (kind.BsonSerialization fault) tells = elim tells [ inl none ↦ absurd none | inr refused ↦ refused ]
+explains_unframed (Some told) now session back write bytes kind.Memory tells = tt
+explains_unframed (Some told) now session back write bytes _ tells = absurd tells
 
 -- nor without a frame
-pub attempts_unframed : (link : Option Told) (session back : Session) (write : PlacedWrite) (id : List ℕ) (number : ℤ) (error : Error) → length id ≡ 16
-    → Raises session back → TellsRefusal (insert_body write.written.namespace id number) (kind_of error)
+pub attempts_unframed : (link : Option Told) (session back : Session) (write : PlacedWrite) (bytes : List ℕ) (error : Error)
+    → Raises session back → TellsUnframed {A = Unit {0}} (insert_meaning write.written.namespace bytes) (kind_of error)
     → Attempts link link session back write (Some (failure_of error))
-attempts_unframed link session back write id number error sixteen raised tells =
-    (inl (refl, may_raise session back raised), explains_body link link session back write id number (kind_of error) sixteen tells)
+attempts_unframed link session back write bytes error raised tells =
+    (inl (refl, may_raise session back raised), explains_unframed link link session back write bytes (kind_of error) tells)
 
 -- calls that are only counted
 pub counts_refl : (link : Option Told) → OnlyCounts link link
@@ -324,65 +316,11 @@ pub unsent_unlent : (store store_now : Option ToldStore) (link : Option Told) (e
 unsent_unlent store store_now link error stays is =
     record { store_stays = stays; link_stays = counts_refl link; reason = early_memory link (kind_of error) is }
 
--- a session that was lent for an attempt and came back
-pub turns_lent : {A : Type 0} (store lent store_now : Option ToldStore) (link link_now : Option Told) (write : PlacedWrite) (result : Result A Error)
-    (caller out_at back_at : ℕ) (session back : Session) → Lends store lent caller out_at session → TakesBack lent store_now caller back back_at
-    → back.id ≡ session.id → Attempts link link_now session back write (end_of result) → Turns store store_now link link_now write result
-turns_lent store lent store_now link link_now write (Ok given) caller out_at back_at session back lends takes id attempt = record {
-  lent = lent;
-  mid = link;
-  caller = caller;
-  out_at = out_at;
-  back_at = back_at;
-  session = session;
-  back = back;
-  lends = lends;
-  takes = takes;
-  id = id;
-  reached = counts_refl link;
-  attempt = attempt;
+-- calls that were only counted before
+pub unsent_counted : (store store_now : Option ToldStore) (link mid link_now : Option Told) (why : ErrorKind) → OnlyCounts link mid
+    → Unsent store store_now mid link_now never why → Unsent store store_now link link_now never why
+unsent_counted store store_now link mid link_now why keeps unsent = record {
+  store_stays = unsent.store_stays;
+  link_stays = counts_twice link mid link_now keeps unsent.link_stays;
+  reason = early_before link mid why keeps unsent.reason;
 }
-turns_lent store lent store_now link link_now write (Err error) caller out_at back_at session back lends takes id attempt = inr (record {
-  lent = lent;
-  mid = link;
-  caller = caller;
-  out_at = out_at;
-  back_at = back_at;
-  session = session;
-  back = back;
-  lends = lends;
-  takes = takes;
-  id = id;
-  reached = counts_refl link;
-  attempt = attempt;
-})
-
-turn_counted : (store store_now : Option ToldStore) (link mid link_now : Option Told) (write : PlacedWrite) (ended : Option Failure) → OnlyCounts link mid
-    → Turn store store_now mid link_now write ended → Turn store store_now link link_now write ended
-turn_counted store store_now link mid link_now write ended keeps turn = record {
-  lent = turn.lent;
-  mid = turn.mid;
-  caller = turn.caller;
-  out_at = turn.out_at;
-  back_at = turn.back_at;
-  session = turn.session;
-  back = turn.back;
-  lends = turn.lends;
-  takes = turn.takes;
-  id = turn.id;
-  reached = counts_twice link mid turn.mid keeps turn.reached;
-  attempt = turn.attempt;
-}
-
--- a turn after calls that were only counted
-pub turns_counted : {A : Type 0} (store store_now : Option ToldStore) (link mid link_now : Option Told) (write : PlacedWrite) (result : Result A Error) → OnlyCounts link mid
-    → Turns store store_now mid link_now write result → Turns store store_now link link_now write result
-turns_counted store store_now link mid link_now write (Ok given) keeps turns = turn_counted store store_now link mid link_now write None keeps turns
-turns_counted store store_now link mid link_now write (Err error) keeps turns = elim turns [
-  | inl unsent ↦ inl (record {
-    store_stays = unsent.store_stays;
-    link_stays = counts_twice link mid link_now keeps unsent.link_stays;
-    reason = early_before link mid (kind_of error) keeps unsent.reason;
-  })
-  | inr turn ↦ inr (turn_counted store store_now link mid link_now write (Some (failure_of error)) keeps turn)
-]

@@ -18,16 +18,18 @@ use Rattle.driver_link.specs.declared.fault.LinkFault.TheVariants.{Io, PoolClear
 use Rattle.driver_link.specs.Faults.{HasLinkCause, Rose}
 use Rattle.driver_link.specs.Failures.{fault_kind}
 use Rattle.driver_link.specs.Told.{Notes, noted, nothing_noted, reply_noted}
-use Rattle.driver_exec.specs.Causes.{Failure, failure_of, KindNeeds, KindAtLast, EndNeeds, EndAtLast, AllEarly, MayBeLast, IsLast, Refused, refused_body, next_number, lent_number, labels_by, Caused}
-use Rattle.driver_exec.specs.Inserts.{TellsRefusal, TellsNoReply, ReadsReply, insert_body}
+use Rattle.driver_exec.specs.Causes.{Failure, failure_of, KindNeeds, KindAtLast, EndNeeds, EndAtLast, AllEarly, MayBeLast, IsLast, Refused, never, next_number, lent_number, labels_by, Caused}
+use Rattle.driver_exec.specs.Inserts.{TellsNoReply, ReadsReply}
+use Rattle.driver_exec.specs.Operations.{Meaning, TellsUnframed}
 use Rattle.driver_exec.specs.Pool.{ToldStore, Lends, StaysTold, session_out}
 use Rattle.driver_exec.specs.Session.{Session, Numbers, TellsEnd}
+use Rattle.driver_exec.specs.Trips.{refused_of}
 use Rattle.driver_exec.specs.Turns.{IsFailure}
 use Rattle.driver_exec.specs.declared.pool.IdleSession.{IdleSession}
 use Rattle.driver_exec.specs.Causes.{end_of}
 
 -- answers that gained nothing
-notes_nothing : (answers : Option (List Answered)) → Notes answers answers []
+pub notes_nothing : (answers : Option (List Answered)) → Notes answers answers []
 notes_nothing None = refl
 notes_nothing (Some items) = ap (λ all. Some all) (sym (append-nil items))
 
@@ -66,20 +68,20 @@ caused_end faults answers session back refused error numbers =
     caused_before faults answers (Some session.number) refused error (end_needs faults session refused (labels_of error) (kind_of error) numbers.1)
     (λ last. end_at_last session refused.early (kind_of error) numbers.1)
 
-body_needs : (faults : ℕ) (number : Option ℤ) (namespace : Namespace) (id : List ℕ) (n : ℤ) (labels : LabelSet) (why : ErrorKind) → length id ≡ 16
-    → TellsRefusal (insert_body namespace id n) why → KindNeeds faults faults [] number (refused_body namespace) labels why
-body_needs faults number namespace id n labels (kind.BsonSerialization fault) sixteen tells =
-    inr (record { id = id; sixteen = sixteen; number = n; is = tells })
-body_needs faults number namespace id n labels kind.Memory sixteen tells = tt
-body_needs faults number namespace id n labels _ sixteen tells = absurd tells
+unframed_needs : {A : Type 0} (meaning : Meaning A) (faults : ℕ) (number : Option ℤ) (labels : LabelSet) (why : ErrorKind)
+    → TellsUnframed meaning why → KindNeeds faults faults [] number (refused_of meaning) labels why
+unframed_needs meaning faults number labels (kind.InvalidArgument message) tells = tells
+unframed_needs meaning faults number labels (kind.BsonSerialization fault) tells = tells
+unframed_needs meaning faults number labels kind.Memory tells = tt
+unframed_needs meaning faults number labels _ tells = absurd tells
 
--- the end where a frame was refused, under a number that was left
-pub caused_body : (faults : ℕ) (answers : Option (List Answered)) (session back : Session) (given : ℤ) (namespace : Namespace) (id : List ℕ) (n : ℤ) (error : Error)
-    → Numbers session back (Ok given) → length id ≡ 16 → TellsRefusal (insert_body namespace id n) (kind_of error)
-    → Caused faults faults answers answers (Some session.number) (refused_body namespace) (Some (failure_of error))
-caused_body faults answers session back given namespace id n error numbers sixteen tells =
-    caused_before faults answers (Some session.number) (refused_body namespace) error
-    (body_needs faults (Some session.number) namespace id n (labels_of error) (kind_of error) sixteen tells)
+-- the end where there was no frame, under a number that was left
+pub caused_unframed : {A : Type 0} (meaning : Meaning A) (faults : ℕ) (answers : Option (List Answered)) (session back : Session) (given : ℤ) (error : Error)
+    → Numbers session back (Ok given) → TellsUnframed meaning (kind_of error)
+    → Caused faults faults answers answers (Some session.number) (refused_of meaning) (Some (failure_of error))
+caused_unframed meaning faults answers session back given error numbers tells =
+    caused_before faults answers (Some session.number) (refused_of meaning) error
+    (unframed_needs meaning faults (Some session.number) (labels_of error) (kind_of error) tells)
     (λ last. absurd (numbers.0 last))
 
 reply_needs : {A : Type 0} (before now : ℕ) (bytes : List ℕ) (number : Option ℤ) (refused : Refused) (result : Result A Error) → ReadsReply bytes result
@@ -202,14 +204,15 @@ caused_check_out before now answers answers_now number refused failure error cau
     caused_failure before now answers answers_now number refused CheckOut failure error cause noted is
     (λ last. ((early_items failure).1, early_kind CheckOut failure error refused.early is))
 
+-- nothing noted, and then these
+pub notes_since : (answers mid answers_now : Option (List Answered)) (items : List Answered) → Notes answers mid [] → Notes mid answers_now items → Notes answers answers_now items
+notes_since None mid answers_now items same noted = subst (λ told. Notes told answers_now items) same noted
+notes_since (Some told) mid answers_now items same noted =
+    subst (λ all. Notes (Some all) answers_now items) (append-nil told) (subst (λ told. Notes told answers_now items) same noted)
+
 -- the end where a check-out failed after a selection that did not
 module _ (start before now : ℕ) (answers mid answers_now : Option (List Answered)) (number : Option ℤ) (refused : Refused) (error : Error) (later : start ≤ before)
     (same : Notes answers mid []) (A : Type 0) where
-  notes_mid : (answers mid : Option (List Answered)) (items : List Answered) → Notes answers mid [] → Notes mid answers_now items → Notes answers answers_now items
-  notes_mid None mid items same noted = subst (λ told. Notes told answers_now items) same noted
-  notes_mid (Some told) mid items same noted =
-      subst (λ all. Notes (Some all) answers_now items) (append-nil told) (subst (λ told. Notes told answers_now items) same noted)
-
   rose_since : Rose before now → Rose start now
   rose_since rose = omega arith
 
@@ -218,14 +221,50 @@ module _ (start before now : ℕ) (answers mid answers_now : Option (List Answer
   check_out_cause Memory cause = omega (arith, cause)
 
   check_out_noted : (failure : LinkError) → Notes mid answers_now (noted {A = A} CheckOut nothing_noted (Err failure)) → Notes answers answers_now (failure_noted CheckOut failure)
-  check_out_noted (Fault fault own) noted = notes_mid answers mid (answer.Fault CheckOut fault own ∷ []) same noted
-  check_out_noted Memory noted = notes_mid answers mid [] same noted
+  check_out_noted (Fault fault own) noted = notes_since answers mid answers_now (answer.Fault CheckOut fault own ∷ []) same noted
+  check_out_noted Memory noted = notes_since answers mid answers_now [] same noted
 
   pub caused_check_out_since : (failure : LinkError) → HasLinkCause {A = A} before now (Err failure)
       → Notes mid answers_now (noted {A = A} CheckOut nothing_noted (Err failure)) → IsFailure CheckOut failure error
       → Caused start now answers answers_now number refused (Some (failure_of error))
   caused_check_out_since failure cause noted is =
       caused_check_out start now answers answers_now number refused failure error (check_out_cause failure cause) (check_out_noted failure noted) is
+
+-- an end after calls in which no fault was noted
+module _ (start before now : ℕ) (later : start ≤ before) where
+  rose_before : Rose before now → Rose start now
+  rose_before rose = omega arith
+
+  kind_since : (items : List Answered) (number : Option ℤ) (refused : Refused) (labels : LabelSet) (why : ErrorKind)
+      → KindNeeds before now items number refused labels why → KindNeeds start now items number refused labels why
+  kind_since items number refused labels (kind.Io io) needs = (rose_before needs.0, needs.1)
+  kind_since items number refused labels (kind.ConnectionPoolCleared message) needs = (rose_before needs.0, needs.1)
+  kind_since items number refused labels (kind.ServerSelection message) needs = (rose_before needs.0, needs.1)
+  kind_since items number refused labels (kind.Authentication message) needs = (rose_before needs.0, needs.1)
+  kind_since items number refused labels (kind.InvalidArgument message) needs = needs
+  kind_since items number refused labels (kind.BsonSerialization fault) needs = needs
+  kind_since items number refused labels (kind.Internal message) needs = needs
+  kind_since items number refused labels (kind.InvalidResponse message) needs = needs
+  kind_since items number refused labels kind.Memory needs = needs
+  kind_since items number refused labels _ needs = absurd needs
+
+  end_since : (items : List Answered) (number : Option ℤ) (refused : Refused) (ended : Option Failure)
+      → EndNeeds before now items number refused ended → EndNeeds start now items number refused ended
+  end_since items number refused None needs = needs
+  end_since items number refused (Some why) needs = kind_since items number refused why.labels why.kind needs
+
+  never_falls_since : before ≤ now → start ≤ now
+  never_falls_since rises = omega arith
+
+  pub caused_since : (answers mid answers_now : Option (List Answered)) (number : Option ℤ) (refused : Refused) (ended : Option Failure) → Notes answers mid []
+      → Caused before now mid answers_now number refused ended → Caused start now answers answers_now number refused ended
+  caused_since answers mid answers_now number refused ended same caused = record {
+    items = caused.items;
+    noted = notes_since answers mid answers_now caused.items same caused.noted;
+    never_falls = never_falls_since caused.never_falls;
+    needs = end_since caused.items number refused ended caused.needs;
+    at_last = caused.at_last;
+  }
 
 kind_under : (before now : ℕ) (items : List Answered) (number next : Option ℤ) (refused : Refused) (labels : LabelSet) (why : ErrorKind)
     → (MayBeLast number → MayBeLast next) → KindNeeds before now items number refused labels why → KindNeeds before now items next refused labels why

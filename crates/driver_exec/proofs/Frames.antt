@@ -1,39 +1,39 @@
--- The frame that is built for an insert reads as the insert of its document.
-use Rattle.std.proofs.Common.{◌≡◌, ℕ, List, [], ◌∷◌, length, refl, ap, rules, Bool, subst, sym}
-use Rattle.std.specs.Prelude.{ℤ, true, false, Some}
+-- The frame of a command with the executor's fields reads as the send of what the command asks for.
+use Rattle.std.proofs.Common.{◌≡◌, ℕ, List, [], ◌∷◌, ◌++◌, length, refl, ap, rules, Bool, subst, sym, inl, inr}
+use Rattle.std.specs.Prelude.{ℤ, true, false, Some, None, Option, Result, Ok, Err, bytes_eq, if◌then◌else◌}
 use Rattle.std.specs.Option.{option_map}
 use denote.Hole.Carrier.{out}
 use Rattle.bson_lite.specs.declared.bson.Binary.{Binary}
 use Rattle.bson_lite.specs.declared.bson.Bson.{Bson}
 use Rattle.bson_lite.specs.declared.bson.Bson as bson
 use Rattle.bson_lite.specs.declared.document.Pair.{Pair}
-use Rattle.bson_lite.specs.declared.namespace.Namespace.{Namespace}
+use Rattle.bson_lite.specs.declared.fault.EncodeFault.{EncodeFault}
 use Rattle.bson_lite.specs.Fields.{value_of}
-use Rattle.bson_lite.specs.Spelling.{Spells}
-use Rattle.driver_link.specs.declared.frame.Sequence.{Sequence}
-use Rattle.driver_link.specs.declared.keys.TheConstants.{AUTOCOMMIT, DATABASE, DOCUMENTS, INSERT, ORDERED, SESSION, START_TRANSACTION, TRANSACTION_NUMBER, UUID_SUBTYPE}
+use Rattle.bson_lite.specs.Spelling.{refusal}
+use Rattle.driver_error.specs.declared.error.Error.{Error}
+use Rattle.driver_error.specs.Error.{ErrorKind, kind_of}
+use Rattle.driver_error.specs.declared.kind.ErrorKind.TheVariants as kind
+use Rattle.driver_link.specs.declared.keys.TheConstants.{AUTOCOMMIT, DATABASE, SESSION, START_TRANSACTION, TRANSACTION_NUMBER, UUID_SUBTYPE}
+use Rattle.driver_link.specs.declared.frame.Documents.{Documents}
 use Rattle.driver_link.specs.declared.machine.Place.{Place}
 use Rattle.driver_link.specs.declared.machine.SendBody.{SendBody}
-use Rattle.driver_link.specs.declared.machine.SendBody.TheVariants.{Write}
-use Rattle.driver_link.specs.declared.machine.SendCommand.TheVariants as command
-use Rattle.driver_link.specs.Asking.{asks, asks_as, asks_insert, asks_writes, may_go_to, only_sequence, spelled, target}
-use Rattle.driver_link.specs.CommandNames.{named}
-use Rattle.driver_link.specs.Commands.{flag_value, goes_to, needed, optional_value, sent_as, session_id_of, uuid_in}
+use Rattle.driver_link.specs.Asking.{asks, spelled}
+use Rattle.driver_link.specs.Commands.{flag, flag_value, goes_to, needed, optional, optional_value, sent_as, session_id_of, uuid_in}
 use Rattle.driver_link.specs.Framed.{Framed}
 use Rattle.driver_link.specs.Reads.{SpellSequences}
-use Rattle.driver_link.specs.Values.{text_of, bool_of, int64_of, binary_of, document_of}
-use Rattle.driver_link.specs.Writes.{placed}
-use Rattle.driver_exec.specs.Inserts.{IsInsertFrame, IsOneDocument, field, insert_body, insert_one_send, insert_write, session_document}
+use Rattle.driver_link.specs.Values.{text_of, int64_of, binary_of, document_of}
+use Rattle.driver_link.specs.Writes.{is_common}
+use Rattle.driver_exec.specs.declared.command.Command.{Command}
+use Rattle.driver_exec.specs.Encoding.{TellsRefusal}
+use Rattle.driver_exec.specs.Fields.{AreCommon, Frames, IsFrameOf, IsPlain, executor_fields, session_document, with_fields}
+use Rattle.driver_exec.specs.Operations.{BuildsFrame, IsBuilt, Meaning, ReadsAsAsked, TellsUnbuilt, TellsUnframed, numbered_send}
+use Rattle.driver_exec.specs.Session.{Session, Numbers}
 use Rattle.driver_exec.proofs.Ids.{equal_bytes}
 
 -- what values are as the fields of a command
 text_is : (text : List ℕ) → text_of (bson.String text) ≡ Some text
 unfolding bson.out-Bson out
 text_is text = refl
-
-bool_is : (flag : Bool) → bool_of (bson.Boolean flag) ≡ Some flag
-unfolding bson.out-Bson out
-bool_is flag = refl
 
 int_is : (number : ℤ) → int64_of (bson.Int64 number) ≡ Some number
 unfolding bson.out-Bson out
@@ -46,19 +46,6 @@ binary_is binary = refl
 document_is : (pairs : List (Pair Bson)) → document_of (bson.Document pairs) ≡ Some pairs
 document_is pairs = search (rules, bson.the_lemmas)
 
-coll_of : (id : List ℕ) (number : ℤ) (namespace : Namespace) → needed text_of INSERT.now (insert_body namespace id number) ≡ Some namespace.coll
-unfolding insert_body needed
-coll_of id number namespace = text_is namespace.coll
-
-ordered_of : (id : List ℕ) (number : ℤ) (namespace : Namespace) → needed bool_of ORDERED.now (insert_body namespace id number) ≡ Some true
-unfolding insert_body needed
-ordered_of id number namespace = bool_is true
-
-number_of : (id : List ℕ) (number : ℤ) (namespace : Namespace)
-    → optional_value int64_of (value_of TRANSACTION_NUMBER.now (insert_body namespace id number)) ≡ Some (Some number)
-unfolding insert_body optional_value
-number_of id number namespace = ap (λ found. option_map (λ one. Some one) found) (int_is number)
-
 uuid_is : (id : List ℕ) → length id ≡ 16 → uuid_in (record { subtype = UUID_SUBTYPE; bytes = id }) ≡ Some id
 unfolding uuid_in
 uuid_is id sixteen = rw sixteen
@@ -67,78 +54,105 @@ id_is : (id : List ℕ) → length id ≡ 16 → session_id_of (bson.Document (s
 unfolding session_id_of session_document
 id_is id sixteen = rw (document_is (session_document id), binary_is (record { subtype = UUID_SUBTYPE; bytes = id })) (uuid_is id sixteen)
 
-session_of : (id : List ℕ) (number : ℤ) (namespace : Namespace) → length id ≡ 16
-    → optional_value session_id_of (value_of SESSION.now (insert_body namespace id number)) ≡ Some (Some id)
-unfolding insert_body optional_value
-session_of id number namespace sixteen = ap (λ found. option_map (λ one. Some one) found) (id_is id sixteen)
+differ : (value : Bson) → Some value ≡ None → ⊥
+differ value is = cc
 
-database_of : (id : List ℕ) (number : ℤ) (namespace : Namespace) → needed text_of DATABASE.now (insert_body namespace id number) ≡ Some namespace.db
-unfolding insert_body needed
-database_of id number namespace = text_is namespace.db
+-- a key that a body does not have is found behind it
+skips : (key : List ℕ) (body fields : List (Pair Bson)) → value_of key body ≡ None → value_of key (body ++ fields) ≡ value_of key fields
+skips key [] fields none = refl
+skips key (pair ∷ body) fields none = by_test (bytes_eq pair.key key) (skips key body fields) none
+  where
+    by_test : (same : Bool) → (value_of key body ≡ None → value_of key (body ++ fields) ≡ value_of key fields)
+        → (if same then Some pair.value else value_of key body) ≡ None
+        → (if same then Some pair.value else value_of key (body ++ fields)) ≡ value_of key fields
+    by_test true rest none = absurd (differ pair.value none)
+    by_test false rest none = rest none
 
--- the body names its database
-goes : (id : List ℕ) (number : ℤ) (namespace : Namespace) → goes_to namespace.db (insert_body namespace id number) ≡ true
-unfolding goes_to
-goes id number namespace = rw (database_of id number namespace) (equal_bytes namespace.db)
+-- the executor's fields are found where the body before them has none of them
+module _ (body : List (Pair Bson)) (id : List ℕ) (number : ℤ) (database : List ℕ) (plain : IsPlain body) (sixteen : length id ≡ 16) where
+  abbrev joined : List (Pair Bson)
+  joined = body ++ executor_fields id number database
 
-start_of : (id : List ℕ) (number : ℤ) (namespace : Namespace) → flag_value true (value_of START_TRANSACTION.now (insert_body namespace id number)) ≡ Some false
-unfolding insert_body flag_value
-start_of id number namespace = refl
+  database_of : needed text_of DATABASE.now joined ≡ Some database
+  unfolding executor_fields needed
+  database_of = rw (skips DATABASE.now body (executor_fields id number database) plain.1.1.1.1.1.1.1.1.0) (text_is database)
 
-autocommit_of : (id : List ℕ) (number : ℤ) (namespace : Namespace) → flag_value false (value_of AUTOCOMMIT.now (insert_body namespace id number)) ≡ Some false
-unfolding insert_body flag_value
-autocommit_of id number namespace = refl
+  goes : goes_to database joined ≡ true
+  unfolding goes_to
+  goes = rw database_of (equal_bytes database)
 
--- the body says the session and the number
-sent_is : (id : List ℕ) (number : ℤ) (namespace : Namespace) (asked : SendBody) → length id ≡ 16
-    → sent_as (insert_body namespace id number) asked
-    ≡ Some (record { session = Some id; number = Some number; start = false; in_transaction = false; body = asked })
-unfolding sent_as
-sent_is id number namespace asked sixteen =
-    rw (session_of id number namespace sixteen, number_of id number namespace, start_of id number namespace, autocommit_of id number namespace)
+  session_of : optional session_id_of SESSION.now joined ≡ Some (Some id)
+  unfolding executor_fields optional_value
+  session_of = rw (skips SESSION.now body (executor_fields id number database) plain.0) (ap (λ found. option_map (λ one. Some one) found) (id_is id sixteen))
 
--- a body that inserts asks for that
-asks_first : (database coll : List ℕ) (fields document : List (Pair Bson)) (place : Place) → needed bool_of ORDERED.now (field INSERT.now (bson.String coll) ∷ fields) ≡ Some true
-    → asks database (field INSERT.now (bson.String coll) ∷ fields) (record { name = DOCUMENTS.now; documents = document ∷ [] } ∷ []) (place ∷ [])
-    ≡ Some (Write command.Insert true (insert_write (record { db = database; coll = coll }) document place ∷ []))
-unfolding asks named may_go_to asks_as target asks_insert only_sequence asks_writes placed
-asks_first database coll fields document place ordered = rw (text_is coll, ordered)
+  number_of : optional int64_of TRANSACTION_NUMBER.now joined ≡ Some (Some number)
+  unfolding executor_fields optional_value
+  number_of = rw (skips TRANSACTION_NUMBER.now body (executor_fields id number database) plain.1.0) (ap (λ found. option_map (λ one. Some one) found) (int_is number))
 
-asks_is : (id : List ℕ) (number : ℤ) (namespace : Namespace) (document : List (Pair Bson)) (place : Place)
-    → asks namespace.db (insert_body namespace id number) (record { name = DOCUMENTS.now; documents = document ∷ [] } ∷ []) (place ∷ [])
-    ≡ Some (Write command.Insert true (insert_write namespace document place ∷ []))
-unfolding insert_body
-asks_is id number namespace document place = asks_first namespace.db namespace.coll _ document place (ordered_of id number namespace)
+  start_of : flag true START_TRANSACTION.now joined ≡ Some false
+  unfolding executor_fields flag_value
+  start_of = rw (skips START_TRANSACTION.now body (executor_fields id number database) plain.1.1.1.0) refl
 
--- the body spells the session, the number and the namespace
-body_spells : (id : List ℕ) (number : ℤ) (namespace : Namespace) (document : List (Pair Bson)) (place : Place) → length id ≡ 16
-    → spelled namespace.db (insert_body namespace id number) (record { name = DOCUMENTS.now; documents = document ∷ [] } ∷ []) (place ∷ [])
-    ≡ Some (insert_one_send id number namespace document place)
-unfolding spelled
-body_spells id number namespace document place sixteen =
-    rw (goes id number namespace, asks_is id number namespace document place)
-    (sent_is id number namespace (Write command.Insert true (insert_write namespace document place ∷ [])) sixteen)
+  autocommit_of : flag false AUTOCOMMIT.now joined ≡ Some false
+  unfolding executor_fields flag_value
+  autocommit_of = rw (skips AUTOCOMMIT.now body (executor_fields id number database) plain.1.1.1.1.0) refl
 
-pub reads_insert : (id : List ℕ) (number : ℤ) (namespace : Namespace) (bytes body : List ℕ) (sequences : List Sequence) → length id ≡ 16
-    → Spells (insert_body namespace id number) body → IsOneDocument sequences bytes
-    → IsInsertFrame (record { database = namespace.db; body = body; sequences = sequences }) id number namespace bytes
-reads_insert id number namespace bytes body sequences sixteen spelled one = λ document place spells. record {
-  body = insert_body namespace id number;
-  sequences = record { name = DOCUMENTS.now; documents = document ∷ [] } ∷ [];
-  body_spelled = spelled;
-  sequences_spelled = subst (SpellSequences (record { name = DOCUMENTS.now; documents = document ∷ [] } ∷ [])) (sym one)
-      (record { name = refl; documents = (spells, tt) }, tt);
-  spelled = body_spells id number namespace document place sixteen;
-}
+  sent_is : (asked : SendBody) → sent_as joined asked ≡ Some (numbered_send id number asked)
+  unfolding sent_as
+  sent_is asked = rw (session_of, number_of, start_of, autocommit_of)
 
--- the same of a frame that is made of its parts
-pub frame_of_parts : (id : List ℕ) (number : ℤ) (namespace : Namespace) (bytes : List ℕ) (document : List (Pair Bson)) (body database : List ℕ)
-    (sequences : List Sequence) (frame : Framed) → length id ≡ 16
-    → document ≡ insert_body namespace id number → Spells document body → database ≡ namespace.db → IsOneDocument sequences bytes
-    → frame ≡ record { database = database; body = body; sequences = sequences }
-    → IsInsertFrame frame id number namespace bytes
-frame_of_parts id number namespace bytes document body database sequences frame sixteen is_body spelled is_database one is_frame =
-    let P : Framed → Type 0 = λ made. IsInsertFrame made id number namespace bytes in
-    let Q : List ℕ → Type 0 = λ name. P (record { database = name; body = body; sequences = sequences }) in
-    subst P (sym is_frame) (subst Q (sym is_database)
-    (reads_insert id number namespace bytes body sequences sixteen (subst (λ made. Spells made body) is_body spelled) one))
+  spells : (sequences : List Documents) (places : List Place) (asked : SendBody) → asks database joined sequences places ≡ Some asked
+      → spelled database joined sequences places ≡ Some (numbered_send id number asked)
+  unfolding spelled
+  spells sequences places asked is = rw (goes, is) (sent_is asked)
+
+-- they are fields that stand in commands of every kind
+are_common : (id : List ℕ) (number : ℤ) (database : List ℕ) → AreCommon (executor_fields id number database)
+unfolding executor_fields is_common
+are_common id number database = (refl, (refl, (refl, tt)))
+
+-- the frame of a built command with the executor's fields
+pub reads_as_asked : {A : Type 0} (meaning : Meaning A) (statements : ℕ) (id : List ℕ) (number : ℤ) (command whole : Command) (frame : Framed)
+    → length id ≡ 16 → IsBuilt meaning statements command → whole ≡ with_fields id number command → IsFrameOf whole frame
+    → ReadsAsAsked meaning id number frame
+reads_as_asked meaning statements id number command whole frame sixteen built appended framed places body asked =
+    let asks = built.asks places body asked in
+    let made = subst (λ whole. IsFrameOf whole frame) appended framed in
+    record {
+      body = command.body ++ executor_fields id number command.database;
+      sequences = asks.sequences;
+      body_spelled = made.spelled;
+      sequences_spelled = subst (SpellSequences asks.sequences) (sym made.sequences) asks.spelled;
+      spelled = subst (λ database. spelled database (command.body ++ executor_fields id number command.database) asks.sequences places ≡ Some (numbered_send id number body))
+          (sym made.database)
+          (spells command.body id number command.database built.plain sixteen asks.sequences places body (asks.asks _ (are_common id number command.database)));
+    }
+
+-- why there is no such frame
+pub unframed : {A : Type 0} (meaning : Meaning A) (statements : ℕ) (id : List ℕ) (number : ℤ) (command whole : Command) (why : ErrorKind)
+    → length id ≡ 16 → IsBuilt meaning statements command → whole ≡ with_fields id number command → TellsRefusal whole.body why → TellsUnframed meaning why
+unframed meaning statements id number command whole (kind.BsonSerialization fault) sixteen built appended tells =
+    inr (built.spelling id number fault sixteen (subst (λ whole. refusal whole.body ≡ Some fault) appended tells))
+unframed meaning statements id number command whole kind.Memory sixteen built appended tells = tt
+unframed meaning statements id number command whole _ sixteen built appended tells = absurd tells
+
+pub unbuilt : {A : Type 0} (meaning : Meaning A) (why : ErrorKind) → TellsUnbuilt meaning why → TellsUnframed meaning why
+unbuilt meaning (kind.InvalidArgument message) tells = tells
+unbuilt meaning (kind.BsonSerialization fault) tells = inl tells
+unbuilt meaning kind.Memory tells = tt
+unbuilt meaning _ tells = absurd tells
+
+-- a built command with the executor's fields, in bytes
+pub frames_builds : {A : Type 0} (meaning : Meaning A) (statements : ℕ) (id : List ℕ) (number : ℤ) (command whole : Command) (result : Result Framed Error)
+    → length id ≡ 16 → IsBuilt meaning statements command → whole ≡ with_fields id number command → Frames whole result → BuildsFrame meaning id number result
+frames_builds meaning statements id number command whole (Ok frame) sixteen built appended framed =
+    reads_as_asked meaning statements id number command whole frame sixteen built appended framed
+frames_builds meaning statements id number command whole (Err error) sixteen built appended tells =
+    unframed meaning statements id number command whole (kind_of error) sixteen built appended tells
+
+-- the number and the id are the session's
+pub asked_under : {A : Type 0} (meaning : Meaning A) (frame : Framed) (id : List ℕ) (number : ℤ) (old now : Session) → Numbers old now (Ok number) → id ≡ now.id
+    → ReadsAsAsked meaning id number frame → ReadsAsAsked meaning now.id now.number frame
+asked_under meaning frame id number old now numbers is_id reads =
+    subst (λ i. ReadsAsAsked meaning i now.number frame) is_id
+    (subst (λ n. ReadsAsAsked meaning id n frame) (sym (ap (λ session. session.number) numbers.2)) reads)

@@ -1,4 +1,5 @@
 pub mod Frames
+pub mod Inserting
 pub mod DoneReplies
 pub mod Attempts
 pub mod Drawing
@@ -8,6 +9,8 @@ pub mod Turning
 pub mod Lending
 pub mod Numbering
 pub mod Causes
+pub mod Touring
+pub mod Tripping
 pub mod Staying
 pub mod Moves
 pub mod Joining

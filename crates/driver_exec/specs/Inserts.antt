@@ -26,14 +26,11 @@ use Rattle.driver_link.specs.Statements.{planned_at}
 use Rattle.driver_link.specs.Writes.{write_on}
 use Rattle.driver_link.specs.declared.frame.Sequence.{Sequence}
 use Rattle.driver_exec.specs.declared.insert.TheConstants.{NOT_INSERTED}
+use Rattle.driver_exec.specs.Fields.{field, session_document}
 
--- one field of a document
-abbrev pub field : List ℕ → Bson → Pair Bson
-field key value = record { key = key; value = value }
-
--- the id of a session as a command carries it: a document with a UUID
-unfoldable pub session_document : List ℕ → List (Pair Bson)
-session_document id = field SESSION_ID.now (bson.Binary (record { subtype = UUID_SUBTYPE; bytes = id })) ∷ []
+-- the body of the insert command, without the executor's fields
+unfoldable pub insert_command : Namespace → List (Pair Bson)
+insert_command namespace = field INSERT.now (bson.String namespace.coll) ∷ field ORDERED.now (bson.Boolean true) ∷ []
 
 -- the body of the insert command
 unfoldable pub insert_body : Namespace → List ℕ → ℤ → List (Pair Bson)
@@ -59,31 +56,9 @@ insert_one_send id number namespace document place = record {
   body = Write command.Insert true (insert_write namespace document place ∷ []);
 }
 
--- an error that tells why a document has no spelling, or want of memory
-abbrev pub TellsRefusal : List (Pair Bson) → ErrorKind → Type 0
-TellsRefusal document (BsonSerialization fault) = refusal document ≡ Some fault
-TellsRefusal document Memory = Unit {0}
-TellsRefusal document _ = ⊥
-
--- a document's spelling, or the error that tells why it has none
-abbrev pub Encoded : List (Pair Bson) → Result (List ℕ) Error → Type 0
-Encoded document (Ok bytes) = (refusal document ≡ None) × Spells document bytes
-Encoded document (Err error) = TellsRefusal document (kind_of error)
-
--- a frame that reads as the insert of each document that the bytes spell, under the place given with it
-abbrev pub IsInsertFrame : Framed → List ℕ → ℤ → Namespace → List ℕ → Type 0
-IsInsertFrame frame id number namespace bytes =
-    (document : List (Pair Bson)) (place : Place) → Spells document bytes
-    → Reads frame (place ∷ []) (insert_one_send id number namespace document place)
-
 -- the sequence of one document
 abbrev pub IsOneDocument : List Sequence → List ℕ → Type 0
 IsOneDocument sequences bytes = sequences ≡ record { name = DOCUMENTS.now; documents = bytes ∷ [] } ∷ []
-
--- the frame of an insert, or the error that tells why its body has no spelling
-abbrev pub BuildsInsert : List ℕ → ℤ → Namespace → List ℕ → Result Framed Error → Type 0
-BuildsInsert id number namespace bytes (Ok frame) = IsInsertFrame frame id number namespace bytes
-BuildsInsert id number namespace bytes (Err error) = TellsRefusal (insert_body namespace id number) (kind_of error)
 
 -- the number is one
 abbrev pub is_one : Option ℤ → Bool

@@ -1,6 +1,11 @@
 pub mod Causes
 pub mod Client
+pub mod Encoding
+pub mod Fields
+pub mod InsertMeaning
 pub mod Inserts
+pub mod Operations
 pub mod Pool
 pub mod Session
+pub mod Trips
 pub mod Turns

@@ -1,5 +1,5 @@
 //! Documents in bytes, with the driver's error where they have no spelling.
-ghost use Rattle.driver_exec.specs.Inserts.{Encoded};
+ghost use Rattle.driver_exec.specs.Encoding.{Encoded};
 
 use bson_lite::{Bytes, Document, EncodeFault, encode};
 use driver_error::{Error, ErrorKind, Result};

@@ -1,71 +1,79 @@
-//! The insert command of one document: its frame and its reply.
-ghost use Rattle.std.specs.Prelude.{◌≡◌, IfOk, length};
-ghost use Rattle.driver_exec.specs.Inserts.{insert_body, session_document, BuildsInsert, ReadsReply, IsOneDocument, TellsNotInserted, is_done_reply, is_one, int_at};
+//! The insert of one document: its command and its reply.
+ghost use Rattle.std.specs.Prelude.{◌≡◌, IfOk};
+ghost use Rattle.driver_exec.specs.Inserts.{insert_command, ReadsReply, IsOneDocument, TellsNotInserted, is_done_reply, is_one, int_at};
+ghost use Rattle.driver_exec.specs.InsertMeaning.{insert_meaning};
 ghost use Rattle.driver_error.specs.Error.{kind_of};
 
-use crate::encoded::encoded;
+use crate::command::Command;
+use crate::operation::Operation;
 use bson_lite::{
-    Binary, Bson, Bytes, DecodeFault, Document, List, Namespace, Text, TryClone, decode, get_int,
+    Bson, Bytes, DecodeFault, Document, List, Namespace, Text, TryClone, decode, get_int,
 };
 use driver_error::{Error, ErrorKind, Result};
-use driver_link::{Frame, Sequence, keys};
+use driver_link::{CommandName, Description, Sequence, keys};
 use std::alloc::{AllocError, Global};
 
 /// Why the reply to an insert is not taken.
 pub const NOT_INSERTED: &str = "the reply does not tell of one inserted document";
 
-/// The frame of an insert command, from the bytes of its document.
-pub(crate) fn insert_frame(
-    alloc: Global,
-    namespace: &Namespace,
+/// The insert of one document, by its bytes, into a collection.
+#[derive(Drop)]
+pub struct Insert<'a> {
+    namespace: &'a Namespace,
     document: Bytes,
-    session: &[u8; 16],
-    number: i64,
-) -> Result<Frame>
-    ensures builds { BuildsInsert session.now number namespace.now document result }
-    ensures sixteen { length session.now ≡ 16 }
-{
-    let body = insert_body(alloc, namespace, session, number)?;
-    let body = encoded(alloc, &body)?;
-    let database = namespace.db.try_clone(alloc)?;
-    let sequences = one_sequence(alloc, document)?;
-    Ok(Frame::new(database, body, sequences))
+}
+
+impl<'a> Insert<'a> {
+    pub fn new(namespace: &'a Namespace, document: Bytes) -> Insert<'a>
+        ensures namespace { result.namespace.now ≡ namespace.now }
+        ensures document { result.document ≡ document }
+    {
+        Insert {
+            namespace,
+            document,
+        }
+    }
+}
+
+impl<'a> Operation for Insert<'a> {
+    type Output = ();
+
+    ghost meaning = { λ insert. insert_meaning insert.namespace.now insert.document };
+
+    ghost built = { λ insert. 1 };
+
+    #[tactic(auto, unfolding(driver_link::specs::CommandNames::named))]
+    fn name(&self) -> &'static str {
+        keys::INSERT
+    }
+
+    fn build(&mut self, alloc: Global, _description: &Description) -> Result<Command> {
+        Ok(Command {
+            name: CommandName::Insert,
+            database: self.namespace.db.try_clone(alloc)?,
+            body: insert_command(alloc, self.namespace)?,
+            sequences: one_sequence(alloc, self.document.try_clone(alloc)?)?,
+        })
+    }
+
+    fn statements(&self) -> usize {
+        1
+    }
+
+    fn read_reply(&mut self, alloc: Global, reply: &[u8]) -> Result<()> {
+        read_insert_reply(alloc, reply)
+    }
 }
 
 /// The body of the command, field by field.
-#[tactic(auto, unfolding(crate::specs::Inserts::insert_body))]
-fn insert_body(
-    alloc: Global,
-    namespace: &Namespace,
-    session: &[u8; 16],
-    number: i64,
-) -> std::result::Result<Document, AllocError>
-    ensures { IfOk result (λ body. body ≡ insert_body namespace.now session.now number) }
+#[tactic(auto, unfolding(crate::specs::Inserts::insert_command))]
+fn insert_command(alloc: Global, namespace: &Namespace) -> std::result::Result<Document, AllocError>
+    ensures { IfOk result (λ body. body ≡ insert_command namespace.now) }
 {
     let mut body = Document::new(alloc);
     body.push(keys::INSERT, Bson::String(namespace.coll.try_clone(alloc)?))?;
     body.push(keys::ORDERED, Bson::Boolean(true))?;
-    body.push(
-        keys::SESSION,
-        Bson::Document(session_document(alloc, session)?),
-    )?;
-    body.push(keys::TRANSACTION_NUMBER, Bson::Int64(number))?;
-    body.push(keys::DATABASE, Bson::String(namespace.db.try_clone(alloc)?))?;
     Ok(body)
-}
-
-/// The document that names a session.
-#[tactic(auto, unfolding(crate::specs::Inserts::session_document))]
-fn session_document(alloc: Global, session: &[u8; 16]) -> std::result::Result<Document, AllocError>
-    ensures { IfOk result (λ named. named ≡ session_document session.now) }
-{
-    let mut named = Document::new(alloc);
-    let id = Binary {
-        subtype: keys::UUID_SUBTYPE,
-        bytes: Bytes::from_slice(alloc, session)?,
-    };
-    named.push(keys::SESSION_ID, Bson::Binary(id))?;
-    Ok(named)
 }
 
 /// The one sequence of an insert command, with one document.
@@ -81,7 +89,7 @@ fn one_sequence(alloc: Global, document: Bytes) -> std::result::Result<List<Sequ
 }
 
 /// Takes the reply to an insert of one document exactly where it has `ok` 1 and `n` 1.
-pub(crate) fn read_insert_reply(alloc: Global, reply: &[u8]) -> Result<()>
+fn read_insert_reply(alloc: Global, reply: &[u8]) -> Result<()>
     ensures { ReadsReply reply.now result }
 {
     let document = match decode(alloc, reply) {

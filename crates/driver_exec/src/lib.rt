@@ -4,8 +4,11 @@
 
 mod attempt;
 pub mod client;
+pub mod command;
 pub mod encoded;
+mod fields;
 pub mod insert;
+pub mod operation;
 pub mod outside;
 pub mod plain;
 pub mod pool;
@@ -14,6 +17,9 @@ pub mod store;
 
 pub use attempt::insert_placed;
 pub use client::Client;
+pub use command::Command;
+pub use insert::Insert;
+pub use operation::Operation;
 pub use outside::Outside;
 pub use plain::PlainStore;
 pub use pool::{IdleSession, StoreEvent, StoreState};

@@ -1,0 +1,32 @@
+-- What an insert of one document tells as an operation.
+use Rattle.std.specs.Prelude.{◌≡◌, ℕ, true, List, [], ◌∷◌}
+use Rattle.bson_lite.specs.declared.bson.Bson.{Bson}
+use Rattle.bson_lite.specs.declared.document.Pair.{Pair}
+use Rattle.bson_lite.specs.declared.namespace.Namespace.{Namespace}
+use Rattle.bson_lite.specs.Spelling.{Spells}
+use Rattle.driver_link.specs.declared.command.CommandName.TheVariants as name
+use Rattle.driver_link.specs.declared.machine.Place.{Place}
+use Rattle.driver_link.specs.declared.machine.SendBody.{SendBody}
+use Rattle.driver_link.specs.declared.machine.SendBody.TheVariants.{Write}
+use Rattle.driver_link.specs.declared.machine.SendCommand.TheVariants as command
+use Rattle.driver_exec.specs.Causes.{BodyRefused, never}
+use Rattle.driver_exec.specs.Inserts.{ReadsReply, insert_write}
+use Rattle.driver_exec.specs.Operations.{Meaning}
+
+-- the insert of the document that the bytes spell, under the one place
+pub record AsksInsert (namespace : Namespace) (bytes : List ℕ) (places : List Place) (body : SendBody) : Type 0 where
+  pub document : List (Pair Bson)
+  pub place : Place
+  pub spelled : Spells document bytes
+  pub alone : places ≡ place ∷ []
+  pub is : body ≡ Write command.Insert true (insert_write namespace document place ∷ [])
+
+-- a build is refused nothing; the command has no spelling where the namespace has none
+abbrev pub insert_meaning : {A : Type 0} → Namespace → List ℕ → Meaning A
+insert_meaning namespace bytes = record {
+  name = name.Insert;
+  asked = AsksInsert namespace bytes;
+  refused = never;
+  unspelled = BodyRefused namespace;
+  reads = ReadsReply;
+}

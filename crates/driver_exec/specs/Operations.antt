@@ -1,0 +1,84 @@
+-- What an operation tells of its command, and what building it comes to.
+use Rattle.std.specs.Prelude.{◌≡◌, ◌↔◌, ℕ, ℤ, Bool, false, List, length, ◌++◌, Option, None, Some, ◌⊎◌, Result, Ok, Err}
+use Rattle.bson_lite.specs.declared.bson.Bson.{Bson}
+use Rattle.bson_lite.specs.declared.document.Pair.{Pair}
+use Rattle.bson_lite.specs.declared.fault.EncodeFault.{EncodeFault}
+use Rattle.bson_lite.specs.Spelling.{refusal}
+use Rattle.driver_error.specs.declared.error.Error.{Error}
+use Rattle.driver_error.specs.declared.kind.ErrorKind.TheVariants as kind
+use Rattle.driver_error.specs.Error.{ErrorKind, kind_of}
+use Rattle.driver_link.specs.declared.command.CommandName.{CommandName}
+use Rattle.driver_link.specs.declared.frame.Documents.{Documents}
+use Rattle.driver_link.specs.declared.machine.Place.{Place}
+use Rattle.driver_link.specs.declared.machine.Send.{Send}
+use Rattle.driver_link.specs.declared.machine.SendBody.{SendBody}
+use Rattle.driver_link.specs.Asking.{asks}
+use Rattle.driver_link.specs.Framed.{Framed}
+use Rattle.driver_link.specs.Reads.{Reads, SpellSequences}
+use Rattle.driver_exec.specs.declared.command.Command.{Command}
+use Rattle.driver_exec.specs.Fields.{AreCommon, IsPlain, with_fields}
+
+-- what an operation tells: the name of its command, what the command asks for with the places of its writes,
+-- what a build is refused with beside want of memory, why a built command with the executor's fields has no
+-- spelling, and how a reply is read
+pub record Meaning (A : Type 0) : Type 1 where
+  pub name : CommandName
+  pub asked : List Place → SendBody → Type 0
+  pub refused : ErrorKind → Type 0
+  pub unspelled : EncodeFault → Type 0
+  pub reads : List ℕ → Result A Error → Type 0
+
+-- an operation tells before and now the same
+pub record MeansTheSame {A : Type 0} (old now : Meaning A) : Type 0 where
+  pub name : now.name ≡ old.name
+  pub asked : (places : List Place) (body : SendBody) → old.asked places body ↔ now.asked places body
+  pub refused : (why : ErrorKind) → old.refused why ↔ now.refused why
+  pub unspelled : (fault : EncodeFault) → old.unspelled fault ↔ now.unspelled fault
+  pub reads : (reply : List ℕ) (result : Result A Error) → old.reads reply result ↔ now.reads reply result
+
+-- with the places of its writes a command asks for this, whichever of the executor's fields are appended
+pub record AsksFor (command : Command) (places : List Place) (body : SendBody) : Type 0 where
+  pub sequences : List Documents
+  pub spelled : SpellSequences sequences command.sequences
+  pub asks : (fields : List (Pair Bson)) → AreCommon fields → asks command.database (command.body ++ fields) sequences places ≡ Some body
+
+-- a command of an operation, without the executor's fields, that has so many statements
+pub record IsBuilt {A : Type 0} (meaning : Meaning A) (statements : ℕ) (command : Command) : Type 0 where
+  pub name : command.name ≡ meaning.name
+  pub plain : IsPlain command.body
+  pub asks : (places : List Place) (body : SendBody) → meaning.asked places body → AsksFor command places body
+  pub counts : (places : List Place) (body : SendBody) → meaning.asked places body → length places ≡ statements
+  pub spelling : (id : List ℕ) (number : ℤ) (fault : EncodeFault) → length id ≡ 16 → refusal (with_fields id number command).body ≡ Some fault → meaning.unspelled fault
+
+-- why a build is refused
+abbrev pub TellsUnbuilt : {A : Type 0} → Meaning A → ErrorKind → Type 0
+TellsUnbuilt meaning (kind.InvalidArgument message) = meaning.refused (kind.InvalidArgument message)
+TellsUnbuilt meaning (kind.BsonSerialization fault) = meaning.refused (kind.BsonSerialization fault)
+TellsUnbuilt meaning kind.Memory = Unit {0}
+TellsUnbuilt meaning _ = ⊥
+
+-- a built command, or the error that tells why there is none
+abbrev pub Builds : {A : Type 0} → Meaning A → ℕ → Result Command Error → Type 0
+Builds meaning statements (Ok command) = IsBuilt meaning statements command
+Builds meaning statements (Err error) = TellsUnbuilt meaning (kind_of error)
+
+-- the send of what is asked for under a session and a number, outside transactions
+abbrev pub numbered_send : List ℕ → ℤ → SendBody → Send
+numbered_send id number body = record { session = Some id; number = Some number; start = false; in_transaction = false; body = body }
+
+-- a frame reads as what is asked for, under a session and a number
+abbrev pub ReadsAsAsked : {A : Type 0} → Meaning A → List ℕ → ℤ → Framed → Type 0
+ReadsAsAsked meaning id number frame =
+    (places : List Place) (body : SendBody) → meaning.asked places body → Reads frame places (numbered_send id number body)
+
+-- why there is no frame of a command
+abbrev pub TellsUnframed : {A : Type 0} → Meaning A → ErrorKind → Type 0
+TellsUnframed meaning (kind.InvalidArgument message) = meaning.refused (kind.InvalidArgument message)
+TellsUnframed meaning (kind.BsonSerialization fault) = meaning.refused (kind.BsonSerialization fault) ⊎ meaning.unspelled fault
+TellsUnframed meaning kind.Memory = Unit {0}
+TellsUnframed meaning _ = ⊥
+
+-- the frame of an operation's command, or the error that tells why there is none
+abbrev pub BuildsFrame : {A : Type 0} → Meaning A → List ℕ → ℤ → Result Framed Error → Type 0
+BuildsFrame meaning id number (Ok frame) = ReadsAsAsked meaning id number frame
+BuildsFrame meaning id number (Err error) = TellsUnframed meaning (kind_of error)
