@@ -8,6 +8,7 @@ pub mod CountingIds
 pub mod Cursors
 pub mod Exchange
 pub mod Failures
+pub mod FakeLink
 pub mod Faults
 pub mod Framed
 pub mod Honesty

@@ -2,9 +2,9 @@
 ghost use Rattle.std.specs.Prelude.{◌≡◌};
 ghost use Rattle.driver_link.specs.Failures.{fault_kind};
 
-use bson_lite::{Bytes, List, Text};
+use bson_lite::{Bytes, List, Text, TryClone};
 use driver_error::{Error, ErrorKind, IoKind};
-use std::alloc::AllocError;
+use std::alloc::{AllocError, Global};
 
 /// What went wrong outside.
 #[derive(Debug, Drop)]
@@ -15,6 +15,19 @@ pub enum LinkFault {
     /// No server was found.
     Selection(Text),
     Authentication(Text),
+}
+
+impl TryClone for LinkFault {
+    fn try_clone(&self, alloc: Global) -> Result<LinkFault, AllocError> {
+        Ok(match self {
+            LinkFault::Io(kind) => LinkFault::Io(*kind),
+            LinkFault::PoolCleared(message) => LinkFault::PoolCleared(message.try_clone(alloc)?),
+            LinkFault::Selection(message) => LinkFault::Selection(message.try_clone(alloc)?),
+            LinkFault::Authentication(message) => {
+                LinkFault::Authentication(message.try_clone(alloc)?)
+            }
+        })
+    }
 }
 
 /// Why a call of a link gave no answer.

@@ -3,7 +3,8 @@ ghost use Rattle.std.specs.Prelude.{◌≡◌, ◌<◌, length, slice_get, Some}
 ghost use Rattle.driver_link.specs.Framed.{Framed};
 ghost use Rattle.driver_link.specs.Sequences.{name_at, documents_at};
 
-use bson_lite::{Bytes, Document, List, Text};
+use bson_lite::{Bytes, Document, List, Text, TryClone};
+use std::alloc::{AllocError, Global};
 use std::marker::Model;
 
 /// A named list of documents beside a body.
@@ -11,6 +12,15 @@ use std::marker::Model;
 pub struct Sequence {
     pub name: Text,
     pub documents: List<Bytes>,
+}
+
+impl TryClone for Sequence {
+    fn try_clone(&self, alloc: Global) -> Result<Sequence, AllocError> {
+        Ok(Sequence {
+            name: self.name.try_clone(alloc)?,
+            documents: self.documents.try_clone(alloc)?,
+        })
+    }
 }
 
 /// A sequence whose documents were read.
@@ -34,6 +44,16 @@ impl Model for Frame {
     ghost Value = { Framed };
 
     ghost view = { λ frame. record { database = frame.database; body = frame.body; sequences = frame.sequences } };
+}
+
+impl TryClone for Frame {
+    fn try_clone(&self, alloc: Global) -> Result<Frame, AllocError> {
+        Ok(Frame {
+            database: self.database.try_clone(alloc)?,
+            body: self.body.try_clone(alloc)?,
+            sequences: self.sequences.try_clone(alloc)?,
+        })
+    }
 }
 
 impl Frame {

@@ -1,11 +1,21 @@
 //! Options, addresses and connections, as plain data.
-use bson_lite::{List, Text};
+use bson_lite::{List, Text, TryClone};
+use std::alloc::{AllocError, Global};
 
 /// Where a server listens.
 #[derive(Debug, Drop)]
 pub struct Address {
     pub host: Text,
     pub port: u16,
+}
+
+impl TryClone for Address {
+    fn try_clone(&self, alloc: Global) -> Result<Address, AllocError> {
+        Ok(Address {
+            host: self.host.try_clone(alloc)?,
+            port: self.port,
+        })
+    }
 }
 
 /// Which servers may serve an operation.
@@ -23,6 +33,19 @@ pub enum ReadPreference {
 pub enum SelectionCriteria {
     ReadPreference(ReadPreference),
     Address(Address),
+}
+
+impl TryClone for SelectionCriteria {
+    fn try_clone(&self, alloc: Global) -> Result<SelectionCriteria, AllocError> {
+        Ok(match self {
+            SelectionCriteria::ReadPreference(preference) => {
+                SelectionCriteria::ReadPreference(*preference)
+            }
+            SelectionCriteria::Address(address) => {
+                SelectionCriteria::Address(address.try_clone(alloc)?)
+            }
+        })
+    }
 }
 
 /// What a selection asked for: criteria, and servers to be avoided where others are there.
