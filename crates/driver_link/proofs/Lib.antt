@@ -1,3 +1,4 @@
+mod AbortReads
 pub mod Counting
 pub mod SessionIds
 pub mod Lists

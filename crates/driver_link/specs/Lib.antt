@@ -1,3 +1,4 @@
+pub mod AbortFrame
 pub mod Apart
 pub mod Asking
 pub mod Cases

@@ -1,0 +1,236 @@
+//! Tests of the fake link.
+ghost use Rattle.std.specs.Prelude.{◌≡◌, [], IfOk};
+ghost use Rattle.driver_link.specs.AbortFrame.{abort_body as body_of_abort, abort_send};
+ghost use Rattle.driver_link.specs.Reads.{Reads};
+
+use crate::fake_link::{FakeLink, FakeStep};
+use crate::fault::{Answered, LinkCall, LinkError, LinkFault};
+use crate::frame::Frame;
+use crate::keys::{ABORT_TRANSACTION, ADMIN, DATABASE};
+use crate::link::Link;
+use crate::options::{Address, Asked, Conn, Description, SelectionCriteria};
+use bson_lite::{Bson, Bytes, Document, List, Text, encode};
+use driver_error::IoKind;
+use std::alloc::{AllocError, Global};
+
+/// What a server of a wire version says of itself.
+fn described(version: i32, sharded: bool) -> Description {
+    Description {
+        max_wire_version: Some(version),
+        max_bson_object_size: 16_777_216,
+        max_message_size_bytes: 48_000_000,
+        max_write_batch_size: 100_000,
+        supports_sessions: true,
+        supports_retryable_writes: true,
+        sharded,
+    }
+}
+
+/// A link with two descriptions and two steps: a reply and a fault.
+fn two_steps(alloc: Global) -> Result<FakeLink, AllocError> {
+    let mut descriptions = List::new(alloc);
+    descriptions.push(described(17, true))?;
+    descriptions.push(described(25, false))?;
+    let mut steps = List::new(alloc);
+    steps.push(FakeStep::Reply(Bytes::from_slice(alloc, b"reply")?))?;
+    steps.push(FakeStep::Fault(LinkFault::Io(IoKind::BrokenPipe)))?;
+    Ok(FakeLink::new(alloc, descriptions, steps))
+}
+
+/// An address of its own.
+fn there(alloc: Global) -> Result<Address, AllocError> {
+    Ok(Address {
+        host: Text::from_str(alloc, "there")?,
+        port: 5,
+    })
+}
+
+/// Whether an address is this one.
+fn is_at(address: &Address, host: &str, port: u16) -> bool {
+    address.host.as_str() == host && address.port == port
+}
+
+/// The body of a command that ends a transaction.
+#[tactic(auto, unfolding(crate::specs::AbortFrame::abort_body))]
+fn abort_body(alloc: Global) -> Result<Document, AllocError>
+    ensures { IfOk result (λ body. body ≡ body_of_abort) }
+{
+    let mut body = Document::new(alloc);
+    body.push(ABORT_TRANSACTION, Bson::Int32(1))?;
+    body.push(DATABASE, Bson::String(Text::from_str(alloc, ADMIN)?))?;
+    Ok(body)
+}
+
+/// Its frame.
+#[tactic(auto, using(crate::proofs::AbortReads::abort_reads))]
+fn abort_frame(alloc: Global) -> Result<Frame, AllocError>
+    ensures { IfOk result (λ frame. Reads frame [] abort_send) }
+{
+    let body = abort_body(alloc)?;
+    match encode(alloc, &body) {
+        Ok(bytes) => Ok(Frame::new(Text::from_str(alloc, ADMIN)?, bytes, List::new(alloc))),
+        Err(_) => Err(AllocError),
+    }
+}
+
+/// Selects with an address that is asked for, and one to be avoided.
+fn select_there(link: &mut FakeLink, alloc: Global) -> Result<Address, LinkError> {
+    let criteria = SelectionCriteria::Address(there(alloc)?);
+    let avoided = there(alloc)?;
+    link.select(alloc, Some(&criteria), &[avoided])
+}
+
+/// Selects without criteria.
+fn select_any(link: &mut FakeLink, alloc: Global) -> Result<Address, LinkError> {
+    link.select(alloc, None, &[])
+}
+
+/// Checks a connection out, and answers its number and its wire version.
+fn check_out(link: &mut FakeLink, alloc: Global) -> Result<(u64, Option<i32>), LinkError> {
+    let conn = link.check_out(alloc, &there(alloc)?)?;
+    let seen = (conn.number, conn.description.max_wire_version);
+    link.check_in(conn);
+    Ok(seen)
+}
+
+/// Sends one frame over a connection of its own.
+fn exchange(link: &mut FakeLink, alloc: Global) -> Result<Bytes, LinkError> {
+    let frame = abort_frame(alloc)?;
+    let conn = Conn {
+        address: there(alloc)?,
+        description: described(25, false),
+        number: 0,
+    };
+    link.exchange(alloc, &conn, &frame, &[])
+}
+
+/// Whether an exchange answered a fault without labels.
+fn is_fault(answer: Result<Bytes, LinkError>, kind: IoKind) -> bool {
+    match answer {
+        Err(
+            LinkError::Fault {
+                fault: LinkFault::Io(found),
+                labels,
+            },
+        ) => found == kind && labels.is_empty(),
+        _ => false,
+    }
+}
+
+/// Whether an answer is told as a reply of these bytes.
+fn is_reply(answered: &[Answered], at: usize, bytes: &[u8]) -> bool {
+    match answered.get(at) {
+        Some(Answered::Reply(reply)) => reply.as_slice() == bytes,
+        _ => false,
+    }
+}
+
+/// Whether an answer is told as a fault of an exchange.
+fn is_noted(answered: &[Answered], at: usize, kind: IoKind) -> bool {
+    match answered.get(at) {
+        Some(
+            Answered::Fault {
+                call: LinkCall::Exchange,
+                fault: LinkFault::Io(found),
+                labels,
+            },
+        ) => *found == kind && labels.is_empty(),
+        _ => false,
+    }
+}
+
+/// Whether a frame is the one of the tests.
+fn is_abort(frames: &[Frame], at: usize, body: &[u8]) -> bool {
+    match frames.get(at) {
+        Some(frame) => {
+            frame.database() == "admin" && frame.body() == body && frame.sequence_count() == 0
+        }
+        None => false,
+    }
+}
+
+/// Whether the first selection asked for an address, and with how many to be avoided the second.
+fn asked_there(asked: &[Asked], at: usize) -> bool {
+    match asked.get(at) {
+        Some(
+            Asked {
+                criteria: Some(SelectionCriteria::Address(address)),
+                deprioritized,
+            },
+        ) => is_at(address, "there", 5) && deprioritized.len() == 1,
+        _ => false,
+    }
+}
+
+/// Whether a selection asked for nothing.
+fn asked_any(asked: &[Asked], at: usize) -> bool {
+    match asked.get(at) {
+        Some(
+            Asked {
+                criteria: None,
+                deprioritized,
+            },
+        ) => deprioritized.is_empty(),
+        _ => false,
+    }
+}
+
+#[test]
+fn selections_are_told(rt: HostRuntime) -> Result<(), LinkError> {
+    let alloc = rt.alloc();
+    let mut link = two_steps(alloc)?;
+    let found = select_there(&mut link, alloc)?;
+    assert!(rt; is_at(&found, "there", 5));
+    let found = select_any(&mut link, alloc)?;
+    assert!(rt; is_at(&found, "fake", 27017));
+    assert_eq!(rt; link.asked().len(), 2);
+    assert!(rt; asked_there(link.asked(), 0));
+    assert!(rt; asked_any(link.asked(), 1));
+    Ok(())
+}
+
+#[test]
+fn check_outs_give_the_descriptions_in_turn(rt: HostRuntime) -> Result<(), LinkError> {
+    let alloc = rt.alloc();
+    let mut link = two_steps(alloc)?;
+    assert_eq!(rt; check_out(&mut link, alloc)?, (0, Some(17)));
+    assert_eq!(rt; check_out(&mut link, alloc)?, (1, Some(25)));
+    assert_eq!(rt; check_out(&mut link, alloc)?, (2, Some(25)));
+    Ok(())
+}
+
+#[test]
+fn exchanges_do_the_steps_in_turn(rt: HostRuntime) -> Result<(), LinkError> {
+    let alloc = rt.alloc();
+    let body = b"\x2a\0\0\0\x10abortTransaction\0\x01\0\0\0\x02$db\0\x06\0\0\0admin\0\0";
+    let mut link = two_steps(alloc)?;
+    let reply = exchange(&mut link, alloc)?;
+    assert_eq!(rt; reply.as_slice(), b"reply".as_slice());
+    assert_eq!(rt; link.faults(), 0);
+    assert!(rt; is_fault(exchange(&mut link, alloc), IoKind::BrokenPipe));
+    assert_eq!(rt; link.faults(), 1);
+    assert!(rt; is_fault(exchange(&mut link, alloc), IoKind::ConnectionReset));
+    assert!(rt; is_fault(exchange(&mut link, alloc), IoKind::ConnectionReset));
+    assert_eq!(rt; link.faults(), 3);
+    assert_eq!(rt; link.frames().len(), 4);
+    assert!(rt; is_abort(link.frames(), 3, body));
+    assert_eq!(rt; link.answered().len(), 4);
+    assert!(rt; is_reply(link.answered(), 0, b"reply"));
+    assert!(rt; is_noted(link.answered(), 1, IoKind::BrokenPipe));
+    assert!(rt; is_noted(link.answered(), 3, IoKind::ConnectionReset));
+    Ok(())
+}
+
+#[test]
+fn the_other_calls_answer_the_same_each_time(rt: HostRuntime) -> Result<(), LinkError> {
+    let alloc = rt.alloc();
+    let mut link = two_steps(alloc)?;
+    let address = there(alloc)?;
+    let conn = link.check_out(alloc, &address)?;
+    assert!(rt; link.is_sharded());
+    assert_eq!(rt; link.session_timeout_ms(), None);
+    assert!(rt; link.transaction_support(alloc)?);
+    link.reauthenticate(alloc, &conn)?;
+    link.check_in(conn);
+    Ok(())
+}
