@@ -1,13 +1,11 @@
 -- The frame of a command that ends a transaction reads as a send.
-use Rattle.std.proofs.Common.{◌≡◌, ℕ, List, [], ◌∷◌, refl, ap, subst, sym}
+use Rattle.std.proofs.Common.{◌≡◌, ℕ, List, [], refl}
 use Rattle.std.specs.Prelude.{ℤ, pos, true, Some}
 use denote.Hole.Carrier.{out}
 use Rattle.bson_lite.specs.declared.bson.Bson.{Bson}
 use Rattle.bson_lite.specs.declared.bson.Bson as bson
-use Rattle.bson_lite.specs.declared.document.Pair.{Pair}
 use Rattle.bson_lite.specs.Spelling.{Spells}
-use Rattle.driver_link.specs.declared.keys.TheConstants.{ABORT_TRANSACTION, ADMIN, DATABASE}
-use Rattle.driver_link.specs.declared.machine.Send.{Send}
+use Rattle.driver_link.specs.declared.keys.TheConstants.{ADMIN}
 use Rattle.driver_link.specs.declared.machine.SendBody.TheVariants.{Abort}
 use Rattle.driver_link.specs.Asking.{asks, asks_alone, asks_as, is_plain_one, may_go_to, spelled}
 use Rattle.driver_link.specs.CommandNames.{named}

@@ -1,5 +1,5 @@
 -- A command that ends a transaction, which tests send.
-use Rattle.std.specs.Prelude.{ℕ, pos, false, List, [], ◌∷◌, None}
+use Rattle.std.specs.Prelude.{pos, false, List, [], ◌∷◌, None}
 use Rattle.bson_lite.specs.declared.bson.Bson.{Bson}
 use Rattle.bson_lite.specs.declared.bson.Bson as bson
 use Rattle.bson_lite.specs.declared.document.Pair.{Pair}
