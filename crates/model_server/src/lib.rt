@@ -30,3 +30,6 @@ mod stepping;
 pub mod writing;
 
 pub use server::ModelServer;
+
+#[cfg(test)]
+mod tests;

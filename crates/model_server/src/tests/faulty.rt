@@ -1,0 +1,76 @@
+//! Each call that a schedule fails.
+ghost use Rattle.std.specs.Prelude.{◌≡◌, [], IfOk};
+
+use super::*;
+use crate::server::ModelServer;
+use driver_link::{Address, Description, Link, Schedule, Setup};
+
+const SETUP: Setup = Setup {
+    description: Description {
+        max_wire_version: Some(25),
+        max_bson_object_size: 16777216,
+        max_message_size_bytes: 48000000,
+        max_write_batch_size: 100000,
+        supports_sessions: true,
+        supports_retryable_writes: true,
+        sharded: false,
+    },
+    transactions: true,
+    timeout_ms: Some(1800000),
+};
+
+/// A list of one number.
+fn one(alloc: Global, number: u64) -> Result<List<u64>, AllocError> {
+    let mut list = List::new(alloc);
+    list.push(number)?;
+    Ok(list)
+}
+
+/// The first call of each kind fails, of check-outs the first two.
+fn first_calls_fail(alloc: Global) -> Result<Schedule, AllocError>
+    ensures { IfOk result (λ schedule. schedule.items ≡ []) }
+{
+    Ok(Schedule {
+        items: List::new(alloc),
+        selects: one(alloc, 0)?,
+        check_outs: one(alloc, 1)?,
+        overloaded_check_outs: one(alloc, 0)?,
+        reauthentications: one(alloc, 0)?,
+        supports: one(alloc, 0)?,
+    })
+}
+
+fn address(alloc: Global) -> Result<Address, AllocError> {
+    Ok(Address {
+        host: Text::from_str(alloc, "model")?,
+        port: 27017,
+    })
+}
+
+/// Whether one call of each kind answers.
+fn all_answer(model: &mut ModelServer, alloc: Global) -> Result<[bool; 4], AllocError> {
+    let address = address(alloc)?;
+    let selects = model.select(alloc, None, &[]).is_ok();
+    let supports = model.transaction_support(alloc).is_ok();
+    let Ok(conn) = model.check_out(alloc, &address) else {
+        return Ok([selects, supports, false, false]);
+    };
+    let again = model.reauthenticate(alloc, &conn).is_ok();
+    model.check_in(conn);
+    Ok([selects, supports, true, again])
+}
+
+#[test]
+fn listed_calls_fail(rt: HostRuntime) -> Result<(), Fail> {
+    let alloc = rt.alloc();
+    let mut model = ModelServer::new(alloc, SETUP, first_calls_fail(alloc)?);
+    assert_eq!(rt;
+        all_answer(&mut model, alloc)?,
+        [false, false, false, false]
+    );
+    assert_eq!(rt; all_answer(&mut model, alloc)?, [true, true, false, false]);
+    assert_eq!(rt; all_answer(&mut model, alloc)?, [true, true, true, false]);
+    assert_eq!(rt; all_answer(&mut model, alloc)?, [true, true, true, true]);
+    assert_eq!(rt; model.answered().len(), 5);
+    Ok(())
+}
