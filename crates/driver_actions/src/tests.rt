@@ -197,35 +197,39 @@ fn outcomes_one_by_one(alloc: Global) -> Result<List<Outcome>, AllocError> {
     Ok(run.finish(&mut client, &mut outside, calls.as_slice()))
 }
 
-/// The last byte of the object id that an outcome tells, and its two moments.
-fn told(outcome: &Outcome) -> Option<(u8, u64, u64)> {
+/// The last byte of the object id that an outcome tells.
+fn id_of(outcome: &Outcome) -> Option<u8> {
     let Ok(Answer::Single(SingleAnswer::Inserted(done))) = &outcome.result else {
         return None;
     };
     match &done.inserted_id {
-        Bson::ObjectId(id) => Some((id.bytes[11], outcome.started_ms, outcome.ended_ms)),
+        Bson::ObjectId(id) => Some(id.bytes[11]),
         _ => None,
     }
 }
 
-/// What two outcomes tell.
-fn both_told(outcomes: &List<Outcome>) -> Option<[(u8, u64, u64); 2]> {
-    let [first, second] = outcomes.as_slice() else {
-        return None;
-    };
-    Some([told(first)?, told(second)?])
+/// Whether two outcomes tell this id and the same moments.
+fn is_same(one: &Outcome, other: &Outcome, id: u8) -> bool {
+    match (id_of(one), id_of(other)) {
+        (Some(here), Some(there)) => {
+            here == id
+                && there == id
+                && one.started_ms == other.started_ms
+                && one.ended_ms == other.ended_ms
+        }
+        _ => false,
+    }
 }
 
-/// Whether two calls end the same where the second comes into the list late, each with its own id.
-fn ends_the_same(alloc: Global) -> Result<bool, AllocError> {
-    let at_once = outcomes_at_once(alloc)?;
-    let one_by_one = outcomes_one_by_one(alloc)?;
-    match (both_told(&at_once), both_told(&one_by_one)) {
-        (Some([one, two]), Some([first, second])) => {
-            Ok(one == first && two == second && first.0 == 1 && second.0 == 2)
-        }
-        _ => Ok(false),
-    }
+/// Whether two pairs of outcomes are the same, the first with the first id and the second with the next.
+fn are_same(ones: &List<Outcome>, others: &List<Outcome>) -> bool {
+    let [first, second] = ones.as_slice() else {
+        return false;
+    };
+    let [also_first, also_second] = others.as_slice() else {
+        return false;
+    };
+    is_same(first, also_first, 1) && is_same(second, also_second, 2)
 }
 
 /// Whether the one outcome is Ok, or else a document that nests too deep.
@@ -299,7 +303,9 @@ fn a_callers_document_nests_at_most_96_levels(rt: HostRuntime) -> Result<(), Fai
 
 #[test]
 fn calls_may_come_into_the_list_between_two(rt: HostRuntime) -> Result<(), Fail> {
-    let same = ends_the_same(rt.alloc())?;
+    let at_once = outcomes_at_once(rt.alloc())?;
+    let one_by_one = outcomes_one_by_one(rt.alloc())?;
+    let same = are_same(&at_once, &one_by_one);
     assert!(rt; same);
     Ok(())
 }
