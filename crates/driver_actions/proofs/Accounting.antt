@@ -28,20 +28,19 @@ use Rattle.driver_actions.specs.declared.call.Call.TheVariants.{Single}
 use Rattle.driver_actions.specs.declared.call.Outcome.{Outcome}
 use Rattle.driver_actions.specs.declared.call.SingleWrite.TheVariants.{InsertOne}
 use Rattle.driver_actions.specs.Calls.{inserted}
+use Rattle.driver_exec.specs.BetweenCalls.{Between, NumbersWithin, Sound}
 use Rattle.driver_exec.specs.Causes.{Failure, failure_of}
 use Rattle.driver_actions.specs.Inputs.{InputRefused}
 use Rattle.driver_exec.specs.Inserts.{IsGentleItem, insert_body}
-use Rattle.driver_actions.specs.MainTheorem.{Completes, EndsWell, IsValid, IsValidInsert, HasWriteOf}
-use Rattle.driver_exec.specs.Pool.{Pool, ToldStore, AllApart, empty_pool}
+use Rattle.driver_actions.specs.MainTheorem.{Completes, EndsWell, IsGentle, IsValid, IsValidInsert, HasWriteOf}
+use Rattle.driver_exec.specs.Pool.{ToldStore, AllApart}
 use Rattle.driver_exec.specs.Session.{Session, last_number}
 use Rattle.driver_exec.specs.Turns.{Attempts, ComesEarly, Explains, MayAttempt, Turn, send_under}
 use Rattle.driver_actions.specs.Turns.{Made, Makes, MakesCall}
-use Rattle.driver_exec.proofs.Knowing.{Between}
 use Rattle.driver_actions.proofs.Logging.{first_place}
 use Rattle.driver_exec.proofs.Moves.{Moves}
-use Rattle.driver_exec.proofs.Numbering.{NumbersWithin, turn_within, within_staying}
+use Rattle.driver_exec.proofs.Numbering.{turn_within, within_staying}
 use Rattle.driver_actions.proofs.Refusals.{accepted_not_refused}
-use Rattle.driver_exec.proofs.Joining.{Sound}
 use Rattle.driver_exec.proofs.Turning.{Lent, denied_rough, lent_mid, lost_rough, sound_mid}
 
 -- a send of a call was not served as usual
@@ -56,21 +55,6 @@ pub record RoughSend (schedule : Schedule) (trace : List Send) (call : ℕ) : Ty
 abbrev pub Accounted : Schedule → List Send → ℕ → Result Answer Error → Type 0
 Accounted schedule trace call result = EndsWell result ⊎ ((FailsNothing schedule → ⊥) ⊎ RoughSend schedule trace call)
 
--- the valid calls so far are accounted for, and the sessions' numbers are at most as many as the calls
-pub record Accounts (calls : List Call) (outcomes : List Outcome) (schedule : Schedule) (pool : Pool) (server : Server) : Type 0 where
-  pub numbers : NumbersWithin (pos (length outcomes)) pool.idle
-  pub accounted : (at : ℕ) (call : Call) (outcome : Outcome) → slice_get calls at ≡ Some call → slice_get outcomes at ≡ Some outcome
-      → IsValid at call → Accounted schedule server.trace at outcome.result
-
-rough_left : (schedule : Schedule) (trace more : List Send) (call : ℕ) → RoughSend schedule trace call → RoughSend schedule (trace ++ more) call
-rough_left schedule trace more call sent = record {
-  at = sent.at;
-  send = sent.send;
-  stands = get_left trace more sent.at sent.send sent.stands;
-  of_call = sent.of_call;
-  rough = sent.rough;
-}
-
 -- a trace only grows
 record Grown (trace now : List Send) : Type 0 where
   more : List Send
@@ -83,16 +67,6 @@ grown told told_now moves = elim moves.server [
     more = sent.0 ∷ [];
     is = ap (λ s. s.trace) sent.1 ∙ exchanged_trace told.server sent.0 (next_step told.schedule told.server);
   }
-]
-
-accounted_left : (schedule : Schedule) (trace now : List Send) (call : ℕ) (result : Result Answer Error) → Grown trace now
-    → Accounted schedule trace call result → Accounted schedule now call result
-accounted_left schedule trace now call result grows accounted = elim accounted [
-  | inl well ↦ inl well
-  | inr not ↦ inr (elim not [
-    | inl fails ↦ inl fails
-    | inr rough ↦ inr (subst (λ t. RoughSend schedule t call) (sym grows.is) (rough_left schedule trace grows.more call rough))
-  ])
 ]
 
 -- a call that made no send
@@ -216,50 +190,60 @@ one_of : (made : ℕ) (call : Call) (old now : ToldStore) (told told_now : Told)
 one_of made (Single (InsertOne namespace document)) old now told told_now result apart between sound within makes =
     one_made made namespace document old now told told_now apart between sound within result makes
 
--- one call more
-pub accounts_more : (calls : List Call) (outcomes : List Outcome) (old now : ToldStore) (told told_now : Told) (last : Outcome) (call : Call)
-    → slice_get calls (length outcomes) ≡ Some call → MakesCall (Some old) (Some now) (Some told) (Some told_now) call (length outcomes) last.result
-    → AllApart now.pool.drawn → Moves (Some told) (Some told_now) → Between old.pool told.server.trace → Sound (length outcomes) told.server
-    → Accounts calls outcomes told.schedule old.pool told.server → Accounts calls (outcomes ++ last ∷ []) told.schedule now.pool told_now.server
-accounts_more calls outcomes old now told told_now last call at makes apart moves between sound accounts =
-    let made = length outcomes in
-    let one = one_of made call old now told told_now last.result apart between sound accounts.numbers makes in
-    let count : made + 1 ≡ length (outcomes ++ last ∷ []) = sym (length-append outcomes (last ∷ [])) in
-    record {
-      numbers = subst (λ n. NumbersWithin (pos n) now.pool.idle) count one.numbers;
-      accounted = λ k found outcome is_call is_outcome valid. elim (earlier_or_last outcomes last k outcome is_outcome) [
-        | inl earlier ↦
-            accounted_left told.schedule told.server.trace told_now.server.trace k outcome.result (grown told told_now moves)
-            (accounts.accounted k found outcome is_call earlier valid)
-        | inr newest ↦
-            let same : call ≡ found = some_same call found (sym at ∙ ap (slice_get calls) (sym newest.0) ∙ is_call) in
-            let P : ℕ → Type 0 = λ n. Accounted told.schedule told_now.server.trace n outcome.result in
-            let Q : Outcome → Type 0 = λ o. Accounted told.schedule told_now.server.trace made o.result in
-            let V : Call → Type 0 = λ c. IsValid made c in
-            let valid_made : IsValid made found = subst (λ n. IsValid n found) newest.0 valid in
-            subst P (sym newest.0) (subst Q newest.1 (one.accounted (subst V (sym same) valid_made)))
-      ];
-    }
-  where
-    some_same : (a b : Call) → ◌≡◌ {A = Option Call} (Some a) (Some b) → a ≡ b
-    some_same a b is = cc is
-
--- before the first call
-pub accounts_none : (calls : List Call) (schedule : Schedule) (pool : Pool) (server : Server) → pool ≡ empty_pool → Accounts calls [] schedule pool server
-accounts_none calls schedule pool server new = record {
-  numbers = subst (λ p. NumbersWithin (pos 0) p.idle) (sym new) tt;
-  accounted = λ at call outcome is_call is_outcome valid. absurd (let e : ◌≡◌ {A = Option Outcome} None (Some outcome) = is_outcome in cc);
+-- a schedule that is gentle to a call with a longer trace is so with a shorter one
+gentle_before : (schedule : Schedule) (old now : Server) (call : ℕ) → Grown old.trace now.trace → IsGentle schedule now call → IsGentle schedule old call
+gentle_before schedule old now call grows gentle = record {
+  fails_nothing = gentle.fails_nothing;
+  served = λ at send is of_call.
+      gentle.served at send (subst (λ t. slice_get t at ≡ Some send) (sym grows.is) (get_left old.trace grows.more at send is)) of_call;
 }
 
--- after the last call: completeness
-pub accounts_complete : (calls : List Call) (outcomes : List Outcome) (schedule : Schedule) (pool : Pool) (server : Server)
-    → Accounts calls outcomes schedule pool server → Completes calls outcomes schedule server
-accounts_complete calls outcomes schedule pool server accounts = record {
-  complete = λ at call outcome is_call is_outcome valid gentle. elim (accounts.accounted at call outcome is_call is_outcome valid) [
-    | inl well ↦ well
-    | inr not ↦ elim not [
-      | inl fails ↦ absurd (fails gentle.fails_nothing)
-      | inr sent ↦ absurd (sent.rough (gentle.served sent.at sent.send sent.stands sent.of_call))
-    ]
-  ];
+-- a call that is accounted for ended well where the schedule was gentle to it
+well_ended : (schedule : Schedule) (server : Server) (call : ℕ) (result : Result Answer Error) → Accounted schedule server.trace call result → IsGentle schedule server call
+    → EndsWell result
+well_ended schedule server call result accounted gentle = elim accounted [
+  | inl well ↦ well
+  | inr not ↦ elim not [
+    | inl fails ↦ absurd (fails gentle.fails_nothing)
+    | inr sent ↦ absurd (sent.rough (gentle.served sent.at sent.send sent.stands sent.of_call))
+  ]
+]
+
+-- one call more
+module _ (calls : List Call) (outcomes : List Outcome) (old now : ToldStore) (told told_now : Told) (last : Outcome) (call : Call)
+    (at : slice_get calls (length outcomes) ≡ Some call) (makes : MakesCall (Some old) (Some now) (Some told) (Some told_now) call (length outcomes) last.result)
+    (apart : AllApart now.pool.drawn) (between : Between old.pool told.server.trace) (sound : Sound (length outcomes) told.server)
+    (numbers : NumbersWithin (pos (length outcomes)) old.pool.idle) where
+  one : One (length outcomes) call told.schedule last.result now told_now.server
+  one = one_of (length outcomes) call old now told told_now last.result apart between sound numbers makes
+
+  pub numbers_more : NumbersWithin (pos (length (outcomes ++ last ∷ []))) now.pool.idle
+  numbers_more =
+      let count : length outcomes + 1 ≡ length (outcomes ++ last ∷ []) = sym (length-append outcomes (last ∷ [])) in
+      subst (λ n. NumbersWithin (pos n) now.pool.idle) count one.numbers
+
+  some_same : (a b : Call) → ◌≡◌ {A = Option Call} (Some a) (Some b) → a ≡ b
+  some_same a b is = cc is
+
+  pub completes_more : Moves (Some told) (Some told_now) → Completes calls outcomes told.schedule told.server
+      → Completes calls (outcomes ++ last ∷ []) told.schedule told_now.server
+  completes_more moves completes = record {
+    complete = λ k found outcome is_call is_outcome valid gentle. elim (earlier_or_last outcomes last k outcome is_outcome) [
+      | inl earlier ↦
+          completes.complete k found outcome is_call earlier valid
+          (gentle_before told.schedule told.server told_now.server k (grown told told_now moves) gentle)
+      | inr newest ↦
+          let same : call ≡ found = some_same call found (sym at ∙ ap (slice_get calls) (sym newest.0) ∙ is_call) in
+          let V : Call → Type 0 = λ c. IsValid (length outcomes) c in
+          let valid_made : IsValid (length outcomes) found = subst (λ n. IsValid n found) newest.0 valid in
+          let gentle_made = subst (λ n. IsGentle told.schedule told_now.server n) newest.0 gentle in
+          subst (λ o. EndsWell o.result) newest.1
+          (well_ended told.schedule told_now.server (length outcomes) last.result (one.accounted (subst V (sym same) valid_made)) gentle_made)
+    ];
+  }
+
+-- before the first call
+pub completes_none : (schedule : Schedule) (server : Server) → Completes [] [] schedule server
+completes_none schedule server = record {
+  complete = λ at call outcome is_call is_outcome valid gentle. absurd (let e : ◌≡◌ {A = Option Outcome} None (Some outcome) = is_outcome in cc);
 }

@@ -1,10 +1,10 @@
 -- The causes of ends, from those of their parts.
-use Rattle.std.proofs.Common.{◌≡◌, ℕ, ◌+◌, ◌≤◌, ◌<◌, take, get_or, List, [], ◌∷◌, ◌++◌, length, refl, sym, ap, subst, ◌∙◌, inl, inr}
+use Rattle.std.proofs.Common.{◌≡◌, ℕ, ◌≤◌, take, List, [], ◌∷◌, ◌++◌, length, refl, sym, ap, subst, ◌∙◌, inl, inr}
 use Rattle.std.specs.Prelude.{ℤ, Option, None, Some}
 use Rattle.bson_lite.specs.declared.bson.Bson.{Bson}
 use Rattle.bson_lite.specs.declared.document.Pair.{Pair}
 use Rattle.bson_lite.specs.declared.namespace.Namespace.{Namespace}
-use Rattle.std.proofs.lemmas.List.{take_more, take_all}
+use Rattle.std.proofs.lemmas.List.{take_all}
 use Rattle.driver_error.specs.declared.error.Error.{Error}
 use Rattle.driver_error.specs.declared.kind.ErrorKind.TheVariants as kind
 use Rattle.driver_error.specs.Error.{ErrorKind, kind_of, labels_of}
@@ -19,6 +19,8 @@ use Rattle.driver_exec.proofs.Causes.{caused_before, number_stays}
 use Rattle.driver_actions.specs.declared.call.Call.{Call}
 use Rattle.driver_actions.specs.declared.call.Outcome.{Outcome}
 use Rattle.driver_actions.specs.Causes.{Moment, HasCause, HaveCauses}
+use Rattle.driver_actions.specs.Standing.{MakesNext, RunState, new_run}
+use Rattle.driver_actions.proofs.Appending.{take_next}
 
 input_needs : (faults : ℕ) (number : Option ℤ) (namespace : Namespace) (document : List (Pair Bson)) (labels : LabelSet) (why : ErrorKind) → TellsInput namespace document why
     → KindNeeds faults faults [] number (refused_insert namespace document) labels why
@@ -98,24 +100,21 @@ causes_last (first ∷ calls) [] call last before mid now causes cause = absurd 
 causes_last (first ∷ calls) (outcome ∷ outcomes) call last before mid now causes cause =
     (causes.0, (causes.1.0, causes_last calls outcomes call last causes.0 mid now causes.1.1 cause))
 
--- the loop over the calls: before the first
-pub causes_start : (calls : List Call) (outcomes : List Outcome) (at : Moment) → outcomes ≡ [] → HaveCauses (take 0 calls) outcomes at at
-causes_start calls outcomes at none = subst (λ made. HaveCauses (take 0 calls) made at at) (sym none) (none_made calls at)
+-- a run that has made no call
+pub causes_start : (room : ℕ) (run : RunState) (calls : List Call) (at : Moment) → run ≡ new_run room → HaveCauses (take run.made calls) run.outcomes at at
+causes_start room run calls at is = subst (λ r. HaveCauses (take r.made calls) r.outcomes at at) (sym is) (none_made calls at)
   where
     none_made : (calls : List Call) (at : Moment) → HaveCauses (take 0 calls) [] at at
     none_made [] at = refl
     none_made (call ∷ calls) at = refl
 
--- and one call more
-pub causes_more : (calls : List Call) (outcomes more : List Outcome) (call : Call) (last : Outcome) (number : ℕ) (before mid now : Moment) → number < length calls
-    → call ≡ get_or calls number call → more ≡ outcomes ++ last ∷ [] → HaveCauses (take number calls) outcomes before mid → HasCause mid now call (end_of last.result)
-    → HaveCauses (take (number + 1) calls) more before now
-causes_more calls outcomes more call last number before mid now within is_call is_more causes cause =
-    let step : take (number + 1) calls ≡ take number calls ++ call ∷ []
-    = take_more calls number call within ∙ ap (λ made. take number calls ++ made ∷ []) (sym is_call) in
-    subst (λ made. HaveCauses made more before now) (sym step)
-    (subst (λ made. HaveCauses (take number calls ++ call ∷ []) made before now) (sym is_more)
-    (causes_last (take number calls) outcomes call last before mid now causes cause))
+-- one call more
+pub causes_more : (run now : RunState) (calls : List Call) (before mid after : Moment) → MakesNext run now calls mid after
+    → HaveCauses (take run.made calls) run.outcomes before mid → HaveCauses (take now.made calls) now.outcomes before after
+causes_more run now calls before mid after makes causes =
+    subst (λ r. HaveCauses (take r.made calls) r.outcomes before after) (sym makes.appended)
+    (subst (λ made. HaveCauses made (run.outcomes ++ makes.outcome ∷ []) before after) (sym (take_next calls run.made makes.call makes.next))
+    (causes_last (take run.made calls) run.outcomes makes.call makes.outcome before mid after causes makes.cause))
 
 -- after the last call
 pub causes_all : (calls : List Call) (outcomes : List Outcome) (number : ℕ) (before now : Moment) → length calls ≤ number

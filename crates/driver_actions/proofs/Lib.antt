@@ -4,6 +4,7 @@ pub mod Logging
 pub mod Answering
 pub mod Accounting
 pub mod Running
-pub mod Progress
+pub mod Appending
+pub mod Standing
 pub mod Causes
 pub mod Refusals

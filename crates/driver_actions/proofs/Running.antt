@@ -35,21 +35,18 @@ use Rattle.driver_actions.specs.declared.call.SingleAnswer.{SingleAnswer}
 use Rattle.driver_actions.specs.declared.call.SingleAnswer.TheVariants.{Inserted}
 use Rattle.driver_actions.specs.declared.call.SingleWrite.TheVariants.{InsertOne}
 use Rattle.driver_actions.specs.Calls.{IsOwn, OwnAt, inserted, write_at}
+use Rattle.driver_exec.specs.BetweenCalls.{Between, Sound}
 use Rattle.driver_exec.specs.Causes.{end_of}
 use Rattle.driver_actions.specs.MainTheorem.{Holds}
+use Rattle.driver_actions.specs.Standing.{AllOwn}
 use Rattle.driver_exec.specs.Pool.{Pool, ToldStore, AllApart, empty_pool}
 use Rattle.driver_exec.specs.Session.{Session}
 use Rattle.driver_exec.specs.Turns.{send_under}
 use Rattle.driver_actions.specs.Turns.{Made, Makes, MakesCall}
 use Rattle.driver_actions.proofs.Answering.{Answered, answered_none, answered_more, own_at}
-use Rattle.driver_exec.proofs.Joining.{Sound, only_write, sound_same}
-use Rattle.driver_exec.proofs.Knowing.{Between}
+use Rattle.driver_exec.proofs.Joining.{only_write, sound_same}
 use Rattle.driver_actions.proofs.Logging.{first_place, mine_all}
 use Rattle.driver_exec.proofs.Turning.{After, Stands, one_sent, placed_write, turn_leaves, turn_stands}
-
--- each write of a trace is the caller's own
-abbrev pub AllOwn : List Call → List Send → Type 0
-AllOwn calls trace = (send : Send) (at : ℕ) (write : PlacedWrite) → Has trace send → slice_get (writes_of send) at ≡ Some write → OwnAt (write_at calls write.place) write.written
 
 -- what holds after a number of calls
 pub record Ran (calls : List Call) (outcomes : List Outcome) (pool : Pool) (server : Server) : Type 0 where

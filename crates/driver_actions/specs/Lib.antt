@@ -2,4 +2,5 @@ pub mod Calls
 pub mod Causes
 pub mod Inputs
 pub mod MainTheorem
+pub mod Standing
 pub mod Turns

@@ -5,6 +5,8 @@
 #![tactic(auto)]
 
 pub mod call;
+pub mod call_run;
+pub mod laws;
 mod refusal;
 pub mod run;
 mod single;
@@ -12,4 +14,5 @@ mod single;
 mod tests;
 
 pub use call::{Answer, Call, Outcome, SingleAnswer, SingleWrite};
+pub use call_run::CallRun;
 pub use run::run_calls;

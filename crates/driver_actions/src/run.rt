@@ -10,6 +10,7 @@ ghost use Rattle.driver_actions.specs.Turns.{MakesCall};
 ghost use Rattle.driver_link.specs.Told.{IsFresh};
 
 use crate::call::{Answer, Call, Outcome, SingleWrite};
+use crate::call_run::CallRun;
 use crate::single::single;
 use bson_lite::List;
 use driver_exec::{Client, Outside, SessionStore};
@@ -35,17 +36,15 @@ pub fn run_calls<S: SessionStore, L: Link, K: Clock, R: Rng>(
     ensures options { options_of client.new ≡ options_of client.old }
     ensures err { OnErr result ((client.new ≡ client.old) × (outside.new ≡ outside.old)) }
 {
-    let mut outcomes = Vec::with_capacity(alloc, calls.len())?;
-    for (number, call) in calls.iter().enumerate() {
-        outside.call = number as u64;
-        let outcome = make_call(alloc, client, outside, call);
-        outcomes.push_reserved(outcome);
+    let mut run = CallRun::begin(alloc, calls.len())?;
+    'calls: while run.made() < calls.len() {
+        run.make(alloc, client, outside, calls);
     }
-    Ok(List::from_vec(outcomes))
+    Ok(run.finish(client, outside, calls))
 }
 
 /// Makes the current call, and reads the clock before and after it.
-fn make_call<S: SessionStore, L: Link, K: Clock, R: Rng>(
+pub(crate) fn make_call<S: SessionStore, L: Link, K: Clock, R: Rng>(
     alloc: Global,
     client: &mut Client<S>,
     outside: &mut Outside<L, K, R>,

@@ -1,5 +1,6 @@
 //! What no clause shows: that a call succeeds with ample memory, over a link whose replies a test chooses.
-use crate::call::{Call, Outcome, SingleWrite};
+use crate::call::{Answer, Call, Outcome, SingleAnswer, SingleWrite};
+use crate::call_run::CallRun;
 use crate::run::run_calls;
 use bson_lite::{Bson, Bytes, Document, EncodeFault, List, Namespace, Text, TryClone};
 use driver_error::{Error, ErrorKind, IoKind};
@@ -138,26 +139,97 @@ fn insert(alloc: Global, document: Document) -> Result<Call, AllocError> {
     })
 }
 
+/// A client that has done nothing.
+fn new_client(alloc: Global) -> Client<PlainStore<CountingIds>> {
+    let options = ClientOptions { client_number: 1 };
+    Client::new(options, PlainStore::new(alloc, CountingIds::new()))
+}
+
+/// The outside with a link that gives this reply. Its clock moves on by one each time it is read.
+fn new_outside(
+    alloc: Global,
+    reply: &[u8],
+) -> Result<Outside<OneReply, MemClock, Pcg32>, AllocError> {
+    let link = OneReply {
+        reply: Bytes::from_slice(alloc, reply)?,
+        answered: List::new(alloc),
+    };
+    Ok(Outside {
+        link,
+        clock: MemClock::new(0, 1),
+        words: Pcg32::seed_from_u64(1),
+        call: 0,
+    })
+}
+
 /// The outcomes of one insert of a document over a link with this reply.
 fn outcomes_over(
     alloc: Global,
     reply: &[u8],
     document: Document,
 ) -> Result<List<Outcome>, AllocError> {
-    let link = OneReply {
-        reply: Bytes::from_slice(alloc, reply)?,
-        answered: List::new(alloc),
-    };
-    let options = ClientOptions { client_number: 1 };
-    let mut client = Client::new(options, PlainStore::new(alloc, CountingIds::new()));
-    let mut outside = Outside {
-        link,
-        clock: MemClock::new(0, 0),
-        words: Pcg32::seed_from_u64(1),
-        call: 0,
-    };
+    let mut client = new_client(alloc);
+    let mut outside = new_outside(alloc, reply)?;
     let calls = [insert(alloc, document)?];
     run_calls(alloc, &mut client, &mut outside, &calls)
+}
+
+/// The outcomes of two inserts that are made as one list.
+fn outcomes_at_once(alloc: Global) -> Result<List<Outcome>, AllocError> {
+    let mut client = new_client(alloc);
+    let mut outside = new_outside(alloc, DONE)?;
+    let calls = [insert(alloc, small(alloc)?)?, insert(alloc, small(alloc)?)?];
+    run_calls(alloc, &mut client, &mut outside, &calls)
+}
+
+/// The outcomes of the same inserts, the second of which comes into the list once the first was made.
+fn outcomes_one_by_one(alloc: Global) -> Result<List<Outcome>, AllocError> {
+    let mut client = new_client(alloc);
+    let mut outside = new_outside(alloc, DONE)?;
+    let first = insert(alloc, small(alloc)?)?;
+    let second = insert(alloc, small(alloc)?)?;
+    let mut calls = Vec::with_capacity(alloc, 2)?;
+    let mut run = CallRun::begin(alloc, 2)?;
+    calls.push_reserved(first);
+    run.make(alloc, &mut client, &mut outside, calls.as_slice());
+    calls.push_reserved(second);
+    run.make(alloc, &mut client, &mut outside, calls.as_slice());
+    Ok(run.finish(&mut client, &mut outside, calls.as_slice()))
+}
+
+/// The last byte of the object id that an outcome tells.
+fn id_of(outcome: &Outcome) -> Option<u8> {
+    let Ok(Answer::Single(SingleAnswer::Inserted(done))) = &outcome.result else {
+        return None;
+    };
+    match &done.inserted_id {
+        Bson::ObjectId(id) => Some(id.bytes[11]),
+        _ => None,
+    }
+}
+
+/// Whether two outcomes tell this id and the same moments.
+fn is_same(one: &Outcome, other: &Outcome, id: u8) -> bool {
+    match (id_of(one), id_of(other)) {
+        (Some(here), Some(there)) => {
+            here == id
+                && there == id
+                && one.started_ms == other.started_ms
+                && one.ended_ms == other.ended_ms
+        }
+        _ => false,
+    }
+}
+
+/// Whether two pairs of outcomes are the same, the first with the first id and the second with the next.
+fn are_same(ones: &List<Outcome>, others: &List<Outcome>) -> bool {
+    let [first, second] = ones.as_slice() else {
+        return false;
+    };
+    let [also_first, also_second] = others.as_slice() else {
+        return false;
+    };
+    is_same(first, also_first, 1) && is_same(second, also_second, 2)
 }
 
 /// Whether the one outcome is Ok, or else a document that nests too deep.
@@ -226,6 +298,15 @@ fn a_callers_document_nests_at_most_96_levels(rt: HostRuntime) -> Result<(), Fai
         let outcomes = outcomes_over(alloc, DONE, nested(alloc, levels)?)?;
         assert_eq!(rt; is_too_deep(&outcomes), Some(refused), "of {levels} levels");
     }
+    Ok(())
+}
+
+#[test]
+fn calls_may_come_into_the_list_between_two(rt: HostRuntime) -> Result<(), Fail> {
+    let at_once = outcomes_at_once(rt.alloc())?;
+    let one_by_one = outcomes_one_by_one(rt.alloc())?;
+    let same = are_same(&at_once, &one_by_one);
+    assert!(rt; same);
     Ok(())
 }
 

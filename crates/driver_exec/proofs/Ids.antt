@@ -8,12 +8,8 @@ use Rattle.std.specs.Str.{bytes_eq}
 use Rattle.std.proofs.lemmas.Bool.{cond-true, cond-false, false_from_ne_true}
 use Rattle.std.proofs.lemmas.Map.Text.{is_eq-slice_cmp}
 use Rattle.std.proofs.lemmas.Slice.Eq.{bytes_eq-Decides}
+use Rattle.driver_exec.specs.BetweenCalls.{Among}
 use Rattle.driver_exec.specs.Pool.{NotAmong, AllApart}
-
--- an id is one of these
-abbrev pub Among : List ℕ → List (List ℕ) → Type 0
-Among id [] = ⊥
-Among id (other ∷ ids) = (id ≡ other) ⊎ Among id ids
 
 pub among_left : (id : List ℕ) (ids more : List (List ℕ)) → Among id ids → Among id (ids ++ more)
 among_left id [] more among = absurd among

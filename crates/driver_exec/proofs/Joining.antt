@@ -6,20 +6,10 @@ use Rattle.driver_link.specs.declared.machine.PlacedWrite.{PlacedWrite}
 use Rattle.driver_link.specs.declared.machine.Send.{Send}
 use Rattle.driver_link.specs.declared.machine.Server.{Server}
 use Rattle.driver_link.specs.Cases.{body_writes, writes_of}
-use Rattle.driver_link.specs.Settled.{Has, IsOrderly, IsPlain, IsSamePlace, IsSettled}
+use Rattle.driver_link.specs.Settled.{Has, IsOrderly, IsPlain, IsSamePlace}
 use Rattle.driver_link.proofs.Lists.{has_either}
 use Rattle.driver_link.proofs.Replying.{IsOneInsert}
-use Rattle.driver_exec.proofs.Knowing.{SentUpTo}
-
--- all places of a trace are of calls before this one
-abbrev pub AllBelow : ℕ → List Send → Type 0
-AllBelow made trace = (send : Send) (at : ℕ) (write : PlacedWrite) → Has trace send → slice_get (writes_of send) at ≡ Some write → write.place.call < made
-
--- the sends of the calls so far: they are orderly, the server is settled, and their places are below the calls made
-pub record Sound (made : ℕ) (server : Server) : Type 0 where
-  pub orderly : IsOrderly server.trace
-  pub settled : IsSettled server.trace server
-  pub below : AllBelow made server.trace
+use Rattle.driver_exec.specs.BetweenCalls.{AllBelow, SentUpTo, Sound}
 
 -- the one write of a send
 pub only_write : (send : Send) (write : PlacedWrite) (one : IsOneInsert send write) (at : ℕ) (found : PlacedWrite) → slice_get (writes_of send) at ≡ Some found

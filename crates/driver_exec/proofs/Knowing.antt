@@ -11,37 +11,10 @@ use Rattle.driver_link.specs.Settled.{Has, IsUnder}
 use Rattle.driver_link.proofs.Lists.{has_either}
 use Rattle.driver_exec.specs.declared.pool.IdleSession.{IdleSession}
 use Rattle.driver_exec.specs.declared.pool.StoreEvent.{StoreEvent}
+use Rattle.driver_exec.specs.BetweenCalls.{Among, Between, FitsIdle, Knows, NoneOf, SentUpTo, ids_of}
 use Rattle.driver_exec.specs.Pool.{Pool, ToldStore, LendsFrom, NotAmong, AllApart, lent_out, taken_back, session_out, idle_back, is_lent, without_first}
 use Rattle.driver_exec.specs.Session.{Session}
-use Rattle.driver_exec.proofs.Ids.{Among, among_left, among_last, not_among_left, apart_last, among_differs, equal_bytes}
-
--- each send of a session has a number at most this one
-abbrev pub SentUpTo : List ℕ → ℤ → List Send → Type 0
-SentUpTo id number trace = (send : Send) (n : ℤ) → Has trace send → IsUnder id n send → n ≤ℤ number
-
--- no send is of this session
-abbrev pub NoneOf : List ℕ → List Send → Type 0
-NoneOf id trace = (send : Send) (n : ℤ) → Has trace send → IsUnder id n send → ⊥
-
--- the ids of idle sessions
-abbrev pub ids_of : List IdleSession → List (List ℕ)
-ids_of idle = map (λ session. session.id) idle
-
--- idle sessions have drawn ids, apart from one another, and numbers that are at least those that were sent
-abbrev pub FitsIdle : List (List ℕ) → List Send → List IdleSession → Type 0
-FitsIdle drawn trace [] = Unit {0}
-FitsIdle drawn trace (first ∷ idle) =
-    Among first.id drawn × SentUpTo first.id first.number trace × NotAmong first.id (ids_of idle) × FitsIdle drawn trace idle
-
--- what a trace says of sessions
-pub record Knows (drawn : List (List ℕ)) (idle : List IdleSession) (trace : List Send) : Type 0 where
-  pub strangers : (id : List ℕ) → NotAmong id drawn → NoneOf id trace
-  pub fits : FitsIdle drawn trace idle
-
--- between calls nothing is lent
-pub record Between (pool : Pool) (trace : List Send) : Type 0 where
-  pub lent : pool.lent ≡ []
-  pub knows : Knows pool.drawn pool.idle trace
+use Rattle.driver_exec.proofs.Ids.{among_left, among_last, not_among_left, apart_last, among_differs, equal_bytes}
 
 -- one session is lent
 pub record Holding (pool : Pool) (trace : List Send) (session : Session) : Type 0 where

@@ -6,15 +6,11 @@ use Rattle.driver_link.specs.declared.machine.PlacedWrite.{PlacedWrite}
 use Rattle.driver_link.specs.Told.{Told}
 use Rattle.driver_exec.specs.declared.pool.IdleSession.{IdleSession}
 use Rattle.driver_exec.specs.declared.pool.StoreEvent.TheVariants.{Back}
+use Rattle.driver_exec.specs.BetweenCalls.{NumbersWithin}
 use Rattle.driver_exec.specs.Causes.{Failure}
 use Rattle.driver_exec.specs.Pool.{Pool, ToldStore, Lends, LendsFrom, TakesBack, lent_out, taken_back, session_out, idle_out, idle_back, is_lent, without_first}
 use Rattle.driver_exec.specs.Session.{Session}
 use Rattle.driver_exec.specs.Turns.{Attempts, Turn}
-
--- each number is at most this one
-abbrev pub NumbersWithin : ℤ → List IdleSession → Type 0
-NumbersWithin most [] = Unit {0}
-NumbersWithin most (first ∷ idle) = (first.number ≤ℤ most) × NumbersWithin most idle
 
 within_more : (made : ℕ) (idle : List IdleSession) → NumbersWithin (pos made) idle → NumbersWithin (pos (made + 1)) idle
 within_more made [] within = tt

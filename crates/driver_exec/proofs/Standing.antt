@@ -34,7 +34,7 @@ use Rattle.driver_link.proofs.Lists.{has_last}
 use Rattle.driver_link.proofs.Plain.{known}
 use Rattle.driver_link.proofs.Replying.{IsOneInsert, StandsFor, one_reply, one_statement, reply_tells, served_one, stands_or_failed}
 use Rattle.driver_exec.specs.Inserts.{IsGentleItem, insert_one_send, insert_write, is_done_reply, is_one}
-use Rattle.driver_exec.proofs.Knowing.{SentUpTo}
+use Rattle.driver_exec.specs.BetweenCalls.{SentUpTo}
 
 -- the send of one insert
 abbrev pub one_insert : (id : List ℕ) (number : ℤ) (namespace : Namespace) (document : List (Pair Bson)) (place : Place)

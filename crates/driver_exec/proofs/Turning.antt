@@ -19,14 +19,15 @@ use Rattle.driver_link.specs.Told.{Told, told_after}
 use Rattle.driver_link.proofs.Exchanged.{exchanged_settled}
 use Rattle.driver_link.proofs.Growing.{Exchanges, exchanged_keeps}
 use Rattle.driver_link.proofs.Replying.{IsOneInsert}
+use Rattle.driver_exec.specs.BetweenCalls.{AllBelow, Between, SentUpTo, Sound}
 use Rattle.driver_exec.specs.Causes.{Failure}
 use Rattle.driver_exec.specs.Inserts.{IsGentleItem, insert_write, is_done_reply}
 use Rattle.driver_exec.specs.Pool.{Pool, ToldStore, AllApart, Lends, TakesBack, taken_back}
 use Rattle.driver_exec.specs.Session.{Session}
 use Rattle.driver_exec.specs.Turns.{Attempts, Raises, Turn, WasDenied, WasDone, WasLost, send_under}
 use Rattle.driver_exec.proofs.Drawing.{drawn_back}
-use Rattle.driver_exec.proofs.Joining.{AllBelow, Sound, below_joined, joins, sound_same}
-use Rattle.driver_exec.proofs.Knowing.{Between, Holding, SentUpTo, joined_holds, lends_holds, number_raised, taken_between}
+use Rattle.driver_exec.proofs.Joining.{below_joined, joins, sound_same}
+use Rattle.driver_exec.proofs.Knowing.{Holding, joined_holds, lends_holds, number_raised, taken_between}
 use Rattle.driver_exec.proofs.Standing.{done_stands, gentle_done, one_insert}
 
 -- the pool while the session is lent

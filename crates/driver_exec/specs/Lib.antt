@@ -1,3 +1,4 @@
+pub mod BetweenCalls
 pub mod Causes
 pub mod Client
 pub mod Encoding

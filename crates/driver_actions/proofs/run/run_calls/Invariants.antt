@@ -1,19 +1,29 @@
--- The calls before this one have their outcomes, and what holds of them.
-use Rattle.std.proofs.Common.{◌≡◌, length, take, vec_len, vec_capacity}
+-- The calls that were made have their outcomes and their causes, and the run stands.
+use Rattle.std.proofs.Common.{◌≡◌, ◌≤◌, ◌-◌, length, take}
 use Rattle.driver_actions.specs.Causes.{HaveCauses, moment}
+use Rattle.driver_actions.specs.MainTheorem.{IsReplayed, KeepsMaking}
+use Rattle.driver_actions.specs.Standing.{Stands}
 use Rattle.driver_exec.specs.Client.{options_of, store_of}
-use Rattle.driver_actions.proofs.Progress.{Progress}
+use Rattle.driver_exec.specs.Pool.{DrawnApart, Draws, IsNewStore, LendsAsBefore}
+use Rattle.driver_link.specs.Told.{IsFresh}
 use Rattle.driver_actions.proofs.run.run_calls.Given as goal
 
-abbrev pub invariant-loop-number : goal.invariant-loop-number
-invariant-loop-number g l = record {
-  made : vec_len l.outcomes ≡ l.number;
-  count : length l.outcomes.items ≡ l.number;
-  room : vec_capacity l.outcomes ≡ length l.calls;
+abbrev pub invariant-calls : goal.invariant-calls
+invariant-calls g l = record {
+  within : l.run.made ≤ length l.calls;
+  room : l.run.room ≡ length l.calls;
   options : options_of l.client ≡ options_of l.fn.client;
-  progress : Progress l.calls (g.S.SessionStore.told (store_of l.fn.client)) (g.L.Link.told l.fn.outside.link) l.outcomes.items
-      (g.S.SessionStore.told (store_of l.client)) (g.L.Link.told l.outside.link);
-  causes : HaveCauses (take l.number l.calls) l.outcomes.items
+  stands : IsNewStore (g.S.SessionStore.told (store_of l.fn.client)) → IsFresh (g.L.Link.told l.fn.outside.link)
+      → DrawnApart (g.S.SessionStore.told (store_of l.client))
+      → Stands l.run l.calls (g.S.SessionStore.told (store_of l.client)) (g.L.Link.told l.outside.link);
+  replayed : IsFresh (g.L.Link.told l.fn.outside.link) → IsReplayed (g.L.Link.told l.outside.link);
+  making : KeepsMaking (g.L.Link.told l.fn.outside.link) (g.L.Link.told l.outside.link);
+  drawn : Draws (g.S.SessionStore.told (store_of l.fn.client)) (g.S.SessionStore.told (store_of l.client));
+  lent : LendsAsBefore (g.S.SessionStore.told (store_of l.fn.client)) (g.S.SessionStore.told (store_of l.client));
+  causes : HaveCauses (take l.run.made l.calls) l.run.outcomes
       (moment (g.L.Link.faults l.fn.outside.link) (g.L.Link.answers l.fn.outside.link) (g.S.SessionStore.told (store_of l.fn.client)))
       (moment (g.L.Link.faults l.outside.link) (g.L.Link.answers l.outside.link) (g.S.SessionStore.told (store_of l.client)));
 }
+
+abbrev pub decreases-calls : goal.decreases-calls
+decreases-calls g l = length l.calls - l.run.made
