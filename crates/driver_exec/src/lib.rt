@@ -12,6 +12,8 @@ pub mod operation;
 pub mod outside;
 pub mod plain;
 pub mod pool;
+pub mod reading;
+pub mod response;
 pub mod session;
 pub mod store;
 
@@ -23,5 +25,6 @@ pub use operation::Operation;
 pub use outside::Outside;
 pub use plain::PlainStore;
 pub use pool::{IdleSession, StoreEvent, StoreState};
+pub use response::{CommandResponse, read_response};
 pub use session::ServerSession;
 pub use store::SessionStore;
