@@ -14,6 +14,8 @@ pub mod plain;
 pub mod pool;
 pub mod reading;
 pub mod response;
+#[cfg(test)]
+mod response_tests;
 pub mod session;
 pub mod store;
 
