@@ -15,3 +15,4 @@ pub mod Staying
 pub mod Moves
 pub mod Joining
 pub mod Standing
+pub mod Responding

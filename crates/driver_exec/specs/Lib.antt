@@ -7,6 +7,8 @@ pub mod InsertMeaning
 pub mod Inserts
 pub mod Operations
 pub mod Pool
+pub mod Readings
+pub mod Responses
 pub mod Session
 pub mod Trips
 pub mod Turns

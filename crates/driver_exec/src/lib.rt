@@ -12,6 +12,10 @@ pub mod operation;
 pub mod outside;
 pub mod plain;
 pub mod pool;
+pub mod reading;
+pub mod response;
+#[cfg(test)]
+mod response_tests;
 pub mod session;
 pub mod store;
 
@@ -23,5 +27,6 @@ pub use operation::Operation;
 pub use outside::Outside;
 pub use plain::PlainStore;
 pub use pool::{IdleSession, StoreEvent, StoreState};
+pub use response::{CommandResponse, read_response};
 pub use session::ServerSession;
 pub use store::SessionStore;
