@@ -1,9 +1,8 @@
 -- A run of calls over any store and any link stands before its first call, after one call more, and where calls are
 -- appended to its list; and while it stands, the main theorem and completeness hold of the calls that it made.
-use Rattle.std.proofs.Common.{◌≡◌, ℕ, ◌+◌, ◌<◌, ◌≤◌, List, [], ◌∷◌, ◌++◌, length, take, get_or, refl, sym, ap, subst, ◌∙◌, inl, inr, arith, length-append}
+use Rattle.std.proofs.Common.{◌≡◌, ℕ, ◌+◌, ◌<◌, ◌≤◌, List, [], ◌∷◌, ◌++◌, length, take, refl, sym, ap, subst, ◌∙◌, inl, inr, arith, length-append}
 use Rattle.std.specs.Prelude.{pos, Option, None, Some, Result, Ok, Err, slice_get}
 use Rattle.std.proofs.lemmas.List.{length-take-le, take-append-le}
-use Rattle.std.proofs.lemmas.Option.{slice_get-get_or}
 use Rattle.driver_error.specs.declared.error.Error.{Error}
 use Rattle.driver_link.specs.declared.machine.Place.{Place}
 use Rattle.driver_link.specs.declared.machine.Schedule.{Schedule}
@@ -194,23 +193,6 @@ stands_holds run calls store link stands = left_holds (take run.made calls) run.
 pub stands_completes : (run : RunState) (calls : List Call) (store : Option ToldStore) (link : Option Told) → Stands run calls store link
     → CompletesTold (take run.made calls) run.outcomes link
 stands_completes run calls store link stands = left_completes (take run.made calls) run.outcomes store link stands.left
-
--- a run that has gained an outcome
-pub run_gains : (made now_made room now_room : ℕ) (outcomes now_outcomes : List Outcome) (last : Outcome) (run : RunState)
-    → ◌≡◌ {A = RunState} (record { made = made; room = room; outcomes = outcomes; slots = [] }) run → now_made ≡ made + 1 → now_room ≡ room → now_outcomes ≡ outcomes ++ last ∷ []
-    → ◌≡◌ {A = RunState} (record { made = now_made; room = now_room; outcomes = now_outcomes; slots = [] }) (run_more run last)
-run_gains made now_made room now_room outcomes now_outcomes last run view more same gained =
-    let gains : ◌≡◌ {A = RunState} (record { made = now_made; room = now_room; outcomes = now_outcomes; slots = [] })
-    (run_more (record { made = made; room = room; outcomes = outcomes; slots = [] }) last)
-    = λ i. record { made = more i; room = same i; outcomes = gained i; slots = [] } in
-    gains ∙ ap (λ r. run_more r last) view
-
--- the next call of a list, read at its place
-pub next_call : (calls : List Call) (number made : ℕ) (call : Call) → number ≡ made → made < length calls → call ≡ get_or calls number call
-    → slice_get calls made ≡ Some call
-next_call calls number made call same within is_call =
-    let below = subst (λ n. n < length calls) (sym same) within in
-    subst (λ n. slice_get calls n ≡ Some call) same (slice_get-get_or calls number call below ∙ ap (λ given. Some given) (sym is_call))
 
 -- the call of one number is the call of an equal one
 pub made_at : (store store_now : Option ToldStore) (link link_now : Option Told) (call : Call) (number made : ℕ) (result : Result Answer Error) → number ≡ made

@@ -1,8 +1,8 @@
 //! A run of calls, which a program feeds call by call.
-ghost use Rattle.std.specs.Prelude.{◌≡◌, ◌<◌, ◌≤◌, List as Listed, length, take, IfOk, Option as Maybe};
+ghost use Rattle.std.specs.Prelude.{◌≡◌, ◌<◌, ◌≤◌, List as Listed, length, slice_get, take, IfOk, Option as Maybe, Some};
 ghost use Rattle.driver_actions.specs.Causes.{moment};
 ghost use Rattle.driver_actions.specs.MainTheorem.{CompletesTold, HoldsTold, IsReplayed, KeepsMaking};
-ghost use Rattle.driver_actions.specs.Standing.{MakesNext, Stands, new_run};
+ghost use Rattle.driver_actions.specs.Standing.{MakesNext, Stands, new_run, run_more};
 ghost use Rattle.driver_actions.specs.declared.call.Call.{Call as Asked};
 ghost use Rattle.driver_exec.specs.Client.{options_of, store_of};
 ghost use Rattle.driver_exec.specs.Pool.{DrawnApart, Draws, IsNewStore, LendsAsBefore, ToldStore};
@@ -81,10 +81,10 @@ impl CallRun {
         ensures lent { LendsAsBefore (S.told (store_of client.old)) (S.told (store_of client.new)) }
         ensures options { options_of client.new ≡ options_of client.old }
     {
-        let number = self.outcomes.len();
-        outside.call = number as u64;
-        let outcome = make_call(alloc, client, outside, &calls[number]);
-        self.outcomes.push_reserved(outcome);
+        outside.call = self.made() as u64;
+        let call = self.next(calls);
+        let outcome = make_call(alloc, client, outside, call);
+        self.add(outcome);
     }
 
     /// Ends the run, and answers the outcomes of its calls in order. It takes no memory.
@@ -99,6 +99,29 @@ impl CallRun {
         ensures main { Stands self calls.now (S.told (store_of _client.old)) (L.told _outside.old.link) → HoldsTold (take self.made calls.now) result (L.told _outside.new.link) }
         ensures complete { Stands self calls.now (S.told (store_of _client.old)) (L.told _outside.old.link) → CompletesTold (take self.made calls.now) result (L.told _outside.new.link) }
         ensures unchanged { (_client.new ≡ _client.old) × (_outside.new ≡ _outside.old) }
+    {
+        self.into_outcomes()
+    }
+
+    /// The next call of a list.
+    fn next<'a>(&self, calls: &'a [Call]) -> &'a Call
+        requires { self.now.made < length calls.now }
+        ensures { slice_get calls.now self.now.made ≡ Some result.now }
+    {
+        &calls[self.outcomes.len()]
+    }
+
+    /// Appends the outcome of one call more.
+    fn add(&mut self, outcome: Outcome)
+        requires { self.old.made < self.old.room }
+        ensures { self.new ≡ run_more self.old outcome }
+    {
+        self.outcomes.push_reserved(outcome);
+    }
+
+    /// The outcomes, moved out.
+    fn into_outcomes(self) -> List<Outcome>
+        ensures { result ≡ self.outcomes }
     {
         let CallRun { outcomes } = self;
         List::from_vec(outcomes)
