@@ -14,9 +14,9 @@ use std::test::Fail;
 #[test]
 fn kinds_are_copied(rt: HostRuntime) -> Result<(), Fail> {
     for at in 0..21 {
-        assert!(rt; copies_alike(rt.alloc(), &kind(rt.alloc(), at)?)?);
+        assert!(rt; copies_alike(rt.alloc(), kind(rt.alloc(), at)?)?);
     }
-    assert!(rt; copies_alike(rt.alloc(), &IoKind::Other)?);
+    assert!(rt; copies_alike(rt.alloc(), IoKind::Other)?);
     Ok(())
 }
 
@@ -61,13 +61,13 @@ fn body(alloc: Global) -> Result<CommandErrorBody, AllocError> {
 #[test]
 fn failures_of_writes_are_copied(rt: HostRuntime) -> Result<(), Fail> {
     let alloc = rt.alloc();
-    assert!(rt; copies_alike(alloc, &ErrorKind::InsertMany(many(alloc)?))?);
-    assert!(rt; copies_alike(alloc, &ErrorKind::BulkWrite(bulk(alloc)?))?);
+    assert!(rt; copies_alike(alloc, ErrorKind::InsertMany(many(alloc)?))?);
+    assert!(rt; copies_alike(alloc, ErrorKind::BulkWrite(bulk(alloc)?))?);
     let failure = WriteFailure::WriteError(write_error(alloc)?);
-    assert!(rt; copies_alike(alloc, &ErrorKind::Write(failure))?);
+    assert!(rt; copies_alike(alloc, ErrorKind::Write(failure))?);
     let failure = WriteFailure::WriteConcernError(concern(alloc)?);
-    assert!(rt; copies_alike(alloc, &ErrorKind::Write(failure))?);
-    assert!(rt; copies_alike(alloc, &body(alloc)?)?);
+    assert!(rt; copies_alike(alloc, ErrorKind::Write(failure))?);
+    assert!(rt; copies_alike(alloc, body(alloc)?)?);
     Ok(())
 }
 
@@ -104,7 +104,7 @@ fn file_error(alloc: Global, at: usize) -> Result<GridFsErrorKind<Error>, AllocE
 #[test]
 fn errors_of_files_are_copied(rt: HostRuntime) -> Result<(), Fail> {
     for at in 0..8 {
-        assert!(rt; copies_alike(rt.alloc(), &file_error(rt.alloc(), at)?)?);
+        assert!(rt; copies_alike(rt.alloc(), file_error(rt.alloc(), at)?)?);
     }
     Ok(())
 }
