@@ -148,33 +148,39 @@ fn write(alloc: Global) -> ErrorKind {
 
 #[test]
 fn failures_of_writes_begin_with_their_texts(rt: HostRuntime) -> Result<(), Fail> {
-    let text = printed(rt.alloc(), many(rt.alloc()))?;
-    assert!(rt;
-        text.as_str().starts_with(
-            "An error occurred when trying to execute an insert_many operation: "
-        )
-    );
-    let text = printed(rt.alloc(), bulk(rt.alloc()))?;
-    assert!(rt;
-        text.as_str()
-            .starts_with("An error occurred when executing Client::bulk_write: ")
-    );
-    let text = printed(rt.alloc(), write(rt.alloc()))?;
-    assert!(rt;
-        text.as_str().starts_with("An error occurred when trying to execute a write operation: ")
-    );
+    let alloc = rt.alloc();
+    let text = "An error occurred when trying to execute an insert_many operation: ";
+    assert!(rt; begins(alloc, many(alloc), text)?);
+    let text = "An error occurred when executing Client::bulk_write: ";
+    assert!(rt; begins(alloc, bulk(alloc), text)?);
+    let text = "An error occurred when trying to execute a write operation: ";
+    assert!(rt; begins(alloc, write(alloc), text)?);
     Ok(())
+}
+
+/// Whether what the kind prints begins with this text.
+fn begins(alloc: Global, kind: ErrorKind, text: &str) -> Result<bool, AllocError> {
+    Ok(printed(alloc, kind)?.as_str().starts_with(text))
 }
 
 #[test]
 fn an_error_prints_kind_labels_and_source(rt: HostRuntime) -> Result<(), Fail> {
-    let source = reset(rt.alloc(), &["b", "a", "B"])?;
-    let error = Error::from_kind(ErrorKind::Shutdown).with_source(rt.alloc(), Some(source))?;
-    let text = printed(rt.alloc(), error)?;
+    let text = printed(rt.alloc(), shut_down(rt.alloc())?)?;
     assert_eq!(rt;
         text.as_str(),
         "Kind: Client has been shut down, labels: -, source: Kind: I/O error: ConnectionReset, labels: B,a,b, source: None"
     );
+    Ok(())
+}
+
+/// An error over one with labels.
+fn shut_down(alloc: Global) -> Result<Error, AllocError> {
+    let source = reset(alloc, &["b", "a", "B"])?;
+    Error::from_kind(ErrorKind::Shutdown).with_source(alloc, Some(source))
+}
+
+#[test]
+fn an_error_without_source_prints_none(rt: HostRuntime) -> Result<(), Fail> {
     let text = printed(rt.alloc(), command_failed(rt.alloc(), -1)?)?;
     assert_eq!(rt;
         text.as_str(),
