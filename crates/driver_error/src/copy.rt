@@ -30,11 +30,11 @@ fn copy_error(alloc: Global, error: &Error) -> Result<Error, AllocError>
     ensures { IfOk result (λ copy. copy ≡ error.now) }
 {
     Ok(Error {
-        kind: copy_kind(alloc, &error.kind)?,
         labels: error.labels.try_clone(alloc)?,
         wire_version: error.wire_version,
         source: copy_boxed(alloc, &error.source)?,
         server_response: error.server_response.try_clone(alloc)?,
+        kind: copy_kind(alloc, &error.kind)?,
     })
 }
 

@@ -53,6 +53,19 @@ fn all_labels(
     }
 }
 
+/// An error in a place of its own.
+fn boxed(
+    alloc: Global,
+    error: Option<Error>,
+) -> std::result::Result<Option<Boxed<Error>>, AllocError>
+    ensures { IfOk result (λ boxed. boxed ≡ error) }
+{
+    match error {
+        None => Ok(None),
+        Some(error) => Ok(Some(Boxed::new(alloc, error)?)),
+    }
+}
+
 impl Error {
     /// An error of this kind without labels. It takes no memory. A kind with a write concern error
     /// inside is made by [`Error::new`], which takes the labels of that one.
@@ -81,7 +94,10 @@ impl Error {
                 source: None,
                 server_response: None,
             },
-            Err(_refused) => Error::from_kind(ErrorKind::Memory),
+            Err(_refused) => {
+                drop(kind);
+                Error::from_kind(ErrorKind::Memory)
+            }
         }
     }
 
@@ -176,11 +192,13 @@ impl Error {
     ) -> std::result::Result<Error, AllocError>
         ensures { IfOk result (λ error. HasSource source self error) }
     {
-        let source = match source {
-            None => None,
-            Some(source) => Some(Boxed::new(alloc, source)?),
-        };
-        Ok(Error { source, ..self })
+        match boxed(alloc, source) {
+            Ok(source) => Ok(Error { source, ..self }),
+            Err(refused) => {
+                drop(self);
+                Err(refused)
+            }
+        }
     }
 
     /// The same error, as it came on a connection with this wire version. It takes no memory.

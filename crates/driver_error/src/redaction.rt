@@ -12,6 +12,7 @@ use crate::write::{
 };
 use bson_lite::{Boxed, Bson, ByIndex, Document, List, RawDocumentBuf, Text, TryClone};
 use std::alloc::{AllocError, Global};
+use std::mem;
 
 impl Error {
     /// Takes the messages and details of what a server told, and its reply, out of this error and out
@@ -23,7 +24,7 @@ impl Error {
         ensures err { OnErr result (self.new ≡ self.old) }
     {
         let copy = redacted_copy(alloc, self)?;
-        *self = copy;
+        drop(mem::replace(self, copy));
         Ok(())
     }
 }
@@ -33,11 +34,11 @@ fn redacted_copy(alloc: Global, error: &Error) -> Result<Error, AllocError>
     ensures { IfOk result (λ copy. copy ≡ redacted error.now) }
 {
     Ok(Error {
-        kind: redacted_kind(alloc, &error.kind)?,
         labels: error.labels.try_clone(alloc)?,
         wire_version: error.wire_version,
         source: redacted_source(alloc, &error.source)?,
         server_response: redacted_response(alloc, &error.server_response)?,
+        kind: redacted_kind(alloc, &error.kind)?,
     })
 }
 

@@ -1,5 +1,5 @@
 //! The codes by which errors are judged.
-use super::command_failed;
+use super::{command_failed, held};
 use crate::{Error, ErrorKind, IoKind};
 use std::test::Fail;
 
@@ -102,21 +102,35 @@ fn says(error: &Error, code: i32, row: &Says) -> bool {
 #[test]
 fn each_code_says_what_the_table_says(rt: HostRuntime) -> Result<(), Fail> {
     for (code, row) in rows() {
-        let error = command_failed(rt.alloc(), *code)?;
-        assert!(rt; says(&error, *code, row));
+        let error = held(rt.alloc(), command_failed(rt.alloc(), *code)?)?;
+        assert!(rt; says(error.get(), *code, row));
     }
     Ok(())
 }
 
+/// Whether the network took too long, so that a write may be tried again.
+fn is_lost_in_time(error: &Error) -> bool {
+    error.is_network_error()
+        && error.is_network_timeout()
+        && !error.is_non_timeout_network_error()
+        && error.should_add_retryable_write_label()
+}
+
 #[test]
 fn a_lost_connection_is_a_network_error(rt: HostRuntime) -> Result<(), Fail> {
-    let error = Error::from(IoKind::TimedOut);
-    assert!(rt; error.is_network_error());
-    assert!(rt; error.is_network_timeout());
-    assert!(rt; !error.is_non_timeout_network_error());
-    assert!(rt; error.should_add_retryable_write_label());
-    let error = Error::from_kind(ErrorKind::Shutdown);
-    assert!(rt; !error.is_network_error());
-    assert!(rt; error.is_resumable());
+    let error = held(rt.alloc(), Error::from(IoKind::TimedOut))?;
+    assert!(rt; is_lost_in_time(error.get()));
+    Ok(())
+}
+
+/// Whether a change stream may go on, since neither the network nor a server failed.
+fn is_of_the_driver(error: &Error) -> bool {
+    !error.is_network_error() && error.is_resumable()
+}
+
+#[test]
+fn a_shutdown_is_no_network_error(rt: HostRuntime) -> Result<(), Fail> {
+    let error = held(rt.alloc(), Error::from_kind(ErrorKind::Shutdown))?;
+    assert!(rt; is_of_the_driver(error.get()));
     Ok(())
 }

@@ -1,10 +1,10 @@
 //! Copies and conversions with ample memory.
-use super::{command, redact, redacted, reset, text_list};
+use super::{command, has_redacted_reply, held, over, printed, redact, redacted, reset, text_list};
 use crate::{
     CommandErrorBody, Error, ErrorKind, IndexedWriteError, InsertManyError, WriteConcernError,
     WriteFailure, convert_insert_many_error,
 };
-use bson_lite::{Bson, ByIndex, List, Text, TryClone};
+use bson_lite::{Boxed, Bson, ByIndex, List, Text, TryClone};
 use std::alloc::{AllocError, Global};
 use std::test::Fail;
 
@@ -56,8 +56,7 @@ fn with_source(alloc: Global) -> Result<Error, AllocError> {
     let errors = write_errors(alloc)?;
     let concern = concern(alloc)?;
     let error = many(alloc, Some(errors), Some(concern))?;
-    let source = reset(alloc, &["a"])?;
-    error.with_source(alloc, Some(source))
+    over(alloc, error, reset(alloc, &["a"]))
 }
 
 fn copy(alloc: Global, error: &Error) -> Result<Error, AllocError> {
@@ -66,38 +65,43 @@ fn copy(alloc: Global, error: &Error) -> Result<Error, AllocError> {
 
 #[test]
 fn a_copy_prints_alike(rt: HostRuntime) -> Result<(), Fail> {
-    let error = with_source(rt.alloc())?;
-    let copy = copy(rt.alloc(), &error)?;
-    assert!(rt; same_text(rt.alloc(), &error, &copy)?);
-    let error = redact(rt.alloc(), error)?;
-    assert!(rt; !same_text(rt.alloc(), &error, &copy)?);
+    assert!(rt; prints_as_its_copy(rt.alloc(), with_source(rt.alloc())?)?);
     Ok(())
+}
+
+/// Whether a copy prints as the error, and no more once the error is redacted.
+fn prints_as_its_copy(alloc: Global, error: Error) -> Result<bool, AllocError> {
+    let error = held(alloc, error)?;
+    let copy = held(alloc, copy(alloc, error.get())?)?;
+    let alike = same_text(alloc, error.get(), copy.get())?;
+    let redacted = held(alloc, redact(alloc, error.into_inner())?)?;
+    Ok(alike && !same_text(alloc, redacted.get(), copy.get())?)
 }
 
 fn redacted_copy(alloc: Global) -> Result<Error, AllocError> {
     let error = redacted(alloc)?;
-    copy(alloc, &error)
+    let copy = copy(alloc, &error);
+    drop(error);
+    copy
 }
 
 #[test]
 fn a_copy_of_a_redacted_error_has_its_reply(rt: HostRuntime) -> Result<(), Fail> {
-    let copy = redacted_copy(rt.alloc())?;
-    let bytes = copy.server_response().map(|reply| reply.as_bytes());
-    assert_eq!(rt;
-        bytes,
-        Some(b"\x10\x00\x00\x00\x08redacted\x00\x01\x00".as_slice())
-    );
+    let copy = held(rt.alloc(), redacted_copy(rt.alloc())?)?;
+    assert!(rt; has_redacted_reply(copy.get()));
     Ok(())
-}
-
-fn redacted_copy_prints_alike(alloc: Global) -> Result<bool, AllocError> {
-    same_text(alloc, &redacted(alloc)?, &redacted_copy(alloc)?)
 }
 
 #[test]
 fn a_copy_of_a_redacted_error_prints_alike(rt: HostRuntime) -> Result<(), Fail> {
     assert!(rt; redacted_copy_prints_alike(rt.alloc())?);
     Ok(())
+}
+
+fn redacted_copy_prints_alike(alloc: Global) -> Result<bool, AllocError> {
+    let text = printed(alloc, redacted(alloc)?)?;
+    let copied = printed(alloc, redacted_copy(alloc)?)?;
+    Ok(text.as_str() == copied.as_str())
 }
 
 fn write_code(error: &Error) -> Option<i32> {
@@ -110,13 +114,32 @@ fn write_code(error: &Error) -> Option<i32> {
 
 #[test]
 fn the_write_error_comes_before_the_write_concern_error(rt: HostRuntime) -> Result<(), Fail> {
-    let errors = write_errors(rt.alloc())?;
-    let concern = concern(rt.alloc())?;
-    let error = converted(rt.alloc(), Some(errors), Some(concern))?;
-    assert_eq!(rt; write_code(&error), Some(11000));
-    assert_eq!(rt; error.sdam_code(), None);
-    assert!(rt; error.has_own_label("outer") && error.has_own_label("inner"));
+    let error = of_both(rt.alloc())?;
+    assert!(rt; is_of_the_write_error(error.get()));
     Ok(())
+}
+
+/// What an insert of one document answers for write errors and a write concern error.
+fn of_both(alloc: Global) -> Result<Boxed<Error>, AllocError> {
+    let errors = write_errors(alloc)?;
+    let concern = concern(alloc)?;
+    held(alloc, converted(alloc, Some(errors), Some(concern))?)
+}
+
+/// Whether the first write error stands in the error, with the labels of both and no code to judge by.
+fn is_of_the_write_error(error: &Error) -> bool {
+    write_code(error) == Some(11000)
+        && code(error).is_none()
+        && has_label(error, "outer")
+        && has_label(error, "inner")
+}
+
+fn code(error: &Error) -> Option<i32> {
+    error.sdam_code()
+}
+
+fn has_label(error: &Error, label: &str) -> bool {
+    error.has_own_label(label)
 }
 
 fn converted(
@@ -130,17 +153,21 @@ fn converted(
 
 #[test]
 fn an_empty_list_of_write_errors_is_none(rt: HostRuntime) -> Result<(), Fail> {
-    let concern = concern(rt.alloc())?;
-    let none = List::new(rt.alloc());
-    let error = converted(rt.alloc(), Some(none), Some(concern))?;
-    assert_eq!(rt; write_code(&error), Some(64));
+    let error = of_concern(rt.alloc())?;
+    assert_eq!(rt; write_code(error.get()), Some(64));
     Ok(())
+}
+
+/// What an insert of one document answers for no write error and a write concern error.
+fn of_concern(alloc: Global) -> Result<Boxed<Error>, AllocError> {
+    let none = List::new(alloc);
+    let concern = concern(alloc)?;
+    held(alloc, converted(alloc, Some(none), Some(concern))?)
 }
 
 #[test]
 fn no_failure_is_an_invalid_response(rt: HostRuntime) -> Result<(), Fail> {
-    let error = converted(rt.alloc(), None, None)?;
-    let text = error.to_string(rt.alloc())?;
+    let text = printed(rt.alloc(), converted(rt.alloc(), None, None)?)?;
     assert_eq!(rt;
         text.as_str(),
         "Kind: The server returned an invalid reply to a database operation: error missing write errors and write concern errors, labels: -, source: None"
@@ -157,17 +184,17 @@ fn body(alloc: Global) -> Result<CommandErrorBody, AllocError> {
 
 #[test]
 fn a_body_becomes_an_error(rt: HostRuntime) -> Result<(), Fail> {
-    let error = Error::from(body(rt.alloc())?);
-    assert!(rt; error.has_own_label("told"));
-    assert_eq!(rt; error.sdam_code(), Some(5));
+    let error = held(rt.alloc(), Error::from(body(rt.alloc())?))?;
+    assert!(rt; has_label(error.get(), "told"));
+    assert_eq!(rt; code(error.get()), Some(5));
     Ok(())
 }
 
 #[test]
 fn a_kind_becomes_an_error(rt: HostRuntime) -> Result<(), Fail> {
     let failure = WriteFailure::WriteConcernError(concern(rt.alloc())?);
-    let error = Error::from(ErrorKind::Write(failure));
-    assert!(rt; error.has_own_label("inner"));
-    assert_eq!(rt; write_code(&error), Some(64));
+    let error = held(rt.alloc(), Error::from(ErrorKind::Write(failure)))?;
+    assert!(rt; has_label(error.get(), "inner"));
+    assert_eq!(rt; write_code(error.get()), Some(64));
     Ok(())
 }

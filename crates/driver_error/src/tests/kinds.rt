@@ -14,9 +14,9 @@ use std::test::Fail;
 #[test]
 fn kinds_are_copied(rt: HostRuntime) -> Result<(), Fail> {
     for at in 0..21 {
-        assert!(rt; copies_alike(rt.alloc(), &kind(rt.alloc(), at)?)?);
+        assert!(rt; copies_alike(rt.alloc(), kind(rt.alloc(), at)?)?);
     }
-    assert!(rt; copies_alike(rt.alloc(), &IoKind::Other)?);
+    assert!(rt; copies_alike(rt.alloc(), IoKind::Other)?);
     Ok(())
 }
 
@@ -60,15 +60,20 @@ fn body(alloc: Global) -> Result<CommandErrorBody, AllocError> {
 
 #[test]
 fn failures_of_writes_are_copied(rt: HostRuntime) -> Result<(), Fail> {
-    let alloc = rt.alloc();
-    assert!(rt; copies_alike(alloc, &ErrorKind::InsertMany(many(alloc)?))?);
-    assert!(rt; copies_alike(alloc, &ErrorKind::BulkWrite(bulk(alloc)?))?);
-    let failure = WriteFailure::WriteError(write_error(alloc)?);
-    assert!(rt; copies_alike(alloc, &ErrorKind::Write(failure))?);
-    let failure = WriteFailure::WriteConcernError(concern(alloc)?);
-    assert!(rt; copies_alike(alloc, &ErrorKind::Write(failure))?);
-    assert!(rt; copies_alike(alloc, &body(alloc)?)?);
+    for at in 0..4 {
+        assert!(rt; copies_alike(rt.alloc(), failed_write(rt.alloc(), at)?)?);
+    }
+    assert!(rt; copies_alike(rt.alloc(), body(rt.alloc())?)?);
     Ok(())
+}
+
+fn failed_write(alloc: Global, at: usize) -> Result<ErrorKind, AllocError> {
+    Ok(match at {
+        0 => ErrorKind::InsertMany(many(alloc)?),
+        1 => ErrorKind::BulkWrite(bulk(alloc)?),
+        2 => ErrorKind::Write(WriteFailure::WriteError(write_error(alloc)?)),
+        _ => ErrorKind::Write(WriteFailure::WriteConcernError(concern(alloc)?)),
+    })
 }
 
 fn file_error(alloc: Global, at: usize) -> Result<GridFsErrorKind<Error>, AllocError> {
@@ -104,7 +109,7 @@ fn file_error(alloc: Global, at: usize) -> Result<GridFsErrorKind<Error>, AllocE
 #[test]
 fn errors_of_files_are_copied(rt: HostRuntime) -> Result<(), Fail> {
     for at in 0..8 {
-        assert!(rt; copies_alike(rt.alloc(), &file_error(rt.alloc(), at)?)?);
+        assert!(rt; copies_alike(rt.alloc(), file_error(rt.alloc(), at)?)?);
     }
     Ok(())
 }

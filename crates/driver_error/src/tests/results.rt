@@ -13,7 +13,7 @@ use std::test::Fail;
 /// Whether a copy prints as the value.
 pub(super) fn copies_alike<T: TryClone + Debug + Drop>(
     alloc: Global,
-    value: &T,
+    value: T,
 ) -> Result<bool, AllocError> {
     let copy = value.try_clone(alloc)?;
     let one = format!(in alloc; "{value:?}")?;
@@ -68,21 +68,21 @@ fn many(alloc: Global) -> Result<InsertManyResult, AllocError> {
 #[test]
 fn results_are_copied(rt: HostRuntime) -> Result<(), Fail> {
     let alloc = rt.alloc();
-    assert!(rt; copies_alike(alloc, &inserted(alloc)?)?);
-    assert!(rt; copies_alike(alloc, &many(alloc)?)?);
-    assert!(rt; copies_alike(alloc, &updated(alloc)?)?);
-    assert!(rt; copies_alike(alloc, &DeleteResult { deleted_count: 7 })?);
-    assert!(rt; copies_alike(alloc, &counts())?);
+    assert!(rt; copies_alike(alloc, inserted(alloc)?)?);
+    assert!(rt; copies_alike(alloc, many(alloc)?)?);
+    assert!(rt; copies_alike(alloc, updated(alloc)?)?);
+    assert!(rt; copies_alike(alloc, DeleteResult { deleted_count: 7 })?);
+    assert!(rt; copies_alike(alloc, counts())?);
     Ok(())
 }
 
 #[test]
 fn results_of_bulk_writes_are_copied(rt: HostRuntime) -> Result<(), Fail> {
     let alloc = rt.alloc();
-    let verbose = verbose(alloc)?;
-    assert!(rt; copies_alike(alloc, &verbose)?);
-    assert!(rt; copies_alike(alloc, &PartialBulkWriteResult::Verbose(verbose))?);
-    assert!(rt; copies_alike(alloc, &PartialBulkWriteResult::Summary(counts()))?);
+    assert!(rt; copies_alike(alloc, verbose(alloc)?)?);
+    let partial = PartialBulkWriteResult::Verbose(verbose(alloc)?);
+    assert!(rt; copies_alike(alloc, partial)?);
+    assert!(rt; copies_alike(alloc, PartialBulkWriteResult::Summary(counts()))?);
     Ok(())
 }
 
@@ -90,9 +90,9 @@ fn results_of_bulk_writes_are_copied(rt: HostRuntime) -> Result<(), Fail> {
 fn results_of_indexes_are_copied(rt: HostRuntime) -> Result<(), Fail> {
     let alloc = rt.alloc();
     let index_name = Text::from_str(alloc, "a_1")?;
-    assert!(rt; copies_alike(alloc, &CreateIndexResult { index_name })?);
+    assert!(rt; copies_alike(alloc, CreateIndexResult { index_name })?);
     let index_names = text_list(alloc, &["a_1", "b_1"])?;
-    assert!(rt; copies_alike(alloc, &CreateIndexesResult { index_names })?);
+    assert!(rt; copies_alike(alloc, CreateIndexesResult { index_names })?);
     Ok(())
 }
 
@@ -102,16 +102,20 @@ fn options(alloc: Global) -> Result<Document, AllocError> {
     Ok(options)
 }
 
-fn collection(alloc: Global) -> Result<CollectionSpecification, AllocError> {
+fn info(alloc: Global) -> Result<CollectionSpecificationInfo, AllocError> {
     let bytes = Bytes::from_slice(alloc, b"uuid")?;
+    Ok(CollectionSpecificationInfo {
+        read_only: true,
+        uuid: Some(Binary { subtype: 4, bytes }),
+    })
+}
+
+fn collection(alloc: Global) -> Result<CollectionSpecification, AllocError> {
     Ok(CollectionSpecification {
         name: Text::from_str(alloc, "items")?,
         collection_type: CollectionType::Timeseries,
         options: options(alloc)?,
-        info: CollectionSpecificationInfo {
-            read_only: true,
-            uuid: Some(Binary { subtype: 4, bytes }),
-        },
+        info: info(alloc)?,
         id_index: Some(options(alloc)?),
     })
 }
@@ -128,10 +132,9 @@ fn database(alloc: Global) -> Result<DatabaseSpecification, AllocError> {
 #[test]
 fn specifications_are_copied(rt: HostRuntime) -> Result<(), Fail> {
     let alloc = rt.alloc();
-    let collection = collection(alloc)?;
-    assert!(rt; copies_alike(alloc, &collection)?);
-    assert!(rt; copies_alike(alloc, &collection.info)?);
-    assert!(rt; copies_alike(alloc, &collection.collection_type)?);
-    assert!(rt; copies_alike(alloc, &database(alloc)?)?);
+    assert!(rt; copies_alike(alloc, collection(alloc)?)?);
+    assert!(rt; copies_alike(alloc, info(alloc)?)?);
+    assert!(rt; copies_alike(alloc, CollectionType::Timeseries)?);
+    assert!(rt; copies_alike(alloc, database(alloc)?)?);
     Ok(())
 }

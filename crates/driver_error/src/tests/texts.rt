@@ -1,5 +1,5 @@
 //! The texts of errors.
-use super::{command, command_failed, redact, reset};
+use super::{command, command_failed, held, printed, redact, reset};
 use crate::{
     BulkWriteError, Error, ErrorKind, GridFsErrorKind, InsertManyError, IoKind, WriteError,
     WriteFailure,
@@ -37,7 +37,7 @@ fn texts() -> &'static [&'static str] {
 }
 
 fn text_of(alloc: Global, at: usize) -> Result<String, AllocError> {
-    kind(alloc, at)?.to_string(alloc)
+    printed(alloc, kind(alloc, at)?)
 }
 
 pub(super) fn kind(alloc: Global, at: usize) -> Result<ErrorKind, AllocError> {
@@ -107,17 +107,17 @@ fn prints(alloc: Global, error: &Error, text: &str) -> Result<bool, AllocError> 
 
 #[test]
 fn a_command_error_prints_its_code_name_and_message(rt: HostRuntime) -> Result<(), Fail> {
-    let error = interrupted(rt.alloc())?;
+    let error = held(rt.alloc(), interrupted(rt.alloc())?)?;
     let text = "Error code 11600 (InterruptedAtShutdown): x";
-    assert!(rt; prints(rt.alloc(), &error, text)?);
+    assert!(rt; prints(rt.alloc(), error.get(), text)?);
     Ok(())
 }
 
 #[test]
 fn a_redacted_command_error_prints_its_code_and_name(rt: HostRuntime) -> Result<(), Fail> {
-    let error = redact(rt.alloc(), interrupted(rt.alloc())?)?;
+    let error = held(rt.alloc(), redact(rt.alloc(), interrupted(rt.alloc())?)?)?;
     let text = "Error code 11600 (InterruptedAtShutdown): REDACTED";
-    assert!(rt; prints(rt.alloc(), &error, text)?);
+    assert!(rt; prints(rt.alloc(), error.get(), text)?);
     Ok(())
 }
 
@@ -148,34 +148,40 @@ fn write(alloc: Global) -> ErrorKind {
 
 #[test]
 fn failures_of_writes_begin_with_their_texts(rt: HostRuntime) -> Result<(), Fail> {
-    let text = many(rt.alloc()).to_string(rt.alloc())?;
-    assert!(rt;
-        text.as_str().starts_with(
-            "An error occurred when trying to execute an insert_many operation: "
-        )
-    );
-    let text = bulk(rt.alloc()).to_string(rt.alloc())?;
-    assert!(rt;
-        text.as_str()
-            .starts_with("An error occurred when executing Client::bulk_write: ")
-    );
-    let text = write(rt.alloc()).to_string(rt.alloc())?;
-    assert!(rt;
-        text.as_str().starts_with("An error occurred when trying to execute a write operation: ")
-    );
+    let alloc = rt.alloc();
+    let text = "An error occurred when trying to execute an insert_many operation: ";
+    assert!(rt; begins(alloc, many(alloc), text)?);
+    let text = "An error occurred when executing Client::bulk_write: ";
+    assert!(rt; begins(alloc, bulk(alloc), text)?);
+    let text = "An error occurred when trying to execute a write operation: ";
+    assert!(rt; begins(alloc, write(alloc), text)?);
     Ok(())
+}
+
+/// Whether what the kind prints begins with this text.
+fn begins(alloc: Global, kind: ErrorKind, text: &str) -> Result<bool, AllocError> {
+    Ok(printed(alloc, kind)?.as_str().starts_with(text))
 }
 
 #[test]
 fn an_error_prints_kind_labels_and_source(rt: HostRuntime) -> Result<(), Fail> {
-    let source = reset(rt.alloc(), &["b", "a", "B"])?;
-    let error = Error::from_kind(ErrorKind::Shutdown).with_source(rt.alloc(), Some(source))?;
-    let text = error.to_string(rt.alloc())?;
+    let text = printed(rt.alloc(), shut_down(rt.alloc())?)?;
     assert_eq!(rt;
         text.as_str(),
         "Kind: Client has been shut down, labels: -, source: Kind: I/O error: ConnectionReset, labels: B,a,b, source: None"
     );
-    let text = command_failed(rt.alloc(), -1)?.to_string(rt.alloc())?;
+    Ok(())
+}
+
+/// An error over one with labels.
+fn shut_down(alloc: Global) -> Result<Error, AllocError> {
+    let source = reset(alloc, &["b", "a", "B"])?;
+    Error::from_kind(ErrorKind::Shutdown).with_source(alloc, Some(source))
+}
+
+#[test]
+fn an_error_without_source_prints_none(rt: HostRuntime) -> Result<(), Fail> {
+    let text = printed(rt.alloc(), command_failed(rt.alloc(), -1)?)?;
     assert_eq!(rt;
         text.as_str(),
         "Kind: Command failed: Error code -1 (Name): x, labels: -, source: None"
