@@ -47,18 +47,6 @@ fn both_overload_labels(alloc: Global) -> Result<List<Text>, AllocError>
     Ok(labels)
 }
 
-/// A copy of a fault.
-fn copied_fault(alloc: Global, fault: &LinkFault) -> Result<LinkFault, AllocError>
-    ensures { IfOk result (λ copy. copy ≡ fault.now) }
-{
-    Ok(match fault {
-        LinkFault::Io(kind) => LinkFault::Io(*kind),
-        LinkFault::PoolCleared(text) => LinkFault::PoolCleared(text.try_clone(alloc)?),
-        LinkFault::Selection(text) => LinkFault::Selection(text.try_clone(alloc)?),
-        LinkFault::Authentication(text) => LinkFault::Authentication(text.try_clone(alloc)?),
-    })
-}
-
 /// Notes a fault, and counts it. A refusal changes nothing.
 fn fail(
     notes: &mut List<Answered>,
@@ -77,7 +65,7 @@ fn fail(
 {
     let note = Answered::Fault {
         call,
-        fault: copied_fault(alloc, &fault)?,
+        fault: fault.try_clone(alloc)?,
         labels: labels.try_clone(alloc)?,
     };
     notes.push(note)?;

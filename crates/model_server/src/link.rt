@@ -18,22 +18,12 @@ fn address_for(alloc: Global, criteria: Option<&SelectionCriteria>) -> Result<Ad
     ensures { IfOk result (λ address. address ≡ selected_address (option_copied criteria.entry)) }
 {
     match criteria {
-        Some(SelectionCriteria::Address(address)) => copied_address(alloc, address),
+        Some(SelectionCriteria::Address(address)) => address.try_clone(alloc),
         _ => Ok(Address {
             host: Text::from_str(alloc, HOST)?,
             port: PORT,
         }),
     }
-}
-
-/// A copy of an address.
-fn copied_address(alloc: Global, address: &Address) -> Result<Address, AllocError>
-    ensures { IfOk result (λ copy. copy ≡ address.now) }
-{
-    Ok(Address {
-        host: address.host.try_clone(alloc)?,
-        port: address.port,
-    })
 }
 
 /// What the caller of an exchange sees whose connection is reset.
@@ -126,7 +116,7 @@ impl Link for ModelServer {
         let number = self.calls.check_outs;
         self.count_check_out(alloc)?;
         Ok(Conn {
-            address: copied_address(alloc, address)?,
+            address: address.try_clone(alloc)?,
             description: self.setup.description,
             number,
         })
