@@ -3,7 +3,7 @@ ghost use Rattle.std.specs.Prelude.{◌≡◌, [], IfOk};
 
 use super::*;
 use crate::server::ModelServer;
-use driver_link::{Address, Description, Link, Schedule, Setup};
+use driver_link::{Address, Conn, Description, Link, Schedule, Setup};
 
 const SETUP: Setup = Setup {
     description: Description {
@@ -47,30 +47,55 @@ fn address(alloc: Global) -> Result<Address, AllocError> {
     })
 }
 
+fn selects(model: &mut ModelServer, alloc: Global) -> bool {
+    model.select(alloc, None, &[]).is_ok()
+}
+
+fn tells_support(model: &mut ModelServer, alloc: Global) -> bool {
+    model.transaction_support(alloc).is_ok()
+}
+
+fn conn_of(model: &mut ModelServer, alloc: Global) -> Result<Option<Conn>, AllocError> {
+    Ok(model.check_out(alloc, &address(alloc)?).ok())
+}
+
+fn authenticates(model: &mut ModelServer, alloc: Global, conn: &Conn) -> bool {
+    model.reauthenticate(alloc, conn).is_ok()
+}
+
 /// Whether one call of each kind answers.
 fn all_answer(model: &mut ModelServer, alloc: Global) -> Result<[bool; 4], AllocError> {
-    let address = address(alloc)?;
-    let selects = model.select(alloc, None, &[]).is_ok();
-    let supports = model.transaction_support(alloc).is_ok();
-    let Ok(conn) = model.check_out(alloc, &address) else {
-        return Ok([selects, supports, false, false]);
+    let selects = selects(model, alloc);
+    let support = tells_support(model, alloc);
+    let Some(conn) = conn_of(model, alloc)? else {
+        return Ok([selects, support, false, false]);
     };
-    let again = model.reauthenticate(alloc, &conn).is_ok();
+    let again = authenticates(model, alloc, &conn);
     model.check_in(conn);
-    Ok([selects, supports, true, again])
+    Ok([selects, support, true, again])
+}
+
+/// Whether one call of each kind answers in each of four rounds as the lists say.
+fn rounds(alloc: Global, model: &mut ModelServer) -> Result<bool, AllocError> {
+    let table = [
+        [false, false, false, false],
+        [true, true, false, false],
+        [true, true, true, false],
+        [true, true, true, true],
+    ];
+    for answers in table {
+        if all_answer(model, alloc)? != answers {
+            return Ok(false);
+        }
+    }
+    Ok(true)
 }
 
 #[test]
 fn listed_calls_fail(rt: HostRuntime) -> Result<(), Fail> {
     let alloc = rt.alloc();
     let mut model = ModelServer::new(alloc, SETUP, first_calls_fail(alloc)?);
-    assert_eq!(rt;
-        all_answer(&mut model, alloc)?,
-        [false, false, false, false]
-    );
-    assert_eq!(rt; all_answer(&mut model, alloc)?, [true, true, false, false]);
-    assert_eq!(rt; all_answer(&mut model, alloc)?, [true, true, true, false]);
-    assert_eq!(rt; all_answer(&mut model, alloc)?, [true, true, true, true]);
+    assert!(rt; rounds(alloc, &mut model)?);
     assert_eq!(rt; model.answered().len(), 5);
     Ok(())
 }
