@@ -4,6 +4,7 @@ pub mod Encoding
 pub mod Fields
 pub mod InsertMeaning
 pub mod Inserts
+pub mod LabelTable
 pub mod Operations
 pub mod Pool
 pub mod Session
