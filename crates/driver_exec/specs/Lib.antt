@@ -7,6 +7,7 @@ pub mod Inserts
 pub mod LabelTable
 pub mod Operations
 pub mod Pool
+pub mod Retry
 pub mod Session
 pub mod Trips
 pub mod Turns
