@@ -5,10 +5,12 @@ pub mod Encoding
 pub mod Fields
 pub mod InsertMeaning
 pub mod Inserts
+pub mod LabelTable
 pub mod Operations
 pub mod Pool
 pub mod Readings
 pub mod Responses
+pub mod Retry
 pub mod Session
 pub mod Trips
 pub mod Turns

@@ -1,0 +1,102 @@
+-- Whether an operation that failed is tried again, and which of its failures is kept.
+use Rattle.std.specs.Prelude.{◌≡◌, ℕ, ℤ, ◌+◌, ◌-◌, ◌^◌, min, Bool, true, false, ◌&&◌, ◌||◌, ◌==◌, not, List, [], ◌∷◌, ◌++◌, Option, None, Some, is_some, ◌⊎◌, Result, Ok, Err, if◌then◌else◌}
+use Rattle.std.specs.List.{list_any}
+use Rattle.std.specs.Str.{bytes_eq}
+use Rattle.driver_error.specs.declared.error.Error.{Error}
+use Rattle.driver_error.specs.declared.kind.ErrorKind.TheVariants.{Memory}
+use Rattle.driver_error.specs.declared.labels.TheConstants.{NO_WRITES_PERFORMED, RETRYABLE_WRITE_ERROR}
+use Rattle.driver_error.specs.Chains.{contains_label}
+use Rattle.driver_error.specs.Error.{kind_of, labels_of}
+use Rattle.driver_error.specs.LabelTexts.{has_label}
+use Rattle.driver_error.specs.Predicates.{is_server_error, is_read_retryable, is_write_retryable}
+use Rattle.driver_link.specs.declared.options.Address.{Address}
+use Rattle.driver_exec.specs.declared.retry.Failure.{Failure}
+use Rattle.driver_exec.specs.declared.retry.FailurePhase.{FailurePhase}
+use Rattle.driver_exec.specs.declared.retry.FailurePhase.TheVariants.{Establishment, Execution}
+use Rattle.driver_exec.specs.declared.retryability.Retryability.{Retryability}
+use Rattle.driver_exec.specs.declared.retryability.Retryability.TheVariants.{Write}
+
+-- what is kept from failed attempts: the number of the next retry, how many there may be, a failure, the first
+-- transaction number, and the servers to be avoided, the oldest first
+pub record Kept : Type 0 where
+  pub attempt : ℕ
+  pub limit : ℕ
+  pub failure : Failure
+  pub number : Option ℤ
+  pub deprioritized : List Address
+
+-- a write is sent where it was not sent before, or was sent with a number
+abbrev pub may_be_sent : FailurePhase → Option ℤ → Bool
+may_be_sent Establishment number = true
+may_be_sent Execution number = is_some number
+
+-- a failure after which the operation may be tried again: the error itself, and not one below it, has the label
+-- of a retryable write, and the operation is a write that may be repeated and may be sent
+unfoldable pub may_be_retried : Failure → Option ℤ → Retryability → Bool
+may_be_retried failure number Write = has_label (labels_of failure.error) RETRYABLE_WRITE_ERROR.now && may_be_sent failure.phase number
+may_be_retried failure number other = false
+
+-- an error that tells of performed writes: neither it nor one below it says that no write was performed, and it
+-- is a server's, or one after which a read or a write may be tried again
+unfoldable pub tells_writes_performed : Error → Bool
+tells_writes_performed error = not (contains_label NO_WRITES_PERFORMED.now error) && (is_server_error error || is_read_retryable error || is_write_retryable error)
+
+-- without a connection no write was performed
+abbrev pub tells_in : FailurePhase → Error → Bool
+tells_in Establishment error = false
+tells_in Execution error = tells_writes_performed error
+
+unfoldable pub indicates_writes_performed : Failure → Bool
+indicates_writes_performed failure = tells_in failure.phase failure.error
+
+-- the kept failure stays where it indicates performed writes and the new one does not
+unfoldable pub stays : Failure → Failure → Bool
+stays kept new = indicates_writes_performed kept && not (indicates_writes_performed new)
+
+abbrev pub failure_kept : Failure → Failure → Failure
+failure_kept kept new = if stays kept new then kept else new
+
+-- the first number is kept
+abbrev pub number_kept : Option ℤ → Option ℤ → Option ℤ
+number_kept None new = new
+number_kept (Some number) new = Some number
+
+-- the server at this address
+abbrev pub is_server : Address → Address → Bool
+is_server address server = bytes_eq server.host address.host && server.port == address.port
+
+-- the servers with one more, each once
+unfoldable pub with_server : Address → List Address → List Address
+with_server address servers = if list_any (is_server address) servers then servers else servers ++ address ∷ []
+
+-- one attempt more; the count stands still at its end
+abbrev pub one_more : ℕ → ℕ
+one_more attempt = min (attempt + 1) (2 ^ 32 - 1)
+
+-- the first failure makes the first attempt to retry, of one
+abbrev pub after_first : Failure → Option ℤ → Kept
+after_first failure number = record { attempt = 1; limit = 1; failure = failure; number = number; deprioritized = [] }
+
+-- each further failure makes one more
+unfoldable pub after_further : Kept → Failure → Option ℤ → Kept
+after_further kept failure number = record kept { attempt = one_more kept.attempt; failure = failure_kept kept.failure failure; number = number_kept kept.number number }
+
+unfoldable pub after : Option Kept → Failure → Option ℤ → Kept
+after None failure number = after_first failure number
+after (Some kept) failure number = after_further kept failure number
+
+-- on a sharded link the server that failed is avoided
+unfoldable pub avoiding : Bool → Address → Kept → Kept
+avoiding sharded address kept = if sharded then record kept { deprioritized = with_server address kept.deprioritized } else kept
+
+-- the next retry after a failure, or the error of the failure that is kept where it may not be tried again
+unfoldable pub decide : Option Kept → Failure → Option ℤ → Address → Retryability → Bool → Result Kept Error
+decide kept failure number address retryability sharded =
+    if may_be_retried failure number retryability
+    then Ok (avoiding sharded address (after kept failure number))
+    else Err (after kept failure number).failure.error
+
+-- a call gives what is decided, or want of memory
+abbrev pub Decides : Result Kept Error → Result Kept Error → Type 0
+Decides decision (Ok retry) = decision ≡ Ok retry
+Decides decision (Err error) = (decision ≡ Err error) ⊎ (kind_of error ≡ Memory)
