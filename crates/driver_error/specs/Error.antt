@@ -2,7 +2,7 @@
 use Rattle.std.specs.Prelude.{◌≡◌, ℕ, ℤ, List, [], Option, None}
 use Rattle.bson_lite.specs.declared.fault.EncodeFault.{EncodeFault}
 use Rattle.bson_lite.specs.declared.fault.EncodeFault.TheVariants as fault
-use Rattle.driver_error.specs.declared.error.Error.{Error, out-Error}
+use Rattle.driver_error.specs.declared.error.Error.{Error, out-Error, roll-Error}
 use Rattle.driver_error.specs.declared.kind.ErrorKind as declared
 use Rattle.driver_error.specs.declared.kind.ErrorKind.TheVariants as kind
 use Rattle.driver_error.specs.LabelTexts.{LabelSet}
@@ -67,6 +67,10 @@ pub record HasResponse (response : Option (List ℕ)) (old now : Error) : Type 0
   pub version : wire_version_of now ≡ wire_version_of old
   pub source : source_of now ≡ source_of old
   pub response_is : response_of now ≡ response
+
+-- the same error of another kind
+unfoldable pub with_kind : ErrorKind → Error → Error
+with_kind why error = roll-Error (record (out-Error error) { kind = why })
 
 -- the kind of an error that a fault of encoding becomes
 abbrev pub kind_of_fault : EncodeFault → ErrorKind

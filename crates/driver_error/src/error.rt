@@ -3,7 +3,7 @@ ghost use Rattle.std.specs.Prelude.{◌≡◌, ◌++◌, None, Some, OnOk, OnErr
 ghost use Rattle.std.specs.Option.{option_copied};
 ghost use Rattle.driver_error.specs.declared.kind.ErrorKind.TheVariants.{Custom};
 ghost use Rattle.driver_error.specs.Conversions.{IsMade, IsNew};
-ghost use Rattle.driver_error.specs.Error.{kind_of, labels_of, source_of, response_of, wire_version_of, IsAlone, KeepsAllButLabels, HasSource, HasVersion, HasResponse};
+ghost use Rattle.driver_error.specs.Error.{kind_of, labels_of, source_of, response_of, wire_version_of, IsAlone, KeepsAllButLabels, HasSource, HasVersion, HasResponse, with_kind};
 ghost use Rattle.driver_error.specs.Kinds.{inner_labels, concern_of, backoff_of, custom_text};
 ghost use Rattle.driver_error.specs.LabelTexts.{no_labels, label_set, with_label, has_label};
 
@@ -199,6 +199,14 @@ impl Error {
                 Err(refused)
             }
         }
+    }
+
+    /// The same error of another kind. It takes no memory.
+    #[tactic(auto, unfolding(crate::specs::Error::with_kind))]
+    pub fn with_kind(self, kind: ErrorKind) -> Error
+        ensures { result ≡ with_kind kind self }
+    {
+        Error { kind, ..self }
     }
 
     /// The same error, as it came on a connection with this wire version. It takes no memory.

@@ -1,5 +1,5 @@
 -- Elements and positions of lists.
-use Rattle.std.proofs.Common.{◌≡◌, ℕ, zero, suc, List, [], ◌∷◌, ◌++◌, length, refl, ap, inl, inr}
+use Rattle.std.proofs.Common.{◌≡◌, ℕ, zero, suc, List, [], ◌∷◌, ◌++◌, length, refl, ap, inl, inr, arith}
 use Rattle.std.specs.Prelude.{Option, None, Some, ◌⊎◌, slice_get, slice_set}
 use Rattle.driver_link.specs.Settled.{Has}
 
@@ -22,10 +22,10 @@ pub has_last : {A : Type 0} (xs : List A) (x : A) → Has (xs ++ x ∷ []) x
 has_last [] x = inl refl
 has_last (y ∷ ys) x = inr (has_last ys x)
 
-none_is_some : {A : Type 0} (x : A) → ◌≡◌ {A = Option A} None (Some x) → ⊥
+pub none_is_some : {A : Type 0} (x : A) → ◌≡◌ {A = Option A} None (Some x) → ⊥
 none_is_some x is = cc
 
-some_is_some : {A : Type 0} (x y : A) → ◌≡◌ {A = Option A} (Some x) (Some y) → x ≡ y
+pub some_is_some : {A : Type 0} (x y : A) → ◌≡◌ {A = Option A} (Some x) (Some y) → x ≡ y
 some_is_some x y is = cc
 
 pub get_left : {A : Type 0} (xs more : List A) (at : ℕ) (x : A) → slice_get xs at ≡ Some x → slice_get (xs ++ more) at ≡ Some x
@@ -55,3 +55,28 @@ set_none {A = A} (y ∷ ys) zero zero x is = absurd (none_is_some x (some_is_som
 set_none (y ∷ ys) zero (suc k) x is = is
 set_none (y ∷ ys) (suc at) zero x is = is
 set_none (y ∷ ys) (suc at) (suc k) x is = set_none ys at k x is
+
+-- a place that was set to nothing has nothing
+pub set_gone : {A : Type 0} (xs : List (Option A)) (at : ℕ) (x : A) → slice_get (slice_set xs at None) at ≡ Some (Some x) → ⊥
+set_gone [] at x is = none_is_some (Some x) is
+set_gone (y ∷ ys) zero x is = none_is_some x (some_is_some None (Some x) is)
+set_gone (y ∷ ys) (suc at) x is = set_gone ys at x is
+
+-- an element stands at a position, and what stands at one is an element
+pub position_of : {A : Type 0} (xs : List A) (x : A) → Has xs x → (p : ℕ) × (slice_get xs p ≡ Some x)
+position_of [] x has = absurd has
+position_of (y ∷ ys) x has = elim has [
+  | inl same ↦ (zero, ap (λ z. Some z) same)
+  | inr rest ↦ let found = position_of ys x rest in (suc found.0, found.1)
+]
+
+pub has_at : {A : Type 0} (xs : List A) (p : ℕ) (x : A) → slice_get xs p ≡ Some x → Has xs x
+has_at [] p x is = absurd (none_is_some x is)
+has_at (y ∷ ys) zero x is = inl (some_is_some y x is)
+has_at (y ∷ ys) (suc p) x is = inr (has_at ys p x is)
+
+-- nothing stands past the end
+pub none_beyond : {A : Type 0} (xs : List A) (p : ℕ) (x : A) → slice_get xs p ≡ Some x → p ≡ length xs → ⊥
+none_beyond [] p x is same = none_is_some x is
+none_beyond (y ∷ ys) zero x is same = omega (arith, same)
+none_beyond (y ∷ ys) (suc p) x is same = none_beyond ys p x is (omega (arith, same))

@@ -21,11 +21,12 @@ use Rattle.driver_link.specs.declared.machine.Statement.{Statement}
 use Rattle.driver_link.specs.Once.{Once}
 use Rattle.driver_link.specs.Cases.{writes_of}
 use Rattle.driver_link.specs.Sessions.{begun, is_below, taken}
-use Rattle.driver_link.specs.Settled.{Has, HasOrigin, HasRun, IsOrderly, IsSettled, IsSettledSession, IsUnder}
+use Rattle.driver_link.specs.Settled.{Has, HasFreeOrigin, HasOrigin, HasRun, IsOrderly, IsSettled, IsSettledSession, IsUnder, IsUnnumbered, IsUnserved}
 use Rattle.driver_link.specs.Statements.{entry_of, entries_of, has_run, kept_with}
 use Rattle.driver_link.proofs.Following.{Follows, IsEntryOf, entry_from, entry_there, kept_from, kept_ran, kept_still, ran_free}
 use Rattle.driver_link.proofs.Lists.{has_left, has_right, has_either}
-use Rattle.driver_link.proofs.Placing.{AllPlaces, once_append, once_entries}
+use Rattle.driver_link.proofs.Orderly.{alike, all_places, free_apart, plain_under}
+use Rattle.driver_link.proofs.Placing.{once_append, once_entries}
 
 -- two ids are the same or differ
 pub id_cases : (a b : List ℕ) → (a ≡ b) ⊎ (a ≡ b → ⊥)
@@ -119,7 +120,8 @@ module _ (trace : List Send) (send : Send) (id : List ℕ) (number : ℤ) (known
         let same_session : session.newest.session ≡ send.session = session.under.session ∙ sym under.session in
         let same_number : session.newest.number ≡ send.number
         = session.under.numbered ∙ ap (λ n. Some n) is_taken.greatest ∙ sym under.numbered in
-        let writes = orderly.one_list session.newest send session.sent sent same_session same_number in
+        let plain = plain_under trace orderly session.newest session.sent id known.greatest session.under in
+        let writes = orderly.one_list session.newest send plain session.sent sent same_session same_number in
         let stands_newest : slice_get (writes_of session.newest) at ≡ Some write = ap (λ ws. slice_get ws at) writes ∙ stands in
         let has = session.kept at write result stands_newest kept in
         has_before (entry_of (Some id) (Some number) write result)
@@ -249,7 +251,7 @@ module _ (trace : List Send) (send : Send) (id : List ℕ) (number : ℤ) (known
   apart : (a b : Entry) → HasOrigin trace old a → IsEntryOf (Some id) (Some number) (writes_of send) done b → a.place ≢ b.place
   apart a b origin new same =
       let place : origin.write.place ≡ new.write.place = sym (ap (λ e. e.place) origin.is) ∙ same ∙ ap (λ e. e.place) new.is in
-      let one = orderly.one_place origin.send send origin.at new.at origin.write new.write origin.sent sent origin.stands new.stands place in
+      let one = alike trace orderly origin.send send origin.at new.at origin.write new.write origin.sent sent origin.stands new.stands place in
       let same_id : origin.id ≡ id = some_list origin.id id (sym origin.under.session ∙ one.session ∙ under.session) in
       let same_number : origin.number ≡ number = some_int origin.number number (sym origin.under.numbered ∙ one.number ∙ under.numbered) in
       let found : finite.get old.sessions id ≡ Some origin.known = ap (λ i. finite.get old.sessions i) (sym same_id) ∙ origin.is_known in
@@ -292,8 +294,31 @@ module _ (trace : List Send) (send : Send) (id : List ℕ) (number : ℤ) (known
         | inr anew ↦ anew_run found (anew.1 found is_found) run
       ]
 
-  all_places : AllPlaces (writes_of send)
-  all_places = λ i j v w at_i at_j same. (orderly.one_place send send i j v w sent sent at_i at_j same).position
+  -- so has one without a number
+  free_origin_apart : (a b : Entry) → HasFreeOrigin trace a → IsEntryOf (Some id) (Some number) (writes_of send) done b → a.place ≢ b.place
+  free_origin_apart a b origin new same =
+      let place : new.write.place ≡ origin.write.place = sym (sym (ap (λ e. e.place) origin.is) ∙ same ∙ ap (λ e. e.place) new.is) in
+      free_apart trace orderly send origin.send number sent origin.sent under.numbered origin.none
+      (record { first = new.at; second = origin.at; one = new.write; other = origin.write; stands = new.stands; also = origin.stands; same = place })
+
+  either_apart : (a b : Entry) → Has old.log a → IsEntryOf (Some id) (Some number) (writes_of send) done b → a.place ≢ b.place
+  either_apart a b has new = elim (settled.origin a has) [
+    | inl origin ↦ apart a b origin new
+    | inr origin ↦ free_origin_apart a b origin new
+  ]
+
+  -- a send without a number that waits is not served by this
+  unserved_now : (at : ℕ) (other : Send) → slice_get now.waiting at ≡ Some (Some other) → IsUnnumbered other → IsUnserved other now.log
+  unfolding entries
+  unserved_now at other is free entry k write has stands same =
+      let before = runs.waiting at other is in
+      elim (has_either old.log entries entry (subst (λ log. Has log entry) log_is has)) [
+        | inl stood ↦ settled.unserved at other before free entry k write stood stands same
+        | inr joined ↦
+            let new = entry_from (Some id) (Some number) (writes_of send) done entry joined in
+            free_apart trace orderly send other number sent (settled.waiting at other before) under.numbered free.none
+            (record { first = new.at; second = k; one = new.write; other = write; stands = new.stands; also = stands; same = sym (ap (λ e. e.place) new.is) ∙ same })
+      ]
 
   pub runs_settled : IsSettled trace now
   unfolding entries
@@ -306,12 +331,17 @@ module _ (trace : List Send) (send : Send) (id : List ℕ) (number : ℤ) (known
       | inr differs ↦ session_there other found (settled.sessions other found (sym (known_there other differs) ∙ is_found))
     ];
     origin = λ entry has. elim (has_either old.log entries entry (subst (λ log. Has log entry) log_is has)) [
-      | inl before ↦ origin_before entry (settled.origin entry before)
-      | inr new ↦ origin_new entry (entry_from (Some id) (Some number) (writes_of send) done entry new)
+      | inl before ↦ elim (settled.origin entry before) [
+        | inl origin ↦ inl (origin_before entry origin)
+        | inr free ↦ inr free
+      ]
+      | inr new ↦ inl (origin_new entry (entry_from (Some id) (Some number) (writes_of send) done entry new))
     ];
     once =
-        subst Once (sym log_is) (once_append old.log entries settled.once (once_entries (Some id) (Some number) (writes_of send) done all_places)
-        (λ a b left right. apart a b (settled.origin a left) (entry_from (Some id) (Some number) (writes_of send) done b right)));
+        subst Once (sym log_is) (once_append old.log entries settled.once (once_entries (Some id) (Some number) (writes_of send) done (all_places trace orderly send sent))
+        (λ a b left right. either_apart a b left (entry_from (Some id) (Some number) (writes_of send) done b right)));
+    unserved = unserved_now;
+    alone = λ at other a b is_a is_b. settled.alone at other a b (runs.waiting at a is_a) (runs.waiting other b is_b);
   }
     where
       some_known : (a b : KnownSession) → ◌≡◌ {A = Option KnownSession} (Some a) (Some b) → a ≡ b

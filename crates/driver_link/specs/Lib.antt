@@ -20,6 +20,7 @@ pub mod Numbers
 pub mod Once
 pub mod Reads
 pub mod Replies
+pub mod Retried
 pub mod Sequences
 pub mod Serving
 pub mod Sessions

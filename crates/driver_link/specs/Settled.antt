@@ -1,6 +1,6 @@
--- The invariant of one client's plain writes: sends that carry a list of writes under a session and a
--- number, outside transactions, any number of times.
-use Rattle.std.specs.Prelude.{◌≡◌, ℕ, ◌<ℤ◌, ℤ, false, List, [], ◌∷◌, ◌++◌, Some, IsSome, ◌⊎◌, slice_get}
+-- The invariant of one client's writes outside transactions: sends that carry a list of writes under a session
+-- and a number, any number of times, and sends without a number, each of them once.
+use Rattle.std.specs.Prelude.{◌≡◌, ◌≢◌, ℕ, ◌<ℤ◌, ℤ, false, List, [], ◌∷◌, ◌++◌, None, Some, IsSome, ◌⊎◌, slice_get}
 use Rattle.std.specs.FinMap as finite
 use Rattle.driver_link.specs.declared.machine.Counted.{Counted}
 use Rattle.driver_link.specs.declared.machine.Entry.{Entry}
@@ -34,30 +34,56 @@ pub record IsPlain (send : Send) : Type 0 where
   pub outside : send.in_transaction ≡ false
   pub writes : IsWrite send.body
 
+-- a send of writes without a number, outside transactions
+pub record IsUnnumbered (send : Send) : Type 0 where
+  pub none : send.number ≡ None
+  pub outside : send.in_transaction ≡ false
+  pub writes : IsWrite send.body
+
+-- a send of writes with a number or without one
+abbrev pub IsEither : Send → Type 0
+IsEither send = IsPlain send ⊎ IsUnnumbered send
+
 -- a send is under this session and number
 pub record IsUnder (id : List ℕ) (number : ℤ) (send : Send) : Type 0 where
   pub session : send.session ≡ Some id
   pub numbered : send.number ≡ Some number
 
--- two positions of one write: the same session, number and position
-pub record IsSamePlace (a b : Send) (i j : ℕ) : Type 0 where
+-- two sends have a write of the same place
+pub record SharePlace (a b : Send) : Type 0 where
+  pub first : ℕ
+  pub second : ℕ
+  pub one : PlacedWrite
+  pub other : PlacedWrite
+  pub stands : slice_get (writes_of a) first ≡ Some one
+  pub also : slice_get (writes_of b) second ≡ Some other
+  pub same : one.place ≡ other.place
+
+-- two sends are under one session and one number
+pub record IsOneNumber (a b : Send) : Type 0 where
+  pub plain : IsPlain a
   pub session : a.session ≡ b.session
   pub number : a.number ≡ b.number
-  pub position : i ≡ j
 
--- the sends of a trace: each is plain, one number has one list of writes, and a place stands at one
--- position under one number
+-- two positions of one write, in the sends at two positions of a trace: the same position, under one number
+-- or in one send
+pub record IsSamePlace (p q : ℕ) (a b : Send) (i j : ℕ) : Type 0 where
+  pub position : i ≡ j
+  pub sends : IsOneNumber a b ⊎ (p ≡ q)
+
+-- the sends of a trace: each carries writes, one number has one list of writes, and a place stands at one
+-- position, under one number or in one send
 pub record IsOrderly (trace : List Send) : Type 0 where
-  pub plain : (send : Send) → Has trace send → IsPlain send
-  pub one_list : (a b : Send) → Has trace a → Has trace b → a.session ≡ b.session → a.number ≡ b.number → writes_of a ≡ writes_of b
-  pub one_place : (a b : Send) (i j : ℕ) (v w : PlacedWrite) → Has trace a → Has trace b → slice_get (writes_of a) i ≡ Some v → slice_get (writes_of b) j ≡ Some w
-      → v.place ≡ w.place → IsSamePlace a b i j
+  pub either : (send : Send) → Has trace send → IsEither send
+  pub one_list : (a b : Send) → IsPlain a → Has trace a → Has trace b → a.session ≡ b.session → a.number ≡ b.number → writes_of a ≡ writes_of b
+  pub one_place : (p q : ℕ) (a b : Send) (i j : ℕ) (v w : PlacedWrite) → slice_get trace p ≡ Some a → slice_get trace q ≡ Some b
+      → slice_get (writes_of a) i ≡ Some v → slice_get (writes_of b) j ≡ Some w → v.place ≡ w.place → IsSamePlace p q a b i j
 
 -- a statement of a number has run: the session has gone on, or its result is kept
 abbrev pub HasRun : ℤ → ℕ → KnownSession → Type 0
 HasRun number at known = (number <ℤ known.greatest) ⊎ ((number ≡ known.greatest) × IsSome (finite.get known.kept at))
 
--- where an entry comes from: a write of a send of the trace, which has run
+-- where an entry under a number comes from: a write of a send of the trace, which has run
 pub record HasOrigin (trace : List Send) (server : Server) (entry : Entry) : Type 0 where
   pub send : Send
   pub at : ℕ
@@ -73,6 +99,31 @@ pub record HasOrigin (trace : List Send) (server : Server) (entry : Entry) : Typ
   pub is_known : finite.get server.sessions id ≡ Some known
   pub has_run : HasRun number at known
 
+-- where an entry without a number comes from: a write of a send of the trace
+pub record HasFreeOrigin (trace : List Send) (entry : Entry) : Type 0 where
+  pub send : Send
+  pub at : ℕ
+  pub write : PlacedWrite
+  pub result : Counted
+  pub sent : Has trace send
+  pub none : send.number ≡ None
+  pub stands : slice_get (writes_of send) at ≡ Some write
+  pub is : entry ≡ entry_of send.session None write result
+
+-- an entry is that of a write of a send of the trace
+pub record IsFrom (trace : List Send) (entry : Entry) : Type 0 where
+  pub send : Send
+  pub at : ℕ
+  pub write : PlacedWrite
+  pub result : Counted
+  pub sent : Has trace send
+  pub stands : slice_get (writes_of send) at ≡ Some write
+  pub is : entry ≡ entry_of send.session send.number write result
+
+-- no write of a send is in the log
+abbrev pub IsUnserved : Send → List Entry → Type 0
+IsUnserved send log = (entry : Entry) (at : ℕ) (write : PlacedWrite) → Has log entry → slice_get (writes_of send) at ≡ Some write → entry.place ≢ write.place
+
 -- what is known of a session: a send under its greatest number is in the trace, and each kept result has its
 -- entry in the log
 pub record IsSettledSession (trace : List Send) (log : List Entry) (id : List ℕ) (known : KnownSession) : Type 0 where
@@ -83,12 +134,16 @@ pub record IsSettledSession (trace : List Send) (log : List Entry) (id : List �
   pub kept : (at : ℕ) (write : PlacedWrite) (result : Counted) → slice_get (writes_of newest) at ≡ Some write
       → finite.get known.kept at ≡ Some result → Has log (entry_of (Some id) (Some known.greatest) write result)
 
--- the invariant: waiting sends were sent, sessions and entries come from the trace, and no write stands twice
+-- the invariant: waiting sends were sent, sessions and entries come from the trace, no write stands twice, and
+-- a send without a number that waits was not served and waits alone
 pub record IsSettled (trace : List Send) (server : Server) : Type 0 where
   pub waiting : (at : ℕ) (send : Send) → slice_get server.waiting at ≡ Some (Some send) → Has trace send
   pub sessions : (id : List ℕ) (known : KnownSession) → finite.get server.sessions id ≡ Some known → IsSettledSession trace server.log id known
-  pub origin : (entry : Entry) → Has server.log entry → HasOrigin trace server entry
+  pub origin : (entry : Entry) → Has server.log entry → HasOrigin trace server entry ⊎ HasFreeOrigin trace entry
   pub once : Once server.log
+  pub unserved : (at : ℕ) (send : Send) → slice_get server.waiting at ≡ Some (Some send) → IsUnnumbered send → IsUnserved send server.log
+  pub alone : (at other : ℕ) (a b : Send) → slice_get server.waiting at ≡ Some (Some a) → slice_get server.waiting other ≡ Some (Some b)
+      → IsUnnumbered a → SharePlace a b → at ≡ other
 
 -- a send may join the trace: it stays orderly
 abbrev pub MayJoin : List Send → Send → Type 0

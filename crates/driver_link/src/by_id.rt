@@ -65,6 +65,14 @@ impl<T: Drop> ById<T> {
             Err(_) => Err(AllocError),
         }
     }
+
+    /// Takes the value at an id out, where there is one.
+    pub fn remove(&mut self, id: &[u8; 16]) -> Option<T>
+        ensures removed { self.new ≡ map.remove self.old id.now }
+        ensures stood { result ≡ map.get self.old id.now }
+    {
+        self.entries.remove(id)
+    }
 }
 
 #[cfg(test)]
@@ -80,6 +88,19 @@ mod tests {
         assert_eq!(rt; known.get(&[1; 16]).copied(), Some(11));
         assert_eq!(rt; known.get(&[3; 16]).copied(), None);
         assert_eq!(rt; known.len(), 2);
+        Ok(())
+    }
+
+    #[test]
+    fn a_removed_value_is_gone(rt: HostRuntime) -> Result<(), AllocError> {
+        let mut known = ById::new(rt.alloc());
+        known.insert([1; 16], 10)?;
+        known.insert([2; 16], 20)?;
+        assert_eq!(rt; known.remove(&[1; 16]), Some(10));
+        assert_eq!(rt; known.remove(&[1; 16]), None);
+        assert_eq!(rt; known.get(&[1; 16]).copied(), None);
+        assert_eq!(rt; known.get(&[2; 16]).copied(), Some(20));
+        assert_eq!(rt; known.len(), 1);
         Ok(())
     }
 }

@@ -60,6 +60,8 @@ pub struct Asked {
 pub struct ClientOptions {
     /// Tells clients apart: a session belongs to the client of its number.
     pub client_number: u64,
+    /// Whether writes may be sent again after a failure, which they may where this is not set.
+    pub retry_writes: Option<bool>,
 }
 
 /// What a connection's server said of itself. Sizes are in bytes.
