@@ -6,8 +6,7 @@ pub mod WaitingLaws
 pub mod InterruptLaws
 pub mod ReadLaws
 pub mod WriteLaws
-pub mod CopyLaws
-pub mod TrackLaws
+pub mod UndoLaws
 pub mod StillLaws
 pub mod IndexLaws
 pub mod StepsLaws

@@ -23,7 +23,7 @@ one_arrives server at (Some (Some other)) send one =
     let same : other ≡ send = cc in ap (served usual (record server { waiting = slice_set server.waiting at None })) same
 
 -- a place where none waits stays as it is
-none_left : (waiting : List (Option Send)) (at : ℕ) → waits_at waiting at ≡ None → slice_set waiting at None ≡ waiting
+pub none_left : {A : Type 0} (waiting : List (Option A)) (at : ℕ) → waits_at waiting at ≡ None → slice_set waiting at None ≡ waiting
 none_left [] at none = refl
 none_left (first ∷ waiting) zero none = ap (λ w. w ∷ waiting) (sym none)
 none_left (first ∷ waiting) (suc at) none = ap (λ rest. first ∷ rest) (none_left waiting at none)
@@ -40,7 +40,7 @@ unfolding delivered
 one_delivered server at send one = one_arrives server at (slice_get server.waiting at) send one
 
 -- what was taken out and put back stands as before
-pub back_again : (waiting : List (Option Send)) (at : ℕ) (send : Send) → waits_at waiting at ≡ Some send
+pub back_again : {A : Type 0} (waiting : List (Option A)) (at : ℕ) (send : A) → waits_at waiting at ≡ Some send
     → slice_set (slice_set waiting at None) at (Some send) ≡ waiting
 back_again [] at send one = cc
 back_again (first ∷ waiting) zero send one = ap (λ w. w ∷ waiting) (sym one)

@@ -9,6 +9,7 @@ pub mod Waiting
 pub mod Transient
 pub mod Meets
 pub mod ModelState
-pub mod Tracked
+pub mod Displacing
+pub mod Undoing
 pub mod Indexes
 pub mod Steady

@@ -2,15 +2,17 @@
 //! the server as it was.
 ghost use Rattle.std.specs.Prelude.{◌≡◌, ◌++◌, Some, IsSome, IfOk, OnOk, OnErr};
 ghost use Rattle.std.specs.FinMap as finite;
-ghost use Rattle.driver_link.specs.Cursors.{closed};
+ghost use Rattle.driver_link.specs.Cursors.{closed, results_left};
 ghost use Rattle.driver_link.specs.Serving.{has_entries};
 ghost use Rattle.driver_link.specs.Sessions.{taken, denied_transaction};
 ghost use Rattle.driver_link.specs.declared.machine.KnownSession.{KnownSession as Known};
 ghost use Rattle.model_server.specs.Changes.{stepped, logged_by, ended, step_in, effect_in, changed};
+ghost use Rattle.model_server.specs.Displacing.{displaced_by, session_displaced, outdated};
 ghost use Rattle.model_server.specs.Seen.{entries_in};
 
 use crate::cases::begun;
 use crate::cursors::place_of;
+use crate::places::take_out;
 use bson_lite::{Document, List};
 use driver_link::{ById, Counted, Entry, KnownSession, Server, ServerTransaction};
 use std::alloc::{AllocError, Global};
@@ -72,64 +74,105 @@ pub enum CursorChange {
     Closes { cursor: i64 },
 }
 
-/// Puts what a send does into a server. A refusal leaves the server as it was.
-#[tactic(auto, unfolding(crate::specs::Changes::changed, crate::specs::Changes::effect_in, driver_link::specs::Cursors::closed))]
+/// What a change takes the place of.
+#[derive(Debug, Drop)]
+pub struct Displaced {
+    /// What was known of a session that begins anew.
+    pub session: Option<KnownSession>,
+    /// What was left of a cursor that is closed.
+    pub left: Option<List<Document>>,
+}
+
+/// Puts what a send does into a server. The answer is what that takes the place of. A refusal leaves the
+/// server as it was.
+#[tactic(auto, unfolding(crate::specs::Changes::changed, crate::specs::Changes::effect_in))]
 pub fn put(
     server: &mut Server,
     alloc: Global,
     effect: Effect,
     change: CursorChange,
-) -> Result<(), AllocError>
+) -> Result<Displaced, AllocError>
     ensures ok { OnOk result (server.new ≡ changed effect change server.old) }
+    ensures displaced { IfOk result (λ displaced. displaced ≡ displaced_by effect change server.old) }
     ensures err { OnErr result (server.new ≡ server.old) }
 {
     match change {
-        CursorChange::Nothing => put_effect(server, alloc, effect),
-        CursorChange::Opens { left } => {
-            let had = server.cursors.len();
-            server.cursors.push(Some(left))?;
-            match put_effect(server, alloc, effect) {
-                Ok(()) => Ok(()),
-                Err(refused) => {
-                    server.cursors.truncate(had);
-                    Err(refused)
-                }
-            }
+        CursorChange::Nothing => {
+            let session = put_effect(server, alloc, effect)?;
+            Ok(Displaced {
+                session,
+                left: None,
+            })
         }
+        CursorChange::Opens { left } => put_opening(server, alloc, effect, left),
         CursorChange::Closes { cursor } => {
-            put_effect(server, alloc, effect)?;
-            close(&mut server.cursors, alloc, cursor);
-            Ok(())
+            let session = put_effect(server, alloc, effect)?;
+            let left = close(&mut server.cursors, alloc, cursor);
+            Ok(Displaced { session, left })
         }
     }
 }
 
-/// Closes a cursor, where it is open.
-#[tactic(auto, unfolding(driver_link::specs::Cursors::closed))]
-fn close(cursors: &mut List<Option<List<Document>>>, alloc: Global, cursor: i64)
-    ensures { cursors.new ≡ closed cursor cursors.old }
+/// Opens a cursor, and puts an effect into a server.
+#[tactic(auto, unfolding(crate::specs::Changes::changed, crate::specs::Changes::effect_in))]
+fn put_opening(
+    server: &mut Server,
+    alloc: Global,
+    effect: Effect,
+    left: List<Document>,
+) -> Result<Displaced, AllocError>
+    ensures ok { OnOk result (server.new ≡ changed effect (CursorChange.Opens left) server.old) }
+    ensures displaced { IfOk result (λ displaced. displaced ≡ displaced_by effect (CursorChange.Opens left) server.old) }
+    ensures err { OnErr result (server.new ≡ server.old) }
 {
-    let mut items = mem::replace(cursors, List::new(alloc)).into_vec();
-    match place_of(cursor) {
-        Some(at) => {
-            if at < items.len() {
-                items[at] = None;
-            }
+    let had = server.cursors.len();
+    server.cursors.push(Some(left))?;
+    match put_effect(server, alloc, effect) {
+        Ok(session) => Ok(Displaced {
+            session,
+            left: None,
+        }),
+        Err(refused) => {
+            server.cursors.truncate(had);
+            Err(refused)
         }
-        None => {}
     }
-    *cursors = List::from_vec(items);
 }
 
-/// Puts the effect on sessions and log into a server.
+/// Closes a cursor. The answer is what was left of it, where it was open.
+#[tactic(auto, unfolding(driver_link::specs::Cursors::closed, driver_link::specs::Cursors::results_left))]
+fn close(
+    cursors: &mut List<Option<List<Document>>>,
+    alloc: Global,
+    cursor: i64,
+) -> Option<List<Document>>
+    ensures closed { cursors.new ≡ closed cursor cursors.old }
+    ensures left { result ≡ results_left cursor cursors.old }
+{
+    match place_of(cursor) {
+        Some(at) => take_out(cursors, alloc, at),
+        None => None,
+    }
+}
+
+/// Puts the effect on sessions and log into a server. The answer is what was known of a session that
+/// begins anew.
 #[tactic(auto, unfolding(crate::specs::Changes::effect_in))]
-fn put_effect(server: &mut Server, alloc: Global, effect: Effect) -> Result<(), AllocError>
+fn put_effect(
+    server: &mut Server,
+    alloc: Global,
+    effect: Effect,
+) -> Result<Option<KnownSession>, AllocError>
     ensures ok { OnOk result (server.new ≡ effect_in effect server.old) }
+    ensures displaced { IfOk result (λ displaced. displaced ≡ session_displaced effect server.old.sessions) }
     ensures err { OnErr result (server.new ≡ server.old) }
 {
     match effect {
-        Effect::Nothing => Ok(()),
-        Effect::Logged { entries } => server.log.append(entries),
+        Effect::Nothing => Ok(None),
+        Effect::Logged { entries } => {
+            server.log.append(entries)?;
+            Ok(None)
+        }
         Effect::Taken {
             id,
             number,
@@ -156,8 +199,9 @@ struct Taking {
     start: bool,
 }
 
-/// Takes the number of a session, and a step of it.
-#[tactic(auto, unfolding(driver_link::specs::Sessions::taken))]
+/// Takes the number of a session, and a step of it. The answer is what was known of it where it begins
+/// anew.
+#[tactic(auto, unfolding(driver_link::specs::Sessions::taken, crate::specs::Displacing::outdated))]
 fn put_step(
     server: &mut Server,
     alloc: Global,
@@ -165,8 +209,9 @@ fn put_step(
     taking: Taking,
     step: SessionStep,
     transient: bool,
-) -> Result<(), AllocError>
+) -> Result<Option<KnownSession>, AllocError>
     ensures ok { OnOk result (server.new ≡ step_in id step transient (taken taking.number taking.in_transaction taking.start (finite.get server.old.sessions id)) server.old) }
+    ensures displaced { IfOk result (λ displaced. displaced ≡ outdated taking.number (finite.get server.old.sessions id)) }
     ensures err { OnErr result (server.new ≡ server.old) }
 {
     let anew = begun(alloc, taking.number, taking.in_transaction, taking.start);
@@ -176,10 +221,12 @@ fn put_step(
     if known.greatest < taking.number {
         return begin(server, alloc, id, anew, step, transient);
     }
-    go_on(server, alloc, id, step, transient)
+    go_on(server, alloc, id, step, transient)?;
+    Ok(None)
 }
 
-/// Takes a step of a session that begins, or begins anew, and makes it known.
+/// Takes a step of a session that begins, or begins anew, and makes it known. The answer is what was known
+/// of it.
 fn begin(
     server: &mut Server,
     alloc: Global,
@@ -187,14 +234,15 @@ fn begin(
     mut known: KnownSession,
     step: SessionStep,
     transient: bool,
-) -> Result<(), AllocError>
+) -> Result<Option<KnownSession>, AllocError>
     ensures ok { OnOk result (server.new ≡ step_in id step transient known server.old) }
+    ensures displaced { IfOk result (λ displaced. displaced ≡ finite.get server.old.sessions id) }
     ensures err { OnErr result (server.new ≡ server.old) }
 {
     let had = server.log.len();
     take_step(&mut known, &mut server.log, alloc, step, transient)?;
     match server.sessions.insert(id, known) {
-        Ok(_) => Ok(()),
+        Ok(stood) => Ok(stood),
         Err(refused) => {
             server.log.truncate(had);
             Err(refused)
@@ -399,7 +447,7 @@ fn deny(transaction: &mut ServerTransaction)
 }
 
 /// What is known of a session, taken out of the map; an empty one stands there until it is given back.
-fn lend(sessions: &mut ById<KnownSession>, alloc: Global, id: [u8; 16]) -> KnownSession
+pub fn lend(sessions: &mut ById<KnownSession>, alloc: Global, id: [u8; 16]) -> KnownSession
     requires { IsSome (finite.get sessions.old id) }
     ensures known { finite.get sessions.old id ≡ Some result }
     ensures there { IsSome (finite.get sessions.new id) }
@@ -413,7 +461,7 @@ fn lend(sessions: &mut ById<KnownSession>, alloc: Global, id: [u8; 16]) -> Known
 }
 
 /// Puts what is known of a session in place of what stands there.
-fn give_back(sessions: &mut ById<KnownSession>, id: [u8; 16], known: KnownSession)
+pub fn give_back(sessions: &mut ById<KnownSession>, id: [u8; 16], known: KnownSession)
     requires { IsSome (finite.get sessions.old id) }
     ensures { sessions.new ≡ finite.insert sessions.old id known }
 {

@@ -20,6 +20,7 @@ pub mod laws;
 mod link;
 pub mod meeting;
 pub mod ops;
+pub mod places;
 pub mod reading;
 pub mod refusing;
 pub mod replying;
@@ -27,6 +28,7 @@ pub mod server;
 pub mod serving;
 pub mod statements;
 mod stepping;
+pub mod undoing;
 pub mod writing;
 
 pub use server::ModelServer;

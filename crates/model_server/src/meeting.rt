@@ -233,7 +233,10 @@ fn put_met(server: &mut Server, alloc: Global, made: Meeting) -> Result<(), Allo
     ensures err { OnErr result (server.new ≡ server.old) }
 {
     match made {
-        Meeting::Comes { effect, change, .. } => put(server, alloc, effect, change),
+        Meeting::Comes { effect, change, .. } => {
+            put(server, alloc, effect, change)?;
+            Ok(())
+        }
         Meeting::Waits { late } => server.waiting.push(Some(late)),
     }
 }

@@ -46,7 +46,6 @@ impl Model for ModelServer {
     ghost use Rattle.std.specs.Coded.{codes};
     ghost use Rattle.driver_link.specs.WellFormed.{IsWellFormed};
     ghost use Rattle.model_server.specs.ModelState.{ModelState};
-    ghost use Rattle.model_server.specs.Tracked.{IsTracked};
     ghost use Rattle.driver_link.specs.contracts.fault.Answered as answered_contract;
     ghost use Rattle.driver_link.specs.contracts.machine.Schedule as schedule_contract;
     ghost use Rattle.driver_link.specs.contracts.machine.Server as server_contract;
@@ -58,12 +57,11 @@ impl Model for ModelServer {
 
     ghost view = { λ model. record { server = model.server; setup = model.setup; schedule = model.schedule; counts = record { selects = model.calls.selects; supports = model.calls.supports; check_outs = model.calls.check_outs; reauthentications = model.calls.reauthentications }; answers = model.answered; faults = model.faults } };
 
-    ghost invariant = { λ model. IsWellFormed model.schedule × IsTracked model.server };
+    ghost invariant = { λ model. IsWellFormed model.schedule };
 }
 
 impl ModelServer {
     /// A server that has seen nothing. It takes no memory.
-    #[tactic(auto, using(crate::proofs::TrackLaws::empty_tracked))]
     pub fn new(alloc: Global, setup: Setup, schedule: Schedule) -> ModelServer
         requires { IsWellFormed schedule }
         ensures { result ≡ record { server = empty_server; setup = setup; schedule = schedule; counts = no_calls; answers = []; faults = 0 } }
@@ -114,7 +112,6 @@ impl ModelServer {
 
     /// Serves the send that waits at an index, by the order of lateness from 0. The answer is whether one
     /// waited there. Nothing else changes, and want of memory changes nothing.
-    #[tactic(auto, using(crate::proofs::TrackLaws::late_tracked))]
     pub fn deliver_late(&mut self, alloc: Global, index: u64) -> driver_error::Result<bool>
         ensures waited { IfOk result (λ waited. waited ≡ is_some (waits_at self.old.server.waiting index)) }
         ensures ok { OnOk result (self.new ≡ record self.old { server = delivered self.old.server index }) }

@@ -2,18 +2,15 @@
 ghost use Rattle.std.specs.Prelude.{◌≡◌, ◌++◌, ◌∷◌, [], IfOk, OnOk, OnErr};
 ghost use Rattle.driver_link.specs.Exchange.{answered, exchanged, next_step, usual_item as usual_step};
 ghost use Rattle.model_server.specs.Meets.{IsSpelled, note_of};
-ghost use Rattle.model_server.specs.Tracked.{IsTracked};
 
-use crate::copying::copied_server;
-use crate::delivery::deliver_each;
+use crate::delivery::{deliver_each, undo_each};
 use crate::meeting::take;
 use bson_lite::{Bytes, List};
 use driver_link::{Answered, Item, Schedule, Scheduled, Send, Server};
 use std::alloc::{AllocError, Global};
 
 /// Takes a send by its step of a schedule. The answer is the bytes of its reply, or none where the connection
-/// is reset. A refusal leaves server and notes as they were. Only where waiting sends are served first the
-/// step is taken on a copy of the server, since a late send that was served can't be taken back.
+/// is reset. A refusal leaves server and notes as they were: what was served late is undone.
 #[tactic(auto, unfolding(driver_link::specs::Exchange::exchanged, driver_link::specs::Exchange::answered, driver_link::specs::Exchange::after_picks))]
 fn take_step(
     server: &mut Server,
@@ -22,21 +19,20 @@ fn take_step(
     send: Send,
     step: &Scheduled,
 ) -> Result<Option<Bytes>, AllocError>
-    requires { IsTracked server.old }
     ensures reply { IfOk result (λ bytes. IsSpelled (answered server.old send step.now) bytes) }
     ensures ok { OnOk result (server.new ≡ exchanged server.old send step.now) }
     ensures notes { IfOk result (λ bytes. notes.new ≡ notes.old ++ note_of bytes ∷ []) }
     ensures err { OnErr result (server.new ≡ server.old) }
     ensures notes_err { OnErr result (notes.new ≡ notes.old) }
 {
-    if step.deliver.is_empty() {
-        return take(server, notes, alloc, send, &step.item);
+    let lates = deliver_each(server, alloc, step.deliver.as_slice())?;
+    match take(server, notes, alloc, send, &step.item) {
+        Ok(bytes) => Ok(bytes),
+        Err(refused) => {
+            undo_each(server, alloc, lates);
+            Err(refused)
+        }
     }
-    let mut copy = copied_server(alloc, server)?;
-    deliver_each(&mut copy, alloc, step.deliver.as_slice())?;
-    let bytes = take(&mut copy, notes, alloc, send, &step.item)?;
-    *server = copy;
-    Ok(bytes)
 }
 
 /// Takes a send that is served and answered as usual.
@@ -58,7 +54,6 @@ fn take_usual(
 
 /// Takes the next exchange by a schedule. The answer is the bytes of its reply, or none where the connection
 /// is reset. A refusal leaves server and notes as they were.
-#[tactic(auto, using(crate::proofs::TrackLaws::step_tracked))]
 pub(crate) fn take_next(
     server: &mut Server,
     notes: &mut List<Answered>,
@@ -66,13 +61,11 @@ pub(crate) fn take_next(
     send: Send,
     schedule: &Schedule,
 ) -> Result<Option<Bytes>, AllocError>
-    requires { IsTracked server.old }
     ensures reply { IfOk result (λ bytes. IsSpelled (answered server.old send (next_step schedule.now server.old)) bytes) }
     ensures ok { OnOk result (server.new ≡ exchanged server.old send (next_step schedule.now server.old)) }
     ensures notes { IfOk result (λ bytes. notes.new ≡ notes.old ++ note_of bytes ∷ []) }
     ensures err { OnErr result (server.new ≡ server.old) }
     ensures notes_err { OnErr result (notes.new ≡ notes.old) }
-    ensures tracked { IsTracked server.new }
 {
     match schedule.items.get(server.trace.len()) {
         Some(step) => take_step(server, notes, alloc, send, step),

@@ -14,6 +14,7 @@ use std::test::Fail;
 mod faulty;
 mod framed;
 mod rows;
+mod undone;
 
 /// One document.
 const ONE: &[u8] = b"\x14\0\0\0\x10ok\0\x01\0\0\0\x10n\0\x01\0\0\0\0";
