@@ -7,7 +7,6 @@ use Rattle.bson_lite.specs.declared.bson.Binary.{Binary}
 use Rattle.bson_lite.specs.declared.bson.Bson.{Bson}
 use Rattle.bson_lite.specs.declared.bson.Bson as bson
 use Rattle.bson_lite.specs.declared.document.Pair.{Pair}
-use Rattle.bson_lite.specs.declared.fault.EncodeFault.{EncodeFault}
 use Rattle.bson_lite.specs.Fields.{value_of}
 use Rattle.bson_lite.specs.Spelling.{refusal}
 use Rattle.driver_error.specs.declared.error.Error.{Error}
@@ -25,9 +24,8 @@ use Rattle.driver_link.specs.Values.{text_of, int64_of, binary_of, document_of}
 use Rattle.driver_link.specs.Writes.{is_common}
 use Rattle.driver_exec.specs.declared.command.Command.{Command}
 use Rattle.driver_exec.specs.Encoding.{TellsRefusal}
-use Rattle.driver_exec.specs.Fields.{AreCommon, Frames, IsFrameOf, IsPlain, executor_fields, session_document, with_fields}
-use Rattle.driver_exec.specs.Operations.{BuildsFrame, IsBuilt, Meaning, ReadsAsAsked, TellsUnbuilt, TellsUnframed, numbered_send}
-use Rattle.driver_exec.specs.Session.{Session, Numbers}
+use Rattle.driver_exec.specs.Fields.{AreCommon, Frames, IsFrameOf, IsPlain, IsSixteen, executor_fields, number_field, session_document, session_field, with_fields}
+use Rattle.driver_exec.specs.Operations.{BuildsFrame, IsBuilt, Meaning, ReadsAsAsked, TellsUnbuilt, TellsUnframed, plain_send}
 use Rattle.driver_exec.proofs.Ids.{equal_bytes}
 
 -- what values are as the fields of a command
@@ -68,73 +66,127 @@ skips key (pair ∷ body) fields none = by_test (bytes_eq pair.key key) (skips k
     by_test true rest none = absurd (differ pair.value none)
     by_test false rest none = rest none
 
+-- what stands under the keys of the executor's fields
+database_in : (session : Option (List ℕ)) (number : Option ℤ) (database : List ℕ) → value_of DATABASE.now (executor_fields session number database) ≡ Some (bson.String database)
+unfolding executor_fields session_field number_field
+database_in None None database = refl
+database_in None (Some number) database = refl
+database_in (Some id) None database = refl
+database_in (Some id) (Some number) database = refl
+
+session_in : (session : Option (List ℕ)) (number : Option ℤ) (database : List ℕ)
+    → value_of SESSION.now (executor_fields session number database) ≡ option_map (λ id. bson.Document (session_document id)) session
+unfolding executor_fields session_field number_field
+session_in None None database = refl
+session_in None (Some number) database = refl
+session_in (Some id) None database = refl
+session_in (Some id) (Some number) database = refl
+
+number_in : (session : Option (List ℕ)) (number : Option ℤ) (database : List ℕ)
+    → value_of TRANSACTION_NUMBER.now (executor_fields session number database) ≡ option_map (λ one. bson.Int64 one) number
+unfolding executor_fields session_field number_field
+number_in None None database = refl
+number_in None (Some number) database = refl
+number_in (Some id) None database = refl
+number_in (Some id) (Some number) database = refl
+
+start_in : (session : Option (List ℕ)) (number : Option ℤ) (database : List ℕ) → value_of START_TRANSACTION.now (executor_fields session number database) ≡ None
+unfolding executor_fields session_field number_field
+start_in None None database = refl
+start_in None (Some number) database = refl
+start_in (Some id) None database = refl
+start_in (Some id) (Some number) database = refl
+
+autocommit_in : (session : Option (List ℕ)) (number : Option ℤ) (database : List ℕ) → value_of AUTOCOMMIT.now (executor_fields session number database) ≡ None
+unfolding executor_fields session_field number_field
+autocommit_in None None database = refl
+autocommit_in None (Some number) database = refl
+autocommit_in (Some id) None database = refl
+autocommit_in (Some id) (Some number) database = refl
+
+-- they are fields that stand in commands of every kind
+are_common : (session : Option (List ℕ)) (number : Option ℤ) (database : List ℕ) → AreCommon (executor_fields session number database)
+unfolding executor_fields session_field number_field is_common
+are_common None None database = (refl, tt)
+are_common None (Some number) database = (refl, (refl, tt))
+are_common (Some id) None database = (refl, (refl, tt))
+are_common (Some id) (Some number) database = (refl, (refl, (refl, tt)))
+
+-- a session and a number that may be missing are read again
+session_read : (session : Option (List ℕ)) → IsSixteen session
+    → optional_value session_id_of (option_map (λ id. bson.Document (session_document id)) session) ≡ Some session
+unfolding optional_value
+session_read None sixteen = refl
+session_read (Some id) sixteen = ap (λ found. option_map (λ one. Some one) found) (id_is id sixteen)
+
+number_read : (number : Option ℤ) → optional_value int64_of (option_map (λ one. bson.Int64 one) number) ≡ Some number
+unfolding optional_value
+number_read None = refl
+number_read (Some number) = ap (λ found. option_map (λ one. Some one) found) (int_is number)
+
 -- the executor's fields are found where the body before them has none of them
-module _ (body : List (Pair Bson)) (id : List ℕ) (number : ℤ) (database : List ℕ) (plain : IsPlain body) (sixteen : length id ≡ 16) where
+module _ (body : List (Pair Bson)) (session : Option (List ℕ)) (number : Option ℤ) (database : List ℕ) (plain : IsPlain body) (sixteen : IsSixteen session) where
   abbrev joined : List (Pair Bson)
-  joined = body ++ executor_fields id number database
+  joined = body ++ executor_fields session number database
+
+  behind : (key : List ℕ) → value_of key body ≡ None → value_of key joined ≡ value_of key (executor_fields session number database)
+  behind key none = skips key body (executor_fields session number database) none
 
   database_of : needed text_of DATABASE.now joined ≡ Some database
-  unfolding executor_fields needed
-  database_of = rw (skips DATABASE.now body (executor_fields id number database) plain.1.1.1.1.1.1.1.1.0) (text_is database)
+  unfolding needed
+  database_of = rw (behind DATABASE.now plain.1.1.1.1.1.1.1.1.0, database_in session number database) (text_is database)
 
   goes : goes_to database joined ≡ true
   unfolding goes_to
   goes = rw database_of (equal_bytes database)
 
-  session_of : optional session_id_of SESSION.now joined ≡ Some (Some id)
-  unfolding executor_fields optional_value
-  session_of = rw (skips SESSION.now body (executor_fields id number database) plain.0) (ap (λ found. option_map (λ one. Some one) found) (id_is id sixteen))
+  session_of : optional session_id_of SESSION.now joined ≡ Some session
+  session_of = rw (behind SESSION.now plain.0, session_in session number database) (session_read session sixteen)
 
-  number_of : optional int64_of TRANSACTION_NUMBER.now joined ≡ Some (Some number)
-  unfolding executor_fields optional_value
-  number_of = rw (skips TRANSACTION_NUMBER.now body (executor_fields id number database) plain.1.0) (ap (λ found. option_map (λ one. Some one) found) (int_is number))
+  number_of : optional int64_of TRANSACTION_NUMBER.now joined ≡ Some number
+  number_of = rw (behind TRANSACTION_NUMBER.now plain.1.0, number_in session number database) (number_read number)
 
   start_of : flag true START_TRANSACTION.now joined ≡ Some false
-  unfolding executor_fields flag_value
-  start_of = rw (skips START_TRANSACTION.now body (executor_fields id number database) plain.1.1.1.0) refl
+  unfolding flag_value
+  start_of = rw (behind START_TRANSACTION.now plain.1.1.1.0, start_in session number database) refl
 
   autocommit_of : flag false AUTOCOMMIT.now joined ≡ Some false
-  unfolding executor_fields flag_value
-  autocommit_of = rw (skips AUTOCOMMIT.now body (executor_fields id number database) plain.1.1.1.1.0) refl
+  unfolding flag_value
+  autocommit_of = rw (behind AUTOCOMMIT.now plain.1.1.1.1.0, autocommit_in session number database) refl
 
-  sent_is : (asked : SendBody) → sent_as joined asked ≡ Some (numbered_send id number asked)
+  sent_is : (asked : SendBody) → sent_as joined asked ≡ Some (plain_send session number asked)
   unfolding sent_as
   sent_is asked = rw (session_of, number_of, start_of, autocommit_of)
 
   spells : (sequences : List Documents) (places : List Place) (asked : SendBody) → asks database joined sequences places ≡ Some asked
-      → spelled database joined sequences places ≡ Some (numbered_send id number asked)
+      → spelled database joined sequences places ≡ Some (plain_send session number asked)
   unfolding spelled
   spells sequences places asked is = rw (goes, is) (sent_is asked)
 
--- they are fields that stand in commands of every kind
-are_common : (id : List ℕ) (number : ℤ) (database : List ℕ) → AreCommon (executor_fields id number database)
-unfolding executor_fields is_common
-are_common id number database = (refl, (refl, (refl, tt)))
-
 -- the frame of a built command with the executor's fields
-pub reads_as_asked : {A : Type 0} (meaning : Meaning A) (statements : ℕ) (id : List ℕ) (number : ℤ) (command whole : Command) (frame : Framed)
-    → length id ≡ 16 → IsBuilt meaning statements command → whole ≡ with_fields id number command → IsFrameOf whole frame
-    → ReadsAsAsked meaning id number frame
-reads_as_asked meaning statements id number command whole frame sixteen built appended framed places body asked =
+pub reads_as_asked : {A : Type 0} (meaning : Meaning A) (statements : ℕ) (session : Option (List ℕ)) (number : Option ℤ) (command whole : Command) (frame : Framed)
+    → IsSixteen session → IsBuilt meaning statements command → whole ≡ with_fields session number command → IsFrameOf whole frame
+    → ReadsAsAsked meaning session number frame
+reads_as_asked meaning statements session number command whole frame sixteen built appended framed places body asked =
     let asks = built.asks places body asked in
     let made = subst (λ whole. IsFrameOf whole frame) appended framed in
     record {
-      body = command.body ++ executor_fields id number command.database;
+      body = command.body ++ executor_fields session number command.database;
       sequences = asks.sequences;
       body_spelled = made.spelled;
       sequences_spelled = subst (SpellSequences asks.sequences) (sym made.sequences) asks.spelled;
-      spelled = subst (λ database. spelled database (command.body ++ executor_fields id number command.database) asks.sequences places ≡ Some (numbered_send id number body))
+      spelled = subst (λ database. spelled database (command.body ++ executor_fields session number command.database) asks.sequences places ≡ Some (plain_send session number body))
           (sym made.database)
-          (spells command.body id number command.database built.plain sixteen asks.sequences places body (asks.asks _ (are_common id number command.database)));
+          (spells command.body session number command.database built.plain sixteen asks.sequences places body (asks.asks _ (are_common session number command.database)));
     }
 
 -- why there is no such frame
-pub unframed : {A : Type 0} (meaning : Meaning A) (statements : ℕ) (id : List ℕ) (number : ℤ) (command whole : Command) (why : ErrorKind)
-    → length id ≡ 16 → IsBuilt meaning statements command → whole ≡ with_fields id number command → TellsRefusal whole.body why → TellsUnframed meaning why
-unframed meaning statements id number command whole (kind.BsonSerialization fault) sixteen built appended tells =
-    inr (built.spelling id number fault sixteen (subst (λ whole. refusal whole.body ≡ Some fault) appended tells))
-unframed meaning statements id number command whole kind.Memory sixteen built appended tells = tt
-unframed meaning statements id number command whole _ sixteen built appended tells = absurd tells
+pub unframed : {A : Type 0} (meaning : Meaning A) (statements : ℕ) (session : Option (List ℕ)) (number : Option ℤ) (command whole : Command) (why : ErrorKind)
+    → IsSixteen session → IsBuilt meaning statements command → whole ≡ with_fields session number command → TellsRefusal whole.body why → TellsUnframed meaning why
+unframed meaning statements session number command whole (kind.BsonSerialization fault) sixteen built appended tells =
+    inr (built.spelling session number fault sixteen (subst (λ whole. refusal whole.body ≡ Some fault) appended tells))
+unframed meaning statements session number command whole kind.Memory sixteen built appended tells = tt
+unframed meaning statements session number command whole _ sixteen built appended tells = absurd tells
 
 pub unbuilt : {A : Type 0} (meaning : Meaning A) (why : ErrorKind) → TellsUnbuilt meaning why → TellsUnframed meaning why
 unbuilt meaning (kind.InvalidArgument message) tells = tells
@@ -143,16 +195,9 @@ unbuilt meaning kind.Memory tells = tt
 unbuilt meaning _ tells = absurd tells
 
 -- a built command with the executor's fields, in bytes
-pub frames_builds : {A : Type 0} (meaning : Meaning A) (statements : ℕ) (id : List ℕ) (number : ℤ) (command whole : Command) (result : Result Framed Error)
-    → length id ≡ 16 → IsBuilt meaning statements command → whole ≡ with_fields id number command → Frames whole result → BuildsFrame meaning id number result
-frames_builds meaning statements id number command whole (Ok frame) sixteen built appended framed =
-    reads_as_asked meaning statements id number command whole frame sixteen built appended framed
-frames_builds meaning statements id number command whole (Err error) sixteen built appended tells =
-    unframed meaning statements id number command whole (kind_of error) sixteen built appended tells
-
--- the number and the id are the session's
-pub asked_under : {A : Type 0} (meaning : Meaning A) (frame : Framed) (id : List ℕ) (number : ℤ) (old now : Session) → Numbers old now (Ok number) → id ≡ now.id
-    → ReadsAsAsked meaning id number frame → ReadsAsAsked meaning now.id now.number frame
-asked_under meaning frame id number old now numbers is_id reads =
-    subst (λ i. ReadsAsAsked meaning i now.number frame) is_id
-    (subst (λ n. ReadsAsAsked meaning id n frame) (sym (ap (λ session. session.number) numbers.2)) reads)
+pub frames_builds : {A : Type 0} (meaning : Meaning A) (statements : ℕ) (session : Option (List ℕ)) (number : Option ℤ) (command whole : Command) (result : Result Framed Error)
+    → IsSixteen session → IsBuilt meaning statements command → whole ≡ with_fields session number command → Frames whole result → BuildsFrame meaning session number result
+frames_builds meaning statements session number command whole (Ok frame) sixteen built appended framed =
+    reads_as_asked meaning statements session number command whole frame sixteen built appended framed
+frames_builds meaning statements session number command whole (Err error) sixteen built appended tells =
+    unframed meaning statements session number command whole (kind_of error) sixteen built appended tells

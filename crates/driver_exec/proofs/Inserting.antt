@@ -1,6 +1,6 @@
 -- An insert's command asks for the insert of its document.
 use Rattle.std.proofs.Common.{◌≡◌, ℕ, List, [], ◌∷◌, ◌++◌, length, refl, ap, Bool, subst, sym}
-use Rattle.std.specs.Prelude.{ℤ, true, Some}
+use Rattle.std.specs.Prelude.{ℤ, true, Option, Some}
 use denote.Hole.Carrier.{out}
 use Rattle.bson_lite.specs.declared.bson.Bson.{Bson}
 use Rattle.bson_lite.specs.declared.bson.Bson as bson
@@ -22,7 +22,7 @@ use Rattle.driver_link.specs.Values.{text_of, bool_of}
 use Rattle.driver_link.specs.Writes.{placed}
 use Rattle.driver_exec.specs.declared.command.Command.{Command}
 use Rattle.driver_exec.specs.Causes.{BodyRefused}
-use Rattle.driver_exec.specs.Fields.{AreCommon, IsPlain, executor_fields, field, with_fields}
+use Rattle.driver_exec.specs.Fields.{IsPlain, IsSixteen, executor_fields, field, with_fields}
 use Rattle.driver_exec.specs.InsertMeaning.{AsksInsert, insert_meaning}
 use Rattle.driver_exec.specs.Inserts.{IsOneDocument, insert_body, insert_command, insert_write}
 use Rattle.driver_exec.specs.Operations.{AsksFor, IsBuilt, MeansTheSame, Meaning}
@@ -57,9 +57,10 @@ unfolding insert_command
 plain_is namespace = (refl, (refl, (refl, (refl, (refl, (refl, (refl, (refl, (refl, tt)))))))))
 
 -- the command with the executor's fields has the whole body
-body_is : (namespace : Namespace) (id : List ℕ) (number : ℤ) → insert_command namespace ++ executor_fields id number namespace.db ≡ insert_body namespace id number
-unfolding insert_command executor_fields insert_body
-body_is namespace id number = refl
+body_is : (namespace : Namespace) (session : Option (List ℕ)) (number : Option ℤ)
+    → insert_command namespace ++ executor_fields session number namespace.db ≡ insert_body namespace session number
+unfolding insert_body
+body_is namespace session number = refl
 
 module _ (namespace : Namespace) (bytes : List ℕ) (made : Command) (is_database : made.database ≡ namespace.db) (is_body : made.body ≡ insert_command namespace)
     (one : IsOneDocument made.sequences bytes) where
@@ -71,14 +72,15 @@ module _ (namespace : Namespace) (bytes : List ℕ) (made : Command) (is_databas
     asks = λ fields common. rw (is_database, is_body, asked.alone, asked.is) (asks_is namespace fields asked.document asked.place);
   }
 
-  spelling : (id : List ℕ) (number : ℤ) (fault : EncodeFault) → length id ≡ 16 → refusal (with_fields id number made).body ≡ Some fault → BodyRefused namespace fault
-  spelling id number fault sixteen refused = record {
-    id = id;
+  spelling : (session : Option (List ℕ)) (number : Option ℤ) (fault : EncodeFault) → IsSixteen session → refusal (with_fields session number made).body ≡ Some fault
+      → BodyRefused namespace fault
+  spelling session number fault sixteen refused = record {
+    session = session;
     sixteen = sixteen;
     number = number;
-    is = subst (λ body. refusal body ≡ Some fault) (body_is namespace id number)
-        (subst (λ database. refusal (insert_command namespace ++ executor_fields id number database) ≡ Some fault) is_database
-        (subst (λ body. refusal (body ++ executor_fields id number made.database) ≡ Some fault) is_body refused));
+    is = subst (λ body. refusal body ≡ Some fault) (body_is namespace session number)
+        (subst (λ database. refusal (insert_command namespace ++ executor_fields session number database) ≡ Some fault) is_database
+        (subst (λ body. refusal (body ++ executor_fields session number made.database) ≡ Some fault) is_body refused));
   }
 
   -- such a command is an insert's
@@ -97,5 +99,7 @@ means_the_same meaning = record {
   asked = λ places body. (λ asked. asked, λ asked. asked);
   refused = λ why. (λ refused. refused, λ refused. refused);
   unspelled = λ fault. (λ refused. refused, λ refused. refused);
-  reads = λ reply result. (λ reads. reads, λ reads. reads);
+  own = λ options. refl;
+  sessions = refl;
+  answers = λ reply result. (λ answers. answers, λ answers. answers);
 }

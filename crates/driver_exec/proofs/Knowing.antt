@@ -1,13 +1,13 @@
 -- What the sends of a trace say of a pool's sessions: their numbers are at most the sessions', and no send is of
 -- an id that was not drawn.
-use Rattle.std.proofs.Common.{◌≡◌, ℕ, Bool, true, false, cond, List, [], ◌∷◌, ◌++◌, map, refl, sym, ap, subst, ◌∙◌, arith}
+use Rattle.std.proofs.Common.{◌≡◌, ℕ, Bool, true, false, cond, List, [], ◌∷◌, ◌++◌, refl, sym, ap, subst, ◌∙◌, arith}
 use Rattle.std.specs.Prelude.{ℤ, ◌≤ℤ◌, ◌||◌, Option, Some}
 use Rattle.std.specs.Str.{bytes_eq}
 use Rattle.std.proofs.Common.{inl, inr}
 use Rattle.std.proofs.lemmas.Bool.{cond-true}
 use Rattle.std.proofs.lemmas.Int.{ints}
 use Rattle.driver_link.specs.declared.machine.Send.{Send}
-use Rattle.driver_link.specs.Settled.{Has, IsUnder}
+use Rattle.driver_link.specs.Settled.{IsUnder}
 use Rattle.driver_link.proofs.Lists.{has_either}
 use Rattle.driver_exec.specs.declared.pool.IdleSession.{IdleSession}
 use Rattle.driver_exec.specs.declared.pool.StoreEvent.{StoreEvent}

@@ -64,23 +64,23 @@ lends_staying None now stays = stays
 lends_staying (Some old) None stays = stays
 lends_staying (Some old) (Some now) stays = λ id. ap (λ pool. times_lent id pool.lent) stays.0
 
-turned : (old mid now : ToldStore) (caller out_at back_at : ℕ) (session back : Session) → LendsFrom old mid caller out_at session → back.id ≡ session.id
-    → now.pool ≡ taken_back caller back back_at mid.pool → (q : List ℕ) → times_lent q now.pool.lent ≡ times_lent q old.pool.lent
-turned old mid now caller out_at back_at session back lends same takes q =
+turned : (old mid now : ToldStore) (out_by out_at back_by back_at : ℕ) (session back : Session) → LendsFrom old mid out_by out_at session → back.id ≡ session.id
+    → now.pool ≡ taken_back back_by back back_at mid.pool → (q : List ℕ) → times_lent q now.pool.lent ≡ times_lent q old.pool.lent
+turned old mid now out_by out_at back_by back_at session back lends same takes q =
     let id_is : (session_out old.pool.idle (old.to_come 0) out_at).id ≡ back.id = ap (λ held. held.id) (sym lends.session_is) ∙ sym same in
     let mid_is : mid.pool.lent ≡ old.pool.lent ++ back.id ∷ []
-    = ap (λ pool. pool.lent) lends.pool_is ∙ lent_is caller (old.to_come 0) out_at old.pool ∙ ap (λ id. old.pool.lent ++ id ∷ []) id_is in
+    = ap (λ pool. pool.lent) lends.pool_is ∙ lent_is out_by (old.to_come 0) out_at old.pool ∙ ap (λ id. old.pool.lent ++ id ∷ []) id_is in
     let there : is_lent back.id mid.pool.lent ≡ true = ap (is_lent back.id) mid_is ∙ is_lent_last back.id old.pool.lent in
-    let now_is : now.pool.lent ≡ without_first back.id mid.pool.lent = ap (λ pool. pool.lent) takes ∙ back_is caller back back_at mid.pool there in
+    let now_is : now.pool.lent ≡ without_first back.id mid.pool.lent = ap (λ pool. pool.lent) takes ∙ back_is back_by back back_at mid.pool there in
     let less = times_without q back.id mid.pool.lent there in
     let more : times_lent q mid.pool.lent ≡ times_lent q old.pool.lent + one (bytes_eq back.id q) = ap (times_lent q) mid_is ∙ times_more q back.id old.pool.lent in
     ap (times_lent q) now_is ∙ omega (arith, less, more)
 
 -- one session was lent and came back
-pub lends_turning : (old mid now : Option ToldStore) (caller out_at back_at : ℕ) (session back : Session) → Lends old mid caller out_at session
-    → back.id ≡ session.id → TakesBack mid now caller back back_at → LendsAsBefore old now
-lends_turning None mid now caller out_at back_at session back lends same takes = subst (λ store. TakesBack store now caller back back_at) lends takes
-lends_turning (Some old) None now caller out_at back_at session back lends same takes = absurd lends
-lends_turning (Some old) (Some mid) None caller out_at back_at session back lends same takes = absurd takes
-lends_turning (Some old) (Some mid) (Some now) caller out_at back_at session back lends same takes =
-    turned old mid now caller out_at back_at session back lends same takes.0
+pub lends_turning : (old mid now : Option ToldStore) (out_by out_at back_by back_at : ℕ) (session back : Session) → Lends old mid out_by out_at session
+    → back.id ≡ session.id → TakesBack mid now back_by back back_at → LendsAsBefore old now
+lends_turning None mid now out_by out_at back_by back_at session back lends same takes = subst (λ store. TakesBack store now back_by back back_at) lends takes
+lends_turning (Some old) None now out_by out_at back_by back_at session back lends same takes = absurd lends
+lends_turning (Some old) (Some mid) None out_by out_at back_by back_at session back lends same takes = absurd takes
+lends_turning (Some old) (Some mid) (Some now) out_by out_at back_by back_at session back lends same takes =
+    turned old mid now out_by out_at back_by back_at session back lends same takes.0

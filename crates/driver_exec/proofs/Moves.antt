@@ -1,88 +1,59 @@
--- At most one send goes out in a turn, and its session is lent and comes back.
-use Rattle.std.proofs.Common.{◌≡◌, ap, inl, inr, refl, subst, sym, ◌∙◌}
-use Rattle.std.specs.Prelude.{Option, None, Some, ◌⊎◌}
-use Rattle.driver_link.specs.declared.machine.PlacedWrite.{PlacedWrite}
+-- What the sends of an operation make of a link that tells its server: its setup and its schedule stay, and its server is
+-- the fold of the exchanges over its trace.
+use Rattle.std.proofs.Common.{◌≡◌, ℕ, zero, suc, ◌≤◌, List, [], ◌∷◌, length, sym, ap, subst, ◌∙◌, inl, inr, arith}
+use Rattle.std.specs.Prelude.{Option, None, Some, slice_get}
+use Rattle.driver_link.specs.declared.machine.Schedule.{Schedule}
 use Rattle.driver_link.specs.declared.machine.Send.{Send}
-use Rattle.driver_link.specs.Counting.{OnlyCounts}
-use Rattle.driver_link.specs.Exchange.{exchanged, next_step}
+use Rattle.driver_link.specs.declared.machine.Server.{Server}
+use Rattle.driver_link.specs.Exchange.{empty_server, exchanged, next_step, replayed}
 use Rattle.driver_link.specs.Told.{Told, told_after}
-use Rattle.driver_exec.specs.Causes.{Failure}
-use Rattle.driver_exec.specs.Pool.{ToldStore, Draws, LendsAsBefore}
-use Rattle.driver_exec.specs.Session.{Session}
-use Rattle.driver_exec.specs.Turns.{Turn, Attempts, HasAnswer, MaySend, send_under}
-use Rattle.driver_exec.proofs.Drawing.{draws_twice, draws_lending, draws_taking}
-use Rattle.driver_exec.proofs.Lending.{lends_turning}
+use Rattle.driver_link.proofs.Lists.{earlier_or_last}
+use Rattle.driver_link.proofs.Replaying.{exchanged_trace, replayed_more}
+use Rattle.driver_exec.specs.Resending.{SendsTold}
 
--- at most one send went out, under the same making
-pub record MovesTold (told now : Told) : Type 0 where
-  pub setup : now.setup ≡ told.setup
-  pub schedule : now.schedule ≡ told.schedule
-  pub server : (now.server ≡ told.server) ⊎ ((send : Send) × (now.server ≡ exchanged told.server send (next_step told.schedule told.server)))
+-- a server is the fold over its trace
+abbrev pub IsFold : Schedule → Server → Type 0
+IsFold schedule server = server ≡ replayed schedule empty_server server.trace
 
-abbrev pub Moves : Option Told → Option Told → Type 0
-Moves None now = now ≡ None
-Moves (Some told) None = ⊥
-Moves (Some told) (Some now) = MovesTold told now
+-- it is so after one send more
+fold_after : (schedule : Schedule) (server : Server) (send : Send) → IsFold schedule server → IsFold schedule (exchanged server send (next_step schedule server))
+fold_after schedule server send folds =
+    let step = next_step schedule server in
+    let fold : List Send → Server = λ sends. replayed schedule empty_server sends in
+    sym (ap fold (exchanged_trace server send step) ∙ replayed_more schedule empty_server server.trace send
+    ∙ ap (λ s. exchanged s send (next_step schedule s)) (sym folds))
 
-moves_refl : (link : Option Told) → Moves link link
-moves_refl None = refl
-moves_refl (Some told) = record { setup = refl; schedule = refl; server = inl refl }
+module _ (told : Told) (send : Send) where
+  -- what was made with the server stays
+  pub keeps_making : (count : ℕ) (now : Told) → SendsTold told now send count → (now.setup ≡ told.setup) × (now.schedule ≡ told.schedule)
+  keeps_making zero now sends = (sends.setup, sends.schedule)
+  keeps_making (suc count) now sends =
+      let before = keeps_making count sends.0 sends.1.0 in
+      (sends.1.1.setup ∙ before.0, sends.1.1.schedule ∙ before.1)
 
-pub moves_same : (link now : Option Told) → now ≡ link → Moves link now
-moves_same link now same = subst (Moves link) (sym same) (moves_refl link)
+  -- the server stays the fold over its trace
+  pub keeps_fold : (count : ℕ) (now : Told) → SendsTold told now send count → IsFold told.schedule told.server → IsFold told.schedule now.server
+  keeps_fold zero now sends folds = subst (IsFold told.schedule) (sym sends.server) folds
+  keeps_fold (suc count) now sends folds =
+      let mid = sends.0 in
+      let before = keeps_fold count mid sends.1.0 folds in
+      let schedule = (keeps_making count mid sends.1.0).1 in
+      let after : IsFold mid.schedule (told_after mid send).server = fold_after mid.schedule mid.server send (subst (λ s. IsFold s mid.server) (sym schedule) before) in
+      subst (IsFold told.schedule) (sym sends.1.1.server) (subst (λ s. IsFold s (told_after mid send).server) schedule after)
 
-moves_sent : (told : Told) (now : Option Told) (send : Send) → now ≡ Some (told_after told send) → Moves (Some told) now
-moves_sent told now send is = subst (Moves (Some told)) (sym is) (record { setup = refl; schedule = refl; server = inr (send, refl) })
-
-moves_answered : (link now : Option Told) (send : Send) → HasAnswer link now send → Moves link now
-moves_answered None now send sent = sent
-moves_answered (Some told) now send was = moves_sent told now send was.sent
-
-moves_may : (link now : Option Told) (send : Send) → MaySend link now send → Moves link now
-moves_may None now send may = may
-moves_may (Some told) now send may = elim may [ inl same ↦ moves_same (Some told) now same | inr is ↦ moves_sent told now send is ]
-
-moves_attempt : (link now : Option Told) (session back : Session) (write : PlacedWrite) (ended : Option Failure) → Attempts link now session back write ended → Moves link now
-moves_attempt link now session back write None attempt = moves_answered link now (send_under back write) attempt.1
-moves_attempt link now session back write (Some why) attempt = elim attempt.0 [
-  | inl none ↦ moves_same link now none.0
-  | inr may ↦ moves_may link now (send_under back write) may.1
-]
-
--- calls that are only counted send nothing
-pub moves_counted : (link now : Option Told) → OnlyCounts link now → Moves link now
-moves_counted None now same = same
-moves_counted (Some told) None keeps = absurd keeps
-moves_counted (Some told) (Some now) keeps = record { setup = keeps.setup; schedule = keeps.schedule; server = inl keeps.server }
-
-counted_then_moves : (link mid now : Option Told) → OnlyCounts link mid → Moves mid now → Moves link now
-counted_then_moves None mid now same moves = subst (λ l. Moves l now) same moves
-counted_then_moves (Some told) None now keeps moves = absurd keeps
-counted_then_moves (Some told) (Some mid) None keeps moves = absurd moves
-counted_then_moves (Some told) (Some mid) (Some now) keeps moves = record {
-  setup = moves.setup ∙ keeps.setup;
-  schedule = moves.schedule ∙ keeps.schedule;
-  server = elim moves.server [
-    | inl same ↦ inl (same ∙ keeps.server)
-    | inr sent ↦ inr (
-      sent.0,
-      sent.1 ∙ ap (λ schedule. exchanged mid.server sent.0 (next_step schedule mid.server)) keeps.schedule
-          ∙ ap (λ server. exchanged server sent.0 (next_step told.schedule server)) keeps.server,
-    )
-  ];
-}
-
--- of a turn, whose session was lent and came back
-module _ (store store_now : Option ToldStore) (link link_now : Option Told) where
-  pub turn_moves : (write : PlacedWrite) (ended : Option Failure) → Turn store store_now link link_now write ended → Moves link link_now
-  turn_moves write ended turn =
-      counted_then_moves link turn.mid link_now turn.reached (moves_attempt turn.mid link_now turn.session turn.back write ended turn.attempt)
-
-  pub turn_lends : (write : PlacedWrite) (ended : Option Failure) → Turn store store_now link link_now write ended → LendsAsBefore store store_now
-  turn_lends write ended turn =
-      lends_turning store turn.lent store_now turn.caller turn.out_at turn.back_at turn.session turn.back turn.lends turn.id turn.takes
-
-  pub turn_draws : (write : PlacedWrite) (ended : Option Failure) → Turn store store_now link link_now write ended → Draws store store_now
-  turn_draws write ended turn =
-      draws_twice store turn.lent store_now (draws_lending store turn.lent turn.caller turn.out_at turn.session turn.lends)
-      (draws_taking turn.lent store_now turn.caller turn.back turn.back_at turn.takes)
+  -- the trace gains the send alone
+  pub new_is : (count : ℕ) (now : Told) → SendsTold told now send count → (at : ℕ) (found : Send) → length told.server.trace ≤ at → slice_get now.server.trace at ≡ Some found
+      → send ≡ found
+  new_is zero now sends at found above is = absurd (past told.server.trace at found above (ap (λ s. slice_get s.trace at) (sym sends.server) ∙ is))
+    where
+      past : (trace : List Send) (at : ℕ) (found : Send) → length trace ≤ at → slice_get trace at ≡ Some found → ⊥
+      past [] at found above is = let e : ◌≡◌ {A = Option Send} None (Some found) = is in cc
+      past (first ∷ trace) zero found above is = omega (arith, above)
+      past (first ∷ trace) (suc at) found above is = past trace at found (omega (arith, above)) is
+  new_is (suc count) now sends at found above is =
+      let mid = sends.0 in
+      let trace = ap (λ s. s.trace) sends.1.1.server ∙ exchanged_trace mid.server send (next_step mid.schedule mid.server) in
+      elim (earlier_or_last mid.server.trace send at found (ap (λ t. slice_get t at) (sym trace) ∙ is)) [
+        | inl earlier ↦ new_is count mid sends.1.0 at found above earlier
+        | inr last ↦ last.1
+      ]

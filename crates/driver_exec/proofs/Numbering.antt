@@ -1,16 +1,13 @@
 -- Numbers of sessions rise by at most one a call.
-use Rattle.std.proofs.Common.{◌≡◌, ℕ, ◌+◌, true, false, cond, List, [], ◌∷◌, ◌++◌, refl, sym, ap, subst, ◌∙◌, arith, inl, inr}
+use Rattle.std.proofs.Common.{◌≡◌, ℕ, ◌+◌, true, false, cond, List, [], ◌∷◌, ◌++◌, refl, sym, ap, subst, ◌∙◌, arith}
 use Rattle.std.specs.Prelude.{ℤ, pos, ◌+ℤ◌, ◌≤ℤ◌, Option, None, Some, if◌then◌else◌}
 use Rattle.std.proofs.lemmas.Int.{ints}
-use Rattle.driver_link.specs.declared.machine.PlacedWrite.{PlacedWrite}
-use Rattle.driver_link.specs.Told.{Told}
 use Rattle.driver_exec.specs.declared.pool.IdleSession.{IdleSession}
 use Rattle.driver_exec.specs.declared.pool.StoreEvent.TheVariants.{Back}
 use Rattle.driver_exec.specs.BetweenCalls.{NumbersWithin}
-use Rattle.driver_exec.specs.Causes.{Failure}
 use Rattle.driver_exec.specs.Pool.{Pool, ToldStore, Lends, LendsFrom, TakesBack, lent_out, taken_back, session_out, idle_out, idle_back, is_lent, without_first}
+use Rattle.driver_exec.specs.Resending.{Borrowed, Borrows, IsNumbered}
 use Rattle.driver_exec.specs.Session.{Session}
-use Rattle.driver_exec.specs.Turns.{Attempts, Turn}
 
 within_more : (made : ℕ) (idle : List IdleSession) → NumbersWithin (pos made) idle → NumbersWithin (pos (made + 1)) idle
 within_more made [] within = tt
@@ -61,56 +58,61 @@ within_taken made caller session moment pool number within =
       | false ↦ within_more made pool.idle within
     ]
 
--- an attempt raises a number by at most one
-raised_within : (link link_now : Option Told) (session back : Session) (write : PlacedWrite) (ended : Option Failure) → Attempts link link_now session back write ended
-    → back.number ≤ℤ (session.number +ℤ pos 1)
-raised_within link link_now session back write None attempt = at_most session.number back.number attempt.0
-  where
-    at_most : (number more : ℤ) → more ≡ (number +ℤ pos 1) → more ≤ℤ (number +ℤ pos 1)
-    at_most number more is = omega (arith, ints)
-raised_within link link_now session back write (Some why) attempt = elim attempt.0 [
-  | inl none ↦ none.1.1
-  | inr may ↦ at_most session.number back.number may.0
-]
-  where
-    at_most : (number more : ℤ) → more ≡ (number +ℤ pos 1) → more ≤ℤ (number +ℤ pos 1)
-    at_most number more is = omega (arith, ints)
+-- the number of a session that is lent, and what is idle once it came back
+record Turned (made : ℕ) (session : Session) (idle : List IdleSession) : Type 0 where
+  number : session.number ≤ℤ pos made
+  within : NumbersWithin (pos (made + 1)) idle
 
--- the number of a session that is lent, and what a turn leaves
-pub record Turned (made : ℕ) (session : Session) (idle : List IdleSession) : Type 0 where
-  pub number : session.number ≤ℤ pos made
-  pub within : NumbersWithin (pos (made + 1)) idle
-
-turned : (made : ℕ) (old mid now : ToldStore) (caller out_at back_at : ℕ) (session back : Session) → LendsFrom old mid caller out_at session
-    → now.pool ≡ taken_back caller back back_at mid.pool → back.number ≤ℤ (session.number +ℤ pos 1) → NumbersWithin (pos made) old.pool.idle
+turned : (made : ℕ) (old mid now : ToldStore) (out_by out_at back_by back_at : ℕ) (session back : Session) → LendsFrom old mid out_by out_at session
+    → now.pool ≡ taken_back back_by back back_at mid.pool → back.number ≤ℤ (session.number +ℤ pos 1) → NumbersWithin (pos made) old.pool.idle
     → Turned made session now.pool.idle
-turned made old mid now caller out_at back_at session back lends takes raised within =
+turned made old mid now out_by out_at back_by back_at session back lends takes raised within =
     let number : session.number ≤ℤ pos made
     = subst (λ held. held.number ≤ℤ pos made) (sym lends.session_is) (number_out made old.pool.idle (old.to_come 0) out_at within) in
-    let mid_is : mid.pool.idle ≡ idle_out old.pool.idle = ap (λ pool. pool.idle) lends.pool_is ∙ idle_lent caller (old.to_come 0) out_at old.pool in
+    let mid_is : mid.pool.idle ≡ idle_out old.pool.idle = ap (λ pool. pool.idle) lends.pool_is ∙ idle_lent out_by (old.to_come 0) out_at old.pool in
     let mid_within : NumbersWithin (pos made) mid.pool.idle = subst (NumbersWithin (pos made)) (sym mid_is) (within_out made old.pool.idle within) in
     let back_number : back.number ≤ℤ pos (made + 1) = at_most session.number back.number made number raised in
     record {
       number = number;
       within =
-          subst (λ pool. NumbersWithin (pos (made + 1)) pool.idle) (sym takes) (within_taken made caller back back_at mid.pool back_number mid_within);
+          subst (λ pool. NumbersWithin (pos (made + 1)) pool.idle) (sym takes) (within_taken made back_by back back_at mid.pool back_number mid_within);
     }
   where
     at_most : (number more : ℤ) (made : ℕ) → number ≤ℤ pos made → more ≤ℤ (number +ℤ pos 1) → more ≤ℤ pos (made + 1)
     at_most number more made first raised = omega (arith, ints)
 
-pub turn_within : (made : ℕ) (old now : ToldStore) (link link_now : Option Told) (write : PlacedWrite) (ended : Option Failure)
-    (turn : Turn (Some old) (Some now) link link_now write ended) → NumbersWithin (pos made) old.pool.idle → Turned made turn.session now.pool.idle
-turn_within made old now link link_now write ended turn within =
-    of_lent turn.lent turn.lends turn.takes
+-- a session comes back with its number or the next one
+most_raised : (number : Option ℤ) (session back : Session) → IsNumbered number session back → back.number ≤ℤ (session.number +ℤ pos 1)
+most_raised None session back numbered = numbered.1
+most_raised (Some number) session back numbered = at_most session.number back.number numbered.1
   where
-    of_lent : (lent : Option ToldStore) → Lends (Some old) lent turn.caller turn.out_at turn.session → TakesBack lent (Some now) turn.caller turn.back turn.back_at
-        → Turned made turn.session now.pool.idle
+    at_most : (number more : ℤ) → more ≡ (number +ℤ pos 1) → more ≤ℤ (number +ℤ pos 1)
+    at_most number more is = omega (arith, ints)
+
+pub borrowed_within : (made : ℕ) (old now : ToldStore) (id : List ℕ) (number : Option ℤ) (borrowed : Borrowed (Some old) (Some now) id number)
+    → NumbersWithin (pos made) old.pool.idle → NumbersWithin (pos (made + 1)) now.pool.idle
+borrowed_within made old now id number borrowed within = of_lent borrowed.lent borrowed.lends borrowed.takes
+  where
+    of_lent : (lent : Option ToldStore) → Lends (Some old) lent borrowed.out_by borrowed.out_at borrowed.session
+        → TakesBack lent (Some now) borrowed.back_by borrowed.back borrowed.back_at → NumbersWithin (pos (made + 1)) now.pool.idle
     of_lent None lends takes = absurd lends
     of_lent (Some mid) lends takes =
-        turned made old mid now turn.caller turn.out_at turn.back_at turn.session turn.back lends takes.0
-        (raised_within turn.mid link_now turn.session turn.back write ended turn.attempt) within
+        (turned made old mid now borrowed.out_by borrowed.out_at borrowed.back_by borrowed.back_at borrowed.session borrowed.back lends takes.0
+        (most_raised number borrowed.session borrowed.back borrowed.numbered) within).within
+
+-- the number of a session that is lent
+pub lent_within : (made : ℕ) (old : ToldStore) (lent : Option ToldStore) (caller moment : ℕ) (session : Session) → Lends (Some old) lent caller moment session
+    → NumbersWithin (pos made) old.pool.idle → session.number ≤ℤ pos made
+lent_within made old None caller moment session lends within = absurd lends
+lent_within made old (Some mid) caller moment session lends within =
+    subst (λ held. held.number ≤ℤ pos made) (sym lends.session_is) (number_out made old.pool.idle (old.to_come 0) moment within)
 
 -- a store that stays
 pub within_staying : (made : ℕ) (old now : ToldStore) → now.pool ≡ old.pool → NumbersWithin (pos made) old.pool.idle → NumbersWithin (pos (made + 1)) now.pool.idle
 within_staying made old now same within = subst (λ pool. NumbersWithin (pos (made + 1)) pool.idle) (sym same) (within_more made old.pool.idle within)
+
+-- a store that may have lent a session
+pub borrows_within : (made : ℕ) (old now : ToldStore) (session : Option (List ℕ)) (number : Option ℤ) → Borrows (Some old) (Some now) session number
+    → NumbersWithin (pos made) old.pool.idle → NumbersWithin (pos (made + 1)) now.pool.idle
+borrows_within made old now None number borrows within = within_staying made old now borrows.0.0 within
+borrows_within made old now (Some id) number borrows within = borrowed_within made old now id number borrows within

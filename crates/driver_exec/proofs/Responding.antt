@@ -1,6 +1,6 @@
 -- What bytes that spell no document, and replies that say an error, are answered with.
 use Rattle.std.proofs.Common.{◌≡◌, ◌∙◌, ℕ, List, refl, sym, subst, inl, inr}
-use Rattle.std.specs.Prelude.{Option, None, Some, ◌⊎◌, Result, Ok, Err}
+use Rattle.std.specs.Prelude.{None, Some, ◌⊎◌, Ok, Err}
 use Rattle.bson_lite.specs.declared.bson.Bson.{Bson}
 use Rattle.bson_lite.specs.declared.document.Pair.{Pair}
 use Rattle.bson_lite.specs.declared.fault.DecodeFault.{DecodeFault}
@@ -10,7 +10,7 @@ use Rattle.bson_lite.specs.Spelling.{Spells}
 use Rattle.driver_error.specs.declared.error.Error.{Error}
 use Rattle.driver_error.specs.declared.kind.ErrorKind.TheVariants as kind
 use Rattle.driver_error.specs.Conversions.{IsMade}
-use Rattle.driver_error.specs.Error.{ErrorKind, HasResponse, IsAlone, kind_of}
+use Rattle.driver_error.specs.Error.{ErrorKind, HasResponse, kind_of}
 use Rattle.driver_error.specs.LabelTexts.{LabelSet, no_labels, label_set}
 use Rattle.driver_exec.specs.Responses.{IsNoDocument, IsSaid, IsSpelledBy, KeepsReply, Said, done, fails, breaks, SaysError, SpellsError, TellsResponse, no_document_text, said}
 

@@ -1,5 +1,5 @@
 -- The fields that the executor appends to a built command.
-use Rattle.std.specs.Prelude.{◌≡◌, ℕ, ℤ, true, List, [], ◌∷◌, ◌++◌, None, Result, Ok, Err}
+use Rattle.std.specs.Prelude.{◌≡◌, ℕ, ℤ, true, List, [], ◌∷◌, ◌++◌, length, Option, None, Some, Result, Ok, Err}
 use Rattle.bson_lite.specs.declared.bson.Bson.{Bson}
 use Rattle.bson_lite.specs.declared.bson.Bson as bson
 use Rattle.bson_lite.specs.declared.document.Pair.{Pair}
@@ -21,17 +21,28 @@ field key value = record { key = key; value = value }
 unfoldable pub session_document : List ℕ → List (Pair Bson)
 session_document id = field SESSION_ID.now (bson.Binary (record { subtype = UUID_SUBTYPE; bytes = id })) ∷ []
 
--- the executor's fields under a session and a number, of a command that goes to a database
-unfoldable pub executor_fields : List ℕ → ℤ → List ℕ → List (Pair Bson)
-executor_fields id number database =
-    field SESSION.now (bson.Document (session_document id))
-    ∷ field TRANSACTION_NUMBER.now (bson.Int64 number)
-    ∷ field DATABASE.now (bson.String database)
-    ∷ []
+-- the field that names a session, where a command is under one
+unfoldable pub session_field : Option (List ℕ) → List (Pair Bson)
+session_field None = []
+session_field (Some id) = field SESSION.now (bson.Document (session_document id)) ∷ []
+
+-- the field of a transaction number, where a command has one
+unfoldable pub number_field : Option ℤ → List (Pair Bson)
+number_field None = []
+number_field (Some number) = field TRANSACTION_NUMBER.now (bson.Int64 number) ∷ []
+
+-- the executor's fields under a session and a number, where there are such, of a command that goes to a database
+unfoldable pub executor_fields : Option (List ℕ) → Option ℤ → List ℕ → List (Pair Bson)
+executor_fields session number database = session_field session ++ number_field number ++ field DATABASE.now (bson.String database) ∷ []
 
 -- the command with the executor's fields behind its own
-abbrev pub with_fields : List ℕ → ℤ → Command → Command
-with_fields id number command = record command { body = command.body ++ executor_fields id number command.database }
+abbrev pub with_fields : Option (List ℕ) → Option ℤ → Command → Command
+with_fields session number command = record command { body = command.body ++ executor_fields session number command.database }
+
+-- the id of a session, where there is one, has 16 bytes
+abbrev pub IsSixteen : Option (List ℕ) → Type 0
+IsSixteen None = Unit {0}
+IsSixteen (Some id) = length id ≡ 16
 
 -- a body has none of these keys
 abbrev pub LacksAll : List (List ℕ) → List (Pair Bson) → Type 0

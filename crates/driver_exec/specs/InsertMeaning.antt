@@ -1,16 +1,20 @@
 -- What an insert of one document tells as an operation.
-use Rattle.std.specs.Prelude.{◌≡◌, ℕ, true, List, [], ◌∷◌}
+use Rattle.std.specs.Prelude.{◌≡◌, ℕ, Bool, true, false, List, [], ◌∷◌, Option, Some}
 use Rattle.bson_lite.specs.declared.bson.Bson.{Bson}
 use Rattle.bson_lite.specs.declared.document.Pair.{Pair}
 use Rattle.bson_lite.specs.declared.namespace.Namespace.{Namespace}
 use Rattle.bson_lite.specs.Spelling.{Spells}
 use Rattle.driver_link.specs.declared.command.CommandName.TheVariants as name
 use Rattle.driver_link.specs.declared.machine.Place.{Place}
+use Rattle.driver_link.specs.declared.options.ClientOptions.{ClientOptions}
 use Rattle.driver_link.specs.declared.machine.SendBody.{SendBody}
 use Rattle.driver_link.specs.declared.machine.SendBody.TheVariants.{Write}
 use Rattle.driver_link.specs.declared.machine.SendCommand.TheVariants as command
 use Rattle.driver_exec.specs.Causes.{BodyRefused, never}
-use Rattle.driver_exec.specs.Inserts.{ReadsReply, insert_write}
+use Rattle.driver_exec.specs.declared.retryability.Retryability.{Retryability}
+use Rattle.driver_exec.specs.declared.retryability.Retryability.TheVariants as may
+use Rattle.driver_exec.specs.InsertAnswers.{ReadsInsert}
+use Rattle.driver_exec.specs.Inserts.{insert_write}
 use Rattle.driver_exec.specs.Operations.{Meaning}
 
 -- the insert of the document that the bytes spell, under the one place
@@ -21,6 +25,14 @@ pub record AsksInsert (namespace : Namespace) (bytes : List ℕ) (places : List 
   pub alone : places ≡ place ∷ []
   pub is : body ≡ Write command.Insert true (insert_write namespace document place ∷ [])
 
+-- an insert is a write that may be repeated, unless the client's options forbid it
+abbrev pub repeated_where : Option Bool → Retryability
+repeated_where (Some false) = may.None
+repeated_where other = may.Write
+
+abbrev pub own_of_insert : ClientOptions → Retryability
+own_of_insert options = repeated_where options.retry_writes
+
 -- a build is refused nothing; the command has no spelling where the namespace has none
 abbrev pub insert_meaning : {A : Type 0} → Namespace → List ℕ → Meaning A
 insert_meaning namespace bytes = record {
@@ -28,5 +40,7 @@ insert_meaning namespace bytes = record {
   asked = AsksInsert namespace bytes;
   refused = never;
   unspelled = BodyRefused namespace;
-  reads = ReadsReply;
+  own = own_of_insert;
+  sessions = true;
+  answers = ReadsInsert;
 }

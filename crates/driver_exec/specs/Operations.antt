@@ -1,5 +1,5 @@
 -- What an operation tells of its command, and what building it comes to.
-use Rattle.std.specs.Prelude.{◌≡◌, ◌↔◌, ℕ, ℤ, Bool, false, List, length, ◌++◌, Option, None, Some, ◌⊎◌, Result, Ok, Err}
+use Rattle.std.specs.Prelude.{◌≡◌, ◌↔◌, ℕ, ℤ, Bool, false, List, length, ◌++◌, Option, Some, ◌⊎◌, Result, Ok, Err}
 use Rattle.bson_lite.specs.declared.bson.Bson.{Bson}
 use Rattle.bson_lite.specs.declared.document.Pair.{Pair}
 use Rattle.bson_lite.specs.declared.fault.EncodeFault.{EncodeFault}
@@ -15,18 +15,23 @@ use Rattle.driver_link.specs.declared.machine.SendBody.{SendBody}
 use Rattle.driver_link.specs.Asking.{asks}
 use Rattle.driver_link.specs.Framed.{Framed}
 use Rattle.driver_link.specs.Reads.{Reads, SpellSequences}
+use Rattle.driver_link.specs.declared.options.ClientOptions.{ClientOptions}
 use Rattle.driver_exec.specs.declared.command.Command.{Command}
-use Rattle.driver_exec.specs.Fields.{AreCommon, IsPlain, with_fields}
+use Rattle.driver_exec.specs.declared.retryability.Retryability.{Retryability}
+use Rattle.driver_exec.specs.Fields.{AreCommon, IsPlain, IsSixteen, with_fields}
 
 -- what an operation tells: the name of its command, what the command asks for with the places of its writes,
 -- what a build is refused with beside want of memory, why a built command with the executor's fields has no
--- spelling, and how a reply is read
+-- spelling, what of it may be repeated, whether it takes a session, and how a reply is read which says that the
+-- command was done
 pub record Meaning (A : Type 0) : Type 1 where
   pub name : CommandName
   pub asked : List Place → SendBody → Type 0
   pub refused : ErrorKind → Type 0
   pub unspelled : EncodeFault → Type 0
-  pub reads : List ℕ → Result A Error → Type 0
+  pub own : ClientOptions → Retryability
+  pub sessions : Bool
+  pub answers : List (Pair Bson) → Result A Error → Type 0
 
 -- an operation tells before and now the same
 pub record MeansTheSame {A : Type 0} (old now : Meaning A) : Type 0 where
@@ -34,7 +39,9 @@ pub record MeansTheSame {A : Type 0} (old now : Meaning A) : Type 0 where
   pub asked : (places : List Place) (body : SendBody) → old.asked places body ↔ now.asked places body
   pub refused : (why : ErrorKind) → old.refused why ↔ now.refused why
   pub unspelled : (fault : EncodeFault) → old.unspelled fault ↔ now.unspelled fault
-  pub reads : (reply : List ℕ) (result : Result A Error) → old.reads reply result ↔ now.reads reply result
+  pub own : (options : ClientOptions) → now.own options ≡ old.own options
+  pub sessions : now.sessions ≡ old.sessions
+  pub answers : (reply : List (Pair Bson)) (result : Result A Error) → old.answers reply result ↔ now.answers reply result
 
 -- with the places of its writes a command asks for this, whichever of the executor's fields are appended
 pub record AsksFor (command : Command) (places : List Place) (body : SendBody) : Type 0 where
@@ -48,7 +55,8 @@ pub record IsBuilt {A : Type 0} (meaning : Meaning A) (statements : ℕ) (comman
   pub plain : IsPlain command.body
   pub asks : (places : List Place) (body : SendBody) → meaning.asked places body → AsksFor command places body
   pub counts : (places : List Place) (body : SendBody) → meaning.asked places body → length places ≡ statements
-  pub spelling : (id : List ℕ) (number : ℤ) (fault : EncodeFault) → length id ≡ 16 → refusal (with_fields id number command).body ≡ Some fault → meaning.unspelled fault
+  pub spelling : (session : Option (List ℕ)) (number : Option ℤ) (fault : EncodeFault) → IsSixteen session → refusal (with_fields session number command).body ≡ Some fault
+      → meaning.unspelled fault
 
 -- why a build is refused
 abbrev pub TellsUnbuilt : {A : Type 0} → Meaning A → ErrorKind → Type 0
@@ -62,14 +70,18 @@ abbrev pub Builds : {A : Type 0} → Meaning A → ℕ → Result Command Error 
 Builds meaning statements (Ok command) = IsBuilt meaning statements command
 Builds meaning statements (Err error) = TellsUnbuilt meaning (kind_of error)
 
--- the send of what is asked for under a session and a number, outside transactions
+-- the send of what is asked for under a session and a number, where there are such, outside transactions
+abbrev pub plain_send : Option (List ℕ) → Option ℤ → SendBody → Send
+plain_send session number body = record { session = session; number = number; start = false; in_transaction = false; body = body }
+
+-- the same where there are both
 abbrev pub numbered_send : List ℕ → ℤ → SendBody → Send
-numbered_send id number body = record { session = Some id; number = Some number; start = false; in_transaction = false; body = body }
+numbered_send id number body = plain_send (Some id) (Some number) body
 
 -- a frame reads as what is asked for, under a session and a number
-abbrev pub ReadsAsAsked : {A : Type 0} → Meaning A → List ℕ → ℤ → Framed → Type 0
-ReadsAsAsked meaning id number frame =
-    (places : List Place) (body : SendBody) → meaning.asked places body → Reads frame places (numbered_send id number body)
+abbrev pub ReadsAsAsked : {A : Type 0} → Meaning A → Option (List ℕ) → Option ℤ → Framed → Type 0
+ReadsAsAsked meaning session number frame =
+    (places : List Place) (body : SendBody) → meaning.asked places body → Reads frame places (plain_send session number body)
 
 -- why there is no frame of a command
 abbrev pub TellsUnframed : {A : Type 0} → Meaning A → ErrorKind → Type 0
@@ -79,6 +91,6 @@ TellsUnframed meaning kind.Memory = Unit {0}
 TellsUnframed meaning _ = ⊥
 
 -- the frame of an operation's command, or the error that tells why there is none
-abbrev pub BuildsFrame : {A : Type 0} → Meaning A → List ℕ → ℤ → Result Framed Error → Type 0
-BuildsFrame meaning id number (Ok frame) = ReadsAsAsked meaning id number frame
-BuildsFrame meaning id number (Err error) = TellsUnframed meaning (kind_of error)
+abbrev pub BuildsFrame : {A : Type 0} → Meaning A → Option (List ℕ) → Option ℤ → Result Framed Error → Type 0
+BuildsFrame meaning session number (Ok frame) = ReadsAsAsked meaning session number frame
+BuildsFrame meaning session number (Err error) = TellsUnframed meaning (kind_of error)

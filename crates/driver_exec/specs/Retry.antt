@@ -14,6 +14,7 @@ use Rattle.driver_exec.specs.declared.retry.Failure.{Failure}
 use Rattle.driver_exec.specs.declared.retry.FailurePhase.{FailurePhase}
 use Rattle.driver_exec.specs.declared.retry.FailurePhase.TheVariants.{Establishment, Execution}
 use Rattle.driver_exec.specs.declared.retryability.Retryability.{Retryability}
+use Rattle.driver_exec.specs.OldDeployment.{reworded}
 use Rattle.driver_exec.specs.declared.retryability.Retryability.TheVariants.{Write}
 
 -- what is kept from failed attempts: the number of the next retry, how many there may be, a failure, the first
@@ -89,12 +90,20 @@ after (Some kept) failure number = after_further kept failure number
 unfoldable pub avoiding : Bool → Address → Kept → Kept
 avoiding sharded address kept = if sharded then record kept { deprioritized = with_server address kept.deprioritized } else kept
 
--- the next retry after a failure, or the error of the failure that is kept where it may not be tried again
-unfoldable pub decide : Option Kept → Failure → Option ℤ → Address → Retryability → Bool → Result Kept Error
-decide kept failure number address retryability sharded =
+-- the failure in words for the caller
+abbrev pub told : Failure → Failure
+told failure = record failure { error = reworded failure.error }
+
+-- the next retry after a failure in words for the caller, or the error of the failure that is kept where it may not be
+-- tried again
+abbrev pub decide_told : Option Kept → Failure → Option ℤ → Address → Retryability → Bool → Result Kept Error
+decide_told kept failure number address retryability sharded =
     if may_be_retried failure number retryability
     then Ok (avoiding sharded address (after kept failure number))
     else Err (after kept failure number).failure.error
+
+unfoldable pub decide : Option Kept → Failure → Option ℤ → Address → Retryability → Bool → Result Kept Error
+decide kept failure number address retryability sharded = decide_told kept (told failure) number address retryability sharded
 
 -- a call gives what is decided, or want of memory
 abbrev pub Decides : Result Kept Error → Result Kept Error → Type 0

@@ -1,5 +1,5 @@
 -- What a lent session holds, and its next number.
-use Rattle.std.specs.Prelude.{◌≡◌, ◌≢◌, ℕ, ℤ, pos, ◌+ℤ◌, Bool, List, Result, Ok, Err}
+use Rattle.std.specs.Prelude.{◌≡◌, ◌≢◌, ℕ, ℤ, pos, ◌+ℤ◌, ◌≤ℤ◌, Bool, List, Result, Ok, Err}
 use Rattle.driver_error.specs.declared.error.Error.{Error}
 use Rattle.driver_error.specs.declared.kind.ErrorKind.TheVariants.{Internal, Memory}
 use Rattle.driver_error.specs.Error.{ErrorKind, kind_of}
@@ -27,3 +27,11 @@ TellsEnd session _ = ⊥
 abbrev pub Numbers : Session → Session → Result ℤ Error → Type 0
 Numbers old now (Ok number) = (old.number ≢ last_number) × (number ≡ (old.number +ℤ pos 1)) × (now ≡ record old { number = number })
 Numbers old now (Err error) = (now ≡ old) × TellsEnd old (kind_of error)
+
+-- the session has its next number
+abbrev pub Raises : Session → Session → Type 0
+Raises session back = back.number ≡ (session.number +ℤ pos 1)
+
+-- the session has its number still, or its next one
+abbrev pub MayRaise : Session → Session → Type 0
+MayRaise session back = (session.number ≤ℤ back.number) × (back.number ≤ℤ (session.number +ℤ pos 1))

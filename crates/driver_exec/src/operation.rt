@@ -4,8 +4,10 @@ ghost use Rattle.driver_link.specs.CommandNames.{named};
 ghost use Rattle.driver_exec.specs.Operations.{Meaning, MeansTheSame, Builds};
 
 use crate::command::Command;
+use crate::retryability::Retryability;
+use bson_lite::Document;
 use driver_error::Result;
-use driver_link::Description;
+use driver_link::{ClientOptions, Description};
 use std::alloc::Global;
 
 /// An operation that is sent as a command. What it tells is for contracts alone.
@@ -32,9 +34,17 @@ pub trait Operation {
     fn statements(&self) -> usize
         ensures { result ≡ built self.now };
 
-    /// What the bytes of a reply come to.
-    fn read_reply(&mut self, alloc: Global, reply: &[u8]) -> Result<Self::Output>
-        ensures reads { (meaning self.old).reads reply.now result }
+    /// What of it may be repeated by its own rules.
+    fn retryability(&self, options: &ClientOptions) -> Retryability
+        ensures { result ≡ (meaning self.now).own options.now };
+
+    /// Whether its command may be under a session.
+    fn supports_sessions(&self) -> bool
+        ensures { result ≡ (meaning self.now).sessions };
+
+    /// What a reply comes to that says that the command was done.
+    fn read_answer(&mut self, alloc: Global, reply: &Document) -> Result<Self::Output>
+        ensures reads { (meaning self.old).answers reply.now result }
         ensures meaning { MeansTheSame (meaning self.old) (meaning self.new) }
         ensures built { built self.new ≡ built self.old };
 }

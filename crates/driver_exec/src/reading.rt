@@ -1,6 +1,7 @@
 //! Readers of the fields of a reply: each gives exactly what its definition says, or refuses the value.
 ghost use Rattle.std.specs.Prelude.{◌≡◌};
 ghost use Rattle.std.specs.Option.{option_copied};
+ghost use Rattle.bson_lite.specs.Fields.{int_of};
 ghost use Rattle.driver_link.specs.Commands.{needed, optional};
 ghost use Rattle.driver_link.specs.Values.{text_of};
 ghost use Rattle.driver_exec.specs.Readings.{Gives, small_of, natural_of, text_in, texts_in, texts_of, labels_in, command_error_in};
@@ -49,7 +50,7 @@ fn small_of(value: &Bson) -> Option<i32>
 
 /// A whole number that is not negative.
 #[tactic(auto, unfolding(crate::specs::Readings::natural_of))]
-fn natural_of(value: &Bson) -> Option<u64>
+pub(crate) fn natural_of(value: &Bson) -> Option<u64>
     ensures { result ≡ natural_of value.now }
 {
     let number = get_int(value)?;
@@ -61,7 +62,7 @@ fn natural_of(value: &Bson) -> Option<u64>
 
 /// The code of an error, which is needed.
 #[tactic(auto, unfolding(driver_link::specs::Commands::needed))]
-fn code_at(document: &Document, key: &str) -> Result<i32, Unread>
+pub(crate) fn code_at(document: &Document, key: &str) -> Result<i32, Unread>
     ensures { Gives result (needed small_of key.now document.now) }
 {
     let Some(value) = document.get(key) else {
@@ -69,6 +70,20 @@ fn code_at(document: &Document, key: &str) -> Result<i32, Unread>
     };
     match small_of(value) {
         Some(code) => Ok(code),
+        None => Err(Unread::Wrong),
+    }
+}
+
+/// A whole number, which is needed.
+#[tactic(auto, unfolding(driver_link::specs::Commands::needed))]
+pub(crate) fn int_at(document: &Document, key: &str) -> Result<i64, Unread>
+    ensures { Gives result (needed int_of key.now document.now) }
+{
+    let Some(value) = document.get(key) else {
+        return Err(Unread::Wrong);
+    };
+    match get_int(value) {
+        Some(number) => Ok(number),
         None => Err(Unread::Wrong),
     }
 }
@@ -89,7 +104,7 @@ fn natural_at(document: &Document, key: &str) -> Result<Option<u64>, Unread>
 
 /// A text, which is empty where it is missing.
 #[tactic(auto, unfolding(crate::specs::Readings::text_in, driver_link::specs::Commands::optional_value))]
-fn text_at(alloc: Global, document: &Document, key: &str) -> Result<Text, Unread>
+pub(crate) fn text_at(alloc: Global, document: &Document, key: &str) -> Result<Text, Unread>
     ensures { Gives result (text_in key.now document.now) }
 {
     match document.get(key) {
@@ -126,7 +141,7 @@ fn texts_in(alloc: Global, values: &[Bson]) -> Result<List<Text>, Unread>
 
 /// The labels of a reply.
 #[tactic(auto, unfolding(crate::specs::Readings::labels_in, crate::specs::Readings::texts_of, driver_link::specs::Commands::optional_value))]
-fn labels_at(alloc: Global, document: &Document) -> Result<List<Text>, Unread>
+pub(crate) fn labels_at(alloc: Global, document: &Document) -> Result<List<Text>, Unread>
     ensures { Gives result (labels_in document.now) }
 {
     match document.get(keys::ERROR_LABELS) {

@@ -1,9 +1,10 @@
 //! Whether an operation that failed is tried again, and which of its failures is kept.
 ghost use Rattle.std.specs.Prelude.{◌≡◌, nat_lt, [], IfOk, OnOk};
 ghost use Rattle.std.specs.List.{list_any};
-ghost use Rattle.driver_exec.specs.Retry.{Decides, decide, after, avoiding, tells_writes_performed, may_be_retried, may_be_sent, indicates_writes_performed, failure_kept, stays, is_server, with_server, after_first, after_further, number_kept};
+ghost use Rattle.driver_exec.specs.Retry.{Decides, decide, told, after, avoiding, tells_writes_performed, may_be_retried, may_be_sent, indicates_writes_performed, failure_kept, stays, is_server, with_server, after_first, after_further, number_kept};
 ghost use Rattle.driver_exec.specs.declared.retry.FailurePhase.TheVariants.{Establishment, Execution};
 
+use crate::old_deployment::reworded;
 use crate::retryability::Retryability;
 use bson_lite::{List, TryClone};
 use driver_error::{Error, NO_WRITES_PERFORMED, RETRYABLE_WRITE_ERROR, Result};
@@ -163,6 +164,7 @@ fn after_failure(
 ) -> Result<Retry>
     ensures { Decides (decide kept failure number address.now retryability sharded) result }
 {
+    let failure = told(alloc, failure)?;
     let is_retried = may_be_retried(&failure, number, retryability);
     let retry = after(alloc, kept, failure, number);
     if is_retried {
@@ -170,6 +172,17 @@ fn after_failure(
     } else {
         Err(retry.last_error())
     }
+}
+
+/// The failure in words for the caller.
+fn told(alloc: Global, failure: Failure) -> std::result::Result<Failure, AllocError>
+    ensures { IfOk result (λ now. now ≡ told failure) }
+{
+    let Failure { error, phase } = failure;
+    Ok(Failure {
+        error: reworded(alloc, error)?,
+        phase,
+    })
 }
 
 /// What is kept after a failure.

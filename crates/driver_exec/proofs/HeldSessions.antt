@@ -1,0 +1,268 @@
+-- The session that an operation holds: where it is from, what its number is before the first send, and that the link's
+-- connections take sessions where there is one.
+use Rattle.std.proofs.Common.{◌≡◌, ℕ, List, [], ◌∷◌, refl, sym, ap, subst, ◌∙◌}
+use Rattle.std.specs.Prelude.{ℤ, Bool, true, false, ◌&&◌, Option, None, Some, is_none, is_some, Result, Ok, Err, if◌then◌else◌}
+use Rattle.std.specs.Option.{option_map}
+use Rattle.driver_error.specs.declared.error.Error.{Error}
+use Rattle.driver_error.specs.declared.kind.ErrorKind.TheVariants as kind
+use Rattle.driver_error.specs.Error.{ErrorKind, kind_of}
+use Rattle.driver_link.specs.declared.fault.LinkError.{LinkError}
+use Rattle.driver_link.specs.declared.fault.LinkError.TheVariants.{Fault, Memory}
+use Rattle.driver_link.specs.declared.machine.Setup.{Setup}
+use Rattle.driver_link.specs.declared.options.Address.{Address}
+use Rattle.driver_link.specs.declared.options.Conn.{Conn}
+use Rattle.driver_link.specs.declared.options.Description.{Description}
+use Rattle.driver_link.specs.Told.{IsTo}
+use Rattle.driver_exec.specs.declared.pool.IdleSession.{IdleSession}
+use Rattle.driver_exec.specs.declared.retryability.Retryability.{Retryability}
+use Rattle.driver_exec.specs.declared.retryability.Retryability.TheVariants as may
+use Rattle.driver_exec.specs.Attempting.{asks_session, held_after, on_connection}
+use Rattle.driver_exec.specs.Causes.{IsLast, MayBeLast, is_network, lent_number, next_number}
+use Rattle.driver_exec.specs.Holding.{DrawsNumber, DrawsSession, GivesNumber, Held, HoldsSession, dirty_session, needs_session}
+use Rattle.driver_exec.specs.OperationCauses.{DrawsNumbers}
+use Rattle.driver_exec.specs.Pool.{Lends, ToldStore, session_out}
+use Rattle.driver_exec.specs.Session.{Numbers, Session, TellsEnd, last_number}
+use Rattle.driver_exec.proofs.Trying.{both_true}
+
+-- what is true is not false
+pub not_both : true ≡ false → ⊥
+not_both same = cc
+
+-- without a session the store is as it was
+abbrev pub IsUntouched : Option Session → Option ToldStore → Option ToldStore → Type 0
+IsUntouched None store now = now ≡ store
+IsUntouched (Some session) store now = Unit {0}
+
+-- a number is the one that is lent next, where that is told
+abbrev pub FitsNumber : Option ℤ → ℤ → Type 0
+FitsNumber None number = Unit {0}
+FitsNumber (Some next) number = number ≡ next
+
+-- before the first send a session's number is the one that it was lent with
+abbrev pub IsFirst : Option Session → Option (Option ℤ) → Option ℤ → Type 0
+IsFirst (Some session) None next = FitsNumber next session.number
+IsFirst session sent next = Unit {0}
+
+-- where there is a session the link's connections take sessions
+abbrev pub TakesSessions : Option Session → Option Setup → Type 0
+TakesSessions (Some session) (Some setup) = setup.description.supports_sessions ≡ true
+TakesSessions session setup = Unit {0}
+
+-- what is held at one moment of an operation, by the store and the setup at its start
+pub record Stands (store : Option ToldStore) (setup : Option Setup) (now : Option ToldStore) (session : Option Session) (sent : Option (Option ℤ)) : Type 0 where
+  pub untouched : IsUntouched session store now
+  pub first : IsFirst session sent (next_number store)
+  pub takes : TakesSessions session setup
+
+-- a description is that of the setup, where that is told
+abbrev pub IsOf : Option Setup → Description → Type 0
+IsOf None description = Unit {0}
+IsOf (Some setup) description = description ≡ setup.description
+
+-- a connection has the description of the setup that was told
+pub is_of : (setup told : Option Setup) (address : Address) (conn : Conn) → told ≡ setup → IsTo told address conn → IsOf setup conn.description
+is_of setup told address conn same to = subst (λ s. IsOf s conn.description) same (by_told told to)
+  where
+    by_told : (told : Option Setup) → IsTo told address conn → IsOf told conn.description
+    by_told None to = tt
+    by_told (Some setup) to = to.1
+
+-- a session that is lent has the number that was next
+lent_fits : (store lent : Option ToldStore) (caller moment : ℕ) (session : Session) → Lends store lent caller moment session → FitsNumber (next_number store) session.number
+lent_fits None lent caller moment session lends = tt
+lent_fits (Some told) None caller moment session lends = absurd lends
+lent_fits (Some told) (Some mid) caller moment session lends = ap (λ held. held.number) lends.session_is ∙ number_is told.pool.idle (told.to_come 0)
+  where
+    number_is : (idle : List IdleSession) (next : List ℕ) → (session_out idle next moment).number ≡ lent_number idle
+    number_is [] next = refl
+    number_is (front ∷ idle) next = refl
+
+-- what is the last number
+pub last_of : (next : Option ℤ) (number : ℤ) → IsLast next → FitsNumber next number → number ≡ last_number
+last_of None number last fits = absurd last
+last_of (Some next) number last fits = fits ∙ last
+
+-- what may be the last number
+pub may_be_last : (next : Option ℤ) (number : ℤ) → FitsNumber next number → number ≡ last_number → MayBeLast next
+may_be_last None number fits last = tt
+may_be_last (Some next) number fits last = sym fits ∙ last
+
+-- no value
+none_of : {B : Type 0} (o : Option B) → is_none o ≡ true → o ≡ None
+none_of None is = refl
+none_of (Some b) is = absurd (not_both (sym is))
+
+-- some value
+some_of : {B : Type 0} (o : Option B) → is_none o ≡ false → is_some o ≡ true
+some_of None is = absurd (not_both is)
+some_of (Some b) is = refl
+
+module _ (store : Option ToldStore) (setup : Option Setup) where
+  -- an operation that has not begun
+  pub stands_at_first : Stands store setup store None None
+  stands_at_first = record { untouched = refl; first = tt; takes = tt }
+
+  -- a session was lent where one is needed
+  module _ (sessions : Bool) (description : Description) (is : IsOf setup description) (mid now : Option ToldStore) (held ready : Held) where
+    -- a session that is asked for is one that the link's connections take
+    takes_asked : (session : Session) (setup : Option Setup) → IsOf setup description → description.supports_sessions ≡ true → TakesSessions (Some session) setup
+    takes_asked session None is supports = tt
+    takes_asked session (Some told) is supports = sym (ap (λ d. d.supports_sessions) is) ∙ supports
+
+    -- a session that was lent has its first number
+    first_lent : (session : Session) (sent : Option (Option ℤ)) → FitsNumber (next_number store) session.number → IsFirst (Some session) sent (next_number store)
+    first_lent session None fits = fits
+    first_lent session (Some before) fits = tt
+
+    pub ready_stands : HoldsSession (needs_session (asks_session sessions description) held) mid now held ready (Ok tt) → Stands store setup mid held.session held.sent
+        → Stands store setup now ready.session ready.sent
+    ready_stands holds stands = by_need (needs_session (asks_session sessions description) held) refl holds
+      where
+        by_need : (needed : Bool) → needs_session (asks_session sessions description) held ≡ needed → HoldsSession needed mid now held ready (Ok tt)
+            → Stands store setup now ready.session ready.sent
+        by_need false needs holds =
+            subst (λ h. Stands store setup now h.session h.sent) (sym holds.1) (subst (λ s. Stands store setup s held.session held.sent) (sym holds.0) stands)
+        by_need true needs holds =
+            let both = both_true (asks_session sessions description && is_none held.session) (is_none held.sent) needs in
+            let first = both_true (asks_session sessions description) (is_none held.session) both.0 in
+            let supports = (both_true sessions description.supports_sessions first.0).1 in
+            let same : mid ≡ store = subst (λ s. IsUntouched s store mid) (none_of held.session first.1) stands.untouched in
+            let fits = subst (λ s. FitsNumber (next_number s) holds.session.number) same (lent_fits mid now holds.caller holds.moment holds.session holds.lends) in
+            subst (λ h. Stands store setup now h.session h.sent) (sym holds.is)
+            (record { untouched = tt; first = first_lent holds.session held.sent fits; takes = takes_asked holds.session setup is supports })
+
+    -- with one asked for and nothing sent, a session is held
+    pub ready_holds : asks_session sessions description ≡ true → held.sent ≡ None → HoldsSession (needs_session (asks_session sessions description) held) mid now held ready (Ok tt)
+        → (ready.sent ≡ None) × (is_some ready.session ≡ true)
+    ready_holds asks unsent holds = by_need (needs_session (asks_session sessions description) held) refl holds
+      where
+        none_true : (sent : Option (Option ℤ)) → sent ≡ None → is_none sent ≡ true
+        none_true sent none = ap is_none none
+
+        must_hold : (a b c : Bool) → a ≡ true → c ≡ true → (a && b && c) ≡ false → b ≡ false
+        must_hold true false c first last none = refl
+        must_hold true true true first last none = none
+        must_hold true true false first last none = sym last
+        must_hold false b c first last none = absurd (not_both (sym first))
+
+        by_need : (needed : Bool) → needs_session (asks_session sessions description) held ≡ needed → HoldsSession needed mid now held ready (Ok tt)
+            → (ready.sent ≡ None) × (is_some ready.session ≡ true)
+        by_need false needs holds =
+            let some = some_of held.session (must_hold (asks_session sessions description) (is_none held.session) (is_none held.sent) asks (none_true held.sent unsent) needs) in
+            (ap (λ h. h.sent) holds.1 ∙ unsent, ap (λ h. is_some h.session) holds.1 ∙ some)
+        by_need true needs holds = (ap (λ h. h.sent) holds.is ∙ unsent, ap (λ h. is_some h.session) holds.is)
+
+  -- what is held after a number was drawn is a session where it was one
+  pub draw_holds : (turn : Retryability) (held numbered : Held) (result : Result (Option ℤ) Error) → DrawsNumber held.sent turn held numbered result
+      → is_some numbered.session ≡ is_some held.session
+  draw_holds turn held numbered result draws = by_sent held.sent draws
+    where
+      by_turn : (turn : Retryability) (session now : Option Session) → DrawsSession turn session now result → is_some now ≡ is_some session
+      by_turn may.Write (Some session) now draws = ap is_some draws.is
+      by_turn may.Write None now draws = ap is_some draws.0
+      by_turn other session now draws = ap is_some draws.0
+
+      by_sent : (sent : Option (Option ℤ)) → DrawsNumber sent turn held numbered result → is_some numbered.session ≡ is_some held.session
+      by_sent (Some before) draws = ap (λ h. is_some h.session) draws.0
+      by_sent None draws = ap (λ h. is_some h.session) draws.is ∙ by_turn turn held.session draws.session draws.draws
+
+  -- so is what is held after an exchange
+  pub exchange_holds : (result : Result (List ℕ) LinkError) (held : Held) → (is_some (held_after result held).session ≡ is_some held.session) × ((held_after result held).sent ≡ held.sent)
+  exchange_holds (Ok reply) held = (refl, refl)
+  exchange_holds (Err Memory) held = (refl, refl)
+  exchange_holds (Err (Fault found own)) held = by_network (is_network found)
+    where
+      dirty_some : (session : Option Session) → is_some (option_map dirty_session session) ≡ is_some session
+      dirty_some None = refl
+      dirty_some (Some session) = refl
+
+      by_network : (network : Bool)
+          → (is_some (if network then record held { session = option_map dirty_session held.session } else held).session ≡ is_some held.session)
+          × ((if network then record held { session = option_map dirty_session held.session } else held).sent ≡ held.sent)
+      by_network true = (dirty_some held.session, refl)
+      by_network false = (refl, refl)
+
+  -- so it stands after a send
+  pub sent_stands : (now : Option ToldStore) (session after : Option Session) (sent : Option (Option ℤ)) (number : Option ℤ) → is_some after ≡ is_some session
+      → Stands store setup now session sent → Stands store setup now after (Some number)
+  sent_stands now None None sent number same stands = record { untouched = stands.untouched; first = tt; takes = tt }
+  sent_stands now (Some session) (Some after) sent number same stands = record { untouched = tt; first = tt; takes = by_setup setup stands.takes }
+    where
+      by_setup : (setup : Option Setup) → TakesSessions (Some session) setup → TakesSessions (Some after) setup
+      by_setup None takes = tt
+      by_setup (Some told) takes = takes
+  sent_stands now None (Some after) sent number same stands = absurd (not_both same)
+  sent_stands now (Some session) None sent number same stands = absurd (not_both (sym same))
+
+-- a session is held, and the connection takes none: the setup is not told
+pub sessionless : (setup : Option Setup) (description : Description) (session : Option Session) → IsOf setup description → TakesSessions session setup
+    → (if is_some session then description.supports_sessions else true) ≡ false → setup ≡ None
+sessionless None description session is takes refused = refl
+sessionless (Some setup) description None is takes refused = absurd (not_both refused)
+sessionless (Some setup) description (Some session) is takes refused = absurd (not_both (sym (ap (λ d. d.supports_sessions) is ∙ takes) ∙ refused))
+
+-- what each send has a number by
+pub none_draws : (sessions : Bool) (own : Retryability) → DrawsNumbers sessions own None → ⊥
+none_draws sessions may.Write draws = draws
+none_draws sessions may.Read draws = draws
+none_draws sessions may.None draws = draws
+
+-- where each send has a number, a session is asked for on each connection, and the write may be repeated on it
+pub draws_on : (sessions : Bool) (own : Retryability) (setup : Option Setup) (description : Description) → DrawsNumbers sessions own setup → IsOf setup description
+    → (asks_session sessions description ≡ true) × (on_connection own description ≡ may.Write)
+draws_on sessions may.Write None description draws is = absurd draws
+draws_on sessions may.Write (Some setup) description draws is =
+    let supports = ap (λ d. d.supports_sessions) is ∙ draws.1 in
+    let retries = ap (λ d. d.supports_retryable_writes) is ∙ draws.2 in
+    (ap (λ s. s && description.supports_sessions) draws.0 ∙ supports, ap (λ b. if b then may.Write else may.None) retries)
+draws_on sessions may.Read setup description draws is = absurd draws
+draws_on sessions may.None setup description draws is = absurd draws
+
+-- there is no number after the last one
+pub last_draws_none : (next : Option ℤ) (turn : Retryability) (held numbered : Held) (number : Option ℤ) → IsLast next → turn ≡ may.Write → held.sent ≡ None
+    → is_some held.session ≡ true → IsFirst held.session held.sent next → DrawsNumber held.sent turn held numbered (Ok number) → ⊥
+last_draws_none next turn held numbered number last is_write unsent holds first draws =
+    let drawn = subst (λ t. DrawsNumber None t held numbered (Ok number)) is_write (subst (λ s. DrawsNumber s turn held numbered (Ok number)) unsent draws) in
+    by_session held.session drawn.session holds (subst (λ s. IsFirst held.session s next) unsent first) drawn.draws
+  where
+    by_next : (session back : Session) (given : Result ℤ Error) → FitsNumber next session.number → Numbers session back given → GivesNumber given (Ok number) → ⊥
+    by_next session back (Ok drawn) fits numbers gives = numbers.0 (last_of next session.number last fits)
+    by_next session back (Err error) fits numbers gives = absurd (let e : ◌≡◌ {A = Result (Option ℤ) Error} (Ok number) (Err error) = gives in cc)
+
+    by_session : (session now : Option Session) → is_some session ≡ true → IsFirst session None next → DrawsSession may.Write session now (Ok number) → ⊥
+    by_session None now some first draws = not_both (sym some)
+    by_session (Some session) now some first draws = by_next session draws.numbered draws.next first draws.numbers draws.gives
+
+-- an error that tells that the numbers may be at their end, or want of memory
+abbrev pub AtEnd : Option ℤ → ErrorKind → Type 0
+AtEnd next (kind.Internal message) = MayBeLast next
+AtEnd next kind.Memory = Unit {0}
+AtEnd next _ = ⊥
+
+-- where there is no number, an error tells why
+pub unnumbered_at_end : (next : Option ℤ) (turn : Retryability) (held numbered : Held) (error : Error) → IsFirst held.session held.sent next
+    → DrawsNumber held.sent turn held numbered (Err error) → AtEnd next (kind_of error)
+unnumbered_at_end next turn held numbered error first draws = by_sent held.sent first draws
+  where
+    err_ok : (number : Option ℤ) → ◌≡◌ {A = Result (Option ℤ) Error} (Err error) (Ok number) → ⊥
+    err_ok number same = cc
+
+    tells : (session : Session) (why : ErrorKind) → FitsNumber next session.number → TellsEnd session why → AtEnd next why
+    tells session (kind.Internal message) fits ends = may_be_last next session.number fits ends.0
+    tells session kind.Memory fits ends = tt
+    tells session _ fits ends = absurd ends
+
+    by_next : (session back : Session) (given : Result ℤ Error) → FitsNumber next session.number → Numbers session back given → GivesNumber given (Err error)
+        → AtEnd next (kind_of error)
+    by_next session back (Ok drawn) fits numbers gives = absurd (err_ok (Some drawn) gives)
+    by_next session back (Err other) fits numbers gives =
+        let same : other ≡ error = cc (sym gives) in subst (λ e. AtEnd next (kind_of e)) same (tells session (kind_of other) fits numbers.1)
+
+    by_turn : (turn : Retryability) (session now : Option Session) → IsFirst session None next → DrawsSession turn session now (Err error) → AtEnd next (kind_of error)
+    by_turn may.Write (Some session) now first draws = by_next session draws.numbered draws.next first draws.numbers draws.gives
+    by_turn may.Write None now first draws = absurd (err_ok None draws.1)
+    by_turn other session now first draws = absurd (err_ok None draws.1)
+
+    by_sent : (sent : Option (Option ℤ)) → IsFirst held.session sent next → DrawsNumber sent turn held numbered (Err error) → AtEnd next (kind_of error)
+    by_sent (Some before) first draws = absurd (err_ok before draws.1)
+    by_sent None first draws = by_turn turn held.session draws.session first draws.draws

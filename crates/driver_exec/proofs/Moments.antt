@@ -1,0 +1,243 @@
+-- The moments of a link that tells its server, in order: each call leads to one that is not before it.
+use Rattle.std.proofs.Common.{◌≡◌, ℕ, ◌+◌, ◌-◌, ◌^◌, ◌≤◌, min, false, List, [], ◌∷◌, length, refl, sym, ap, subst, ◌∙◌, inl, inr, arith, length-append}
+use Rattle.std.specs.Prelude.{Option, None, Some, Result, Ok, Err}
+use Rattle.driver_error.specs.declared.error.Error.{Error}
+use Rattle.driver_error.specs.declared.kind.IoKind.TheVariants.{ConnectionRefused}
+use Rattle.driver_link.specs.declared.fault.LinkCall.{LinkCall}
+use Rattle.driver_link.specs.declared.fault.LinkCall.TheVariants.{CheckOut, Select}
+use Rattle.driver_link.specs.declared.fault.LinkError.{LinkError}
+use Rattle.driver_link.specs.declared.fault.LinkError.TheVariants.{Fault, Memory}
+use Rattle.driver_link.specs.declared.fault.LinkFault.{LinkFault}
+use Rattle.driver_link.specs.declared.fault.LinkFault.TheVariants.{Io, Selection}
+use Rattle.driver_link.specs.declared.keys.TheConstants.{SELECTION_FAILURE}
+use Rattle.driver_link.specs.declared.machine.Send.{Send}
+use Rattle.driver_link.specs.declared.machine.SendBody.{SendBody}
+use Rattle.driver_link.specs.declared.options.Address.{Address}
+use Rattle.driver_link.specs.declared.options.Conn.{Conn}
+use Rattle.driver_link.specs.Counting.{Counts, Listed, check_out_fault, checked_out, fault_where, is_listed, one_more, overload_labels, select_fault, selected}
+use Rattle.driver_link.specs.Exchange.{next_step}
+use Rattle.driver_link.specs.Told.{Steps, Told, told_after}
+use Rattle.driver_link.proofs.Replaying.{exchanged_trace}
+use Rattle.driver_exec.specs.declared.retry.FailurePhase.{FailurePhase}
+use Rattle.driver_exec.specs.declared.retry.FailurePhase.TheVariants.{Establishment, Execution}
+use Rattle.driver_exec.specs.Attempting.{CallsLink, Connects, FailsIn, NotConnected, Scene, Sends, Trial}
+use Rattle.driver_exec.specs.Gentle.{IsCounted, IsGentlePart}
+use Rattle.driver_exec.specs.Holding.{held_id}
+use Rattle.driver_exec.specs.Operations.{plain_send}
+use Rattle.driver_exec.specs.Links.{ToldLink}
+
+-- a moment is not after another: the schedule is the same, and neither the trace nor a count became less
+pub record IsBefore (a b : Told) : Type 0 where
+  pub schedule : b.schedule ≡ a.schedule
+  pub trace : length a.server.trace ≤ length b.server.trace
+  pub selects : min a.counts.selects (2 ^ 64 - 1) ≤ b.counts.selects
+  pub check_outs : min a.counts.check_outs (2 ^ 64 - 1) ≤ b.counts.check_outs
+
+-- counts that stand still at a greatest one
+capped_self : (most a : ℕ) → min a most ≤ a
+capped_self most a = omega arith
+
+capped_more : (most a : ℕ) → min a most ≤ min (a + 1) most
+capped_more most a = omega arith
+
+capped_twice : (most a b c : ℕ) → min a most ≤ b → min b most ≤ c → min a most ≤ c
+capped_twice most a b c first second = omega (arith, first, second)
+
+capped_last : (most a to : ℕ) → min (min (a + 1) most) most ≤ to → min (a + 1) most ≤ to
+capped_last most a to within = omega (arith, within)
+
+pub before_refl : (a : Told) → IsBefore a a
+before_refl a = record {
+  schedule = refl;
+  trace = omega arith;
+  selects = capped_self (2 ^ 64 - 1) a.counts.selects;
+  check_outs = capped_self (2 ^ 64 - 1) a.counts.check_outs;
+}
+
+pub before_twice : (a b c : Told) → IsBefore a b → IsBefore b c → IsBefore a c
+before_twice a b c first second = record {
+  schedule = second.schedule ∙ first.schedule;
+  trace = omega (arith, first.trace, second.trace);
+  selects = capped_twice (2 ^ 64 - 1) a.counts.selects b.counts.selects c.counts.selects first.selects second.selects;
+  check_outs = capped_twice (2 ^ 64 - 1) a.counts.check_outs b.counts.check_outs c.counts.check_outs first.check_outs second.check_outs;
+}
+
+selected_before : (a : Told) → IsBefore a (selected a)
+selected_before a = record {
+  schedule = refl;
+  trace = omega arith;
+  selects = capped_more (2 ^ 64 - 1) a.counts.selects;
+  check_outs = capped_self (2 ^ 64 - 1) a.counts.check_outs;
+}
+
+checked_before : (a : Told) → IsBefore a (checked_out a)
+checked_before a = record {
+  schedule = refl;
+  trace = omega arith;
+  selects = capped_self (2 ^ 64 - 1) a.counts.selects;
+  check_outs = capped_more (2 ^ 64 - 1) a.counts.check_outs;
+}
+
+-- an exchange adds one send
+pub longer_after : (a : Told) (send : Send) → length (told_after a send).server.trace ≡ length a.server.trace + 1
+longer_after a send = ap length (exchanged_trace a.server send (next_step a.schedule a.server)) ∙ length-append a.server.trace (send ∷ [])
+
+pub after_before : (a : Told) (send : Send) → IsBefore a (told_after a send)
+after_before a send = record {
+  schedule = refl;
+  trace = omega (arith, longer_after a send);
+  selects = capped_self (2 ^ 64 - 1) a.counts.selects;
+  check_outs = capped_self (2 ^ 64 - 1) a.counts.check_outs;
+}
+
+-- a link tells a moment, and is of the setup that it was
+pub record Leads (a : Told) (before now : ToldLink) : Type 0 where
+  pub moment : Told
+  pub is : now.server ≡ Some moment
+  pub later : IsBefore a moment
+  pub setup : now.setup ≡ before.setup
+
+-- the same, and the server is as it was
+pub record LeadsCalling (a : Told) (before now : ToldLink) : Type 0 where
+  pub leads : Leads a before now
+  pub server : leads.moment.server ≡ a.server
+
+pub leads_same : (a : Told) (link : ToldLink) → link.server ≡ Some a → Leads a link link
+leads_same a link is = record { moment = a; is = is; later = before_refl a; setup = refl }
+
+pub leads_twice : (a : Told) (before mid now : ToldLink) (first : Leads a before mid) → Leads first.moment mid now → Leads a before now
+leads_twice a before mid now first second =
+    record { moment = second.moment; is = second.is; later = before_twice a first.moment second.moment first.later second.later; setup = second.setup ∙ first.setup }
+
+-- a link tells one moment
+pub one_moment : (link : ToldLink) (a b : Told) → link.server ≡ Some a → link.server ≡ Some b → a ≡ b
+one_moment link a b first second = cc (sym first ∙ second)
+
+-- calls that are counted
+module _ {B : Type 0} (which : LinkCall) (next : Told → Told) (fault : Told → Option Listed) (ahead : (t : Told) → IsBefore t (next t)) (keeps : (t : Told) → (next t).server ≡ t.server) where
+  counts_lead : (a : Told) (before now : ToldLink) (result : Result B LinkError) → now.setup ≡ before.setup → Counts next fault (Some a) now.server result → LeadsCalling a before now
+  counts_lead a before now result setup counts = by_result result counts
+    where
+      moved : now.server ≡ Some (next a) → LeadsCalling a before now
+      moved is = record { leads = record { moment = next a; is = is; later = ahead a; setup = setup }; server = keeps a }
+
+      stayed : now.server ≡ Some a → LeadsCalling a before now
+      stayed is = record { leads = record { moment = a; is = is; later = before_refl a; setup = setup }; server = refl }
+
+      by_result : (result : Result B LinkError) → Counts next fault (Some a) now.server result → LeadsCalling a before now
+      by_result (Ok given) counts = moved counts.0
+      by_result (Err (Fault found labels)) counts = moved counts.0
+      by_result (Err Memory) counts = elim counts [ inl same ↦ stayed same | inr more ↦ moved more ]
+
+  calls_lead : (a : Told) (before now : ToldLink) (result : Result B LinkError) → before.server ≡ Some a → CallsLink which next fault before now result → LeadsCalling a before now
+  calls_lead a before now result is calls = counts_lead a before now result calls.setup (subst (λ s. Counts next fault s now.server result) is calls.counts)
+
+-- a selection
+pub selects_lead : {B : Type 0} (a : Told) (before now : ToldLink) (result : Result B LinkError) → before.server ≡ Some a → CallsLink Select selected select_fault before now result
+    → LeadsCalling a before now
+selects_lead a before now result is calls = calls_lead Select selected select_fault selected_before (λ t. refl) a before now result is calls
+
+-- a check-out
+pub checks_lead : {B : Type 0} (a : Told) (before now : ToldLink) (result : Result B LinkError) → before.server ≡ Some a → CallsLink CheckOut checked_out check_out_fault before now result
+    → LeadsCalling a before now
+checks_lead a before now result is calls = calls_lead CheckOut checked_out check_out_fault checked_before (λ t. refl) a before now result is calls
+
+pub calling_twice : (a : Told) (before mid now : ToldLink) (first : LeadsCalling a before mid) → LeadsCalling first.leads.moment mid now → LeadsCalling a before now
+unfolding leads_twice
+calling_twice a before mid now first second = record { leads = leads_twice a before mid now first.leads second.leads; server = second.server ∙ first.server }
+
+-- a connection that was had
+pub connects_lead : (a : Told) (before now : ToldLink) (address : Address) (conn : Conn) → before.server ≡ Some a → Connects before now address conn → LeadsCalling a before now
+connects_lead a before now address conn is connects =
+    let first = selects_lead a before connects.mid (Ok address) is connects.selects in
+    calling_twice a before connects.mid now first (checks_lead first.leads.moment connects.mid now (Ok conn) first.leads.is connects.checks_out)
+
+-- an exchange
+steps_lead : (a : Told) (before now : ToldLink) (send : Send) (result : Result (List ℕ) LinkError) → now.setup ≡ before.setup → Steps (Some a) now.server send result → Leads a before now
+steps_lead a before now send result setup steps = by_result result steps
+  where
+    moved : now.server ≡ Some (told_after a send) → Leads a before now
+    moved is = record { moment = told_after a send; is = is; later = after_before a send; setup = setup }
+
+    stayed : now.server ≡ Some a → Leads a before now
+    stayed is = record { moment = a; is = is; later = before_refl a; setup = setup }
+
+    by_result : (result : Result (List ℕ) LinkError) → Steps (Some a) now.server send result → Leads a before now
+    by_result (Ok bytes) steps = moved steps.0
+    by_result (Err (Fault found labels)) steps = moved steps.0
+    by_result (Err Memory) steps = elim steps [ inl same ↦ stayed same | inr more ↦ moved more ]
+
+-- an attempt that failed
+module _ {A : Type 0} (trial : Trial A) (body : SendBody) (asked : trial.meaning.asked trial.places body) (a : Told) (mid now : Scene) (is : mid.link.server ≡ Some a) where
+  pub sends_lead : (address : Address) (conn : Conn) (result : Result (List ℕ) LinkError) → Sends trial mid now address conn result → Leads a mid.link now.link
+  sends_lead address conn result sends =
+      let ready = sends.ready in
+      let first = (connects_lead a mid.link ready.link address conn is sends.readies.connects).leads in
+      let send = plain_send (held_id sends.numbered) sends.number body in
+      let steps = subst (λ s. Steps s now.link.server send result) first.is (sends.exchanges.steps body asked) in
+      leads_twice a mid.link ready.link now.link first (steps_lead first.moment ready.link now.link send result sends.exchanges.setup steps)
+
+  pub unconnected_leads : (address : Address) (error : Error) → NotConnected trial mid now address error → Leads a mid.link now.link
+  unconnected_leads address error fails =
+      let first = selects_lead a mid.link fails.mid (Ok address) is fails.selects in
+      (calling_twice a mid.link fails.mid now.link first
+      (checks_lead first.leads.moment fails.mid now.link (Err (Fault fails.fault fails.own)) first.leads.is fails.checks_out)).leads
+
+  pub fails_lead : (address : Address) (phase : FailurePhase) (error : Error) → FailsIn trial mid now address phase error → Leads a mid.link now.link
+  fails_lead address Establishment error fails = unconnected_leads address error fails
+  fails_lead address Execution error fails = elim fails [
+    | inl lost ↦ sends_lead address lost.conn (Err (Fault lost.fault lost.own)) lost.sends
+    | inr spelled ↦ sends_lead address spelled.conn (Ok spelled.reply) spelled.sends
+  ]
+
+-- in a gentle part no call fails that is counted
+module _ (repeats : Type 0) (told told_now : Told) (gentle : IsGentlePart repeats told told_now) where
+  none_some : (listed : Listed) → ◌≡◌ {A = Option Listed} None (Some listed) → ⊥
+  none_some listed is = cc
+
+  -- a call that was counted before the end of the part is of it
+  counted : (from at to : ℕ) → min from (2 ^ 64 - 1) ≤ at → min (one_more at) (2 ^ 64 - 1) ≤ to → IsCounted from to at
+  counted from at to after before = (after, capped_last (2 ^ 64 - 1) at to before)
+
+  -- a count that is not listed has no fault
+  unlisted : (numbers : List ℕ) (at : ℕ) (fault : LinkFault) (labels : List (List ℕ)) (other : Option Listed) → is_listed numbers at ≡ false
+      → fault_where (is_listed numbers at) fault labels other ≡ other
+  unlisted numbers at fault labels other none = ap (λ listed. fault_where listed fault labels other) none
+
+  pub no_select_fault : (a : Told) (listed : Listed) → IsBefore told a → IsBefore (selected a) told_now → select_fault a ≡ Some listed → ⊥
+  no_select_fault a listed after before is =
+      let of_part = counted told.counts.selects a.counts.selects told_now.counts.selects after.selects before.selects in
+      let none = gentle.selects a.counts.selects of_part in
+      let here : is_listed a.schedule.selects a.counts.selects ≡ false = ap (λ s. is_listed s.selects a.counts.selects) after.schedule ∙ none in
+      none_some listed (sym (unlisted a.schedule.selects a.counts.selects (Selection SELECTION_FAILURE.now) [] None here) ∙ is)
+
+  pub no_check_out_fault : (a : Told) (listed : Listed) → IsBefore told a → IsBefore (checked_out a) told_now → check_out_fault a ≡ Some listed → ⊥
+  no_check_out_fault a listed after before is =
+      let of_part = counted told.counts.check_outs a.counts.check_outs told_now.counts.check_outs after.check_outs before.check_outs in
+      let none = gentle.check_outs a.counts.check_outs of_part in
+      let here : is_listed a.schedule.check_outs a.counts.check_outs ≡ false = ap (λ s. is_listed s.check_outs a.counts.check_outs) after.schedule ∙ none in
+      let none_over = gentle.overloaded a.counts.check_outs of_part in
+      let here_over : is_listed a.schedule.overloaded_check_outs a.counts.check_outs ≡ false
+      = ap (λ s. is_listed s.overloaded_check_outs a.counts.check_outs) after.schedule ∙ none_over in
+      let later = fault_where (is_listed a.schedule.check_outs a.counts.check_outs) (Io ConnectionRefused) [] None in
+      none_some listed (
+      sym (unlisted a.schedule.overloaded_check_outs a.counts.check_outs (Io ConnectionRefused) overload_labels later here_over
+      ∙ unlisted a.schedule.check_outs a.counts.check_outs (Io ConnectionRefused) [] None here) ∙ is
+      )
+
+  module _ (a : Told) (after : IsBefore told a) (before now : ToldLink) (m : Told) (is : before.server ≡ Some a) (is_now : now.server ≡ Some m) (later : IsBefore m told_now) where
+    -- a moment that is the one told now
+    at_now : (next : Told) → now.server ≡ Some next → IsBefore next told_now
+    at_now next found = subst (λ t. IsBefore t told_now) (one_moment now m next is_now found) later
+
+    -- a selection of the part does not fail
+    pub selects_well : {B : Type 0} (found : LinkFault) (labels : List (List ℕ)) → CallsLink {B = B} Select selected select_fault before now (Err (Fault found labels)) → ⊥
+    selects_well {B = B} found labels calls =
+        let counts = subst (λ s. Counts {A = B} selected select_fault s now.server (Err (Fault found labels))) is calls.counts in
+        no_select_fault a (record { fault = found; labels = labels }) after (at_now (selected a) counts.0) counts.1
+
+    -- nor does a check-out
+    pub checks_well : {B : Type 0} (found : LinkFault) (labels : List (List ℕ)) → CallsLink {B = B} CheckOut checked_out check_out_fault before now (Err (Fault found labels)) → ⊥
+    checks_well {B = B} found labels calls =
+        let counts = subst (λ s. Counts {A = B} checked_out check_out_fault s now.server (Err (Fault found labels))) is calls.counts in
+        no_check_out_fault a (record { fault = found; labels = labels }) after (at_now (checked_out a) counts.0) counts.1

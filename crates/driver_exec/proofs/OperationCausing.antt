@@ -1,0 +1,723 @@
+-- Why an operation ended as it did, from its attempts and from what was decided after each.
+use Rattle.std.proofs.Common.{◌≡◌, ℕ, ◌≤◌, List, [], ◌∷◌, ◌++◌, refl, sym, ap, subst, ◌∙◌, inl, inr, arith}
+use Rattle.std.specs.Prelude.{ℤ, Bool, true, false, Option, None, Some, is_some, ◌⊎◌, Result, Ok, Err, if◌then◌else◌}
+use Rattle.driver_error.specs.declared.error.Error.{Error, out-Error, out-roll-Error}
+use Rattle.driver_error.specs.declared.kind.ErrorKind.TheVariants as kind
+use Rattle.driver_error.specs.declared.labels.TheConstants.{RETRYABLE_WRITE_ERROR}
+use Rattle.driver_error.specs.Error.{ErrorKind, kind_of, labels_of, with_kind}
+use Rattle.driver_error.specs.LabelTexts.{LabelSet, label_set, with_label}
+use Rattle.driver_error.specs.Predicates.{of_network}
+use Rattle.driver_link.specs.declared.fault.Answered.{Answered}
+use Rattle.driver_link.specs.declared.fault.Answered.TheVariants as answer
+use Rattle.driver_link.specs.declared.fault.LinkCall.{LinkCall}
+use Rattle.driver_link.specs.declared.fault.LinkCall.TheVariants.{CheckOut, Exchange, Select}
+use Rattle.driver_link.specs.declared.fault.LinkError.{LinkError}
+use Rattle.driver_link.specs.declared.fault.LinkError.TheVariants.{Fault}
+use Rattle.driver_link.specs.declared.fault.LinkFault.{LinkFault}
+use Rattle.driver_link.specs.declared.fault.LinkFault.TheVariants as fault
+use Rattle.driver_link.specs.declared.machine.Place.{Place}
+use Rattle.driver_link.specs.declared.machine.Setup.{Setup}
+use Rattle.driver_link.specs.declared.options.Address.{Address}
+use Rattle.driver_link.specs.declared.options.Conn.{Conn}
+use Rattle.driver_link.specs.declared.options.Description.{Description}
+use Rattle.driver_link.specs.Counting.{Listed}
+use Rattle.driver_link.specs.Failures.{fault_kind}
+use Rattle.driver_link.specs.Faults.{Rose}
+use Rattle.driver_link.specs.Told.{Notes, Told, noted, nothing_noted, reply_noted}
+use Rattle.driver_exec.specs.declared.attempt_end.Attempt.{Attempt}
+use Rattle.driver_exec.specs.declared.attempt_end.Attempt.TheVariants.{Done, Ended, Failed, Stopped, Unselected}
+use Rattle.driver_exec.specs.declared.attempt_end.Failing.{Failing}
+use Rattle.driver_exec.specs.declared.retry.Failure.{Failure}
+use Rattle.driver_exec.specs.declared.retry.FailurePhase.{FailurePhase}
+use Rattle.driver_exec.specs.declared.retry.FailurePhase.TheVariants.{Establishment, Execution}
+use Rattle.driver_exec.specs.declared.retryability.Retryability.{Retryability}
+use Rattle.driver_exec.specs.declared.retryability.Retryability.TheVariants as may
+use Rattle.driver_exec.specs.Attempting.{CallsLink, Connects, EndsAtOnce, EndsRefused, EndsSent, EndsUnready, Exchanges, FailsIn, IsAnswered, LosesExchange, NoFrame, NoNumber, NoSessions, NotConnected, NotSelected, Readies, Scene, Sends, SpellsFailure, Trial, Tries, on_connection, trial_of}
+use Rattle.driver_exec.specs.Causes as causes
+use Rattle.driver_exec.specs.Causes.{AllEarly, IsLast, KindAtLast, end_of, failure_of, is_network, next_number}
+use Rattle.driver_exec.specs.Executing.{Ends, EndsWith, Executes, Reaches, decided, first_scene}
+use Rattle.driver_exec.specs.Failing.{IsFaultOf}
+use Rattle.driver_exec.specs.Holding.{DrawsNumber, Held, number_before}
+use Rattle.driver_exec.specs.LabelTable.{labels_outside_transactions}
+use Rattle.driver_exec.specs.OldDeployment.{reworded, reworded_kind}
+use Rattle.driver_exec.specs.OperationCauses.{Caused, DrawsNumbers, EndAtLast, EndNeeds, FaultLabels, Grounds, KindNeeds, SpellsEnd, grounds, labels_after}
+use Rattle.driver_exec.specs.Operations.{Meaning, TellsUnframed}
+use Rattle.driver_exec.specs.Pool.{ToldStore}
+use Rattle.driver_exec.specs.Retry.{Kept, after, after_further, avoiding, decide, may_be_retried, stays, told}
+use Rattle.driver_exec.specs.Links.{ToldLink}
+use Rattle.driver_exec.proofs.Causes.{notes_nothing}
+use Rattle.driver_exec.proofs.HeldSessions.{AtEnd, IsOf, Stands, draw_holds, draws_on, exchange_holds, is_of, last_draws_none, none_draws, ready_holds, ready_stands, sent_stands, sessionless, stands_at_first, unnumbered_at_end}
+use Rattle.driver_exec.proofs.MoreAnswers.{early_twice, end_after, end_before, last_after, notes_twice}
+use Rattle.driver_exec.proofs.Trying.{later_of}
+
+-- a link noted these; its count of faults did not fall, and its setup stays
+record Adds (link now : ToldLink) (items : List Answered) : Type 0 where
+  noted : Notes link.answers now.answers items
+  later : link.faults ≤ now.faults
+  setup : now.setup ≡ link.setup
+
+-- a link that was not called noted nothing
+adds_nothing : (link : ToldLink) → Adds link link []
+adds_nothing link = record { noted = notes_nothing link.answers; later = omega arith; setup = refl }
+
+-- what was noted by calls one after another
+adds_twice : (link mid now : ToldLink) (items more : List Answered) → Adds link mid items → Adds mid now more → Adds link now (items ++ more)
+adds_twice link mid now items more first second = record {
+  noted = notes_twice link.answers mid.answers now.answers items more first.noted second.noted;
+  later = omega (arith, first.later, second.later);
+  setup = second.setup ∙ first.setup;
+}
+
+-- what a call noted that is no exchange
+calls_add : {B : Type 0} (which : LinkCall) (next : Told → Told) (found : Told → Option Listed) (link now : ToldLink) (result : Result B LinkError)
+    → CallsLink which next found link now result → Adds link now (noted which nothing_noted result)
+calls_add which next found link now result calls = record { noted = calls.notes; later = later_of link.faults now.faults result calls.cause; setup = calls.setup }
+
+-- a connection that was had noted nothing
+connects_add : (link now : ToldLink) (address : Address) (conn : Conn) → Connects link now address conn → Adds link now []
+connects_add link now address conn connects = adds_twice link connects.mid now [] []
+    (calls_add Select _ _ link connects.mid (Ok address) connects.selects) (calls_add CheckOut _ _ connects.mid now (Ok conn) connects.checks_out)
+
+-- what an exchange noted
+exchange_adds : {A : Type 0} (meaning : Meaning A) (places : List Place) (link now : ToldLink) (session : Option (List ℕ)) (number : Option ℤ) (result : Result (List ℕ) LinkError)
+    → Exchanges meaning places link now session number result → Adds link now (noted Exchange reply_noted result)
+exchange_adds meaning places link now session number result exchanges =
+    record { noted = exchanges.notes; later = later_of link.faults now.faults result exchanges.cause; setup = exchanges.setup }
+
+-- the labels of a fault's error
+table_labels : (turn : Retryability) (found : LinkFault) (own : List (List ℕ)) (bare : Error) → kind_of bare ≡ fault_kind found → labels_of bare ≡ label_set own
+    → labels_outside_transactions turn bare ≡ labels_after turn found own
+table_labels may.Write found own bare kind_is labels_are =
+    ap (λ why. if of_network why then with_label (labels_of bare) RETRYABLE_WRITE_ERROR.now else labels_of bare) kind_is
+    ∙ ap (λ labels. if of_network (fault_kind found) then with_label labels RETRYABLE_WRITE_ERROR.now else labels) labels_are
+    ∙ ap (λ network. if network then with_label (label_set own) RETRYABLE_WRITE_ERROR.now else label_set own) (network_same found)
+  where
+    network_same : (found : LinkFault) → of_network (fault_kind found) ≡ is_network found
+    network_same (fault.Io io) = refl
+    network_same (fault.PoolCleared message) = refl
+    network_same (fault.Selection message) = refl
+    network_same (fault.Authentication message) = refl
+table_labels may.Read found own bare kind_is labels_are = labels_are
+table_labels may.None found own bare kind_is labels_are = labels_are
+
+-- the kind and the labels of a fault's error
+pub fault_error : (found : LinkFault) (own : List (List ℕ)) (turn : Retryability) (error : Error) → IsFaultOf found own turn error
+    → (kind_of error ≡ fault_kind found) × (labels_of error ≡ labels_after turn found own)
+fault_error found own turn error is = (
+  is.labelled.rest.kind ∙ is.is.kind_is,
+  is.labelled.labels ∙ table_labels turn found own is.bare is.is.kind_is is.is.labels_are,
+)
+
+-- those of an exchange's fault are by the connection
+exchange_labels : (own : Retryability) (setup : Option Setup) (description : Description) (found : LinkFault) (given : List (List ℕ)) (labels : LabelSet) → IsOf setup description
+    → labels ≡ labels_after (on_connection own description) found given → FaultLabels Exchange own setup found given labels
+exchange_labels own (Some setup) description found given labels is same = subst (λ d. labels ≡ labels_after (on_connection own d) found given) is same
+exchange_labels own None description found given labels is same = by_own own same
+  where
+    by_test : (takes : Bool) → labels ≡ labels_after (if takes then may.Write else may.None) found given
+        → (labels ≡ labels_after may.Write found given) ⊎ (labels ≡ label_set given)
+    by_test true same = inl same
+    by_test false same = inr same
+
+    by_own : (own : Retryability) → labels ≡ labels_after (on_connection own description) found given → (labels ≡ labels_after own found given) ⊎ (labels ≡ label_set given)
+    by_own may.Write same = by_test description.supports_retryable_writes same
+    by_own may.Read same = inl same
+    by_own may.None same = inl same
+
+-- what a fault's error needs
+module _ {A : Type 0} (on : Grounds A) (before now : ℕ) (which : LinkCall) (given : List (List ℕ)) (rose : Rose before now) where
+  -- what its kind needs
+  fault_needs : (found : LinkFault) (labels : LabelSet) → FaultLabels which on.own on.setup found given labels
+      → KindNeeds on before now (answer.Fault which found given ∷ []) labels (fault_kind found)
+  fault_needs (fault.Io io) labels is = (rose, inl (refl, is))
+  fault_needs (fault.PoolCleared message) labels is = (rose, inl (refl, is))
+  fault_needs (fault.Selection message) labels is = (rose, inl (refl, is))
+  fault_needs (fault.Authentication message) labels is = (rose, inl (refl, is))
+
+  -- what an end by it needs
+  fault_end : (found : LinkFault) (error : Error) → kind_of error ≡ fault_kind found → FaultLabels which on.own on.setup found given (labels_of error)
+      → EndNeeds on before now (answer.Fault which found given ∷ []) (Some (failure_of error))
+  fault_end found error is labels =
+      inl (subst (KindNeeds on before now (answer.Fault which found given ∷ []) (labels_of error)) (sym is) (fault_needs found (labels_of error) labels))
+
+-- a fault may be found where the numbers are at their end
+fault_at_last : (early : ErrorKind → Type 0) (found : LinkFault) → KindAtLast early (fault_kind found)
+fault_at_last early (fault.Io io) = tt
+fault_at_last early (fault.PoolCleared message) = tt
+fault_at_last early (fault.Selection message) = tt
+fault_at_last early (fault.Authentication message) = tt
+
+-- an error in words for the caller
+pub reworded_is : (error : Error) → (kind_of (reworded error) ≡ reworded_kind (kind_of error)) × (labels_of (reworded error) ≡ labels_of error)
+unfolding reworded with_kind
+reworded_is error = (
+  ap (λ layer. layer.kind) (out-roll-Error (record (out-Error error) { kind = reworded_kind (kind_of error) })),
+  ap (λ layer. layer.labels) (out-roll-Error (record (out-Error error) { kind = reworded_kind (kind_of error) })),
+)
+
+-- the kind of a fault stays as it is
+reworded_fault : (found : LinkFault) → reworded_kind (fault_kind found) ≡ fault_kind found
+unfolding reworded_kind
+reworded_fault (fault.Io io) = refl
+reworded_fault (fault.PoolCleared message) = refl
+reworded_fault (fault.Selection message) = refl
+reworded_fault (fault.Authentication message) = refl
+
+-- so does that of its error
+reworded_same : (found : LinkFault) (error : Error) → kind_of error ≡ fault_kind found → kind_of (reworded error) ≡ fault_kind found
+reworded_same found error is = (reworded_is error).0 ∙ ap reworded_kind is ∙ reworded_fault found
+
+-- the error of the failure that is kept has a property
+abbrev KeptHas : (Error → Type 0) → Option Kept → Type 0
+KeptHas P None = Unit {0}
+KeptHas P (Some kept) = P kept.failure.error
+
+-- the error of the failure that a decision keeps, or that it answers, has a property
+abbrev ResultHas : (Error → Type 0) → Result Kept Error → Type 0
+ResultHas P (Ok kept) = P kept.failure.error
+ResultHas P (Err error) = P error
+
+-- a property that follows from another
+kept_has : (P Q : Error → Type 0) (kept : Option Kept) → ((error : Error) → P error → Q error) → KeptHas P kept → KeptHas Q kept
+kept_has P Q None then_has has = tt
+kept_has P Q (Some kept) then_has has = then_has kept.failure.error has
+
+module _ (P : Error → Type 0) where
+  -- a property of the kept error and of the new one is one of what is kept of both
+  after_has : (kept : Option Kept) (failure : Failure) (number : Option ℤ) → KeptHas P kept → P failure.error → P (after kept failure number).failure.error
+  unfolding after after_further
+  after_has None failure number has new = new
+  after_has (Some kept) failure number has new = by_test (stays kept.failure failure)
+    where
+      by_test : (stay : Bool) → P (if stay then kept.failure else failure).error
+      by_test true = has
+      by_test false = new
+
+  -- a server that is avoided changes no failure
+  avoiding_has : (sharded : Bool) (address : Address) (kept : Kept) → P kept.failure.error → P (avoiding sharded address kept).failure.error
+  unfolding avoiding
+  avoiding_has true address kept has = has
+  avoiding_has false address kept has = has
+
+  -- so it is after the decision
+  decide_has : (kept : Option Kept) (failure : Failure) (number : Option ℤ) (address : Address) (own : Retryability) (sharded : Bool) → KeptHas P kept
+      → P (reworded failure.error) → ResultHas P (decide kept failure number address own sharded)
+  unfolding decide
+  decide_has kept failure number address own sharded has new = by_test (may_be_retried (told failure) number own)
+    where
+      holds : P (after kept (told failure) number).failure.error
+      holds = after_has kept (told failure) number has new
+
+      by_test : (may : Bool) → ResultHas P (if may then Ok (avoiding sharded address (after kept (told failure) number)) else Err (after kept (told failure) number).failure.error)
+      by_test true = avoiding_has sharded address (after kept (told failure) number) holds
+      by_test false = holds
+
+  -- and after what is decided in an operation
+  decided_has : {A : Type 0} (trial : Trial A) (sharded : Bool) (kept : Option Kept) (failing : Failing) (now : Scene) (result : Result Kept Error) → KeptHas P kept
+      → P (reworded failing.failure.error) → decided trial sharded kept failing now ≡ result → ResultHas P result
+  decided_has trial sharded kept failing now result has new is =
+      subst (ResultHas P) is (decide_has kept failing.failure (number_before now.held) failing.address trial.own sharded has new)
+
+-- what each end of an attempt needs
+module _ {A : Type 0} (on : Grounds A) (before now : ℕ) (items : List Answered) (error : Error) where
+  -- want of memory
+  memory_needs : kind_of error ≡ kind.Memory → EndNeeds on before now items (Some (failure_of error))
+  memory_needs is = inl (subst (KindNeeds on before now items (labels_of error)) (sym is) tt)
+
+  -- want of memory, where the numbers are at their end
+  memory_at_last : kind_of error ≡ kind.Memory → KindAtLast on.meaning.refused (kind_of error)
+  memory_at_last is = subst (KindAtLast on.meaning.refused) (sym is) tt
+
+  -- a session that a connection does not take
+  sessions_needs : on.setup ≡ None → kind_of error ≡ kind.SessionsNotSupported → EndNeeds on before now items (Some (failure_of error))
+  sessions_needs none is = inl (subst (KindNeeds on before now items (labels_of error)) (sym is) none)
+
+  -- a command without a frame
+  unframed_needs : TellsUnframed on.meaning (kind_of error) → EndNeeds on before now items (Some (failure_of error))
+  unframed_needs tells = inl (by_kind (kind_of error) tells)
+    where
+      by_kind : (why : ErrorKind) → TellsUnframed on.meaning why → KindNeeds on before now items (labels_of error) why
+      by_kind (kind.InvalidArgument message) tells = tells
+      by_kind (kind.BsonSerialization refusal) tells = tells
+      by_kind kind.Memory tells = tt
+      by_kind _ tells = absurd tells
+
+  -- no number was left
+  end_needs : AtEnd on.number (kind_of error) → EndNeeds on before now items (Some (failure_of error))
+  end_needs tells = inl (by_kind (kind_of error) tells)
+    where
+      by_kind : (why : ErrorKind) → AtEnd on.number why → KindNeeds on before now items (labels_of error) why
+      by_kind (kind.Internal message) tells = tells
+      by_kind kind.Memory tells = tt
+      by_kind _ tells = absurd tells
+
+  -- no number was left, where the numbers are at their end
+  end_at_last : AtEnd on.number (kind_of error) → KindAtLast on.meaning.refused (kind_of error)
+  end_at_last tells = by_kind (kind_of error) tells
+    where
+      by_kind : (why : ErrorKind) → AtEnd on.number why → KindAtLast on.meaning.refused why
+      by_kind (kind.Internal message) tells = tt
+      by_kind kind.Memory tells = tt
+      by_kind _ tells = absurd tells
+
+module _ {A : Type 0} (meaning : Meaning A) (places : List Place) (own : Retryability) (store : Option ToldStore) (link : ToldLink) where
+  -- the operation as its attempts see it
+  abbrev trial : Trial A
+  trial = trial_of meaning places own
+
+  -- what its end is judged by
+  abbrev on : Grounds A
+  on = grounds meaning own link.setup store
+
+  -- what it holds at a moment
+  abbrev StandsAt : Scene → Type 0
+  StandsAt now = Stands store link.setup now.store now.held.session now.held.sent
+
+  -- the next session's number is at its end, and each send would have one
+  record AtLast : Type 0 where
+    draws : DrawsNumbers meaning.sessions own link.setup
+    last : IsLast (next_number store)
+
+  -- what an end by an error needs
+  abbrev Needs : ℕ → ℕ → List Answered → Error → Type 0
+  Needs before now items error = EndNeeds on before now items (Some (failure_of error))
+
+  -- an error that may end the operation where the numbers are at their end
+  abbrev Lasts : Error → Type 0
+  Lasts error = KindAtLast meaning.refused (kind_of error)
+
+  -- one attempt
+  module _ (mid : Scene) (setup_is : mid.link.setup ≡ link.setup) (stands : StandsAt mid) where
+    -- each connection has the description of the setup
+    conn_is : (now : ToldLink) (address : Address) (conn : Conn) → Connects mid.link now address conn → IsOf link.setup conn.description
+    conn_is now address conn connects = is_of link.setup connects.mid.setup address conn (connects.selects.setup ∙ setup_is) connects.to
+
+    module _ (ready : Scene) (address : Address) (conn : Conn) (readies : Readies trial mid ready address conn) where
+      -- what may be repeated on the connection
+      abbrev turn : Retryability
+      turn = on_connection own conn.description
+
+      -- its description is that of the setup
+      is_conn : IsOf link.setup conn.description
+      is_conn = conn_is ready.link address conn readies.connects
+
+      -- the link noted nothing until then
+      ready_adds : Adds mid.link ready.link []
+      ready_adds = connects_add mid.link ready.link address conn readies.connects
+
+      -- what is held then
+      stands_ready : StandsAt ready
+      stands_ready = ready_stands store link.setup meaning.sessions conn.description is_conn mid.store ready.store mid.held ready.held readies.holds stands
+
+      -- no number is drawn after the last one
+      draws_none : AtLast → mid.held.sent ≡ None → (numbered : Held) (number : Option ℤ) → DrawsNumber ready.held.sent turn ready.held numbered (Ok number) → ⊥
+      draws_none at unsent numbered number draws =
+          let takes = draws_on meaning.sessions own link.setup conn.description at.draws is_conn in
+          let holds = ready_holds store link.setup meaning.sessions conn.description is_conn mid.store ready.store mid.held ready.held takes.0 unsent readies.holds in
+          last_draws_none (next_number store) turn ready.held numbered number at.last takes.1 holds.0 holds.1 stands_ready.first draws
+
+    module _ (now : Scene) (address : Address) (conn : Conn) (result : Result (List ℕ) LinkError) (sends : Sends trial mid now address conn result) where
+      -- what a command that went out noted
+      sends_add : Adds mid.link now.link (noted Exchange reply_noted result)
+      sends_add = adds_twice mid.link sends.ready.link now.link [] (noted Exchange reply_noted result) (ready_adds sends.ready address conn sends.readies)
+          (exchange_adds meaning places sends.ready.link now.link _ sends.number result sends.exchanges)
+
+      -- no command goes out where the numbers are at their end
+      sends_not_at_last : AtLast → mid.held.sent ≡ None → ⊥
+      sends_not_at_last at unsent = draws_none sends.ready address conn sends.readies at unsent sends.numbered sends.number sends.draws
+
+      -- what is held after it
+      stands_sent : StandsAt now
+      stands_sent =
+          let ready = sends.ready in
+          let held = record sends.numbered { sent = Some sends.number } in
+          let kept = exchange_holds store link.setup result held in
+          let drawn = draw_holds store link.setup (on_connection own conn.description) ready.held sends.numbered (Ok sends.number) sends.draws in
+          let same : is_some now.held.session ≡ is_some ready.held.session = ap (λ h. is_some h.session) sends.held_is ∙ kept.0 ∙ drawn in
+          let sent : now.held.sent ≡ Some sends.number = ap (λ h. h.sent) sends.held_is ∙ kept.1 in
+          let stood = sent_stands store link.setup ready.store ready.held.session now.held.session ready.held.sent sends.number same (stands_ready ready address conn sends.readies) in
+          subst (λ s. Stands store link.setup now.store now.held.session s) (sym sent)
+          (subst (λ s. Stands store link.setup s now.held.session (Some sends.number)) (sym sends.store_is) stood)
+
+    -- the attempt failed, and an error has its needs
+    record Fails (now : Scene) (error : Error) : Type 0 where
+      more : List Answered
+      adds : Adds mid.link now.link more
+      stands_now : StandsAt now
+      needs : Needs mid.link.faults now.link.faults more error
+      early : AtLast → mid.held.sent ≡ None → AllEarly more × (now.held.sent ≡ None) × Lasts error
+
+    -- there was no connection
+    not_connected : (now : Scene) (address : Address) (error : Error) → NotConnected trial mid now address error → Fails now (reworded error)
+    not_connected now address error fails =
+        let is = fault_error fails.fault fails.own own error fails.is in
+        let kind_is = reworded_same fails.fault error is.0 in
+        let labels = (reworded_is error).1 ∙ is.1 in
+        let first = calls_add Select _ _ mid.link fails.mid (Ok address) fails.selects in
+        let second = calls_add CheckOut _ _ fails.mid now.link (Err (Fault fails.fault fails.own)) fails.checks_out in record {
+          more = answer.Fault CheckOut fails.fault fails.own ∷ [];
+          adds = adds_twice mid.link fails.mid now.link [] (answer.Fault CheckOut fails.fault fails.own ∷ []) first second;
+          stands_now = subst (λ s. Stands store link.setup s now.held.session now.held.sent) (sym fails.rest.store)
+              (subst (λ h. Stands store link.setup mid.store h.session h.sent) (sym fails.rest.held) stands);
+          needs = fault_end on mid.link.faults now.link.faults CheckOut fails.own (let cause = fails.checks_out.cause in let later = first.later in omega (arith, cause.0, later)) fails.fault
+              (reworded error) kind_is labels;
+          early = λ at unsent. (
+            tt,
+            ap (λ h. h.sent) fails.rest.held ∙ unsent,
+            subst (KindAtLast meaning.refused) (sym kind_is) (fault_at_last meaning.refused fails.fault),
+          );
+        }
+
+    -- the exchange failed
+    loses_exchange : (now : Scene) (address : Address) (error : Error) → LosesExchange trial mid now address error → Fails now (reworded error)
+    loses_exchange now address error fails =
+        let conn = fails.conn in
+        let sends = fails.sends in
+        let result = Err (Fault fails.fault fails.own) in
+        let turn = on_connection own conn.description in
+        let is = fault_error fails.fault fails.own turn fails.is.bare fails.is.is in
+        let kind_is = reworded_same fails.fault error (fails.is.versioned.kind ∙ is.0) in
+        let labels = (reworded_is error).1 ∙ fails.is.versioned.labels ∙ is.1 in
+        let description = is_conn sends.ready address conn sends.readies in
+        let first = ready_adds sends.ready address conn sends.readies in record {
+          more = answer.Fault Exchange fails.fault fails.own ∷ [];
+          adds = sends_add now address conn result sends;
+          stands_now = stands_sent now address conn result sends;
+          needs = fault_end on mid.link.faults now.link.faults Exchange fails.own (let cause = sends.exchanges.cause in let later = first.later in omega (arith, cause.0, later)) fails.fault
+              (reworded error) kind_is (exchange_labels own link.setup conn.description fails.fault fails.own (labels_of (reworded error)) description labels);
+          early = λ at unsent. absurd (sends_not_at_last now address conn result sends at unsent);
+        }
+
+    -- the reply spelled an error
+    spells_failure : (now : Scene) (address : Address) (error : Error) → SpellsFailure trial mid now address error → Fails now (reworded error)
+    spells_failure now address error fails =
+        let conn = fails.conn in
+        let sends = fails.sends in
+        let read = fails.is.is in
+        let spells : SpellsEnd meaning (failure_of (reworded error)) fails.reply = record {
+          bare = read.bare;
+          reads = read.reads;
+          turn = on_connection own conn.description;
+          kind_is = (reworded_is error).0 ∙ ap reworded_kind (fails.is.versioned.kind ∙ read.labelled.labelled.rest.kind);
+          labels_are = (reworded_is error).1 ∙ fails.is.versioned.labels ∙ read.labelled.labelled.labels;
+        } in record {
+          more = answer.Reply fails.reply ∷ [];
+          adds = sends_add now address conn (Ok fails.reply) sends;
+          stands_now = stands_sent now address conn (Ok fails.reply) sends;
+          needs = inr (inl spells);
+          early = λ at unsent. absurd (sends_not_at_last now address conn (Ok fails.reply) sends at unsent);
+        }
+
+    -- an attempt that failed in a phase
+    fails_in : (now : Scene) (address : Address) (phase : FailurePhase) (error : Error) → FailsIn trial mid now address phase error → Fails now (reworded error)
+    fails_in now address Establishment error fails = not_connected now address error fails
+    fails_in now address Execution error fails = elim fails [
+      | inl lost ↦ loses_exchange now address error lost
+      | inr spelled ↦ spells_failure now address error spelled
+    ]
+
+    -- the attempt ended the operation
+    record Finishes (now : Scene) (ended : Option causes.Failure) : Type 0 where
+      more : List Answered
+      adds : Adds mid.link now.link more
+      needs : EndNeeds on mid.link.faults now.link.faults more ended
+      early : AtLast → mid.held.sent ≡ None → EndAtLast on more ended
+
+    finishes_error : (now : Scene) (error : Error) → Fails now error → Finishes now (Some (failure_of error))
+    finishes_error now error fails = record {
+      more = fails.more;
+      adds = fails.adds;
+      needs = fails.needs;
+      early = λ at unsent. let early = fails.early at unsent in (early.0, early.2);
+    }
+
+    -- the reply was read
+    finishes_done : (now : Scene) (output : A) → IsAnswered trial mid now output → Finishes now None
+    finishes_done now output answered = record {
+      more = answer.Reply answered.reply ∷ [];
+      adds = sends_add now answered.address answered.conn (Ok answered.reply) answered.sends;
+      needs = inl (output, answered.reads);
+      early = λ at unsent. absurd (sends_not_at_last now answered.address answered.conn (Ok answered.reply) answered.sends at unsent);
+    }
+
+    -- what a selection that failed noted
+    selection_adds : (now : Scene) (error : Error) (selected : NotSelected mid now error) → Adds mid.link now.link (answer.Fault Select selected.fault selected.own ∷ [])
+    selection_adds now error selected = calls_add Select _ _ mid.link now.link (Err (Fault selected.fault selected.own)) selected.selects
+
+    -- no server was selected
+    finishes_unselected : (now : Scene) (error : Error) → NotSelected mid now error → Finishes now (Some (failure_of error))
+    finishes_unselected now error selected =
+        let is = fault_error selected.fault selected.own may.None error selected.is in record {
+          more = answer.Fault Select selected.fault selected.own ∷ [];
+          adds = selection_adds now error selected;
+          needs = fault_end on mid.link.faults now.link.faults Select selected.own selected.selects.cause.0 selected.fault error is.0 is.1;
+          early = λ at unsent. (tt, subst (KindAtLast meaning.refused) (sym is.0) (fault_at_last meaning.refused selected.fault));
+        }
+
+    -- there was no memory before a session was lent
+    finishes_unready : (now : Scene) (error : Error) → EndsUnready mid now error → Finishes now (Some (failure_of error))
+    finishes_unready now error ends = record {
+      more = ends.link.items;
+      adds = record { noted = ends.link.notes; later = ends.link.later; setup = ends.link.setup };
+      needs = memory_needs on mid.link.faults now.link.faults ends.link.items error ends.why;
+      early = λ at unsent. (ends.link.early, memory_at_last on mid.link.faults now.link.faults ends.link.items error ends.why);
+    }
+
+    -- there was no memory after the command went out
+    finishes_sent : (now : Scene) (error : Error) → EndsSent trial mid now error → Finishes now (Some (failure_of error))
+    finishes_sent now error ends = record {
+      more = noted Exchange reply_noted ends.result;
+      adds = sends_add now ends.address ends.conn ends.result ends.sends;
+      needs = memory_needs on mid.link.faults now.link.faults (noted Exchange reply_noted ends.result) error ends.why;
+      early = λ at unsent. absurd (sends_not_at_last now ends.address ends.conn ends.result ends.sends at unsent);
+    }
+
+    module _ (now ready : Scene) (address : Address) (conn : Conn) (readies : Readies trial mid ready address conn) (same : now.link ≡ ready.link) (error : Error) where
+      -- the link noted nothing until a command was refused
+      refused_adds : Adds mid.link now.link []
+      refused_adds = subst (λ l. Adds mid.link l []) (sym same) (ready_adds ready address conn readies)
+
+      -- a session is held, and the connection takes none
+      finishes_sessionless : NoSessions conn.description ready.held now.held error → Finishes now (Some (failure_of error))
+      finishes_sessionless refused =
+          let none = sessionless link.setup conn.description ready.held.session (is_conn ready address conn readies) (stands_ready ready address conn readies).takes refused.none in record {
+            more = [];
+            adds = refused_adds;
+            needs = sessions_needs on mid.link.faults now.link.faults [] error none refused.why;
+            early = λ at unsent. absurd (none_draws meaning.sessions own (subst (DrawsNumbers meaning.sessions own) none at.draws));
+          }
+
+      -- there was no number
+      finishes_unnumbered : NoNumber (on_connection own conn.description) ready.held now.held error → Finishes now (Some (failure_of error))
+      finishes_unnumbered refused =
+          let tells = unnumbered_at_end (next_number store) (on_connection own conn.description) ready.held now.held error (stands_ready ready address conn readies).first refused in record {
+            more = [];
+            adds = refused_adds;
+            needs = end_needs on mid.link.faults now.link.faults [] error tells;
+            early = λ at unsent. (tt, end_at_last on mid.link.faults now.link.faults [] error tells);
+          }
+
+      -- there was no frame
+      finishes_unframed : NoFrame meaning (on_connection own conn.description) ready.held now.held error → Finishes now (Some (failure_of error))
+      finishes_unframed refused = record {
+        more = [];
+        adds = refused_adds;
+        needs = unframed_needs on mid.link.faults now.link.faults [] error refused.why;
+        early = λ at unsent. absurd (draws_none ready address conn readies at unsent now.held refused.number refused.draws);
+      }
+
+    -- the command was refused before it went out
+    finishes_refused : (now : Scene) (error : Error) → EndsRefused trial mid now error → Finishes now (Some (failure_of error))
+    finishes_refused now error ends = elim ends.refused [
+      | inl none ↦ finishes_sessionless now ends.ready ends.address ends.conn ends.readies ends.link error none
+      | inr other ↦ elim other [
+        | inl none ↦ finishes_unnumbered now ends.ready ends.address ends.conn ends.readies ends.link error none
+        | inr none ↦ finishes_unframed now ends.ready ends.address ends.conn ends.readies ends.link error none
+      ]
+    ]
+
+    -- the attempt ended the operation at once
+    finishes_ended : (now : Scene) (error : Error) → EndsAtOnce trial mid now error → Finishes now (Some (failure_of error))
+    finishes_ended now error ends = elim ends [
+      | inl unready ↦ finishes_unready now error unready
+      | inr other ↦ elim other [
+        | inl refused ↦ finishes_refused now error refused
+        | inr sent ↦ finishes_sent now error sent
+      ]
+    ]
+
+  -- an operation has come so far
+  record SoFar (kept : Option Kept) (now : Scene) : Type 0 where
+    items : List Answered
+    adds : Adds link now.link items
+    stands : StandsAt now
+    needs : KeptHas (Needs link.faults now.link.faults items) kept
+    early : AtLast → AllEarly items × (now.held.sent ≡ None) × KeptHas Lasts kept
+
+  -- an operation that has not begun
+  begins : SoFar None (first_scene store link)
+  begins = record { items = []; adds = adds_nothing link; stands = stands_at_first store link.setup; needs = tt; early = λ at. (tt, refl, tt) }
+
+  -- one more failure, and what is decided after it
+  module _ (sharded : Bool) (kept : Option Kept) (mid now : Scene) (far : SoFar kept mid) (failing : Failing) (again : Bool) (tries : Tries trial again mid now (Failed failing)) where
+    -- what the failure needs
+    failed : Fails mid far.adds.setup far.stands now (reworded failing.failure.error)
+    failed = fails_in mid far.adds.setup far.stands now failing.address failing.failure.phase failing.failure.error tries
+
+    -- what the link noted so far
+    abbrev items : List Answered
+    items = far.items ++ failed.more
+
+    -- what an error needs by then
+    abbrev NeedsNow : Error → Type 0
+    NeedsNow error = Needs link.faults now.link.faults items error
+
+    -- an error that was kept before has its needs still
+    older : (error : Error) → Needs link.faults mid.link.faults far.items error → NeedsNow error
+    older error needs = end_before on far.items failed.more link.faults mid.link.faults now.link.faults (Some (failure_of error)) failed.adds.later needs
+
+    -- the new error has its needs too
+    newer : NeedsNow (reworded failing.failure.error)
+    newer = end_after on far.items failed.more link.faults mid.link.faults now.link.faults (Some (failure_of (reworded failing.failure.error))) far.adds.later failed.needs
+
+    -- so has what is decided
+    decided_needs : (result : Result Kept Error) → decided trial sharded kept failing now ≡ result → ResultHas NeedsNow result
+    decided_needs result is =
+        decided_has NeedsNow trial sharded kept failing now result (kept_has (Needs link.faults mid.link.faults far.items) NeedsNow kept older far.needs) newer is
+
+    -- where the numbers are at their end, nothing was exchanged, and what is decided may be the end
+    record Early (result : Result Kept Error) : Type 0 where
+      items_are : AllEarly items
+      unsent : now.held.sent ≡ None
+      lasts : ResultHas Lasts result
+
+    -- it is so after the decision
+    decided_early : (result : Result Kept Error) → decided trial sharded kept failing now ≡ result → AtLast → Early result
+    decided_early result is at =
+        let was = far.early at in
+        let here = failed.early at was.1 in record {
+          items_are = early_twice far.items failed.more was.0 here.0;
+          unsent = here.1;
+          lasts = decided_has Lasts trial sharded kept failing now result was.2 here.2 is;
+        }
+
+    -- a decision that allows a further attempt
+    goes_further : (retry : Kept) → decided trial sharded kept failing now ≡ Ok retry → SoFar (Some retry) now
+    goes_further retry is = record {
+      items = items;
+      adds = adds_twice link mid.link now.link far.items failed.more far.adds failed.adds;
+      stands = failed.stands_now;
+      needs = decided_needs (Ok retry) is;
+      early = λ at. let early = decided_early (Ok retry) is at in (early.items_are, early.unsent, early.lasts);
+    }
+
+  -- each moment that an operation reaches
+  reaches_far : (sharded : Bool) (failures : List Failing) (kept : Option Kept) (now : Scene) → Reaches trial sharded (first_scene store link) failures kept now → SoFar kept now
+  reaches_far sharded [] kept now reaches = subst (λ k. SoFar k now) (sym reaches.0) (subst (SoFar None) (sym reaches.1) begins)
+  reaches_far sharded (failing ∷ failures) kept now reaches =
+      let mid = reaches.1.1.0 in
+      let rest = reaches.1.1.1 in
+      let earlier = rest.0 in
+      let fails = rest.1.1 in
+      let far = reaches_far sharded failures earlier mid rest.1.0 in
+      subst (λ k. SoFar k now) (sym reaches.1.0) (goes_further sharded earlier mid now far failing (is_some earlier) fails.tries reaches.0 fails.decides)
+
+  -- an end at a moment has its cause
+  abbrev CausedAt : Scene → Option causes.Failure → Type 0
+  CausedAt now ended = Caused on link.faults now.link.faults link.answers now.link.answers ended
+
+  -- the numbers are at their end
+  at_last : (draws : DrawsNumbers meaning.sessions own link.setup) → IsLast (next_number store) → AtLast
+  at_last draws last = record { draws = draws; last = last }
+
+  module _ (sharded : Bool) (kept : Option Kept) (mid now : Scene) (far : SoFar kept mid) where
+    -- the last attempt ended the operation so
+    abbrev FinishesAt : Option causes.Failure → Type 0
+    FinishesAt ended = Finishes mid far.adds.setup far.stands now ended
+
+    -- the end is of the last attempt
+    caused_new : (ended : Option causes.Failure) → FinishesAt ended → CausedAt now ended
+    caused_new ended finishes =
+        let adds = adds_twice link mid.link now.link far.items finishes.more far.adds finishes.adds in record {
+          items = far.items ++ finishes.more;
+          noted = adds.noted;
+          never_falls = adds.later;
+          needs = end_after on far.items finishes.more link.faults mid.link.faults now.link.faults ended far.adds.later finishes.needs;
+          at_last = λ draws last.
+              let at = at_last draws last in
+              let was = far.early at in
+              last_after on far.items finishes.more ended was.0 (finishes.early at was.1);
+        }
+
+    -- the end is the failure that is kept
+    caused_kept : (more : List Answered) → Adds mid.link now.link more → AllEarly more → (retry : Kept) → kept ≡ Some retry
+        → CausedAt now (Some (failure_of retry.failure.error))
+    caused_kept more added early retry is =
+        let adds = adds_twice link mid.link now.link far.items more far.adds added in
+        let needs = subst (KeptHas (Needs link.faults mid.link.faults far.items)) is far.needs in record {
+          items = far.items ++ more;
+          noted = adds.noted;
+          never_falls = adds.later;
+          needs = end_before on far.items more link.faults mid.link.faults now.link.faults (Some (failure_of retry.failure.error)) added.later needs;
+          at_last = λ draws last. let was = far.early (at_last draws last) in (early_twice far.items more was.0 early, subst (KeptHas Lasts) is was.2);
+        }
+
+    -- a result has its cause
+    abbrev CausedBy : Result A Error → Type 0
+    CausedBy result = CausedAt now (end_of result)
+
+    -- the failure that is kept, else the error of an end
+    kept_or_new : (error : Error) (more : List Answered) (result : Result A Error) → Adds mid.link now.link more → AllEarly more → FinishesAt (Some (failure_of error))
+        → EndsWith {A = A} kept (Unselected error) result → CausedBy result
+    kept_or_new error more result added early finishes ends = by_kept kept refl ends
+      where
+        by_kept : (found : Option Kept) → kept ≡ found → EndsWith {A = A} found (Unselected error) result → CausedBy result
+        by_kept None is ends = subst CausedBy (sym ends) (caused_new (Some (failure_of error)) finishes)
+        by_kept (Some retry) is ends = subst CausedBy (sym ends) (caused_kept more added early retry is)
+
+    -- nothing may be repeated, and the failure that is kept is the end
+    kept_stopped : (result : Result A Error) → Adds mid.link now.link [] → EndsWith {A = A} kept Stopped result → CausedBy result
+    kept_stopped result added ends = by_kept kept refl ends
+      where
+        by_kept : (found : Option Kept) → kept ≡ found → EndsWith {A = A} found Stopped result → CausedBy result
+        by_kept None is ends = absurd ends
+        by_kept (Some retry) is ends = subst CausedBy (sym ends) (caused_kept [] added tt retry is)
+
+    -- the last attempt did not fail, or failed to select a server
+    caused_last : (again : Bool) (attempt : Attempt A) (result : Result A Error) → Tries trial again mid now attempt → EndsWith kept attempt result → CausedBy result
+    caused_last again (Done output) result tries ends = subst CausedBy (sym ends) (caused_new None (finishes_done mid far.adds.setup far.stands now output tries))
+    caused_last again (Failed failing) result tries ends = absurd ends
+    caused_last again (Unselected error) result tries ends =
+        kept_or_new error (answer.Fault Select tries.fault tries.own ∷ []) result (selection_adds mid far.adds.setup far.stands now error tries) tt
+        (finishes_unselected mid far.adds.setup far.stands now error tries) ends
+    caused_last again Stopped result tries ends =
+        kept_stopped result (ready_adds mid far.adds.setup far.stands now tries.1.address tries.1.conn tries.1.readies) ends
+    caused_last again (Ended error) result tries ends =
+        subst CausedBy (sym ends) (caused_new (Some (failure_of error)) (finishes_ended mid far.adds.setup far.stands now error tries))
+
+    -- the last failure may not be followed by another attempt
+    caused_refused : (failing : Failing) (again : Bool) (error : Error) → Tries trial again mid now (Failed failing)
+        → (decided trial sharded kept failing now ≡ Err error) ⊎ (kind_of error ≡ kind.Memory) → CausedAt now (Some (failure_of error))
+    caused_refused failing again error tries refused =
+        let fails = failed sharded kept mid now far failing again tries in
+        let adds = adds_twice link mid.link now.link far.items fails.more far.adds fails.adds in
+        let all = far.items ++ fails.more in elim refused [
+          | inl is ↦ record {
+            items = all;
+            noted = adds.noted;
+            never_falls = adds.later;
+            needs = decided_needs sharded kept mid now far failing again tries (Err error) is;
+            at_last = λ draws last. let early = decided_early sharded kept mid now far failing again tries (Err error) is (at_last draws last) in (early.items_are, early.lasts);
+          }
+          | inr memory ↦ record {
+            items = all;
+            noted = adds.noted;
+            never_falls = adds.later;
+            needs = memory_needs on link.faults now.link.faults all error memory;
+            at_last = λ draws last.
+                let at = at_last draws last in
+                let was = far.early at in
+                (early_twice far.items fails.more was.0 (fails.early at was.1).0, memory_at_last on link.faults now.link.faults all error memory);
+          }
+        ]
+
+    -- an operation's end
+    caused_ends : (result : Result A Error) → Ends trial sharded kept mid now result → CausedBy result
+    caused_ends result ends = elim ends [
+      | inl last ↦ caused_last (is_some kept) last.attempt result last.tries last.ends
+      | inr other ↦ elim other [
+        | inl limit ↦ subst CausedBy (sym limit.answers)
+            (caused_kept [] (subst (λ s. Adds mid.link s.link []) (sym limit.same) (adds_nothing mid.link)) tt limit.retry limit.is)
+        | inr refused ↦ subst CausedBy (sym refused.answers) (caused_refused refused.failing (is_some kept) refused.error refused.tries refused.refused)
+      ]
+    ]
+
+-- an operation has its cause
+pub executes_caused : {A : Type 0} (meaning : Meaning A) (places : List Place) (own : Retryability) (store store_now : Option ToldStore) (link link_now : ToldLink) (result : Result A Error)
+    → Executes (trial_of meaning places own) store store_now link link_now result
+    → Caused (grounds meaning own link.setup store) link.faults link_now.faults link.answers link_now.answers (end_of result)
+executes_caused meaning places own store store_now link link_now result executes =
+    let turns = executes.turns in
+    let far = reaches_far meaning places own store link executes.sharded turns.failures turns.kept turns.mid turns.reaches in
+    let caused = caused_ends meaning places own store link executes.sharded turns.kept turns.mid executes.last far result turns.ends in
+    subst (λ l. Caused (grounds meaning own link.setup store) link.faults l.faults link.answers l.answers (end_of result)) (sym executes.link_is) caused

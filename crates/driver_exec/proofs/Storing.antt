@@ -1,0 +1,73 @@
+-- What the attempts of an operation draw from a store: the ids that it drew grow, so where the last are apart all were.
+use Rattle.std.proofs.Common.{◌≡◌, ℕ, sym, subst, inl, inr}
+use Rattle.std.specs.Prelude.{Bool, true, false, List, Option, None, Some, is_some, Result, Ok}
+use Rattle.driver_error.specs.declared.error.Error.{Error}
+use Rattle.driver_link.specs.declared.fault.LinkError.{LinkError}
+use Rattle.driver_link.specs.declared.options.Address.{Address}
+use Rattle.driver_link.specs.declared.options.Conn.{Conn}
+use Rattle.driver_exec.specs.declared.attempt_end.Attempt.{Attempt}
+use Rattle.driver_exec.specs.declared.attempt_end.Attempt.TheVariants.{Done, Ended, Failed, Stopped, Unselected}
+use Rattle.driver_exec.specs.declared.retry.FailurePhase.{FailurePhase}
+use Rattle.driver_exec.specs.declared.retry.FailurePhase.TheVariants.{Establishment, Execution}
+use Rattle.driver_exec.specs.Attempting.{FailsIn, Readies, Scene, Sends, Trial, Tries, asks_session}
+use Rattle.driver_exec.specs.Executing.{Ends}
+use Rattle.driver_exec.specs.Holding.{GivesBack, Held, HoldsSession, needs_session}
+use Rattle.driver_exec.specs.Pool.{DrawnApart, Draws, ToldStore}
+use Rattle.driver_exec.specs.Retry.{Kept}
+use Rattle.driver_exec.specs.Session.{Session}
+use Rattle.driver_exec.proofs.Drawing.{apart_before, draws_lending, draws_refl, draws_staying, draws_taking}
+
+draws_same : (store now : Option ToldStore) → now ≡ store → Draws store now
+draws_same store now same = subst (Draws store) (sym same) (draws_refl store)
+
+holds_draws : (needed : Bool) (store now : Option ToldStore) (held held_now : Held) → HoldsSession needed store now held held_now (Ok tt) → Draws store now
+holds_draws false store now held held_now holds = draws_same store now holds.0
+holds_draws true store now held held_now holds = draws_lending store now holds.caller holds.moment holds.session holds.lends
+
+module _ {A : Type 0} (trial : Trial A) (mid now : Scene) where
+  readies_draws : (address : Address) (conn : Conn) → Readies trial mid now address conn → Draws mid.store now.store
+  readies_draws address conn readies =
+      holds_draws (needs_session (asks_session trial.sessions conn.description) mid.held) mid.store now.store mid.held now.held readies.holds
+
+module _ {A : Type 0} (trial : Trial A) (mid now : Scene) where
+  sends_draws : (address : Address) (conn : Conn) (result : Result (List ℕ) LinkError) → Sends trial mid now address conn result → Draws mid.store now.store
+  sends_draws address conn result sends = subst (Draws mid.store) (sym sends.store_is) (readies_draws trial mid sends.ready address conn sends.readies)
+
+  fails_draws : (address : Address) (phase : FailurePhase) (error : Error) → FailsIn trial mid now address phase error → Draws mid.store now.store
+  fails_draws address Establishment error fails = draws_same mid.store now.store fails.rest.store
+  fails_draws address Execution error fails = elim fails [
+    | inl lost ↦ sends_draws address lost.conn _ lost.sends
+    | inr says ↦ sends_draws address says.conn _ says.sends
+  ]
+
+  tries_draws : (again : Bool) (attempt : Attempt A) → Tries trial again mid now attempt → Draws mid.store now.store
+  tries_draws again (Done output) tries = sends_draws tries.address tries.conn _ tries.sends
+  tries_draws again (Failed failing) tries = fails_draws failing.address failing.failure.phase failing.failure.error tries
+  tries_draws again (Unselected error) tries = draws_same mid.store now.store tries.rest.store
+  tries_draws again Stopped tries = readies_draws trial mid now tries.1.address tries.1.conn tries.1.readies
+  tries_draws again (Ended error) tries = elim tries [
+    | inl unready ↦ draws_staying mid.store now.store unready.store
+    | inr other ↦ elim other [
+      | inl refused ↦ subst (Draws mid.store) (sym refused.store) (readies_draws trial mid refused.ready refused.address refused.conn refused.readies)
+      | inr sent ↦ sends_draws sent.address sent.conn sent.result sent.sends
+    ]
+  ]
+
+  -- where the ids are apart after a failure they were before it
+  pub fails_apart : (address : Address) (phase : FailurePhase) (error : Error) → FailsIn trial mid now address phase error → DrawnApart now.store → DrawnApart mid.store
+  fails_apart address phase error fails apart = apart_before mid.store now.store (fails_draws address phase error fails) apart
+
+  -- and before the end of an operation
+  pub ends_apart : (sharded : Bool) (kept : Option Kept) (result : Result A Error) → Ends trial sharded kept mid now result → DrawnApart now.store → DrawnApart mid.store
+  ends_apart sharded kept result ends apart = elim ends [
+    | inl last ↦ apart_before mid.store now.store (tries_draws (is_some kept) last.attempt last.tries) apart
+    | inr other ↦ elim other [
+      | inl limit ↦ subst (λ s. DrawnApart s.store) limit.same apart
+      | inr refused ↦ fails_apart refused.failing.address refused.failing.failure.phase refused.failing.failure.error refused.tries apart
+    ]
+  ]
+
+-- before a session came back they were apart
+pub back_apart : (store now : Option ToldStore) (session : Option Session) → GivesBack store now session → DrawnApart now → DrawnApart store
+back_apart store now None same apart = subst DrawnApart same apart
+back_apart store now (Some session) back apart = apart_before store now (draws_taking store now back.caller session back.moment back.takes) apart

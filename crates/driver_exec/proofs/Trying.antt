@@ -1,0 +1,299 @@
+-- One attempt of an operation, from the calls in which it was made.
+use Rattle.std.proofs.Common.{◌≡◌, ℕ, ◌≤◌, List, refl, sym, subst, ◌∙◌, inl, inr, arith}
+use Rattle.std.specs.Prelude.{ℤ, Bool, true, false, ◌&&◌, Option, None, Some, Result, Ok, Err}
+use Rattle.driver_error.specs.declared.error.Error.{Error}
+use Rattle.driver_error.specs.declared.kind.ErrorKind.TheVariants as kind
+use Rattle.driver_error.specs.Error.{kind_of}
+use Rattle.driver_link.specs.declared.fault.LinkCall.TheVariants.{CheckOut, Select}
+use Rattle.driver_link.specs.declared.fault.LinkError.{LinkError}
+use Rattle.driver_link.specs.declared.fault.LinkError.TheVariants.{Fault, Memory}
+use Rattle.driver_link.specs.declared.machine.Place.{Place}
+use Rattle.driver_link.specs.declared.options.Address.{Address}
+use Rattle.driver_link.specs.declared.options.Conn.{Conn}
+use Rattle.driver_link.specs.Faults.{HasLinkCause}
+use Rattle.driver_link.specs.Framed.{Framed}
+use Rattle.driver_link.specs.Told.{noted, nothing_noted}
+use Rattle.driver_exec.specs.declared.attempt_end.Attempt.{Attempt}
+use Rattle.driver_exec.specs.declared.attempt_end.Attempt.TheVariants.{Ended, Failed, Stopped, Unselected}
+use Rattle.driver_exec.specs.declared.retryability.Retryability.{Retryability}
+use Rattle.driver_exec.specs.Attempting.{ChecksOut, Comes, Connects, FailsIn, Exchanging, LosesExchange, NotConnected, OnlyCounted, ReadsAnswer, Readies, Scene, Selects, Sending, Sends, SpellsFailure, Trial, Tries, asks_session, is_nothing, may_use, on_connection, scene, trial_of}
+use Rattle.driver_exec.specs.Causes.{AllEarly}
+use Rattle.driver_exec.specs.Failing.{EndsLost, EndsRead, EndsUnconnected, EndsUnselected}
+use Rattle.driver_exec.specs.Holding.{Held, HoldsSession, needs_session}
+use Rattle.driver_exec.specs.Operations.{Meaning, MeansTheSame, ReadsAsAsked}
+use Rattle.driver_exec.specs.Pool.{StaysTold, ToldStore}
+use Rattle.driver_exec.specs.Links.{ToldLink}
+use Rattle.driver_exec.proofs.Attempts.{check_out_counts, counts_twice, select_counts}
+use Rattle.driver_exec.proofs.Causes.{notes_since}
+
+pub stays_same : (store : Option ToldStore) → StaysTold store store
+stays_same None = refl
+stays_same (Some told) = (refl, λ k. refl)
+
+-- both of two hold
+pub both_true : (a b : Bool) → (a && b) ≡ true → (a ≡ true) × (b ≡ true)
+both_true true b is = (refl, is)
+both_true false b is = absurd (false≢true is)
+  where
+    false≢true : false ≡ true → ⊥
+    false≢true same = cc
+
+pub later_of : {B : Type 0} (before now : ℕ) (result : Result B LinkError) → HasLinkCause before now result → before ≤ now
+later_of before now (Ok given) cause = cause
+later_of before now (Err (Fault fault own)) cause = cause.1
+later_of before now (Err Memory) cause = cause
+
+-- a selection and a check-out note no exchange
+pub select_early : {B : Type 0} (result : Result B LinkError) → AllEarly (noted Select nothing_noted result)
+select_early (Ok given) = tt
+select_early (Err (Fault fault own)) = tt
+select_early (Err Memory) = tt
+
+pub check_out_early : {B : Type 0} (result : Result B LinkError) → AllEarly (noted CheckOut nothing_noted result)
+check_out_early (Ok given) = tt
+check_out_early (Err (Fault fault own)) = tt
+check_out_early (Err Memory) = tt
+
+-- a selection is a call that was counted
+pub selected_counted : (link now : ToldLink) (result : Result Address LinkError) → Selects link now result → OnlyCounted link now
+selected_counted link now result selects = record {
+  server = select_counts Address link.server now.server result selects.counts;
+  setup = selects.setup;
+  items = noted Select nothing_noted result;
+  notes = selects.notes;
+  early = select_early result;
+  later = later_of link.faults now.faults result selects.cause;
+}
+
+-- so is a check-out after it
+pub checked_counted : (link mid now : ToldLink) (address : Address) (result : Result Conn LinkError) → Selects link mid (Ok address) → ChecksOut mid now result → OnlyCounted link now
+checked_counted link mid now address result selects checks = record {
+  server = counts_twice link.server mid.server now.server (select_counts Address link.server mid.server (Ok address) selects.counts)
+      (check_out_counts Conn mid.server now.server result checks.counts);
+  setup = checks.setup ∙ selects.setup;
+  items = noted CheckOut nothing_noted result;
+  notes = notes_since link.answers mid.answers now.answers (noted CheckOut nothing_noted result) selects.notes checks.notes;
+  early = check_out_early result;
+  later = omega (arith, later_of link.faults mid.faults (Ok address) selects.cause, later_of mid.faults now.faults result checks.cause);
+}
+
+pub connected_counted : (link now : ToldLink) (address : Address) (conn : Conn) → Connects link now address conn → OnlyCounted link now
+connected_counted link now address conn connects = checked_counted link connects.mid now address (Ok conn) connects.selects connects.checks_out
+
+-- an operation tells before and now the same
+module _ {A : Type 0} (old now : Meaning A) (same : MeansTheSame old now) where
+  pub reads_same : (session : Option (List ℕ)) (number : Option ℤ) (frame : Framed) → ReadsAsAsked old session number frame → ReadsAsAsked now session number frame
+  reads_same session number frame reads places body asked = reads places body ((same.asked places body).1 asked)
+
+  pub answers_same : (reply : List ℕ) (answer : Result A Error) → ReadsAnswer now reply answer → ReadsAnswer old reply answer
+  answers_same reply (Ok output) reads = record { response = reads.response; done = reads.done; reads = (same.answers reads.response.body (Ok output)).1 reads.reads }
+  answers_same reply (Err error) reads = elim reads [
+    | inl spelled ↦ inl spelled
+    | inr other ↦ elim other [
+      | inl read ↦ inr (inl (record {
+        response = read.response;
+        done = read.done;
+        bare = read.bare;
+        reads = (same.answers read.response.body (Err read.bare)).1 read.reads;
+        kept = read.kept;
+      }))
+      | inr memory ↦ inr (inr memory)
+    ]
+  ]
+
+  comes_same : (turn : Retryability) (version : Option ℤ) (address : Address) (result : Result (List ℕ) LinkError) (attempt : Attempt A)
+      → Comes now turn version address result attempt → Comes old turn version address result attempt
+  comes_same turn version address (Ok reply) attempt comes =
+      record { answer = comes.answer; reads = answers_same reply comes.answer comes.reads; ends = comes.ends }
+  comes_same turn version address (Err failure) attempt comes = comes
+
+  pub exchanging_same : (places : List Place) (link link_now : ToldLink) (turn : Retryability) (version : Option ℤ) (address : Address) (held held_now : Held) (attempt : Attempt A)
+      → Exchanging now places link link_now turn version address held held_now attempt → Exchanging old places link link_now turn version address held held_now attempt
+  exchanging_same places link link_now turn version address held held_now attempt exchanging = record {
+    result = exchanging.result;
+    exchanges = record {
+      steps = λ body asked. exchanging.exchanges.steps body ((same.asked places body).0 asked);
+      setup = exchanging.exchanges.setup;
+      notes = exchanging.exchanges.notes;
+      cause = exchanging.exchanges.cause;
+    };
+    held_is = exchanging.held_is;
+    comes = comes_same turn version address exchanging.result attempt exchanging.comes;
+  }
+
+module _ {A : Type 0} (meaning : Meaning A) (places : List Place) (own : Retryability) (again : Bool) where
+  abbrev trial : Trial A
+  trial = trial_of meaning places own
+
+  -- no server was selected
+  pub unselected_tries : (store : Option ToldStore) (link now : ToldLink) (held : Held) (failure : LinkError) (attempt : Attempt A)
+      → Selects link now (Err failure) → EndsUnselected failure attempt → Tries trial again (scene store link held) (scene store now held) attempt
+  unselected_tries store link now held (Fault fault labels) (Unselected error) selects is =
+      record { fault = fault; own = labels; selects = selects; is = is; rest = record { store = refl; held = refl } }
+  unselected_tries store link now held (Fault fault labels) (Ended error) selects memory =
+      inl (record { link = selected_counted link now (Err (Fault fault labels)) selects; store = stays_same store; held = refl; why = memory })
+  unselected_tries store link now held Memory (Ended error) selects memory =
+      inl (record { link = selected_counted link now (Err Memory) selects; store = stays_same store; held = refl; why = memory })
+  unselected_tries store link now held (Fault fault labels) _ selects ends = absurd ends
+  unselected_tries store link now held Memory _ selects ends = absurd ends
+
+  -- no connection was had
+  pub unconnected_tries : (store : Option ToldStore) (link mid now : ToldLink) (held : Held) (address : Address) (failure : LinkError) (attempt : Attempt A)
+      → Selects link mid (Ok address) → ChecksOut mid now (Err failure) → EndsUnconnected own address failure attempt
+      → Tries trial again (scene store link held) (scene store now held) attempt
+  unconnected_tries store link mid now held address (Fault fault labels) (Failed failing) selects checks ends =
+      subst (λ phase. FailsIn trial (scene store link held) (scene store now held) failing.address phase failing.failure.error) (sym ends.phase_is)
+      (subst (λ at. NotConnected trial (scene store link held) (scene store now held) at failing.failure.error) (sym ends.address_is) (record {
+        mid = mid;
+        selects = selects;
+        fault = fault;
+        own = labels;
+        checks_out = checks;
+        is = ends.error;
+        rest = record { store = refl; held = refl };
+      }))
+  unconnected_tries store link mid now held address (Fault fault labels) (Ended error) selects checks memory =
+      inl (record { link = checked_counted link mid now address (Err (Fault fault labels)) selects checks; store = stays_same store; held = refl; why = memory })
+  unconnected_tries store link mid now held address Memory (Ended error) selects checks memory =
+      inl (record { link = checked_counted link mid now address (Err Memory) selects checks; store = stays_same store; held = refl; why = memory })
+  unconnected_tries store link mid now held address (Fault fault labels) _ selects checks ends = absurd ends
+  unconnected_tries store link mid now held address Memory _ selects checks ends = absurd ends
+
+  module _ (store store_now : Option ToldStore) (before link : ToldLink) (held ready : Held) (address : Address) (conn : Conn) (connects : Connects before link address conn) where
+    -- a session was asked for where both sides take one
+    pub holds_asked : (asked : Bool) (given result : Result (Unit {0}) Error) → asked ≡ asks_session meaning.sessions conn.description → given ≡ result
+        → HoldsSession (needs_session asked held) store store_now held ready given
+        → HoldsSession (needs_session (asks_session meaning.sessions conn.description) held) store store_now held ready result
+    holds_asked asked given result is_asked is_given holds =
+        subst (λ a. HoldsSession (needs_session a held) store store_now held ready result) is_asked
+        (subst (λ r. HoldsSession (needs_session asked held) store store_now held ready r) is_given holds)
+
+    -- there was no memory for a session
+    pub unready_tries : (error : Error) → HoldsSession (needs_session (asks_session meaning.sessions conn.description) held) store store_now held ready (Err error)
+        → Tries trial again (scene store before held) (scene store_now link ready) (Ended error)
+    unready_tries error holds = by_need (needs_session (asks_session meaning.sessions conn.description) held) holds
+      where
+        ok_err : ◌≡◌ {A = Result (Unit {0}) Error} (Ok tt) (Err error) → ⊥
+        ok_err same = cc
+
+        by_need : (needed : Bool) → HoldsSession needed store store_now held ready (Err error) → Tries trial again (scene store before held) (scene store_now link ready) (Ended error)
+        by_need false holds = absurd (ok_err (sym holds.2))
+        by_need true holds = inl (record { link = connected_counted before link address conn connects; store = holds.0; held = holds.1; why = holds.2 })
+
+    module _ (holds : HoldsSession (needs_session (asks_session meaning.sessions conn.description) held) store store_now held ready (Ok tt)) where
+      readied : Readies trial (scene store before held) (scene store_now link ready) address conn
+      readied = record { connects = connects; holds = holds }
+
+      -- a session is held, and the connection takes none
+      pub sessionless_tries : (error : Error) → may_use ready conn.description ≡ false → kind_of error ≡ kind.SessionsNotSupported
+          → Tries trial again (scene store before held) (scene store_now link ready) (Ended error)
+      sessionless_tries error none is = inr (inl (record {
+        ready = scene store_now link ready;
+        address = address;
+        conn = conn;
+        readies = readied;
+        link = refl;
+        store = refl;
+        refused = inl (record { none = none; same = refl; why = is });
+      }))
+
+      -- nothing may be repeated
+      pub stopped_tries : again ≡ true → is_nothing (on_connection own conn.description) ≡ true → Tries trial again (scene store before held) (scene store_now link ready) Stopped
+      stopped_tries is nothing = (is, record { address = address; conn = conn; readies = readied; nothing = nothing })
+
+      module _ (allowed : may_use ready conn.description ≡ true) (link_now : ToldLink) (held_now : Held) where
+        abbrev turn : Retryability
+        turn = on_connection own conn.description
+
+        abbrev version : Option ℤ
+        version = conn.description.max_wire_version
+
+        abbrev began : Scene
+        began = scene store before held
+
+        abbrev came : Scene
+        came = scene store_now link_now held_now
+
+        -- the command's reply was read
+        read_tries : (reply : List ℕ) (answer : Result A Error) (attempt : Attempt A) → Sends trial began came address conn (Ok reply) → ReadsAnswer meaning reply answer
+            → EndsRead turn version address answer attempt → Tries trial again began came attempt
+        read_tries reply (Ok output) attempt sends reads ends =
+            subst (λ a. Tries trial again began came a) (sym ends) (record { address = address; conn = conn; reply = reply; sends = sends; reads = reads })
+        read_tries reply (Err read) (Failed failing) sends reads ends =
+            subst (λ phase. FailsIn trial began came failing.address phase failing.failure.error) (sym ends.phase_is)
+            (inr (subst (λ at. SpellsFailure trial began came at failing.failure.error) (sym ends.address_is) (record {
+              conn = conn;
+              reply = reply;
+              sends = sends;
+              is = record {
+                bare = ends.error.bare;
+                is = record { bare = read; reads = reads; labelled = ends.error.is };
+                versioned = ends.error.versioned;
+              };
+            })))
+        read_tries reply (Err read) (Ended error) sends reads memory =
+            inr (inr (record { address = address; conn = conn; result = Ok reply; sends = sends; why = memory }))
+        read_tries reply (Err read) _ sends reads ends = absurd ends
+
+        -- its exchange failed
+        lost_tries : (failure : LinkError) (attempt : Attempt A) → Sends trial began came address conn (Err failure) → EndsLost turn version address failure attempt
+            → Tries trial again began came attempt
+        lost_tries (Fault fault labels) (Failed failing) sends ends =
+            subst (λ phase. FailsIn trial began came failing.address phase failing.failure.error) (sym ends.phase_is)
+            (inl (subst (λ at. LosesExchange trial began came at failing.failure.error) (sym ends.address_is) (record {
+              conn = conn;
+              fault = fault;
+              own = labels;
+              sends = sends;
+              is = ends.error;
+            })))
+        lost_tries (Fault fault labels) (Ended error) sends memory =
+            inr (inr (record { address = address; conn = conn; result = Err (Fault fault labels); sends = sends; why = memory }))
+        lost_tries Memory (Ended error) sends memory = inr (inr (record { address = address; conn = conn; result = Err Memory; sends = sends; why = memory }))
+        lost_tries (Fault fault labels) _ sends ends = absurd ends
+        lost_tries Memory _ sends ends = absurd ends
+
+        came_tries : (result : Result (List ℕ) LinkError) (attempt : Attempt A) → Sends trial began came address conn result → Comes meaning turn version address result attempt
+            → Tries trial again began came attempt
+        came_tries (Ok reply) attempt sends comes = read_tries reply comes.answer attempt sends comes.reads comes.ends
+        came_tries (Err failure) attempt sends comes = lost_tries failure attempt sends comes
+
+        sending_tries : (attempt : Attempt A) → Sending meaning places link link_now turn version address ready held_now attempt → Tries trial again began came attempt
+        sending_tries attempt sending = elim sending [
+          | inl none ↦ subst (λ a. Tries trial again began came a) (sym none.ends) (inr (inl (record {
+            ready = scene store_now link ready;
+            address = address;
+            conn = conn;
+            readies = readied;
+            link = none.link_is;
+            store = refl;
+            refused = inr (inl none.draws);
+          })))
+          | inr other ↦ elim other [
+            | inl none ↦ subst (λ a. Tries trial again began came a) (sym none.ends) (inr (inl (record {
+              ready = scene store_now link ready;
+              address = address;
+              conn = conn;
+              readies = readied;
+              link = none.link_is;
+              store = refl;
+              refused = inr (inr (record { number = none.number; draws = none.draws; why = none.why }));
+            })))
+            | inr out ↦ came_tries out.exchanging.result attempt (record {
+              ready = scene store_now link ready;
+              readies = readied;
+              allowed = allowed;
+              numbered = out.numbered;
+              number = out.number;
+              draws = out.draws;
+              exchanges = out.exchanging.exchanges;
+              store_is = refl;
+              held_is = out.exchanging.held_is;
+            }) out.exchanging.comes
+          ]
+        ]
+
+        -- the command of an attempt on its connection
+        pub sent_tries : (found : Retryability) (attempt : Attempt A) → found ≡ turn → Sending meaning places link link_now found version address ready held_now attempt
+            → Tries trial again began came attempt
+        sent_tries found attempt is sending = sending_tries attempt (subst (λ t. Sending meaning places link link_now t version address ready held_now attempt) is sending)

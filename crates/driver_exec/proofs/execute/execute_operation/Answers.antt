@@ -1,0 +1,77 @@
+-- The operation's attempts, and the session that came back, tell what it left and the cause of its end.
+use Rattle.std.proofs.Common.{refl}
+use Rattle.driver_exec.specs.Attempting.{scene, trial_of}
+use Rattle.driver_exec.specs.Client.{options_of, store_of}
+use Rattle.driver_exec.specs.Executing.{Executes}
+use Rattle.driver_exec.specs.Links.{told_link}
+use Rattle.driver_exec.proofs.OperationCausing.{executes_caused}
+use Rattle.driver_exec.proofs.Resending.{executes_draws, executes_lends, executes_works}
+use Rattle.driver_exec.proofs.execute.execute_operation.Goals as goal
+
+pub returns-clause-caused : goal.returns-clause-caused
+returns-clause-caused g c =
+    let meaning = g.O.Operation.meaning c.args.op.now in
+    let own = meaning.own (options_of c.args.client.now) in
+    let store = g.S.SessionStore.told (store_of c.args.client.now) in
+    let store_now = g.S.SessionStore.told (store_of c.give_back.new.client) in
+    let link = told_link (g.L.Link.told c.args.outside.now.link) (g.L.Link.setup c.args.outside.now.link) (g.L.Link.answers c.args.outside.now.link) (g.L.Link.faults c.args.outside.now.link) in
+    let link_now = told_link (g.L.Link.told c.turns-held.new.outside.link) (g.L.Link.setup c.turns-held.new.outside.link) (g.L.Link.answers c.turns-held.new.outside.link) (g.L.Link.faults c.turns-held.new.outside.link) in
+    let executes : Executes (trial_of meaning c.args.places.now own) store store_now link link_now c.turns-held.result.1 = record {
+      sharded = c.is_sharded-sharded.result;
+      last = scene (g.S.SessionStore.told (store_of c.turns-held.new.client)) link_now c.turns-held.result.0;
+      turns = c.turns-held.ensures.turns;
+      link_is = refl;
+      comes_back = c.give_back.ensures.takes;
+    } in
+    executes_caused meaning c.args.places.now own store store_now link link_now c.turns-held.result.1 executes
+
+pub returns-clause-works : goal.returns-clause-works
+returns-clause-works g c =
+    let meaning = g.O.Operation.meaning c.args.op.now in
+    let own = meaning.own (options_of c.args.client.now) in
+    let store = g.S.SessionStore.told (store_of c.args.client.now) in
+    let store_now = g.S.SessionStore.told (store_of c.give_back.new.client) in
+    let link = told_link (g.L.Link.told c.args.outside.now.link) (g.L.Link.setup c.args.outside.now.link) (g.L.Link.answers c.args.outside.now.link) (g.L.Link.faults c.args.outside.now.link) in
+    let link_now = told_link (g.L.Link.told c.turns-held.new.outside.link) (g.L.Link.setup c.turns-held.new.outside.link) (g.L.Link.answers c.turns-held.new.outside.link) (g.L.Link.faults c.turns-held.new.outside.link) in
+    let executes : Executes (trial_of meaning c.args.places.now own) store store_now link link_now c.turns-held.result.1 = record {
+      sharded = c.is_sharded-sharded.result;
+      last = scene (g.S.SessionStore.told (store_of c.turns-held.new.client)) link_now c.turns-held.result.0;
+      turns = c.turns-held.ensures.turns;
+      link_is = refl;
+      comes_back = c.give_back.ensures.takes;
+    } in
+    executes_works (trial_of meaning c.args.places.now own) store store_now link link_now c.turns-held.result.1 executes
+
+pub returns-clause-lent : goal.returns-clause-lent
+returns-clause-lent g c =
+    let meaning = g.O.Operation.meaning c.args.op.now in
+    let own = meaning.own (options_of c.args.client.now) in
+    let store = g.S.SessionStore.told (store_of c.args.client.now) in
+    let store_now = g.S.SessionStore.told (store_of c.give_back.new.client) in
+    let link = told_link (g.L.Link.told c.args.outside.now.link) (g.L.Link.setup c.args.outside.now.link) (g.L.Link.answers c.args.outside.now.link) (g.L.Link.faults c.args.outside.now.link) in
+    let link_now = told_link (g.L.Link.told c.turns-held.new.outside.link) (g.L.Link.setup c.turns-held.new.outside.link) (g.L.Link.answers c.turns-held.new.outside.link) (g.L.Link.faults c.turns-held.new.outside.link) in
+    let executes : Executes (trial_of meaning c.args.places.now own) store store_now link link_now c.turns-held.result.1 = record {
+      sharded = c.is_sharded-sharded.result;
+      last = scene (g.S.SessionStore.told (store_of c.turns-held.new.client)) link_now c.turns-held.result.0;
+      turns = c.turns-held.ensures.turns;
+      link_is = refl;
+      comes_back = c.give_back.ensures.takes;
+    } in
+    executes_lends (trial_of meaning c.args.places.now own) store store_now link link_now c.turns-held.result.1 executes
+
+pub returns-clause-drawn : goal.returns-clause-drawn
+returns-clause-drawn g c =
+    let meaning = g.O.Operation.meaning c.args.op.now in
+    let own = meaning.own (options_of c.args.client.now) in
+    let store = g.S.SessionStore.told (store_of c.args.client.now) in
+    let store_now = g.S.SessionStore.told (store_of c.give_back.new.client) in
+    let link = told_link (g.L.Link.told c.args.outside.now.link) (g.L.Link.setup c.args.outside.now.link) (g.L.Link.answers c.args.outside.now.link) (g.L.Link.faults c.args.outside.now.link) in
+    let link_now = told_link (g.L.Link.told c.turns-held.new.outside.link) (g.L.Link.setup c.turns-held.new.outside.link) (g.L.Link.answers c.turns-held.new.outside.link) (g.L.Link.faults c.turns-held.new.outside.link) in
+    let executes : Executes (trial_of meaning c.args.places.now own) store store_now link link_now c.turns-held.result.1 = record {
+      sharded = c.is_sharded-sharded.result;
+      last = scene (g.S.SessionStore.told (store_of c.turns-held.new.client)) link_now c.turns-held.result.0;
+      turns = c.turns-held.ensures.turns;
+      link_is = refl;
+      comes_back = c.give_back.ensures.takes;
+    } in
+    executes_draws (trial_of meaning c.args.places.now own) store store_now link link_now c.turns-held.result.1 executes

@@ -1,0 +1,316 @@
+-- One attempt of an operation outside transactions, over any link: a server is selected and a connection checked out,
+-- a session is lent where none is held, and one command goes out under the number of the send before, or a first one.
+use Rattle.std.specs.Prelude.{◌≡◌, ℕ, ◌≤◌, ℤ, Bool, true, false, ◌&&◌, List, Option, Some, is_some, ◌⊎◌, Result, Ok, Err, if◌then◌else◌}
+use Rattle.driver_error.specs.declared.error.Error.{Error}
+use Rattle.driver_error.specs.declared.kind.ErrorKind.TheVariants as kind
+use Rattle.driver_error.specs.Error.{HasResponse, kind_of}
+use Rattle.driver_link.specs.declared.fault.Answered.{Answered}
+use Rattle.driver_link.specs.declared.fault.LinkCall.{LinkCall}
+use Rattle.driver_link.specs.declared.fault.LinkCall.TheVariants.{CheckOut, Exchange, Select}
+use Rattle.driver_link.specs.declared.fault.LinkError.{LinkError}
+use Rattle.driver_link.specs.declared.fault.LinkError.TheVariants.{Fault}
+use Rattle.driver_link.specs.declared.fault.LinkFault.{LinkFault}
+use Rattle.driver_link.specs.declared.machine.Place.{Place}
+use Rattle.driver_link.specs.declared.machine.SendBody.{SendBody}
+use Rattle.driver_link.specs.declared.options.Address.{Address}
+use Rattle.driver_link.specs.declared.options.Conn.{Conn}
+use Rattle.driver_link.specs.declared.options.Description.{Description}
+use Rattle.driver_link.specs.Counting.{Counts, Listed, OnlyCounts, check_out_fault, checked_out, select_fault, selected}
+use Rattle.driver_link.specs.Faults.{HasLinkCause}
+use Rattle.driver_link.specs.Told.{IsTo, Told, Notes, Steps, noted, nothing_noted, reply_noted}
+use Rattle.driver_exec.specs.declared.attempt_end.Attempt.{Attempt}
+use Rattle.driver_exec.specs.declared.attempt_end.Attempt.TheVariants.{Done, Ended, Failed, Stopped, Unselected}
+use Rattle.driver_exec.specs.declared.response.CommandResponse.{CommandResponse}
+use Rattle.driver_exec.specs.declared.retry.FailurePhase.{FailurePhase}
+use Rattle.driver_exec.specs.declared.retry.FailurePhase.TheVariants.{Establishment, Execution}
+use Rattle.driver_exec.specs.declared.retryability.Retryability.{Retryability}
+use Rattle.driver_exec.specs.declared.retryability.Retryability.TheVariants as may
+use Rattle.driver_exec.specs.Causes.{AllEarly}
+use Rattle.driver_exec.specs.Failing.{EndsLost, EndsRead, IsFaultOf, IsLabelledRead, IsVersioned}
+use Rattle.driver_exec.specs.Holding.{DrawsNumber, Held, HoldsSession, held_after_failure, held_id, needs_session, number_before}
+use Rattle.driver_exec.specs.Operations.{Meaning, TellsUnframed, plain_send}
+use Rattle.driver_exec.specs.Pool.{StaysTold, ToldStore}
+use Rattle.driver_exec.specs.Responses.{ReadsResponse}
+use Rattle.driver_exec.specs.Links.{ToldLink}
+
+-- what store and link tell at one moment of an operation, and what it then holds
+pub record Scene : Type 0 where
+  pub store : Option ToldStore
+  pub link : ToldLink
+  pub held : Held
+
+-- an operation as its attempts see it: what it tells, the places of its writes, what of it may be repeated by its own
+-- rules, and whether it takes a session
+pub record Trial (A : Type 0) : Type 1 where
+  pub meaning : Meaning A
+  pub places : List Place
+  pub own : Retryability
+  pub sessions : Bool
+
+-- the same from its parts
+abbrev pub scene : Option ToldStore → ToldLink → Held → Scene
+scene store link held = record { store = store; link = link; held = held }
+
+-- an operation by what it tells, the places of its writes, and what of it may be repeated by its own rules
+abbrev pub trial_of : {A : Type 0} → Meaning A → List Place → Retryability → Trial A
+trial_of meaning places own = record { meaning = meaning; places = places; own = own; sessions = meaning.sessions }
+
+-- what of an operation may be repeated on a connection: a write where that takes such writes
+abbrev pub on_connection : Retryability → Description → Retryability
+on_connection may.Write description = if description.supports_retryable_writes then may.Write else may.None
+on_connection own description = own
+
+-- nothing may be repeated
+abbrev pub is_nothing : Retryability → Bool
+is_nothing may.None = true
+is_nothing other = false
+
+-- a call of the link that is counted, with what it notes
+pub record CallsLink {B : Type 0} (which : LinkCall) (next : Told → Told) (fault : Told → Option Listed) (link now : ToldLink) (result : Result B LinkError) : Type 0 where
+  pub counts : Counts next fault link.server now.server result
+  pub setup : now.setup ≡ link.setup
+  pub notes : Notes link.answers now.answers (noted which nothing_noted result)
+  pub cause : HasLinkCause link.faults now.faults result
+
+abbrev pub Selects : ToldLink → ToldLink → Result Address LinkError → Type 0
+Selects link now result = CallsLink Select selected select_fault link now result
+
+abbrev pub ChecksOut : ToldLink → ToldLink → Result Conn LinkError → Type 0
+ChecksOut link now result = CallsLink CheckOut checked_out check_out_fault link now result
+
+-- store and what is held are as before
+pub record OnlyLink (before now : Scene) : Type 0 where
+  pub store : now.store ≡ before.store
+  pub held : now.held ≡ before.held
+
+-- no server was selected: the fault has its own labels alone
+pub record NotSelected (before now : Scene) (error : Error) : Type 0 where
+  pub fault : LinkFault
+  pub own : List (List ℕ)
+  pub selects : Selects before.link now.link (Err (Fault fault own))
+  pub is : IsFaultOf fault own may.None error
+  pub rest : OnlyLink before now
+
+-- a server was selected, and no connection to it was had
+pub record NotConnected {A : Type 0} (trial : Trial A) (before now : Scene) (address : Address) (error : Error) : Type 0 where
+  pub mid : ToldLink
+  pub selects : Selects before.link mid (Ok address)
+  pub fault : LinkFault
+  pub own : List (List ℕ)
+  pub checks_out : ChecksOut mid now.link (Err (Fault fault own))
+  pub is : IsFaultOf fault own trial.own error
+  pub rest : OnlyLink before now
+
+-- a server was selected and a connection to it checked out
+pub record Connects (link now : ToldLink) (address : Address) (conn : Conn) : Type 0 where
+  pub mid : ToldLink
+  pub selects : Selects link mid (Ok address)
+  pub checks_out : ChecksOut mid now (Ok conn)
+  pub to : IsTo mid.setup address conn
+
+-- a session is asked for: both sides take one
+abbrev pub asks_session : Bool → Description → Bool
+asks_session sessions description = sessions && description.supports_sessions
+
+-- a session that is held needs a connection which takes sessions
+abbrev pub may_use : Held → Description → Bool
+may_use held description = if is_some held.session then description.supports_sessions else true
+
+-- a connection was had, and a session where one is needed
+pub record Readies {A : Type 0} (trial : Trial A) (before now : Scene) (address : Address) (conn : Conn) : Type 0 where
+  pub connects : Connects before.link now.link address conn
+  pub holds : HoldsSession (needs_session (asks_session trial.sessions conn.description) before.held) before.store now.store before.held now.held (Ok tt)
+
+-- a command went out under a session and a number, where there are such, with this result of the exchange: the server
+-- stepped by the send of what was asked, and the answer and its cause were counted
+pub record Exchanges {A : Type 0} (meaning : Meaning A) (places : List Place) (link now : ToldLink) (session : Option (List ℕ)) (number : Option ℤ) (result : Result (List ℕ) LinkError) : Type 0 where
+  pub steps : (body : SendBody) → meaning.asked places body → Steps link.server now.server (plain_send session number body) result
+  pub setup : now.setup ≡ link.setup
+  pub notes : Notes link.answers now.answers (noted Exchange reply_noted result)
+  pub cause : HasLinkCause link.faults now.faults result
+
+-- what is held after an exchange
+abbrev pub held_after : Result (List ℕ) LinkError → Held → Held
+held_after (Ok reply) held = held
+held_after (Err failure) held = held_after_failure failure held
+
+-- the command went out on a connection, under the number of the send before or a first one
+pub record Sends {A : Type 0} (trial : Trial A) (before now : Scene) (address : Address) (conn : Conn) (result : Result (List ℕ) LinkError) : Type 0 where
+  pub ready : Scene
+  pub readies : Readies trial before ready address conn
+  pub allowed : may_use ready.held conn.description ≡ true
+  pub numbered : Held
+  pub number : Option ℤ
+  pub draws : DrawsNumber ready.held.sent (on_connection trial.own conn.description) ready.held numbered (Ok number)
+  pub exchanges : Exchanges trial.meaning trial.places ready.link now.link (held_id numbered) number result
+  pub store_is : now.store ≡ ready.store
+  pub held_is : now.held ≡ held_after result (record numbered { sent = Some number })
+
+-- the error that an operation reads in a reply whose command was done, with the reply in it
+pub record ReadsError {A : Type 0} (meaning : Meaning A) (bytes : List ℕ) (error : Error) : Type 0 where
+  pub response : CommandResponse
+  pub done : ReadsResponse bytes (Ok response)
+  pub bare : Error
+  pub reads : meaning.answers response.body (Err bare)
+  pub kept : HasResponse (Some bytes) bare error
+
+-- what a reply comes to: the output that the operation reads in it, or the error that the reply or the operation spells
+pub record ReadsOutput {A : Type 0} (meaning : Meaning A) (bytes : List ℕ) (output : A) : Type 0 where
+  pub response : CommandResponse
+  pub done : ReadsResponse bytes (Ok response)
+  pub reads : meaning.answers response.body (Ok output)
+
+abbrev pub ReadsAnswer : {A : Type 0} → Meaning A → List ℕ → Result A Error → Type 0
+ReadsAnswer meaning bytes (Ok output) = ReadsOutput meaning bytes output
+ReadsAnswer meaning bytes (Err error) = ReadsResponse bytes (Err error) ⊎ (ReadsError meaning bytes error ⊎ (kind_of error ≡ kind.Memory))
+
+-- what comes of an exchange's result: its reply was read, or the exchange failed
+pub record ComesOfReply {A : Type 0} (meaning : Meaning A) (turn : Retryability) (version : Option ℤ) (address : Address) (reply : List ℕ) (attempt : Attempt A) : Type 0 where
+  pub answer : Result A Error
+  pub reads : ReadsAnswer meaning reply answer
+  pub ends : EndsRead turn version address answer attempt
+
+abbrev pub Comes : {A : Type 0} → Meaning A → Retryability → Option ℤ → Address → Result (List ℕ) LinkError → Attempt A → Type 0
+Comes meaning turn version address (Ok reply) attempt = ComesOfReply meaning turn version address reply attempt
+Comes meaning turn version address (Err failure) attempt = EndsLost turn version address failure attempt
+
+-- one exchange under what is held, and what came of it
+pub record Exchanging {A : Type 0} (meaning : Meaning A) (places : List Place) (link link_now : ToldLink) (turn : Retryability) (version : Option ℤ) (address : Address) (held held_now : Held)
+    (attempt : Attempt A) : Type 0 where
+  pub result : Result (List ℕ) LinkError
+  pub exchanges : Exchanges meaning places link link_now (held_id held) (number_before held) result
+  pub held_is : held_now ≡ held_after result held
+  pub comes : Comes meaning turn version address result attempt
+
+-- there was no number, or no frame under it, and nothing went out
+pub record EndsUnnumbered {A : Type 0} (link link_now : ToldLink) (turn : Retryability) (held held_now : Held) (attempt : Attempt A) : Type 0 where
+  pub error : Error
+  pub draws : DrawsNumber held.sent turn held held_now (Err error)
+  pub link_is : link_now ≡ link
+  pub ends : attempt ≡ Ended error
+
+pub record EndsUnframed {A : Type 0} (meaning : Meaning A) (link link_now : ToldLink) (turn : Retryability) (held held_now : Held) (attempt : Attempt A) : Type 0 where
+  pub error : Error
+  pub number : Option ℤ
+  pub draws : DrawsNumber held.sent turn held held_now (Ok number)
+  pub why : TellsUnframed meaning (kind_of error)
+  pub link_is : link_now ≡ link
+  pub ends : attempt ≡ Ended error
+
+-- the command went out under its number
+pub record SendsOut {A : Type 0} (meaning : Meaning A) (places : List Place) (link link_now : ToldLink) (turn : Retryability) (version : Option ℤ) (address : Address) (held held_now : Held)
+    (attempt : Attempt A) : Type 0 where
+  pub numbered : Held
+  pub number : Option ℤ
+  pub draws : DrawsNumber held.sent turn held numbered (Ok number)
+  pub exchanging : Exchanging meaning places link link_now turn version address (record numbered { sent = Some number }) held_now attempt
+
+-- the command of an attempt
+abbrev pub Sending : {A : Type 0} → Meaning A → List Place → ToldLink → ToldLink → Retryability → Option ℤ → Address → Held → Held → Attempt A → Type 0
+Sending meaning places link link_now turn version address held held_now attempt =
+    EndsUnnumbered link link_now turn held held_now attempt
+    ⊎ (EndsUnframed meaning link link_now turn held held_now attempt ⊎ SendsOut meaning places link link_now turn version address held held_now attempt)
+
+-- the attempt's reply was read
+pub record IsAnswered {A : Type 0} (trial : Trial A) (before now : Scene) (output : A) : Type 0 where
+  pub address : Address
+  pub conn : Conn
+  pub reply : List ℕ
+  pub sends : Sends trial before now address conn (Ok reply)
+  pub reads : ReadsAnswer trial.meaning reply (Ok output)
+
+-- the exchange of the attempt's command failed
+pub record LosesExchange {A : Type 0} (trial : Trial A) (before now : Scene) (address : Address) (error : Error) : Type 0 where
+  pub conn : Conn
+  pub fault : LinkFault
+  pub own : List (List ℕ)
+  pub sends : Sends trial before now address conn (Err (Fault fault own))
+  pub is : IsVersioned (IsFaultOf fault own (on_connection trial.own conn.description)) conn.description.max_wire_version error
+
+-- an error that was read in a reply, with the labels of the table
+pub record IsReadIn {A : Type 0} (meaning : Meaning A) (bytes : List ℕ) (turn : Retryability) (error : Error) : Type 0 where
+  pub bare : Error
+  pub reads : ReadsAnswer meaning bytes (Err bare)
+  pub labelled : IsLabelledRead turn bare error
+
+-- the reply to the attempt's command spelled an error
+pub record SpellsFailure {A : Type 0} (trial : Trial A) (before now : Scene) (address : Address) (error : Error) : Type 0 where
+  pub conn : Conn
+  pub reply : List ℕ
+  pub sends : Sends trial before now address conn (Ok reply)
+  pub is : IsVersioned (IsReadIn trial.meaning reply (on_connection trial.own conn.description)) conn.description.max_wire_version error
+
+-- an attempt failed in a phase
+abbrev pub FailsIn : {A : Type 0} → Trial A → Scene → Scene → Address → FailurePhase → Error → Type 0
+FailsIn trial before now address Establishment error = NotConnected trial before now address error
+FailsIn trial before now address Execution error = LosesExchange trial before now address error ⊎ SpellsFailure trial before now address error
+
+-- nothing may be repeated on the connection of a further attempt
+pub record Stops {A : Type 0} (trial : Trial A) (before now : Scene) : Type 0 where
+  pub address : Address
+  pub conn : Conn
+  pub readies : Readies trial before now address conn
+  pub nothing : is_nothing (on_connection trial.own conn.description) ≡ true
+
+-- only calls of the link were counted, and nothing was exchanged
+pub record OnlyCounted (link now : ToldLink) : Type 0 where
+  pub server : OnlyCounts link.server now.server
+  pub setup : now.setup ≡ link.setup
+  pub items : List Answered
+  pub notes : Notes link.answers now.answers items
+  pub early : AllEarly items
+  pub later : link.faults ≤ now.faults
+
+-- there was no memory before a session was lent
+pub record EndsUnready (before now : Scene) (error : Error) : Type 0 where
+  pub link : OnlyCounted before.link now.link
+  pub store : StaysTold before.store now.store
+  pub held : now.held ≡ before.held
+  pub why : kind_of error ≡ kind.Memory
+
+-- a session is held, and the connection takes none
+pub record NoSessions (description : Description) (ready now : Held) (error : Error) : Type 0 where
+  pub none : may_use ready description ≡ false
+  pub same : now ≡ ready
+  pub why : kind_of error ≡ kind.SessionsNotSupported
+
+-- there was no number
+abbrev pub NoNumber : Retryability → Held → Held → Error → Type 0
+NoNumber turn ready now error = DrawsNumber ready.sent turn ready now (Err error)
+
+-- there was no frame under the number
+pub record NoFrame {A : Type 0} (meaning : Meaning A) (turn : Retryability) (ready now : Held) (error : Error) : Type 0 where
+  pub number : Option ℤ
+  pub draws : DrawsNumber ready.sent turn ready now (Ok number)
+  pub why : TellsUnframed meaning (kind_of error)
+
+-- a connection was had, and the command was refused before it went out
+pub record EndsRefused {A : Type 0} (trial : Trial A) (before now : Scene) (error : Error) : Type 0 where
+  pub ready : Scene
+  pub address : Address
+  pub conn : Conn
+  pub readies : Readies trial before ready address conn
+  pub link : now.link ≡ ready.link
+  pub store : now.store ≡ ready.store
+  pub refused : NoSessions conn.description ready.held now.held error
+      ⊎ (NoNumber (on_connection trial.own conn.description) ready.held now.held error ⊎ NoFrame trial.meaning (on_connection trial.own conn.description) ready.held now.held error)
+
+-- the command went out, and there was no memory for what came of it
+pub record EndsSent {A : Type 0} (trial : Trial A) (before now : Scene) (error : Error) : Type 0 where
+  pub address : Address
+  pub conn : Conn
+  pub result : Result (List ℕ) LinkError
+  pub sends : Sends trial before now address conn result
+  pub why : kind_of error ≡ kind.Memory
+
+-- the operation ends at once
+abbrev pub EndsAtOnce : {A : Type 0} → Trial A → Scene → Scene → Error → Type 0
+EndsAtOnce trial before now error = EndsUnready before now error ⊎ (EndsRefused trial before now error ⊎ EndsSent trial before now error)
+
+-- one attempt, by how it ended; only one that is not the first stops
+abbrev pub Tries : {A : Type 0} → Trial A → Bool → Scene → Scene → Attempt A → Type 0
+Tries trial again before now (Done output) = IsAnswered trial before now output
+Tries trial again before now (Failed failing) = FailsIn trial before now failing.address failing.failure.phase failing.failure.error
+Tries trial again before now (Unselected error) = NotSelected before now error
+Tries trial again before now Stopped = (again ≡ true) × Stops trial before now
+Tries trial again before now (Ended error) = EndsAtOnce trial before now error

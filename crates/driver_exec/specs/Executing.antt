@@ -1,0 +1,105 @@
+-- An operation outside transactions as a whole: attempts that failed, each of which the decision allowed to be followed
+-- by another, and the one after them.
+use Rattle.std.specs.Prelude.{◌≡◌, Bool, true, false, List, [], ◌∷◌, Option, None, Some, is_some, ◌⊎◌, Result, Ok, Err, nat_lt}
+use Rattle.driver_error.specs.declared.error.Error.{Error}
+use Rattle.driver_error.specs.declared.kind.ErrorKind.TheVariants as kind
+use Rattle.driver_error.specs.Error.{kind_of}
+use Rattle.driver_exec.specs.declared.attempt_end.Attempt.{Attempt}
+use Rattle.driver_exec.specs.declared.attempt_end.Attempt.TheVariants.{Done, Ended, Failed, Stopped, Unselected}
+use Rattle.driver_exec.specs.declared.attempt_end.Failing.{Failing}
+use Rattle.driver_exec.specs.Attempting.{Scene, Trial, Tries}
+use Rattle.driver_exec.specs.Holding.{GivesBack, holds_nothing, number_before}
+use Rattle.driver_exec.specs.Pool.{ToldStore}
+use Rattle.driver_exec.specs.Retry.{Kept, decide}
+use Rattle.driver_exec.specs.Links.{ToldLink}
+
+-- the error of the failure that is kept
+abbrev pub IsLastError : Option Kept → Error → Type 0
+IsLastError None error = ⊥
+IsLastError (Some kept) error = error ≡ kept.failure.error
+
+-- the same, or an error where none is kept
+abbrev pub kept_or : Option Kept → Error → Error
+kept_or None error = error
+kept_or (Some kept) error = kept.failure.error
+
+-- no further attempt is made
+abbrev pub limit_reached : Option Kept → Bool
+limit_reached None = false
+limit_reached (Some kept) = nat_lt kept.limit kept.attempt
+
+-- what is decided after a failure
+abbrev pub decided : {A : Type 0} → Trial A → Bool → Option Kept → Failing → Scene → Result Kept Error
+decided trial sharded kept failing now = decide kept failing.failure (number_before now.held) failing.address trial.own sharded
+
+-- one more failure, after which the decision keeps this
+pub record FailsOnce {A : Type 0} (trial : Trial A) (sharded : Bool) (kept : Option Kept) (mid : Scene) (failing : Failing) (retry : Kept) (now : Scene) : Type 0 where
+  pub goes_on : limit_reached kept ≡ false
+  pub tries : Tries trial (is_some kept) mid now (Failed failing)
+  pub decides : decided trial sharded kept failing now ≡ Ok retry
+
+-- an operation came to a moment by these failures, the newest first, and this is kept of them
+abbrev pub Reaches : {A : Type 0} → Trial A → Bool → Scene → List Failing → Option Kept → Scene → Type 0
+Reaches trial sharded before [] kept now = (kept ≡ None) × (now ≡ before)
+Reaches trial sharded before (failing ∷ failures) kept now =
+    (retry : Kept) × ((kept ≡ Some retry)
+    × ((mid : Scene) × ((earlier : Option Kept) × (Reaches trial sharded before failures earlier mid × FailsOnce trial sharded earlier mid failing retry now))))
+
+-- the result of an attempt after which there is no other: where no server was selected, or nothing may be repeated, the
+-- failure that is kept is answered
+abbrev pub EndsWith : {A : Type 0} → Option Kept → Attempt A → Result A Error → Type 0
+EndsWith kept (Done output) result = result ≡ Ok output
+EndsWith kept (Failed failing) result = ⊥
+EndsWith None (Unselected error) result = result ≡ Err error
+EndsWith (Some retry) (Unselected error) result = result ≡ Err retry.failure.error
+EndsWith None Stopped result = ⊥
+EndsWith (Some retry) Stopped result = result ≡ Err retry.failure.error
+EndsWith kept (Ended error) result = result ≡ Err error
+
+-- the last attempt did not fail, or failed to select a server
+pub record EndsLast {A : Type 0} (trial : Trial A) (kept : Option Kept) (mid now : Scene) (result : Result A Error) : Type 0 where
+  pub goes_on : limit_reached kept ≡ false
+  pub attempt : Attempt A
+  pub tries : Tries trial (is_some kept) mid now attempt
+  pub ends : EndsWith kept attempt result
+
+-- no further attempt was made, and the failure that is kept is answered
+pub record EndsAtLimit {A : Type 0} (kept : Option Kept) (mid now : Scene) (result : Result A Error) : Type 0 where
+  pub retry : Kept
+  pub is : kept ≡ Some retry
+  pub reached : limit_reached kept ≡ true
+  pub same : now ≡ mid
+  pub answers : result ≡ Err retry.failure.error
+
+-- the last attempt failed, and its failure may not be followed by another: the failure that is kept is answered, or
+-- want of memory
+pub record EndsRefused {A : Type 0} (trial : Trial A) (sharded : Bool) (kept : Option Kept) (mid now : Scene) (result : Result A Error) : Type 0 where
+  pub goes_on : limit_reached kept ≡ false
+  pub failing : Failing
+  pub tries : Tries trial (is_some kept) mid now (Failed failing)
+  pub error : Error
+  pub answers : result ≡ Err error
+  pub refused : (decided trial sharded kept failing now ≡ Err error) ⊎ (kind_of error ≡ kind.Memory)
+
+abbrev pub Ends : {A : Type 0} → Trial A → Bool → Option Kept → Scene → Scene → Result A Error → Type 0
+Ends trial sharded kept mid now result = EndsLast trial kept mid now result ⊎ (EndsAtLimit kept mid now result ⊎ EndsRefused trial sharded kept mid now result)
+
+-- the first moment of an operation
+abbrev pub first_scene : Option ToldStore → ToldLink → Scene
+first_scene store link = record { store = store; link = link; held = holds_nothing }
+
+-- the attempts of an operation: its failures, and its end
+pub record Turns {A : Type 0} (trial : Trial A) (sharded : Bool) (before now : Scene) (result : Result A Error) : Type 0 where
+  pub failures : List Failing
+  pub kept : Option Kept
+  pub mid : Scene
+  pub reaches : Reaches trial sharded before failures kept mid
+  pub ends : Ends trial sharded kept mid now result
+
+-- an operation outside transactions: its attempts; then the session that it was lent comes back
+pub record Executes {A : Type 0} (trial : Trial A) (store store_now : Option ToldStore) (link link_now : ToldLink) (result : Result A Error) : Type 0 where
+  pub sharded : Bool
+  pub last : Scene
+  pub turns : Turns trial sharded (first_scene store link) last result
+  pub link_is : link_now ≡ last.link
+  pub comes_back : GivesBack last.store store_now last.held.session

@@ -1,0 +1,42 @@
+-- Which part of a schedule is gentle: in it no selection and no check-out fails, and each send is served as usual; where the
+-- sends of a command have a number, one of them may get no reply instead.
+use Rattle.std.specs.Prelude.{◌≡◌, ℕ, ◌-◌, ◌^◌, ◌<◌, ◌≤◌, min, false, List, length, Option, None, Some, ◌⊎◌}
+use Rattle.driver_link.specs.declared.machine.Item.{Item}
+use Rattle.driver_link.specs.declared.machine.Item.TheVariants.{Lost, Late, ReplyLost}
+use Rattle.driver_link.specs.Counting.{is_listed, one_more}
+use Rattle.driver_link.specs.Exchange.{step_at}
+use Rattle.driver_link.specs.Retried.{IsGentleItem}
+use Rattle.driver_link.specs.Told.{Told}
+
+-- a call had this number, from one count to another; a count stands still at the greatest u64
+abbrev pub IsCounted : ℕ → ℕ → ℕ → Type 0
+IsCounted from to at = (min from (2 ^ 64 - 1) ≤ at) × (one_more at ≤ to)
+
+-- none of the calls from one count to another is listed
+abbrev pub NoneListed : List ℕ → ℕ → ℕ → Type 0
+NoneListed numbers from to = (at : ℕ) → IsCounted from to at → is_listed numbers at ≡ false
+
+-- an item by which a send gets no reply
+abbrev pub IsLossy : Item → Type 0
+IsLossy Lost = Unit {0}
+IsLossy Late = Unit {0}
+IsLossy ReplyLost = Unit {0}
+IsLossy _ = ⊥
+
+-- an exchange has this number, from one moment of a told link to another
+abbrev pub IsOfPart : Told → Told → ℕ → Type 0
+IsOfPart before now at = (length before.server.trace ≤ at) × (at < length now.server.trace)
+
+-- the part of a schedule that was taken from one moment to another is gentle, by whether a send may go out again
+pub record IsGentlePart (repeats : Type 0) (before now : Told) : Type 0 where
+  pub selects : NoneListed before.schedule.selects before.counts.selects now.counts.selects
+  pub check_outs : NoneListed before.schedule.check_outs before.counts.check_outs now.counts.check_outs
+  pub overloaded : NoneListed before.schedule.overloaded_check_outs before.counts.check_outs now.counts.check_outs
+  pub items : (at : ℕ) → IsOfPart before now at → IsGentleItem (step_at before.schedule at).item ⊎ (repeats × IsLossy (step_at before.schedule at).item)
+  pub one : (a b : ℕ) → IsOfPart before now a → IsOfPart before now b → IsLossy (step_at before.schedule a).item → IsLossy (step_at before.schedule b).item → a ≡ b
+
+-- the same of a link that tells its server
+abbrev pub IsGentleTold : Type 0 → Option Told → Option Told → Type 0
+IsGentleTold repeats None now = ⊥
+IsGentleTold repeats (Some told) None = ⊥
+IsGentleTold repeats (Some told) (Some now) = IsGentlePart repeats told now

@@ -1,0 +1,101 @@
+-- What an operation holds between its attempts: the implicit session that it was lent, and the number that it sends
+-- its command under.
+use Rattle.std.specs.Prelude.{◌≡◌, ℕ, ℤ, Bool, true, false, ◌&&◌, List, Option, None, Some, unwrap_or, is_none, Result, Ok, Err, if◌then◌else◌}
+use Rattle.std.specs.Option.{option_map}
+use Rattle.driver_error.specs.declared.error.Error.{Error}
+use Rattle.driver_error.specs.declared.kind.ErrorKind.TheVariants as kind
+use Rattle.driver_error.specs.Error.{kind_of}
+use Rattle.driver_link.specs.declared.fault.LinkError.{LinkError}
+use Rattle.driver_link.specs.declared.fault.LinkError.TheVariants.{Fault, Memory}
+use Rattle.driver_exec.specs.declared.retryability.Retryability.{Retryability}
+use Rattle.driver_exec.specs.declared.retryability.Retryability.TheVariants.{Write}
+use Rattle.driver_exec.specs.Causes.{is_network}
+use Rattle.driver_exec.specs.Pool.{Lends, StaysTold, TakesBack, ToldStore}
+use Rattle.driver_exec.specs.Session.{Numbers, Session}
+
+-- the session that it was lent, if it was; and the number of the send before, which may be none, once there was one
+pub record Held : Type 0 where
+  pub session : Option Session
+  pub sent : Option (Option ℤ)
+
+-- an operation that has not begun
+abbrev pub holds_nothing : Held
+holds_nothing = record { session = None; sent = None }
+
+-- the number of the send before, where there was one with a number
+abbrev pub number_before : Held → Option ℤ
+number_before held = unwrap_or held.sent None
+
+-- the id of the session that is held
+abbrev pub held_id : Held → Option (List ℕ)
+held_id held = option_map (λ session. session.id) held.session
+
+-- the same, once the network failed under its session
+abbrev pub dirty_session : Session → Session
+dirty_session session = record session { dirty = true }
+
+abbrev pub dirty_held : Held → Held
+dirty_held held = record held { session = option_map dirty_session held.session }
+
+-- what is held after an exchange that failed: a fault of the network makes the session dirty
+abbrev pub held_after_failure : LinkError → Held → Held
+held_after_failure (Fault fault own) held = if is_network fault then dirty_held held else held
+held_after_failure Memory held = held
+
+-- a session is lent where one is asked for, none is held, and nothing was sent yet
+abbrev pub needs_session : Bool → Held → Bool
+needs_session asked held = asked && is_none held.session && is_none held.sent
+
+-- a session was lent and is held
+pub record HoldsLent (store now : Option ToldStore) (held held_now : Held) : Type 0 where
+  pub caller : ℕ
+  pub moment : ℕ
+  pub session : Session
+  pub lends : Lends store now caller moment session
+  pub is : held_now ≡ record held { session = Some session }
+
+-- a session was lent where one is needed, or there was no memory for it; else nothing changed
+abbrev pub HoldsSession : Bool → Option ToldStore → Option ToldStore → Held → Held → Result (Unit {0}) Error → Type 0
+HoldsSession false store now held held_now result = (now ≡ store) × (held_now ≡ held) × (result ≡ Ok tt)
+HoldsSession true store now held held_now (Ok given) = HoldsLent store now held held_now
+HoldsSession true store now held held_now (Err error) = StaysTold store now × (held_now ≡ held) × (kind_of error ≡ kind.Memory)
+
+-- the number of a session as that of a send, or why there is none
+abbrev pub GivesNumber : Result ℤ Error → Result (Option ℤ) Error → Type 0
+GivesNumber (Ok number) result = result ≡ Ok (Some number)
+GivesNumber (Err error) result = result ≡ Err error
+
+-- the session's next number, which it then has, or why there is none
+pub record DrawsFrom (session : Session) (now : Option Session) (result : Result (Option ℤ) Error) : Type 0 where
+  pub numbered : Session
+  pub next : Result ℤ Error
+  pub numbers : Numbers session numbered next
+  pub is : now ≡ Some numbered
+  pub gives : GivesNumber next result
+
+-- the first number of an operation: the session's next for a write that may be repeated, else none
+abbrev pub DrawsSession : Retryability → Option Session → Option Session → Result (Option ℤ) Error → Type 0
+DrawsSession Write (Some session) now result = DrawsFrom session now result
+DrawsSession turn session now result = (now ≡ session) × (result ≡ Ok None)
+
+-- the same for what is held
+pub record DrawsFirst (turn : Retryability) (held held_now : Held) (result : Result (Option ℤ) Error) : Type 0 where
+  pub session : Option Session
+  pub draws : DrawsSession turn held.session session result
+  pub is : held_now ≡ record held { session = session }
+
+-- the number of the next send: that of the send before, else a first one
+abbrev pub DrawsNumber : Option (Option ℤ) → Retryability → Held → Held → Result (Option ℤ) Error → Type 0
+DrawsNumber (Some before) turn held held_now result = (held_now ≡ held) × (result ≡ Ok before)
+DrawsNumber None turn held held_now result = DrawsFirst turn held held_now result
+
+-- the session came back
+pub record TakesHeld (store now : Option ToldStore) (session : Session) : Type 0 where
+  pub caller : ℕ
+  pub moment : ℕ
+  pub takes : TakesBack store now caller session moment
+
+-- a session that is held comes back to its store
+abbrev pub GivesBack : Option ToldStore → Option ToldStore → Option Session → Type 0
+GivesBack store now None = now ≡ store
+GivesBack store now (Some session) = TakesHeld store now session

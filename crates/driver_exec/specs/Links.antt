@@ -1,0 +1,16 @@
+-- What a link tells at one moment.
+use Rattle.std.specs.Prelude.{ℕ, List, Option}
+use Rattle.driver_link.specs.declared.fault.Answered.{Answered}
+use Rattle.driver_link.specs.declared.machine.Setup.{Setup}
+use Rattle.driver_link.specs.Told.{Told}
+
+-- what a link tells of its server, of its setup and of its answers, and its count of faults
+pub record ToldLink : Type 0 where
+  pub server : Option Told
+  pub setup : Option Setup
+  pub answers : Option (List Answered)
+  pub faults : ℕ
+
+-- the same from its parts
+abbrev pub told_link : Option Told → Option Setup → Option (List Answered) → ℕ → ToldLink
+told_link server setup answers faults = record { server = server; setup = setup; answers = answers; faults = faults }

@@ -1,0 +1,31 @@
+-- The failure of a numbered write at a deployment that takes no transaction numbers.
+use Rattle.std.specs.Prelude.{◌≡◌, nat_eq, pos, Bool, ◌&&◌, Option, None, Some, if◌then◌else◌}
+use Rattle.std.specs.List.{starts_with}
+use Rattle.std.specs.Ordering.{int_eq}
+use Rattle.driver_error.specs.declared.command.CommandError.{CommandError}
+use Rattle.driver_error.specs.declared.error.Error.{Error}
+use Rattle.driver_error.specs.declared.kind.ErrorKind.TheVariants as kind
+use Rattle.driver_error.specs.Error.{ErrorKind, kind_of, with_kind}
+use Rattle.driver_exec.specs.declared.old_deployment.TheConstants.{NO_RETRYABLE_WRITES, NUMBERS_REFUSED}
+
+-- a command was refused with code 20 and a message that begins by speaking of transaction numbers
+abbrev pub refuses_numbers : CommandError → Bool
+refuses_numbers error = int_eq error.code (pos 20) && starts_with nat_eq error.message NUMBERS_REFUSED.now
+
+-- such a command error has the message for the caller in place of its own
+abbrev pub reworded_command : CommandError → CommandError
+reworded_command error = if refuses_numbers error then record error { message = NO_RETRYABLE_WRITES.now } else error
+
+-- all other kinds stay
+unfoldable pub reworded_kind : ErrorKind → ErrorKind
+reworded_kind (kind.Command error) = kind.Command (reworded_command error)
+reworded_kind why = why
+
+-- the error with its command's message for the caller, where it gets one; all else of it stays
+unfoldable pub reworded : Error → Error
+reworded error = with_kind (reworded_kind (kind_of error)) error
+
+-- a kind that is reworded, or one that stays
+abbrev pub MayReword : ErrorKind → Option ErrorKind → Type 0
+MayReword old None = reworded_kind old ≡ old
+MayReword old (Some now) = now ≡ reworded_kind old

@@ -1,0 +1,108 @@
+-- Why an operation outside transactions ended as it did, by what the link answered in it, over any link and any store.
+use Rattle.std.specs.Prelude.{◌≡◌, ℕ, ◌≤◌, ℤ, Bool, true, List, [], ◌∷◌, Option, None, Some, ◌⊎◌, Ok, Err, if◌then◌else◌}
+use Rattle.driver_error.specs.declared.error.Error.{Error}
+use Rattle.driver_error.specs.declared.kind.ErrorKind.TheVariants as kind
+use Rattle.driver_error.specs.declared.labels.TheConstants.{RETRYABLE_WRITE_ERROR}
+use Rattle.driver_error.specs.Error.{ErrorKind, kind_of}
+use Rattle.driver_error.specs.LabelTexts.{LabelSet, label_set, with_label}
+use Rattle.driver_link.specs.declared.fault.Answered.{Answered}
+use Rattle.driver_link.specs.declared.fault.Answered.TheVariants as answer
+use Rattle.driver_link.specs.declared.fault.LinkCall.{LinkCall}
+use Rattle.driver_link.specs.declared.fault.LinkCall.TheVariants.{CheckOut, Exchange}
+use Rattle.driver_link.specs.declared.fault.LinkFault.{LinkFault}
+use Rattle.driver_link.specs.declared.fault.LinkFault.TheVariants as fault
+use Rattle.driver_link.specs.declared.machine.Setup.{Setup}
+use Rattle.driver_link.specs.Faults.{Rose}
+use Rattle.driver_link.specs.Told.{Notes}
+use Rattle.driver_exec.specs.declared.retryability.Retryability.{Retryability}
+use Rattle.driver_exec.specs.declared.retryability.Retryability.TheVariants as may
+use Rattle.driver_exec.specs.Attempting.{ReadsAnswer, on_connection}
+use Rattle.driver_exec.specs.Causes.{AllEarly, Failure, HasReply, IsLast, KindAtLast, MayBeLast, is_network, next_number}
+use Rattle.driver_exec.specs.LabelTable.{labels_outside_transactions}
+use Rattle.driver_exec.specs.OldDeployment.{reworded_kind}
+use Rattle.driver_exec.specs.Operations.{Meaning}
+use Rattle.driver_exec.specs.Pool.{ToldStore}
+
+-- the labels of the error of a fault: a failure of the network has the label that lets a write be tried again beside the
+-- link's own labels, where the write may be repeated
+abbrev pub labels_after : Retryability → LinkFault → List (List ℕ) → LabelSet
+labels_after may.Write found own = if is_network found then with_label (label_set own) RETRYABLE_WRITE_ERROR.now else label_set own
+labels_after other found own = label_set own
+
+-- the same by the call that met the fault: without a connection what the operation may repeat by its own rules counts, and
+-- after it what it may repeat on the connection, which is known where the link tells its setup
+abbrev pub FaultLabels : LinkCall → Retryability → Option Setup → LinkFault → List (List ℕ) → LabelSet → Type 0
+FaultLabels CheckOut own setup found labels now = now ≡ labels_after own found labels
+FaultLabels Exchange own None found labels now = (now ≡ labels_after own found labels) ⊎ (now ≡ label_set labels)
+FaultLabels Exchange own (Some setup) found labels now = now ≡ labels_after (on_connection own setup.description) found labels
+FaultLabels call own setup found labels now = now ≡ label_set labels
+
+-- this is one of the faults that were answered, and its error has these labels
+abbrev pub HasFault : Retryability → Option Setup → LinkFault → LabelSet → List Answered → Type 0
+HasFault own setup fault labels [] = ⊥
+HasFault own setup fault labels (answer.Reply bytes ∷ items) = HasFault own setup fault labels items
+HasFault own setup fault labels (answer.Fault call found given ∷ items) =
+    ((found ≡ fault) × FaultLabels call own setup found given labels) ⊎ HasFault own setup fault labels items
+
+-- a reply spells this error for an operation: its kind is the one that is read, in words for the caller, and its labels are
+-- those of what is read, with that of the table where the network failed
+pub record SpellsEnd {A : Type 0} (meaning : Meaning A) (why : Failure) (bytes : List ℕ) : Type 0 where
+  pub bare : Error
+  pub reads : ReadsAnswer meaning bytes (Err bare)
+  pub turn : Retryability
+  pub kind_is : why.kind ≡ reworded_kind (kind_of bare)
+  pub labels_are : why.labels ≡ labels_outside_transactions turn bare
+
+-- an operation reads a reply
+abbrev pub IsRead : {A : Type 0} → Meaning A → List ℕ → Type 0
+IsRead {A} meaning bytes = (output : A) × ReadsAnswer meaning bytes (Ok output)
+
+-- what an end is judged by: what the operation tells, what it may repeat by its own rules, what the link tells of its setup,
+-- and the number of the session that is lent next
+pub record Grounds (A : Type 0) : Type 1 where
+  pub meaning : Meaning A
+  pub own : Retryability
+  pub setup : Option Setup
+  pub number : Option ℤ
+
+abbrev pub grounds : {A : Type 0} → Meaning A → Retryability → Option Setup → Option ToldStore → Grounds A
+grounds meaning own setup store = record { meaning = meaning; own = own; setup = setup; number = next_number store }
+
+-- what an error of each kind needs; want of memory needs nothing
+abbrev pub KindNeeds : {A : Type 0} → Grounds A → ℕ → ℕ → List Answered → LabelSet → ErrorKind → Type 0
+KindNeeds on before now items labels (kind.Io io) = Rose before now × HasFault on.own on.setup (fault.Io io) labels items
+KindNeeds on before now items labels (kind.ConnectionPoolCleared message) = Rose before now × HasFault on.own on.setup (fault.PoolCleared message) labels items
+KindNeeds on before now items labels (kind.ServerSelection message) = Rose before now × HasFault on.own on.setup (fault.Selection message) labels items
+KindNeeds on before now items labels (kind.Authentication message) = Rose before now × HasFault on.own on.setup (fault.Authentication message) labels items
+KindNeeds on before now items labels (kind.InvalidArgument message) = on.meaning.refused (kind.InvalidArgument message)
+KindNeeds on before now items labels (kind.BsonSerialization fault) = on.meaning.refused (kind.BsonSerialization fault) ⊎ on.meaning.unspelled fault
+KindNeeds on before now items labels (kind.Internal message) = MayBeLast on.number
+KindNeeds on before now items labels kind.SessionsNotSupported = on.setup ≡ None
+KindNeeds on before now items labels kind.Memory = Unit {0}
+KindNeeds on before now items labels _ = ⊥
+
+-- what an end needs: an Ok comes only after a reply that the operation reads, and an error by its kind or after a reply that
+-- spells it
+abbrev pub EndNeeds : {A : Type 0} → Grounds A → ℕ → ℕ → List Answered → Option Failure → Type 0
+EndNeeds on before now items None = HasReply (IsRead on.meaning) items
+EndNeeds on before now items (Some why) = KindNeeds on before now items why.labels why.kind ⊎ HasReply (SpellsEnd on.meaning why) items
+
+-- each send has a number: the operation takes a session and may repeat its write, and the link tells that its connections
+-- take sessions and retryable writes
+abbrev pub DrawsNumbers : Bool → Retryability → Option Setup → Type 0
+DrawsNumbers sessions may.Write (Some setup) =
+    (sessions ≡ true) × (setup.description.supports_sessions ≡ true) × (setup.description.supports_retryable_writes ≡ true)
+DrawsNumbers sessions own setup = ⊥
+
+-- where the next session's number is at its end nothing is exchanged, and an error tells so, but for what was found before
+abbrev pub EndAtLast : {A : Type 0} → Grounds A → List Answered → Option Failure → Type 0
+EndAtLast on items None = ⊥
+EndAtLast on items (Some why) = AllEarly items × KindAtLast on.meaning.refused why.kind
+
+-- an end with its cause: what the link answered in between, and a count of faults that never falls
+pub record Caused {A : Type 0} (on : Grounds A) (before now : ℕ) (answers answers_now : Option (List Answered)) (ended : Option Failure) : Type 0 where
+  pub items : List Answered
+  pub noted : Notes answers answers_now items
+  pub never_falls : before ≤ now
+  pub needs : EndNeeds on before now items ended
+  pub at_last : DrawsNumbers on.meaning.sessions on.own on.setup → IsLast on.number → EndAtLast on items ended

@@ -1,0 +1,92 @@
+-- What an operation outside transactions leaves on a store and a server that are told: it borrows a session, if any, and
+-- its sends are one and the same, at most two.
+use Rattle.std.specs.Prelude.{◌≡◌, ℕ, zero, suc, ◌≤◌, ℤ, List, Option, None, Some, Result, Ok, Err}
+use Rattle.driver_error.specs.declared.error.Error.{Error}
+use Rattle.driver_link.specs.declared.machine.Place.{Place}
+use Rattle.driver_link.specs.declared.machine.Send.{Send}
+use Rattle.driver_link.specs.declared.machine.SendBody.{SendBody}
+use Rattle.driver_link.specs.Counting.{KeepsServer}
+use Rattle.driver_link.specs.Told.{IsReply, Told, told_after, told_answer}
+use Rattle.driver_exec.specs.Attempting.{ReadsOutput}
+use Rattle.driver_exec.specs.Operations.{Meaning, plain_send}
+use Rattle.driver_exec.specs.Pool.{Lends, StaysTold, TakesBack, ToldStore}
+use Rattle.driver_exec.specs.Session.{MayRaise, Raises, Session}
+
+-- one send went out so many times; all else were calls that were only counted
+abbrev pub SendsTold : Told → Told → Send → ℕ → Type 0
+SendsTold told now send zero = KeepsServer told now
+SendsTold told now send (suc count) = (mid : Told) × (SendsTold told mid send count × KeepsServer (told_after mid send) now)
+
+-- the same for a link that may tell its server
+abbrev pub SentTimes : Option Told → Option Told → Send → ℕ → Type 0
+SentTimes None now send count = now ≡ None
+SentTimes (Some told) None send count = ⊥
+SentTimes (Some told) (Some now) send count = SendsTold told now send count
+
+-- one send went out at most so many times, and at most once where it has no number
+pub record SentWithin (most : ℕ) (link now : Option Told) (send : Send) : Type 0 where
+  pub count : ℕ
+  pub within : count ≤ most
+  pub once : send.number ≡ None → count ≤ 1
+  pub sends : SentTimes link now send count
+
+-- the last of the sends was answered by a reply in these bytes, after so many others
+pub record LastAnswer (told now : Told) (send : Send) (earlier : ℕ) (bytes : List ℕ) : Type 0 where
+  pub mid : Told
+  pub sent : SendsTold told mid send earlier
+  pub reply : IsReply (told_answer mid send) bytes
+  pub rest : KeepsServer (told_after mid send) now
+
+abbrev pub AnsweredLast : Option Told → Option Told → Send → ℕ → List ℕ → Type 0
+AnsweredLast None now send earlier bytes = now ≡ None
+AnsweredLast (Some told) None send earlier bytes = ⊥
+AnsweredLast (Some told) (Some now) send earlier bytes = LastAnswer told now send earlier bytes
+
+-- the number of a session that comes back: the one that the sends had, which is its next, else its number as it was lent or
+-- the next one
+abbrev pub IsNumbered : Option ℤ → Session → Session → Type 0
+IsNumbered None lent back = MayRaise lent back
+IsNumbered (Some number) lent back = (back.number ≡ number) × Raises lent back
+
+-- a session was lent and came back
+pub record Borrowed (store now : Option ToldStore) (id : List ℕ) (number : Option ℤ) : Type 0 where
+  pub lent : Option ToldStore
+  pub out_by : ℕ
+  pub out_at : ℕ
+  pub back_by : ℕ
+  pub back_at : ℕ
+  pub session : Session
+  pub back : Session
+  pub lends : Lends store lent out_by out_at session
+  pub takes : TakesBack lent now back_by back back_at
+  pub id_is : session.id ≡ id
+  pub same : back.id ≡ session.id
+  pub numbered : IsNumbered number session back
+
+-- a session was borrowed, or none: then the sends have no number
+abbrev pub Borrows : Option ToldStore → Option ToldStore → Option (List ℕ) → Option ℤ → Type 0
+Borrows store now None number = StaysTold store now × (number ≡ None)
+Borrows store now (Some id) number = Borrowed store now id number
+
+-- an Ok is what the operation reads in the last reply: that to the last send of what was asked for, of which at most one
+-- went out before it, and none where it has no number
+pub record ReadsLast {A : Type 0} (meaning : Meaning A) (places : List Place) (link now : Option Told) (session : Option (List ℕ)) (number : Option ℤ) (output : A) : Type 0 where
+  pub bytes : List ℕ
+  pub reads : ReadsOutput meaning bytes output
+  pub earlier : ℕ
+  pub within : earlier ≤ 1
+  pub once : number ≡ None → earlier ≡ 0
+  pub answered : (body : SendBody) → meaning.asked places body → AnsweredLast link now (plain_send session number body) earlier bytes
+
+abbrev pub EndsRead : {A : Type 0} → Meaning A → List Place → Option Told → Option Told → Option (List ℕ) → Option ℤ → Result A Error → Type 0
+EndsRead meaning places link now session number (Ok output) = ReadsLast meaning places link now session number output
+EndsRead meaning places link now session number (Err error) = Unit {0}
+
+-- an operation: one send of what was asked for went out at most twice, and at most once where it has no number; the session
+-- that it was under, if any, was borrowed from the store; and an Ok is the reading of the last reply
+pub record Works {A : Type 0} (meaning : Meaning A) (places : List Place) (store store_now : Option ToldStore) (link link_now : Option Told) (result : Result A Error) : Type 0 where
+  pub session : Option (List ℕ)
+  pub number : Option ℤ
+  pub borrows : Borrows store store_now session number
+  pub sends : (body : SendBody) → meaning.asked places body → SentWithin 2 link link_now (plain_send session number body)
+  pub ends : EndsRead meaning places link link_now session number result

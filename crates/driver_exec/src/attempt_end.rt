@@ -1,0 +1,168 @@
+//! How an attempt of an operation ends, and the errors of its failures.
+ghost use Rattle.std.specs.Prelude.{◌≡◌, Err};
+ghost use Rattle.driver_exec.specs.declared.attempt_end.Attempt.TheVariants.{Failed};
+ghost use Rattle.driver_error.specs.Error.{kind_of};
+ghost use Rattle.driver_exec.specs.Failing.{EndsLost, EndsRead, EndsUnconnected, EndsUnselected, FaultError, IsLabelledBy, is_memory};
+
+use crate::labels::add_labels;
+use crate::retry::{Failure, FailurePhase};
+use crate::retryability::Retryability;
+use driver_error::{Error, ErrorKind};
+use driver_link::{Address, LinkError};
+use std::alloc::Global;
+
+/// How an attempt ended.
+pub(crate) enum Attempt<T> {
+    /// Its reply was read.
+    Done(T),
+    /// It failed, and a decision says what comes then.
+    Failed(Failing),
+    /// No server was selected.
+    Unselected(Error),
+    /// A further attempt met a connection on which nothing of the operation may be repeated.
+    Stopped,
+    /// The operation ends at once: something was refused, or there was no memory.
+    Ended(Error),
+}
+
+/// A failure of an attempt, with the address of its server.
+pub(crate) struct Failing {
+    pub failure: Failure,
+    pub address: Address,
+}
+
+/// Whether there was no memory.
+pub(crate) fn is_memory(error: &Error) -> bool
+    ensures { result ≡ is_memory (kind_of error.now) }
+{
+    match error.kind() {
+        ErrorKind::Memory => true,
+        _ => false,
+    }
+}
+
+/// The error with the labels of the table, or want of memory.
+pub(crate) fn labelled(
+    alloc: Global,
+    mut error: Error,
+    retryability: Retryability,
+) -> Result<Error, Error>
+    ensures { IsLabelledBy retryability error result }
+{
+    match add_labels(alloc, &mut error, retryability) {
+        Ok(()) => Ok(error),
+        Err(_refused) => {
+            drop(error);
+            Err(Error::from_kind(ErrorKind::Memory))
+        }
+    }
+}
+
+/// The error of a link's failure with its labels, or want of memory.
+pub(crate) fn fault_error(
+    alloc: Global,
+    failure: LinkError,
+    retryability: Retryability,
+) -> Result<Error, Error>
+    ensures { FaultError failure retryability result }
+{
+    let error = Error::from(failure);
+    if is_memory(&error) {
+        return Err(error);
+    }
+    labelled(alloc, error, retryability)
+}
+
+/// A failure in a phase, at the server of an address.
+fn fails_at<T>(error: Error, phase: FailurePhase, address: Address) -> Attempt<T>
+    ensures { result ≡ Failed (record { failure = record { error = error; phase = phase }; address = address }) }
+{
+    Attempt::Failed(Failing {
+        failure: Failure { error, phase },
+        address,
+    })
+}
+
+/// The end of an attempt that selected no server.
+pub(crate) fn unselected<T>(alloc: Global, failure: LinkError) -> Attempt<T>
+    ensures { EndsUnselected failure result }
+{
+    match fault_error(alloc, failure, Retryability::None) {
+        Ok(error) => Attempt::Unselected(error),
+        Err(error) => Attempt::Ended(error),
+    }
+}
+
+/// The end of an attempt that had no connection to its server.
+pub(crate) fn unconnected<T>(
+    alloc: Global,
+    failure: LinkError,
+    own: Retryability,
+    address: Address,
+) -> Attempt<T>
+    ensures { EndsUnconnected own address failure result }
+{
+    match fault_error(alloc, failure, own) {
+        Ok(error) => fails_at(error, FailurePhase::Establishment, address),
+        Err(error) => Attempt::Ended(error),
+    }
+}
+
+/// The end of an attempt whose exchange failed, on a connection of a wire version.
+pub(crate) fn lost<T>(
+    alloc: Global,
+    failure: LinkError,
+    turn: Retryability,
+    version: Option<i32>,
+    address: Address,
+) -> Attempt<T>
+    ensures { EndsLost turn version address failure result }
+{
+    match fault_error(alloc, failure, turn) {
+        Ok(error) => fails_at(
+            error.with_wire_version(version),
+            FailurePhase::Execution,
+            address,
+        ),
+        Err(error) => Attempt::Ended(error),
+    }
+}
+
+/// The end of an attempt whose reply was read, on a connection of a wire version.
+pub(crate) fn read<T>(
+    alloc: Global,
+    answer: Result<T, Error>,
+    turn: Retryability,
+    version: Option<i32>,
+    address: Address,
+) -> Attempt<T>
+    ensures { EndsRead turn version address answer result }
+{
+    match answer {
+        Ok(output) => Attempt::Done(output),
+        Err(error) => spelled(alloc, error, turn, version, address),
+    }
+}
+
+/// The end of an attempt whose reply spelled an error.
+fn spelled<T>(
+    alloc: Global,
+    error: Error,
+    turn: Retryability,
+    version: Option<i32>,
+    address: Address,
+) -> Attempt<T>
+    ensures { EndsRead turn version address (Err error) result }
+{
+    if is_memory(&error) {
+        return Attempt::Ended(error);
+    }
+    match labelled(alloc, error, turn) {
+        Ok(error) => fails_at(
+            error.with_wire_version(version),
+            FailurePhase::Execution,
+            address,
+        ),
+        Err(error) => Attempt::Ended(error),
+    }
+}

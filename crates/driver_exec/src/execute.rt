@@ -1,0 +1,178 @@
+//! An operation outside transactions: attempts, and between them the decision on a retry.
+ghost use Rattle.std.specs.Prelude.{◌≡◌, ◌≤◌, ◌+◌, IsSome};
+ghost use Rattle.driver_link.specs.declared.machine.SendBody.{SendBody};
+ghost use Rattle.driver_exec.specs.Attempting.{scene, trial_of};
+ghost use Rattle.driver_exec.specs.Causes.{end_of};
+ghost use Rattle.driver_exec.specs.Client.{options_of, store_of};
+ghost use Rattle.driver_exec.specs.Executing.{Executes, IsLastError, Turns, kept_or, limit_reached};
+ghost use Rattle.driver_exec.specs.Holding.{holds_nothing};
+ghost use Rattle.driver_exec.specs.Pool.{Draws, LendsAsBefore};
+ghost use Rattle.driver_exec.specs.Resending.{Works};
+ghost use Rattle.driver_exec.specs.Retry.{Decides, decide};
+ghost use Rattle.driver_exec.specs.OperationCauses.{Caused, grounds};
+ghost use Rattle.driver_exec.specs.Operations.{MeansTheSame};
+ghost use Rattle.driver_exec.specs.Links.{told_link};
+
+use crate::attempt_end::{Attempt, Failing};
+use crate::client::Client;
+use crate::held::{Held, give_back};
+use crate::operation::Operation;
+use crate::outside::Outside;
+use crate::retry::{FailurePhase, Retry};
+use crate::retryability::Retryability;
+use crate::steps::Steps;
+use crate::store::SessionStore;
+use crate::try_once::try_once;
+use driver_error::{Error, Result};
+use driver_link::{Clock, Link, Place};
+use std::alloc::Global;
+use std::sync::ledger::Ledger;
+
+/// Runs an operation, with the places of its writes: attempts until one ends it, or its failure may not be
+/// followed by another. An error is that of the failure which is kept, or what ended the operation at once.
+/// `sends` counts the sends of its command, of which there are two at most.
+pub fn execute_operation<O: Operation, S: SessionStore, L: Link, K: Clock, R, Q: Ledger>(
+    alloc: Global,
+    client: &mut Client<S>,
+    op: &mut O,
+    places: &[Place],
+    outside: &mut Outside<L, K, R>,
+    sends: &mut Steps<Q>,
+) -> Result<O::Output>
+    requires { (body : SendBody) × (O.meaning op.old).asked places.now body }
+    ensures executes { Executes (trial_of (O.meaning op.old) places.now ((O.meaning op.old).own (options_of client.old))) (S.told (store_of client.old)) (S.told (store_of client.new)) (told_link (L.told outside.old.link) (L.setup outside.old.link) (L.answers outside.old.link) (L.faults outside.old.link)) (told_link (L.told outside.new.link) (L.setup outside.new.link) (L.answers outside.new.link) (L.faults outside.new.link)) result }
+    ensures works { Works (O.meaning op.old) places.now (S.told (store_of client.old)) (S.told (store_of client.new)) (L.told outside.old.link) (L.told outside.new.link) result }
+    ensures lent { LendsAsBefore (S.told (store_of client.old)) (S.told (store_of client.new)) }
+    ensures drawn { Draws (S.told (store_of client.old)) (S.told (store_of client.new)) }
+    ensures caused { Caused (grounds (O.meaning op.old) ((O.meaning op.old).own (options_of client.old)) (L.setup outside.old.link) (S.told (store_of client.old))) (L.faults outside.old.link) (L.faults outside.new.link) (L.answers outside.old.link) (L.answers outside.new.link) (end_of result) }
+    ensures options { options_of client.new ≡ options_of client.old }
+    ensures call { outside.new.call ≡ outside.old.call }
+    ensures sends { sends.new ≤ sends.old + 2 }
+{
+    let sharded = outside.link.is_sharded();
+    let (held, result) = turns(alloc, client, outside, op, places, sharded, sends);
+    give_back(client, &mut outside.clock, held);
+    result
+}
+
+/// The attempts of an operation, and what it then holds.
+fn turns<O: Operation, S: SessionStore, L: Link, K: Clock, R, Q: Ledger>(
+    alloc: Global,
+    client: &mut Client<S>,
+    outside: &mut Outside<L, K, R>,
+    op: &mut O,
+    places: &[Place],
+    sharded: bool,
+    sends: &mut Steps<Q>,
+) -> (Held, Result<O::Output>)
+    requires { (body : SendBody) × (O.meaning op.old).asked places.now body }
+    ensures turns { Turns (trial_of (O.meaning op.old) places.now ((O.meaning op.old).own (options_of client.old))) sharded (scene (S.told (store_of client.old)) (told_link (L.told outside.old.link) (L.setup outside.old.link) (L.answers outside.old.link) (L.faults outside.old.link)) holds_nothing) (scene (S.told (store_of client.new)) (told_link (L.told outside.new.link) (L.setup outside.new.link) (L.answers outside.new.link) (L.faults outside.new.link)) result.0) result.1 }
+    ensures options { options_of client.new ≡ options_of client.old }
+    ensures call { outside.new.call ≡ outside.old.call }
+    ensures sends { sends.new ≤ sends.old + 2 }
+{
+    let own = op.retryability(client.options());
+    let mut held = Held::nothing();
+    let mut kept: Option<Retry> = None;
+    'turns: loop {
+        if limit_reached(&kept) {
+            return (held, Err(last_error(kept)));
+        }
+        let (next, attempt) = try_once(
+            alloc,
+            client,
+            outside,
+            op,
+            places,
+            held,
+            kept.as_ref(),
+            sends,
+        );
+        held = next;
+        match attempt {
+            Attempt::Failed(failing) => match decide(
+                alloc,
+                kept,
+                failing,
+                held.number(),
+                own,
+                sharded,
+            ) {
+                Ok(retry) => kept = Some(retry),
+                Err(error) => return (held, Err(error)),
+            },
+            Attempt::Done(output) => return (held, Ok(output)),
+            Attempt::Unselected(error) => return (held, Err(kept_or(kept, error))),
+            Attempt::Stopped => return (held, Err(last_error(kept))),
+            Attempt::Ended(error) => return (held, Err(error)),
+        }
+    }
+}
+
+/// Whether no further attempt is made.
+fn limit_reached(kept: &Option<Retry>) -> bool
+    ensures { result ≡ limit_reached kept.now }
+{
+    match kept {
+        Some(retry) => retry.max_retries_reached(),
+        None => false,
+    }
+}
+
+/// The error of the failure that is kept.
+fn last_error(kept: Option<Retry>) -> Error
+    requires { IsSome kept }
+    ensures { IsLastError kept result }
+{
+    match kept {
+        Some(retry) => retry.last_error(),
+        None => unreachable!(),
+    }
+}
+
+/// The error of the failure that is kept, else this one.
+fn kept_or(kept: Option<Retry>, error: Error) -> Error
+    ensures { result ≡ kept_or kept error }
+{
+    match kept {
+        Some(retry) => {
+            drop(error);
+            retry.last_error()
+        }
+        None => error,
+    }
+}
+
+/// What is decided after a failure.
+fn decide(
+    alloc: Global,
+    kept: Option<Retry>,
+    failing: Failing,
+    number: Option<i64>,
+    own: Retryability,
+    sharded: bool,
+) -> Result<Retry>
+    ensures { Decides (decide kept failing.failure number failing.address own sharded) result }
+{
+    let Failing { failure, address } = failing;
+    match failure.phase {
+        FailurePhase::Establishment => Retry::for_connection_establishment_failure(
+            alloc,
+            kept,
+            failure.error,
+            number,
+            &address,
+            own,
+            sharded,
+        ),
+        FailurePhase::Execution => Retry::for_execution_failure(
+            alloc,
+            kept,
+            failure.error,
+            number,
+            &address,
+            own,
+            sharded,
+        ),
+    }
+}

@@ -1,0 +1,127 @@
+//! What the reply to an insert of one document says, where it says that the command was done.
+ghost use Rattle.std.specs.Prelude.{◌≡◌};
+ghost use Rattle.driver_error.specs.declared.kind.ErrorKind.TheVariants.{InsertMany, InvalidResponse};
+ghost use Rattle.driver_error.specs.Conversions.{IsMade, IsNew};
+ghost use Rattle.driver_error.specs.LabelTexts.{no_labels};
+ghost use Rattle.driver_exec.specs.InsertAnswers.{AnswersFound, ReadsInsert, counts_one, errors_there, failures_of, insert_reply, is_unfailed, odd_insert_text};
+ghost use Rattle.driver_exec.specs.Readings.{Gives};
+
+use crate::reading::{Unread, int_at, labels_at};
+use crate::response::odd_reply;
+use crate::write_reply::{concern_in, write_errors_in};
+use bson_lite::{ByIndex, Document, List, Text};
+use driver_error::{
+    Error, ErrorKind, IndexedWriteError, InsertManyError, Result, WriteConcernError,
+};
+use driver_link::keys;
+use std::alloc::Global;
+
+/// A reply tells of no insert of one document.
+const ODD_INSERT: &str = "the reply does not tell of one inserted document";
+
+/// The fields of a reply: the count of inserted documents, the write errors, the write concern error, the
+/// labels.
+#[derive(Drop)]
+pub(crate) struct InsertReply {
+    n: i64,
+    errors: List<IndexedWriteError>,
+    concern: Option<WriteConcernError>,
+    labels: List<Text>,
+}
+
+/// What a reply comes to: that the document was inserted, the failures that it tells of, or that it breaks
+/// its form.
+pub(crate) fn read_insert_answer(alloc: Global, reply: &Document) -> Result<()>
+    ensures { ReadsInsert reply.now result }
+{
+    match insert_reply(alloc, reply) {
+        Ok(found) => answer_of(alloc, found),
+        Err(Unread::Wrong) => Err(odd_insert(alloc)),
+        Err(Unread::Memory) => Err(Error::from_kind(ErrorKind::Memory)),
+    }
+}
+
+/// The fields, each in its form.
+#[tactic(auto, unfolding(crate::specs::InsertAnswers::insert_reply))]
+fn insert_reply(alloc: Global, reply: &Document) -> std::result::Result<InsertReply, Unread>
+    ensures { Gives result (insert_reply reply.now) }
+{
+    let n = int_at(reply, keys::N)?;
+    let errors = write_errors_in(alloc, reply)?;
+    let concern = concern_in(alloc, reply)?;
+    let labels = labels_at(alloc, reply)?;
+    Ok(InsertReply {
+        n,
+        errors,
+        concern,
+        labels,
+    })
+}
+
+/// The answer of a reply by its fields.
+fn answer_of(alloc: Global, found: InsertReply) -> Result<()>
+    ensures { AnswersFound found result }
+{
+    if !counts_one(found.n, found.errors.as_slice()) {
+        return Err(odd_insert(alloc));
+    }
+    if is_unfailed(&found) {
+        return Ok(());
+    }
+    Err(failed_insert(alloc, found))
+}
+
+/// Whether nothing failed.
+fn is_unfailed(found: &InsertReply) -> bool
+    ensures { result ≡ is_unfailed found.now }
+{
+    found.errors.is_empty() && found.concern.is_none()
+}
+
+/// Whether the counts are those of one document, which was inserted or not.
+fn counts_one(n: i64, errors: &[IndexedWriteError]) -> bool
+    ensures { result ≡ counts_one n errors.now }
+{
+    match errors {
+        [] => n == 1,
+        [error] => n == 0 && error.index == 0,
+        _ => false,
+    }
+}
+
+/// The error of the failures that a reply tells of.
+fn failed_insert(alloc: Global, found: InsertReply) -> Error
+    ensures { IsNew (InsertMany (failures_of found)) found.labels result }
+{
+    let InsertReply {
+        errors,
+        concern,
+        labels,
+        ..
+    } = found;
+    let failures = InsertManyError {
+        write_errors: errors_there(errors),
+        write_concern_error: concern,
+        inserted_ids: ByIndex::new(alloc),
+    };
+    Error::new(alloc, ErrorKind::InsertMany(failures), labels.as_slice())
+}
+
+/// The write errors, where there are some.
+fn errors_there(errors: List<IndexedWriteError>) -> Option<List<IndexedWriteError>>
+    ensures { result ≡ errors_there errors }
+{
+    if errors.is_empty() {
+        None
+    } else {
+        Some(errors)
+    }
+}
+
+/// The error of a reply that breaks its form.
+#[tactic(auto, unfolding(crate::specs::InsertAnswers::odd_insert_text))]
+fn odd_insert(alloc: Global) -> Error
+    ensures { IsMade (InvalidResponse odd_insert_text) no_labels result }
+{
+    odd_reply(alloc, ODD_INSERT)
+}
