@@ -5,7 +5,6 @@ use Rattle.std.specs.Option.{option_and_then}
 use Rattle.std.specs.Result.{result_ok}
 use Rattle.driver_link.specs.declared.machine.Entry.{Entry}
 use Rattle.driver_link.specs.declared.machine.Place.{Place}
-use Rattle.driver_link.specs.declared.machine.Schedule.{Schedule}
 use Rattle.driver_link.specs.declared.machine.Send.{Send}
 use Rattle.driver_link.specs.declared.machine.Server.{Server}
 use Rattle.driver_link.specs.declared.machine.Written.{Written}
@@ -14,7 +13,7 @@ use Rattle.driver_actions.specs.declared.call.Answer.{Answer}
 use Rattle.driver_actions.specs.declared.call.Call.{Call}
 use Rattle.driver_actions.specs.declared.call.Outcome.{Outcome}
 use Rattle.driver_actions.specs.Calls.{OwnAt, Done, write_at, write_in, result_of, call_result}
-use Rattle.driver_actions.specs.MainTheorem.{Completes, answer_at}
+use Rattle.driver_actions.specs.MainTheorem.{answer_at}
 use Rattle.driver_actions.specs.Standing.{AllOwn}
 use Rattle.driver_exec.specs.Pool.{Pool}
 use Rattle.driver_actions.proofs.Answering.{Answered}
@@ -100,12 +99,4 @@ module _ (calls more : List Call) (outcomes : List Outcome) (count : length outc
     sound = ran.sound;
     own = own_left calls more server.trace ran.own;
     answered = answered_same server.log ran.answered;
-  }
-
-  -- completeness
-  pub completes_appended : (schedule : Schedule) (server : Server) → Completes calls outcomes schedule server → Completes (calls ++ more) outcomes schedule server
-  completes_appended schedule server completes = record {
-    complete = λ at call outcome is_call is_outcome valid gentle.
-        let same = get_before calls more outcomes at outcome count is_outcome in
-        completes.complete at call outcome (sym same ∙ is_call) is_outcome valid gentle;
   }

@@ -2,9 +2,12 @@ pub mod Making
 pub mod Moving
 pub mod Logging
 pub mod Answering
-pub mod Accounting
+pub mod Sending
 pub mod Running
 pub mod Appending
 pub mod Standing
 pub mod Causes
 pub mod Refusals
+pub mod Ending
+pub mod Completing
+pub mod Keeping

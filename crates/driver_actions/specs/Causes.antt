@@ -1,30 +1,26 @@
 -- Why a call ended as it did, by what the link answered in it, over any link and any store.
-use Rattle.std.specs.Prelude.{◌≡◌, ℕ, List, [], ◌∷◌, length, Option, None, Some, ◌⊎◌}
+use Rattle.std.specs.Prelude.{◌≡◌, ℕ, List, length, Option, None, Some, ◌⊎◌, Result, Ok, Err}
 use Rattle.bson_lite.specs.declared.bson.Bson.{Bson}
 use Rattle.bson_lite.specs.declared.bson.ObjectId.{ObjectId}
 use Rattle.bson_lite.specs.declared.document.Pair.{Pair}
 use Rattle.bson_lite.specs.declared.namespace.Namespace.{Namespace}
 use Rattle.bson_lite.specs.Fields.{with_id}
 use Rattle.bson_lite.specs.Spelling.{refusal}
+use Rattle.driver_error.specs.declared.error.Error.{Error}
 use Rattle.driver_error.specs.declared.kind.ErrorKind.TheVariants as kind
-use Rattle.driver_error.specs.Error.{ErrorKind}
-use Rattle.driver_link.specs.declared.fault.Answered.{Answered}
-use Rattle.driver_exec.specs.Causes.{BodyRefused, Caused, Failure, Refused, end_of, next_number}
+use Rattle.driver_error.specs.Conversions.{Converts}
+use Rattle.driver_error.specs.Error.{ErrorKind, kind_of}
+use Rattle.driver_link.specs.declared.options.ClientOptions.{ClientOptions}
+use Rattle.driver_exec.specs.Causes.{Failure, end_of}
+use Rattle.driver_exec.specs.InsertMeaning.{insert_meaning, own_of_insert}
+use Rattle.driver_exec.specs.Links.{ToldLink}
+use Rattle.driver_exec.specs.OperationCauses.{Caused, grounds}
+use Rattle.driver_exec.specs.Pool.{ToldStore}
 use Rattle.driver_actions.specs.declared.call.Call.{Call}
 use Rattle.driver_actions.specs.declared.call.Call.TheVariants.{Single}
-use Rattle.driver_actions.specs.declared.call.Outcome.{Outcome}
 use Rattle.driver_actions.specs.declared.call.SingleWrite.{SingleWrite}
 use Rattle.driver_actions.specs.declared.call.SingleWrite.TheVariants.{InsertOne}
-use Rattle.driver_actions.specs.Inputs.{InputRefused}
-use Rattle.driver_exec.specs.Pool.{ToldStore}
-
--- what is refused of an insert: its input, before anything is drawn or sent, and the body of its command
-abbrev pub refused_insert : Namespace → List (Pair Bson) → Refused
-refused_insert namespace document = record { early = InputRefused namespace document; late = BodyRefused namespace }
-
--- what is refused of a single write
-abbrev pub refused_write : SingleWrite → Refused
-refused_write (InsertOne namespace document) = refused_insert namespace document
+use Rattle.driver_actions.specs.Inputs.{InputRefused, TellsInput}
 
 -- an end tells of this error, or of want of memory
 abbrev pub TellsKind : ErrorKind → Option Failure → Type 0
@@ -39,14 +35,14 @@ pub record RefusesFirst (namespace : Namespace) (document : List (Pair Bson)) (e
 abbrev pub EndsRefused : SingleWrite → Option Failure → Type 0
 EndsRefused (InsertOne namespace document) ended = RefusesFirst namespace document ended
 
--- what link and store tell at one moment
+-- what store and link tell at one moment
 pub record Moment : Type 0 where
-  pub faults : ℕ
-  pub answers : Option (List Answered)
   pub store : Option ToldStore
+  pub link : ToldLink
 
-abbrev pub moment : ℕ → Option (List Answered) → Option ToldStore → Moment
-moment faults answers store = record { faults = faults; answers = answers; store = store }
+-- the same from its parts
+abbrev pub moment : Option ToldStore → ToldLink → Moment
+moment store link = record { store = store; link = link }
 
 -- an error that tells why a document with one of these ids has no spelling, or want of memory
 abbrev pub TellsOwnRefusal : List (Pair Bson) → ErrorKind → Type 0
@@ -54,19 +50,40 @@ TellsOwnRefusal document (kind.BsonSerialization fault) = (id : ObjectId) × ((l
 TellsOwnRefusal document kind.Memory = Unit {0}
 TellsOwnRefusal document _ = ⊥
 
+-- an error that tells why the input of a write is refused, or want of memory
+abbrev pub TellsEarly : SingleWrite → ErrorKind → Type 0
+TellsEarly (InsertOne namespace document) why = TellsInput namespace document why
+
+-- a write ended before the link was asked: its input is refused, or there was no memory
+pub record EndsEarly {A : Type 0} (before now : Moment) (write : SingleWrite) (result : Result A Error) : Type 0 where
+  pub unasked : now.link ≡ before.link
+  pub error : Error
+  pub is : result ≡ Err error
+  pub why : TellsEarly write (kind_of error)
+
+-- an Ok of an operation is one of its call, and its error takes the form of a single write's
+abbrev pub BecomesEnd : {A B : Type 0} → Result A Error → Result B Error → Type 0
+BecomesEnd (Ok output) (Ok given) = Unit {0}
+BecomesEnd (Err error) (Err now) = Converts error now
+BecomesEnd executed result = ⊥
+
+-- the operation of an insert ended with its cause, and so did its call
+pub record InsertCaused {A : Type 0} (options : ClientOptions) (before now : Moment) (namespace : Namespace) (result : Result A Error) : Type 0 where
+  pub bytes : List ℕ
+  pub executed : Result (Unit {0}) Error
+  pub caused : Caused (grounds {A = Unit {0}} (insert_meaning namespace bytes) (own_of_insert options) before.link.setup before.store) before.link.faults now.link.faults
+      before.link.answers now.link.answers (end_of executed)
+  pub becomes : BecomesEnd executed result
+
+-- the operation of a write ended with its cause
+abbrev pub OperationCaused : {A : Type 0} → ClientOptions → Moment → Moment → SingleWrite → Result A Error → Type 0
+OperationCaused options before now (InsertOne namespace document) result = InsertCaused options before now namespace result
+
 -- a single write ended with its cause, and input that is refused was refused
-pub record WriteCaused (before now : Moment) (write : SingleWrite) (ended : Option Failure) : Type 0 where
-  pub caused : Caused before.faults now.faults before.answers now.answers (next_number before.store) (refused_write write) ended
-  pub refused : EndsRefused write ended
+pub record WriteCaused {A : Type 0} (options : ClientOptions) (before now : Moment) (write : SingleWrite) (result : Result A Error) : Type 0 where
+  pub caused : EndsEarly before now write result ⊎ OperationCaused options before now write result
+  pub refused : EndsRefused write (end_of result)
 
 -- so does a call
-abbrev pub HasCause : Moment → Moment → Call → Option Failure → Type 0
-HasCause before now (Single write) ended = WriteCaused before now write ended
-
--- each call of a list has its cause between two moments, from the first moment to the last
-abbrev pub HaveCauses : List Call → List Outcome → Moment → Moment → Type 0
-HaveCauses [] [] before now = now ≡ before
-HaveCauses [] (outcome ∷ outcomes) before now = ⊥
-HaveCauses (call ∷ calls) [] before now = ⊥
-HaveCauses (call ∷ calls) (outcome ∷ outcomes) before now =
-    (mid : Moment) × (HasCause before mid call (end_of outcome.result) × HaveCauses calls outcomes mid now)
+abbrev pub HasCause : {A : Type 0} → ClientOptions → Moment → Moment → Call → Result A Error → Type 0
+HasCause options before now (Single write) result = WriteCaused options before now write result

@@ -1,3 +1,4 @@
+pub mod CallByCall
 pub mod Calls
 pub mod Causes
 pub mod Inputs

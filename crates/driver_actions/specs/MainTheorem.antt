@@ -1,7 +1,7 @@
 -- The main theorem for one list of calls: one outcome per call, no write twice in the log and every
 -- entry the caller's own, late arrivals included, and an Ok call's writes there once with the answer
 -- that the log spells.
-use Rattle.std.specs.Prelude.{◌≡◌, ℕ, ℤ, pos, ◌<ℤ◌, List, [], ◌∷◌, length, Option, None, Some, Result, Ok, Err, ◌⊎◌, slice_get}
+use Rattle.std.specs.Prelude.{◌≡◌, ℕ, ◌≤◌, ℤ, pos, ◌<ℤ◌, true, List, [], ◌∷◌, length, Option, None, Some, Result, Ok, Err, ◌⊎◌, slice_get}
 use Rattle.std.specs.Option.{option_and_then}
 use Rattle.std.specs.Result.{result_ok}
 use Rattle.bson_lite.specs.declared.bson.Bson.{Bson}
@@ -12,12 +12,12 @@ use Rattle.driver_error.specs.declared.error.Error.{Error}
 use Rattle.driver_error.specs.declared.kind.ErrorKind.TheVariants as kind
 use Rattle.driver_error.specs.Error.{kind_of}
 use Rattle.driver_link.specs.declared.machine.PlacedWrite.{PlacedWrite}
-use Rattle.driver_link.specs.declared.machine.Schedule.{Schedule}
 use Rattle.driver_link.specs.declared.machine.Send.{Send}
 use Rattle.driver_link.specs.declared.machine.Server.{Server}
+use Rattle.driver_link.specs.declared.machine.Setup.{Setup}
+use Rattle.driver_link.specs.declared.options.ClientOptions.{ClientOptions}
 use Rattle.driver_link.specs.Cases.{writes_of}
-use Rattle.driver_link.specs.Counting.{FailsNothing}
-use Rattle.driver_link.specs.Exchange.{after_picks, replayed, empty_server, step_at}
+use Rattle.driver_link.specs.Exchange.{after_picks, replayed, empty_server}
 use Rattle.driver_link.specs.Once.{Once}
 use Rattle.driver_link.specs.Told.{Told, IsFresh}
 use Rattle.driver_actions.specs.declared.call.Answer.{Answer}
@@ -26,8 +26,14 @@ use Rattle.driver_actions.specs.declared.call.Outcome.{Outcome}
 use Rattle.driver_actions.specs.declared.call.Call.TheVariants.{Single}
 use Rattle.driver_actions.specs.declared.call.SingleWrite.TheVariants.{InsertOne}
 use Rattle.driver_actions.specs.Calls.{Mine, Done, call_result}
+use Rattle.driver_actions.specs.CallByCall.{CallByCall, CallCaused}
+use Rattle.driver_actions.specs.Causes.{Moment}
 use Rattle.driver_actions.specs.Inputs.{IsAccepted}
-use Rattle.driver_exec.specs.Inserts.{IsGentleItem, insert_body}
+use Rattle.driver_exec.specs.Fields.{IsSixteen}
+use Rattle.driver_exec.specs.Gentle.{IsGentleTold}
+use Rattle.driver_exec.specs.InsertMeaning.{own_of_insert}
+use Rattle.driver_exec.specs.Inserts.{insert_body}
+use Rattle.driver_exec.specs.OperationCauses.{DrawsNumbers}
 use Rattle.driver_exec.specs.Session.{last_number}
 use Rattle.driver_exec.specs.Pool.{ToldStore, IsNewStore, DrawnApart}
 
@@ -49,11 +55,11 @@ EndsWell (Ok given) = Unit {0}
 EndsWell (Err error) = kind_of error ≡ kind.Memory
 
 -- an insert is valid as the call of a number: its database's name has no dot, its document nests at most 96
--- levels deep and has a spelling with any id, its command has one under any session and number, and fewer
+-- levels deep and has a spelling with any id, its command has one under any session and number or none, and fewer
 -- calls came before it than a session has numbers
 pub record IsValidInsert (call : ℕ) (namespace : Namespace) (document : List (Pair Bson)) : Type 0 where
   pub accepted : IsAccepted namespace document
-  pub command : (id : List ℕ) (number : ℤ) → length id ≡ 16 → refusal (insert_body namespace id number) ≡ None
+  pub command : (session : Option (List ℕ)) (number : Option ℤ) → IsSixteen session → refusal (insert_body namespace session number) ≡ None
   pub number : pos call <ℤ last_number
 
 abbrev pub IsValid : ℕ → Call → Type 0
@@ -64,25 +70,42 @@ abbrev pub HasWriteOf : ℕ → List PlacedWrite → Type 0
 HasWriteOf call [] = ⊥
 HasWriteOf call (write ∷ writes) = (write.place.call ≡ call) ⊎ HasWriteOf call writes
 
--- the part of a schedule that a call takes is gentle: no selection and no check-out is listed to fail, and each
--- of its sends was served as usual
-pub record IsGentle (schedule : Schedule) (server : Server) (call : ℕ) : Type 0 where
-  pub fails_nothing : FailsNothing schedule
-  pub served : (at : ℕ) (send : Send) → slice_get server.trace at ≡ Some send → HasWriteOf call (writes_of send) → IsGentleItem (step_at schedule at).item
+-- the sends of a call's command have numbers: the link tells that its connections take sessions and retryable writes,
+-- and the client's options do not forbid them
+abbrev pub MayRepeat : ClientOptions → Option Setup → Call → Type 0
+MayRepeat options setup (Single (InsertOne namespace document)) = DrawsNumbers true (own_of_insert options) setup
 
--- completeness: a valid call whose part of the schedule is gentle ends well, whatever came before it
-pub record Completes (calls : List Call) (outcomes : List Outcome) (schedule : Schedule) (server : Server) : Type 0 where
-  pub complete : (at : ℕ) (call : Call) (outcome : Outcome) → slice_get calls at ≡ Some call → slice_get outcomes at ≡ Some outcome
-      → IsValid at call → IsGentle schedule server at → EndsWell outcome.result
+-- the part of a schedule that a call takes is gentle: none of its selections and check-outs fails, and each of its sends is
+-- served as usual; where its sends have numbers one of them may get no reply instead
+abbrev pub IsGentle : ClientOptions → Moment → Moment → Call → Type 0
+IsGentle options before now call = IsGentleTold (MayRepeat options before.link.setup call) before.link.server now.link.server
 
--- the main theorem and completeness of a link that tells its server
+-- completeness of a call: a valid one whose part of the schedule is gentle ends well, whatever came before it
+abbrev pub CallCompletes : ClientOptions → ℕ → Moment → Moment → Call → Result Answer Error → Type 0
+CallCompletes options number before now call result = IsValid number call → IsGentle options before now call → EndsWell result
+
+-- each send that a told server got between two moments is of this call
+abbrev pub SendsOwn : ℕ → Option Told → Option Told → Type 0
+SendsOwn call None now = Unit {0}
+SendsOwn call (Some told) None = ⊥
+SendsOwn call (Some told) (Some now) =
+    (at : ℕ) (send : Send) → length told.server.trace ≤ at → slice_get now.server.trace at ≡ Some send → HasWriteOf call (writes_of send)
+
+-- a call between two moments: it was made and ended with its cause, and well where it is valid and its part is gentle; all
+-- that was sent is its own
+pub record CallEnds (options : ClientOptions) (number : ℕ) (before now : Moment) (call : Call) (result : Result Answer Error) : Type 0 where
+  pub caused : CallCaused options number before now call result
+  pub complete : CallCompletes options number before now call result
+  pub own : SendsOwn number before.link.server now.link.server
+
+-- each call of a list ended so
+abbrev pub HaveEnded : ClientOptions → List Call → List Outcome → Moment → Moment → Type 0
+HaveEnded options calls outcomes before now = CallByCall (λ number from to call result. CallEnds options number from to call result) 0 calls outcomes before now
+
+-- the main theorem of a link that tells its server
 abbrev pub HoldsTold : List Call → List Outcome → Option Told → Type 0
 HoldsTold calls outcomes None = ⊥
 HoldsTold calls outcomes (Some told) = Holds calls outcomes told.server
-
-abbrev pub CompletesTold : List Call → List Outcome → Option Told → Type 0
-CompletesTold calls outcomes None = ⊥
-CompletesTold calls outcomes (Some told) = Completes calls outcomes told.schedule told.server
 
 -- the premises: a client over a store that was not used, a link to a server that has seen nothing,
 -- and ids that were drawn apart

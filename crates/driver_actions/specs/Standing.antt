@@ -1,19 +1,20 @@
--- A run of calls between two of its calls: the main theorem and completeness hold of the calls that were made, and
--- with them the invariant of one client's plain writes, of its pool and of the server.
+-- A run of calls between two of its calls: the main theorem holds of the calls that were made, and with it the invariant of
+-- one client's writes, of its pool and of the server.
 use Rattle.std.specs.Prelude.{◌≡◌, ℕ, ◌+◌, ◌≤◌, pos, List, [], ◌∷◌, ◌++◌, length, take, Option, None, Some, slice_get}
 use Rattle.driver_link.specs.declared.machine.PlacedWrite.{PlacedWrite}
 use Rattle.driver_link.specs.declared.machine.Send.{Send}
 use Rattle.driver_link.specs.Cases.{writes_of}
 use Rattle.driver_link.specs.Settled.{Has}
+use Rattle.driver_link.specs.declared.options.ClientOptions.{ClientOptions}
 use Rattle.driver_link.specs.Told.{Told}
 use Rattle.driver_exec.specs.BetweenCalls.{Between, NumbersWithin, Sound}
-use Rattle.driver_exec.specs.Causes.{end_of}
 use Rattle.driver_exec.specs.Pool.{ToldStore}
 use Rattle.driver_actions.specs.declared.call.Call.{Call}
 use Rattle.driver_actions.specs.declared.call.Outcome.{Outcome}
 use Rattle.driver_actions.specs.Calls.{OwnAt, write_at}
-use Rattle.driver_actions.specs.Causes.{HasCause, Moment}
-use Rattle.driver_actions.specs.MainTheorem.{Completes, Holds}
+use Rattle.driver_actions.specs.CallByCall.{CallCaused}
+use Rattle.driver_actions.specs.Causes.{Moment}
+use Rattle.driver_actions.specs.MainTheorem.{CallEnds, Holds}
 
 -- a run of calls: how many were made, for how many there is room, their outcomes, and the slots of open sessions
 pub record RunState : Type 0 where
@@ -30,25 +31,32 @@ new_run room = record { made = 0; room = room; outcomes = []; slots = [] }
 abbrev pub run_more : RunState → Outcome → RunState
 run_more run outcome = record { made = run.made + 1; room = run.room; outcomes = run.outcomes ++ outcome ∷ []; slots = run.slots }
 
--- the next call of a list was made: the one whose place is how many were made before. Its outcome was appended, and
--- it ended with its cause between two moments
-pub record MakesNext (run now : RunState) (calls : List Call) (before after : Moment) : Type 0 where
+-- the next call of a list was made: the one whose place is how many were made before. Its outcome was appended, and of it
+-- this holds
+pub record MakesNext (run now : RunState) (calls : List Call) (P : Call → Outcome → Type 0) : Type 0 where
   pub call : Call
   pub outcome : Outcome
   pub next : slice_get calls run.made ≡ Some call
   pub appended : now ≡ run_more run outcome
-  pub cause : HasCause before after call (end_of outcome.result)
+  pub holds : P call outcome
+
+-- between two moments it was made, and ended with its cause
+abbrev pub MakesCaused : ClientOptions → RunState → RunState → List Call → Moment → Moment → Type 0
+MakesCaused options run now calls before after = MakesNext run now calls (λ call outcome. CallCaused options run.made before after call outcome.result)
+
+-- and well, where it is valid and its part of the schedule is gentle
+abbrev pub MakesEnded : ClientOptions → RunState → RunState → List Call → Moment → Moment → Type 0
+MakesEnded options run now calls before after = MakesNext run now calls (λ call outcome. CallEnds options run.made before after call outcome.result)
 
 -- each write of a trace is the caller's own
 abbrev pub AllOwn : List Call → List Send → Type 0
 AllOwn calls trace = (send : Send) (at : ℕ) (write : PlacedWrite) → Has trace send → slice_get (writes_of send) at ≡ Some write → OwnAt (write_at calls write.place) write.written
 
--- what these calls with these outcomes left: the main theorem and completeness hold of them; nothing is lent, and no
+-- what these calls with these outcomes left: the main theorem holds of them; nothing is lent, and no
 -- number that was sent is above its session's; the trace is orderly, the server settled, and each write that was
 -- sent is of one of the calls; and no idle session's number is above the count of the calls
 pub record Leaves (calls : List Call) (outcomes : List Outcome) (store : ToldStore) (link : Told) : Type 0 where
   pub holds : Holds calls outcomes link.server
-  pub complete : Completes calls outcomes link.schedule link.server
   pub between : Between store.pool link.server.trace
   pub sound : Sound (length outcomes) link.server
   pub own : AllOwn calls link.server.trace

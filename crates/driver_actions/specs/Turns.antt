@@ -1,5 +1,5 @@
--- One call of a single write: the document as it is sent, its turn, and the answer that it tells.
-use Rattle.std.specs.Prelude.{◌≡◌, ℕ, List, length, Option, Some, ◌⊎◌, Result, Ok, Err}
+-- One call of a single write: the document as it is sent, its operation, and the answer that it tells.
+use Rattle.std.specs.Prelude.{◌≡◌, ℕ, List, [], ◌∷◌, length, Option, Some, ◌⊎◌, Result, Ok, Err}
 use Rattle.bson_lite.specs.declared.bson.Bson.{Bson}
 use Rattle.bson_lite.specs.declared.bson.ObjectId.{ObjectId}
 use Rattle.bson_lite.specs.declared.document.Pair.{Pair}
@@ -13,9 +13,13 @@ use Rattle.driver_link.specs.declared.machine.Place.{Place}
 use Rattle.driver_link.specs.declared.machine.PlacedWrite.{PlacedWrite}
 use Rattle.driver_link.specs.declared.machine.WriteKind.TheVariants as write_kind
 use Rattle.driver_link.specs.declared.machine.Written.{Written}
-use Rattle.driver_link.specs.Told.{Told}
+use Rattle.driver_link.specs.declared.options.ClientOptions.{ClientOptions}
+use Rattle.driver_exec.specs.Attempting.{trial_of}
 use Rattle.driver_exec.specs.Causes.{end_of}
-use Rattle.driver_exec.specs.Turns.{Turn, Unsent}
+use Rattle.driver_exec.specs.InsertMeaning.{insert_meaning, own_of_insert}
+use Rattle.driver_exec.specs.Pool.{Draws, LendsAsBefore, StaysTold, ToldStore}
+use Rattle.driver_exec.specs.Singles.{ExecutesSingle}
+use Rattle.driver_exec.specs.Writing.{Wrote}
 use Rattle.driver_actions.specs.declared.call.Answer.{Answer}
 use Rattle.driver_actions.specs.declared.call.Answer.TheVariants as answer
 use Rattle.driver_actions.specs.declared.call.Call.{Call}
@@ -23,8 +27,8 @@ use Rattle.driver_actions.specs.declared.call.Call.TheVariants.{Single}
 use Rattle.driver_actions.specs.declared.call.SingleAnswer.{SingleAnswer}
 use Rattle.driver_actions.specs.declared.call.SingleAnswer.TheVariants.{Inserted}
 use Rattle.driver_actions.specs.Calls.{IsOwn, written}
-use Rattle.driver_actions.specs.Inputs.{InputRefused}
-use Rattle.driver_exec.specs.Pool.{ToldStore}
+use Rattle.driver_actions.specs.Causes.{Moment}
+use Rattle.driver_actions.specs.Inputs.{TellsInput}
 
 -- a document has an id, at its front where it had none
 pub record HasOwnId (given now : List (Pair Bson)) (value : Bson) : Type 0 where
@@ -52,28 +56,44 @@ pub record TellsId (document : List (Pair Bson)) (given : SingleAnswer) : Type 0
   pub found : value_of id_key document ≡ Some id
   pub answer_is : given ≡ Inserted (record { inserted_id = id })
 
--- an error tells none
-abbrev pub TellsAnswer : List (Pair Bson) → Result SingleAnswer Error → Type 0
-TellsAnswer document (Ok given) = TellsId document given
-TellsAnswer document (Err error) = Unit {0}
+-- an insert that was done tells the id, and an error of one is handed on
+abbrev pub TellsAnswer : List (Pair Bson) → Result (Unit {0}) Error → Result SingleAnswer Error → Type 0
+TellsAnswer document (Ok done) (Ok given) = TellsId document given
+TellsAnswer document (Ok done) (Err error) = ⊥
+TellsAnswer document (Err error) result = result ≡ Err error
 
--- a call's own write had its turn
-pub record Made (store store_now : Option ToldStore) (link link_now : Option Told) (given : Written) (place : Place) (result : Result SingleAnswer Error) : Type 0 where
+-- the insert of a write was executed: once an id was drawn, if any, the store stays until a session is borrowed
+pub record Inserts (options : ClientOptions) (before now : Moment) (write : PlacedWrite) (ended : Result (Unit {0}) Error) : Type 0 where
+  pub store : Option ToldStore
+  pub stays : StaysTold before.store store
+  pub bytes : List ℕ
+  pub spelled : Spells write.written.document bytes
+  pub executes : ExecutesSingle (trial_of (insert_meaning write.written.namespace bytes) (write.place ∷ []) (own_of_insert options)) store now.store before.link now.link ended
+  pub wrote : Wrote store now.store before.link.server now.link.server write (end_of ended)
+  pub lent : LendsAsBefore store now.store
+  pub drawn : Draws store now.store
+
+-- a call's own write was inserted, or its insert failed
+pub record Made (options : ClientOptions) (before now : Moment) (given : Written) (place : Place) (result : Result SingleAnswer Error) : Type 0 where
   pub write : PlacedWrite
   pub placed : write.place ≡ place
   pub own : IsOwn given write.written
-  pub turn : Turn store store_now link link_now write (end_of result)
-  pub tells : TellsAnswer write.written.document result
+  pub ended : Result (Unit {0}) Error
+  pub inserts : Inserts options before now write ended
+  pub tells : TellsAnswer write.written.document ended result
 
--- one call of a single write: an error may come before a session is lent
-abbrev pub Makes : Option ToldStore → Option ToldStore → Option Told → Option Told → Written → Place → Result SingleAnswer Error → Type 0
-Makes store store_now link link_now given place (Ok answer) = Made store store_now link link_now given place (Ok answer)
-Makes store store_now link link_now given place (Err error) =
-    Unsent store store_now link link_now (InputRefused given.namespace given.document) (kind_of error) ⊎ Made store store_now link link_now given place (Err error)
+-- nothing was asked or sent: the input is refused, or there was no memory
+pub record Unmade (before now : Moment) (given : Written) (error : Error) : Type 0 where
+  pub store : StaysTold before.store now.store
+  pub link : now.link ≡ before.link
+  pub why : TellsInput given.namespace given.document (kind_of error)
+
+-- one call of a single write
+abbrev pub Makes : ClientOptions → Moment → Moment → Written → Place → Result SingleAnswer Error → Type 0
+Makes options before now given place (Ok answer) = Made options before now given place (Ok answer)
+Makes options before now given place (Err error) = Unmade before now given error ⊎ Made options before now given place (Err error)
 
 -- one call of a list, by its number
-abbrev pub MakesCall : Option ToldStore → Option ToldStore → Option Told → Option Told → Call → ℕ → Result Answer Error → Type 0
-MakesCall store store_now link link_now (Single write) call (Ok (answer.Single given)) =
-    Made store store_now link link_now (written write) (record { call = call; index = 0 }) (Ok given)
-MakesCall store store_now link link_now (Single write) call (Err error) =
-    Makes store store_now link link_now (written write) (record { call = call; index = 0 }) (Err error)
+abbrev pub MakesCall : ClientOptions → Moment → Moment → Call → ℕ → Result Answer Error → Type 0
+MakesCall options before now (Single write) call (Ok (answer.Single given)) = Made options before now (written write) (record { call = call; index = 0 }) (Ok given)
+MakesCall options before now (Single write) call (Err error) = Makes options before now (written write) (record { call = call; index = 0 }) (Err error)

@@ -1,10 +1,11 @@
 //! A run of calls, which a program feeds call by call.
 ghost use Rattle.std.specs.Prelude.{◌≡◌, ◌<◌, ◌≤◌, List as Listed, length, slice_get, take, IfOk, Option as Maybe, Some};
 ghost use Rattle.driver_actions.specs.Causes.{moment};
-ghost use Rattle.driver_actions.specs.MainTheorem.{CompletesTold, HoldsTold, IsReplayed, KeepsMaking};
-ghost use Rattle.driver_actions.specs.Standing.{MakesNext, Stands, new_run, run_more};
+ghost use Rattle.driver_actions.specs.MainTheorem.{HoldsTold, IsReplayed, KeepsMaking};
+ghost use Rattle.driver_actions.specs.Standing.{MakesCaused, MakesEnded, Stands, new_run, run_more};
 ghost use Rattle.driver_actions.specs.declared.call.Call.{Call as Asked};
 ghost use Rattle.driver_exec.specs.Client.{options_of, store_of};
+ghost use Rattle.driver_exec.specs.Links.{told_link};
 ghost use Rattle.driver_exec.specs.Pool.{DrawnApart, Draws, IsNewStore, LendsAsBefore, ToldStore};
 ghost use Rattle.driver_link.specs.Told.{IsFresh, Told};
 
@@ -73,7 +74,8 @@ impl CallRun {
     )
         requires room { self.old.made < self.old.room }
         requires next { self.old.made < length calls.now }
-        ensures makes { MakesNext self.old self.new calls.now (moment (L.faults outside.old.link) (L.answers outside.old.link) (S.told (store_of client.old))) (moment (L.faults outside.new.link) (L.answers outside.new.link) (S.told (store_of client.new))) }
+        ensures makes { MakesCaused (options_of client.old) self.old self.new calls.now (moment (S.told (store_of client.old)) (told_link (L.told outside.old.link) (L.setup outside.old.link) (L.answers outside.old.link) (L.faults outside.old.link))) (moment (S.told (store_of client.new)) (told_link (L.told outside.new.link) (L.setup outside.new.link) (L.answers outside.new.link) (L.faults outside.new.link))) }
+        ensures complete { Stands self.old calls.now (S.told (store_of client.old)) (L.told outside.old.link) → DrawnApart (S.told (store_of client.new)) → MakesEnded (options_of client.old) self.old self.new calls.now (moment (S.told (store_of client.old)) (told_link (L.told outside.old.link) (L.setup outside.old.link) (L.answers outside.old.link) (L.faults outside.old.link))) (moment (S.told (store_of client.new)) (told_link (L.told outside.new.link) (L.setup outside.new.link) (L.answers outside.new.link) (L.faults outside.new.link))) }
         ensures stands { Stands self.old calls.now (S.told (store_of client.old)) (L.told outside.old.link) → DrawnApart (S.told (store_of client.new)) → Stands self.new calls.now (S.told (store_of client.new)) (L.told outside.new.link) }
         ensures replayed { IsReplayed (L.told outside.old.link) → IsReplayed (L.told outside.new.link) }
         ensures making { KeepsMaking (L.told outside.old.link) (L.told outside.new.link) }
@@ -97,7 +99,6 @@ impl CallRun {
         requires { self.made ≤ length calls.now }
         ensures outcomes { result ≡ self.outcomes }
         ensures main { Stands self calls.now (S.told (store_of _client.old)) (L.told _outside.old.link) → HoldsTold (take self.made calls.now) result (L.told _outside.new.link) }
-        ensures complete { Stands self calls.now (S.told (store_of _client.old)) (L.told _outside.old.link) → CompletesTold (take self.made calls.now) result (L.told _outside.new.link) }
         ensures unchanged { (_client.new ≡ _client.old) × (_outside.new ≡ _outside.old) }
     {
         self.into_outcomes()

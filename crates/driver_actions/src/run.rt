@@ -1,11 +1,12 @@
 //! A list of calls, made one after another.
 ghost use Rattle.std.specs.Prelude.{◌≡◌, IfOk, OnOk, OnErr};
 ghost use Rattle.driver_actions.specs.declared.call.Call.TheVariants.{Single};
-ghost use Rattle.driver_exec.specs.Causes.{end_of};
 ghost use Rattle.driver_exec.specs.Client.{options_of, store_of};
+ghost use Rattle.driver_exec.specs.Links.{told_link};
 ghost use Rattle.driver_exec.specs.Pool.{Draws, LendsAsBefore};
-ghost use Rattle.driver_actions.specs.Causes.{HasCause, HaveCauses, moment};
-ghost use Rattle.driver_actions.specs.MainTheorem.{Begins, HoldsTold, CompletesTold, IsReplayed, KeepsMaking};
+ghost use Rattle.driver_actions.specs.CallByCall.{HaveCauses};
+ghost use Rattle.driver_actions.specs.Causes.{HasCause, moment};
+ghost use Rattle.driver_actions.specs.MainTheorem.{Begins, HaveEnded, HoldsTold, IsReplayed, KeepsMaking};
 ghost use Rattle.driver_actions.specs.Turns.{MakesCall};
 ghost use Rattle.driver_link.specs.Told.{IsFresh};
 
@@ -27,8 +28,8 @@ pub fn run_calls<S: SessionStore, L: Link, K: Clock, R: Rng>(
     calls: &[Call],
 ) -> Result<List<Outcome>, AllocError>
     ensures main { IfOk result (λ outcomes. Begins (S.told (store_of client.old)) (L.told outside.old.link) (S.told (store_of client.new)) → HoldsTold calls.now outcomes (L.told outside.new.link)) }
-    ensures complete { IfOk result (λ outcomes. Begins (S.told (store_of client.old)) (L.told outside.old.link) (S.told (store_of client.new)) → CompletesTold calls.now outcomes (L.told outside.new.link)) }
-    ensures causes { IfOk result (λ outcomes. HaveCauses calls.now outcomes (moment (L.faults outside.old.link) (L.answers outside.old.link) (S.told (store_of client.old))) (moment (L.faults outside.new.link) (L.answers outside.new.link) (S.told (store_of client.new)))) }
+    ensures complete { IfOk result (λ outcomes. Begins (S.told (store_of client.old)) (L.told outside.old.link) (S.told (store_of client.new)) → HaveEnded (options_of client.old) calls.now outcomes (moment (S.told (store_of client.old)) (told_link (L.told outside.old.link) (L.setup outside.old.link) (L.answers outside.old.link) (L.faults outside.old.link))) (moment (S.told (store_of client.new)) (told_link (L.told outside.new.link) (L.setup outside.new.link) (L.answers outside.new.link) (L.faults outside.new.link)))) }
+    ensures causes { IfOk result (λ outcomes. HaveCauses (options_of client.old) calls.now outcomes (moment (S.told (store_of client.old)) (told_link (L.told outside.old.link) (L.setup outside.old.link) (L.answers outside.old.link) (L.faults outside.old.link))) (moment (S.told (store_of client.new)) (told_link (L.told outside.new.link) (L.setup outside.new.link) (L.answers outside.new.link) (L.faults outside.new.link)))) }
     ensures replayed { OnOk result (IsFresh (L.told outside.old.link) → IsReplayed (L.told outside.new.link)) }
     ensures making { KeepsMaking (L.told outside.old.link) (L.told outside.new.link) }
     ensures drawn { Draws (S.told (store_of client.old)) (S.told (store_of client.new)) }
@@ -50,8 +51,8 @@ pub(crate) fn make_call<S: SessionStore, L: Link, K: Clock, R: Rng>(
     outside: &mut Outside<L, K, R>,
     call: &Call,
 ) -> Outcome
-    ensures makes { MakesCall (S.told (store_of client.old)) (S.told (store_of client.new)) (L.told outside.old.link) (L.told outside.new.link) call.now outside.old.call result.result }
-    ensures cause { HasCause (moment (L.faults outside.old.link) (L.answers outside.old.link) (S.told (store_of client.old))) (moment (L.faults outside.new.link) (L.answers outside.new.link) (S.told (store_of client.new))) call.now (end_of result.result) }
+    ensures makes { MakesCall (options_of client.old) (moment (S.told (store_of client.old)) (told_link (L.told outside.old.link) (L.setup outside.old.link) (L.answers outside.old.link) (L.faults outside.old.link))) (moment (S.told (store_of client.new)) (told_link (L.told outside.new.link) (L.setup outside.new.link) (L.answers outside.new.link) (L.faults outside.new.link))) call.now outside.old.call result.result }
+    ensures cause { HasCause (options_of client.old) (moment (S.told (store_of client.old)) (told_link (L.told outside.old.link) (L.setup outside.old.link) (L.answers outside.old.link) (L.faults outside.old.link))) (moment (S.told (store_of client.new)) (told_link (L.told outside.new.link) (L.setup outside.new.link) (L.answers outside.new.link) (L.faults outside.new.link))) call.now result.result }
     ensures options { options_of client.new ≡ options_of client.old }
 {
     let started_ms = outside.clock.now_ms();
@@ -71,8 +72,8 @@ fn answer_call<S: SessionStore, L: Link, K: Clock, R: Rng>(
     outside: &mut Outside<L, K, R>,
     call: &Call,
 ) -> driver_error::Result<Answer>
-    ensures makes { MakesCall (S.told (store_of client.old)) (S.told (store_of client.new)) (L.told outside.old.link) (L.told outside.new.link) call.now outside.old.call result }
-    ensures cause { HasCause (moment (L.faults outside.old.link) (L.answers outside.old.link) (S.told (store_of client.old))) (moment (L.faults outside.new.link) (L.answers outside.new.link) (S.told (store_of client.new))) call.now (end_of result) }
+    ensures makes { MakesCall (options_of client.old) (moment (S.told (store_of client.old)) (told_link (L.told outside.old.link) (L.setup outside.old.link) (L.answers outside.old.link) (L.faults outside.old.link))) (moment (S.told (store_of client.new)) (told_link (L.told outside.new.link) (L.setup outside.new.link) (L.answers outside.new.link) (L.faults outside.new.link))) call.now outside.old.call result }
+    ensures cause { HasCause (options_of client.old) (moment (S.told (store_of client.old)) (told_link (L.told outside.old.link) (L.setup outside.old.link) (L.answers outside.old.link) (L.faults outside.old.link))) (moment (S.told (store_of client.new)) (told_link (L.told outside.new.link) (L.setup outside.new.link) (L.answers outside.new.link) (L.faults outside.new.link))) call.now result }
     ensures options { options_of client.new ≡ options_of client.old }
 {
     match call {
@@ -87,8 +88,8 @@ fn answer_single<S: SessionStore, L: Link, K: Clock, R: Rng>(
     outside: &mut Outside<L, K, R>,
     write: &SingleWrite,
 ) -> driver_error::Result<Answer>
-    ensures makes { MakesCall (S.told (store_of client.old)) (S.told (store_of client.new)) (L.told outside.old.link) (L.told outside.new.link) (Single write.now) outside.old.call result }
-    ensures cause { HasCause (moment (L.faults outside.old.link) (L.answers outside.old.link) (S.told (store_of client.old))) (moment (L.faults outside.new.link) (L.answers outside.new.link) (S.told (store_of client.new))) (Single write.now) (end_of result) }
+    ensures makes { MakesCall (options_of client.old) (moment (S.told (store_of client.old)) (told_link (L.told outside.old.link) (L.setup outside.old.link) (L.answers outside.old.link) (L.faults outside.old.link))) (moment (S.told (store_of client.new)) (told_link (L.told outside.new.link) (L.setup outside.new.link) (L.answers outside.new.link) (L.faults outside.new.link))) (Single write.now) outside.old.call result }
+    ensures cause { HasCause (options_of client.old) (moment (S.told (store_of client.old)) (told_link (L.told outside.old.link) (L.setup outside.old.link) (L.answers outside.old.link) (L.faults outside.old.link))) (moment (S.told (store_of client.new)) (told_link (L.told outside.new.link) (L.setup outside.new.link) (L.answers outside.new.link) (L.faults outside.new.link))) (Single write.now) result }
     ensures options { options_of client.new ≡ options_of client.old }
 {
     let place = Place {

@@ -141,7 +141,10 @@ fn insert(alloc: Global, document: Document) -> Result<Call, AllocError> {
 
 /// A client that has done nothing.
 fn new_client(alloc: Global) -> Client<PlainStore<CountingIds>> {
-    let options = ClientOptions { client_number: 1 };
+    let options = ClientOptions {
+        client_number: 1,
+        retry_writes: None,
+    };
     Client::new(options, PlainStore::new(alloc, CountingIds::new()))
 }
 

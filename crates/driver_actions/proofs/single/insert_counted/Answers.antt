@@ -1,0 +1,16 @@
+-- The insert is that of an operation.
+use Rattle.driver_exec.specs.Client.{store_of}
+use Rattle.driver_exec.proofs.Trying.{stays_same}
+use Rattle.driver_actions.proofs.single.insert_counted.Goals as goal
+
+pub returns-clause-inserts : goal.returns-clause-inserts
+returns-clause-inserts g c = record {
+  store = g.S.SessionStore.told (store_of c.args.client.now);
+  stays = stays_same (g.S.SessionStore.told (store_of c.args.client.now));
+  bytes = c.args.bytes;
+  spelled = c.requires.spelled;
+  executes = c.insert_single.ensures.single;
+  wrote = c.insert_single.ensures.wrote;
+  lent = c.insert_single.ensures.lent;
+  drawn = c.insert_single.ensures.drawn;
+}
