@@ -1,0 +1,171 @@
+//! One insert of `{_id: 1}` by a new client over a link, and what a row sees of its end.
+ghost use Rattle.std.specs.Prelude.{◌≡◌, ◌<◌, IfSome};
+ghost use Rattle.bson_lite.specs.Spelling.{Spells};
+
+use bson_lite::{Bson, Bytes, Document, Namespace, Text, encode};
+use driver_error::{Error, ErrorKind, IoKind, RETRYABLE_WRITE_ERROR, Result};
+use driver_exec::{Client, Outside, PlainStore, Steps, insert_single};
+use driver_link::{
+    ClientOptions, CountingIds, Description, Link, MemClock, Place, PlacedWrite, WriteKind, Written,
+};
+use std::alloc::{AllocError, Global};
+use std::marker::Brand;
+use std::sync::ledger::{Blank, Ledger};
+
+/// A connection's server that takes sessions and retryable writes.
+pub(crate) const SERVER: Description = Description {
+    max_wire_version: Some(25),
+    max_bson_object_size: 16_777_216,
+    max_message_size_bytes: 48_000_000,
+    max_write_batch_size: 100_000,
+    supports_sessions: true,
+    supports_retryable_writes: true,
+    sharded: false,
+};
+
+/// What a caller is told whose deployment takes no transaction numbers.
+const NO_NUMBERS: &str =
+    "This MongoDB deployment does not support retryable writes. Please add retryWrites=false to your connection string.";
+
+/// How an insert ended.
+#[derive(Clone, Copy, Debug, PartialEq, Eq)]
+pub(crate) enum Ended {
+    Done,
+    Io(IoKind),
+    Command(i32),
+    /// A command error in the words for a deployment that takes no transaction numbers.
+    NoNumbers,
+    Selection,
+    InvalidResponse,
+    Other,
+}
+
+/// An insert's end: how it ended, how many labels its error has, and whether that of a retryable write is
+/// among them.
+#[derive(Clone, Copy)]
+pub(crate) struct Seen {
+    pub(crate) ended: Ended,
+    pub(crate) labels: usize,
+    pub(crate) retryable: bool,
+}
+
+/// What the kind of an error tells.
+fn how_ended(error: &Error) -> Ended {
+    match error.kind() {
+        ErrorKind::Io(found) => Ended::Io(*found),
+        ErrorKind::Command(found) if found.message.as_str() == NO_NUMBERS => Ended::NoNumbers,
+        ErrorKind::Command(found) => Ended::Command(found.code),
+        ErrorKind::ServerSelection { message }
+            if message.as_str() == "scheduled selection failure" => { Ended::Selection }
+        ErrorKind::InvalidResponse { .. } => Ended::InvalidResponse,
+        _ => Ended::Other,
+    }
+}
+
+/// How many labels an error has, or none where there is no memory.
+fn label_count(alloc: Global, error: &Error) -> Option<usize> {
+    match error.labels().sorted(alloc) {
+        Ok(labels) => Some(labels.len()),
+        Err(_refused) => None,
+    }
+}
+
+/// An error as a row sees it, or none where there is no memory.
+fn seen_error(alloc: Global, error: Error) -> Option<Seen> {
+    let ended = how_ended(&error);
+    let retryable = error.has_own_label(RETRYABLE_WRITE_ERROR);
+    let labels = label_count(alloc, &error);
+    drop(error);
+    Some(Seen {
+        ended,
+        labels: labels?,
+        retryable,
+    })
+}
+
+/// An insert's end as a row sees it, or none where there is no memory.
+fn seen_end(alloc: Global, end: Result<()>) -> Option<Seen> {
+    match end {
+        Ok(()) => Some(Seen {
+            ended: Ended::Done,
+            labels: 0,
+            retryable: false,
+        }),
+        Err(error) => seen_error(alloc, error),
+    }
+}
+
+/// The write of the document, at the first place of the first call.
+fn write(alloc: Global) -> std::result::Result<PlacedWrite, AllocError> {
+    let mut document = Document::new(alloc);
+    document.push("_id", Bson::Int32(1))?;
+    let namespace = Namespace {
+        db: Text::from_str(alloc, "shop")?,
+        coll: Text::from_str(alloc, "items")?,
+    };
+    let written = Written {
+        kind: WriteKind::Insert,
+        namespace,
+        document,
+    };
+    Ok(PlacedWrite {
+        place: Place { call: 0, index: 0 },
+        written,
+    })
+}
+
+/// The bytes of a document, or none where there is no memory.
+fn spelled(alloc: Global, document: &Document) -> Option<Bytes>
+    ensures { IfSome result (λ bytes. Spells document.now bytes) }
+{
+    match encode(alloc, document) {
+        Ok(bytes) => Some(bytes),
+        Err(_refused) => None,
+    }
+}
+
+/// The insert, with a count of sends over a ledger.
+fn counted<L: Link, Q: Ledger>(
+    alloc: Global,
+    write: &PlacedWrite,
+    bytes: Bytes,
+    link: L,
+    blank: Blank,
+) -> (Result<()>, L)
+    requires name { blank.name ≡ Q.name }
+    requires parts { blank.parts ≡ Q.parts }
+    requires some { 0 < blank.parts }
+    requires spelled { Spells write.now.written.document bytes }
+{
+    let options = ClientOptions {
+        client_number: 1,
+        retry_writes: None,
+    };
+    let mut client = Client::new(options, PlainStore::new(alloc, CountingIds::new()));
+    let mut outside = Outside {
+        link,
+        clock: MemClock::new(0, 0),
+        words: (),
+        call: 0,
+    };
+    let mut sends: Steps<Q> = Steps::new(blank);
+    let result = insert_single(alloc, &mut client, write, bytes, &mut outside, &mut sends);
+    let Outside {
+        link,
+        clock: _,
+        words: _,
+        call: _,
+    } = outside;
+    (result, link)
+}
+
+/// The insert's end and the link afterwards, or none where there is no memory.
+pub(crate) fn insert<L: Link + Drop>(alloc: Global, link: L) -> Option<(Seen, L)> {
+    let Ok(write) = write(alloc) else {
+        return None;
+    };
+    let bytes = spelled(alloc, &write.written.document)?;
+    let (result, link) = counted::<L, Brand>(alloc, &write, bytes, link, Blank::new(1));
+    let seen = seen_end(alloc, result)?;
+    Some((seen, link))
+}

@@ -1,0 +1,92 @@
+//! What no clause shows: that replies are read with ample memory, by bytes of the BSON layout.
+use driver_error::{Error, ErrorKind, Result};
+use driver_exec::{CommandResponse, read_response};
+use std::alloc::Global;
+
+/// `{ok: 1}`
+const DONE: &[u8] = b"\x0d\0\0\0\x10ok\0\x01\0\0\0\0";
+
+/// `{}`
+const EMPTY: &[u8] = b"\x05\0\0\0\0";
+
+/// `{ok: "x"}`
+const ODD: &[u8] = b"\x0f\0\0\0\x02ok\0\x02\0\0\0x\0\0";
+
+/// `{ok: 0, code: 13, errmsg: "x"}`
+const FAILED: &[u8] = b"\x25\0\0\0\x10ok\0\0\0\0\0\x10code\0\x0d\0\0\0\x02errmsg\0\x02\0\0\0x\0\0";
+
+/// `{ok: 0}`
+const BARE: &[u8] = b"\x0d\0\0\0\x10ok\0\0\0\0\0\0";
+
+/// A reader that promises nothing, since a test's proof reads each clause of what it calls.
+fn read(alloc: Global, bytes: &[u8]) -> Result<CommandResponse> {
+    read_response(alloc, bytes)
+}
+
+/// Whether a reply is taken as done.
+fn is_done(alloc: Global, bytes: &[u8]) -> bool {
+    match read(alloc, bytes) {
+        Ok(response) => response.ok == 1 && response.body.get("ok").is_some(),
+        Err(_) => false,
+    }
+}
+
+/// Whether an error keeps a reply of these bytes.
+fn keeps(error: &Error, bytes: &[u8]) -> bool {
+    match error.server_response() {
+        Some(response) => response.as_bytes() == bytes,
+        None => false,
+    }
+}
+
+/// Whether a reply breaks the form of replies, with this message, and is kept.
+fn breaks(alloc: Global, bytes: &[u8], text: &str) -> bool {
+    let Err(error) = read(alloc, bytes) else {
+        return false;
+    };
+    match error.kind() {
+        ErrorKind::InvalidResponse { message } => {
+            message.as_str() == text && keeps(&error, bytes)
+        }
+        _ => false,
+    }
+}
+
+/// Whether a reply spells a command error of this code and message, and is kept.
+fn fails(alloc: Global, bytes: &[u8], code: i32, text: &str) -> bool {
+    let Err(error) = read(alloc, bytes) else {
+        return false;
+    };
+    match error.kind() {
+        ErrorKind::Command(failed) => {
+            failed.code == code && failed.message.as_str() == text && keeps(&error, bytes)
+        }
+        _ => false,
+    }
+}
+
+#[test]
+fn a_done_command_is_read(rt: HostRuntime) {
+    assert!(rt; is_done(rt.alloc(), DONE));
+}
+
+#[test]
+fn a_reply_without_ok_is_refused(rt: HostRuntime) {
+    assert!(rt; breaks(rt.alloc(), EMPTY, "missing 'ok' value in response"));
+}
+
+#[test]
+fn an_ok_that_is_no_number_is_refused(rt: HostRuntime) {
+    assert!(rt; breaks(rt.alloc(), ODD, "expected ok value to be a number"));
+}
+
+#[test]
+fn a_failed_command_needs_a_code(rt: HostRuntime) {
+    assert!(rt; !is_done(rt.alloc(), BARE));
+    assert!(rt; !fails(rt.alloc(), BARE, 0, ""));
+}
+
+#[test]
+fn a_failed_command_spells_its_error(rt: HostRuntime) {
+    assert!(rt; fails(rt.alloc(), FAILED, 13, "x"));
+}

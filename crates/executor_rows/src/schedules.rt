@@ -1,0 +1,350 @@
+//! Every short schedule over a few inserts, with every order of late deliveries: no place stands twice, every entry is
+//! the caller's own, each Ok is done, and each error is that of a connection that was reset.
+ghost use Rattle.std.specs.Prelude.{All, IfOk};
+ghost use Rattle.driver_link.specs.WellFormed.{IsItem, IsWellFormed};
+
+use crate::inserting::SERVER;
+use bson_lite::{Bson, Document, List, Namespace, Text};
+use driver_actions::{Answer, Call, Outcome, SingleAnswer, SingleWrite, run_calls};
+use driver_error::{Error, ErrorKind, IoKind, RETRYABLE_WRITE_ERROR};
+use driver_exec::{Client, Outside, PlainStore};
+use driver_link::{
+    ClientOptions, CountingIds, Entry, Item, MemClock, Schedule, Scheduled, Server, Setup,
+};
+use model_server::ModelServer;
+use rand_core::SeedableRng;
+use rand_pcg::Pcg32;
+use std::alloc::{AllocError, Global};
+
+/// So many items a schedule has, and so many schedules of that length there are.
+const LENGTHS: [(u64, u64); 5] = [(0, 1), (1, 4), (2, 16), (3, 64), (4, 256)];
+
+/// The item of a digit: served, lost, late, or its reply lost.
+fn item(alloc: Global, digit: u64) -> Item
+    ensures { IsItem result }
+{
+    match digit {
+        0 => Item::Serve {
+            results: List::new(alloc),
+            fail: List::new(alloc),
+            write_concern_error: None,
+            page: None,
+        },
+        1 => Item::Lost,
+        2 => Item::Late,
+        _ => Item::ReplyLost,
+    }
+}
+
+/// The items of a number in base four, its last digit first.
+fn items(alloc: Global, code: u64, length: u64) -> Result<List<Scheduled>, AllocError>
+    ensures { IfOk result (λ steps. All (λ step. IsItem step.item) steps) }
+{
+    let mut steps = List::new(alloc);
+    let mut rest = code;
+    'items: for _ in 0..length {
+        steps.push(Scheduled {
+            deliver: List::new(alloc),
+            item: item(alloc, rest % 4),
+        })?;
+        rest /= 4;
+    }
+    Ok(steps)
+}
+
+fn schedule(alloc: Global, code: u64, length: u64) -> Result<Schedule, AllocError>
+    ensures { IfOk result IsWellFormed }
+{
+    Ok(Schedule {
+        items: items(alloc, code, length)?,
+        selects: List::new(alloc),
+        check_outs: List::new(alloc),
+        overloaded_check_outs: List::new(alloc),
+        reauthentications: List::new(alloc),
+        supports: List::new(alloc),
+    })
+}
+
+/// The insert of `{x: number}`.
+fn call(alloc: Global, number: i32) -> Result<Call, AllocError> {
+    let mut document = Document::new(alloc);
+    document.push("x", Bson::Int32(number))?;
+    let namespace = Namespace {
+        db: Text::from_str(alloc, "shop")?,
+        coll: Text::from_str(alloc, "items")?,
+    };
+    Ok(Call::Single {
+        write: SingleWrite::InsertOne {
+            namespace,
+            document,
+        },
+    })
+}
+
+fn calls(alloc: Global, count: i32) -> Result<List<Call>, AllocError> {
+    let mut calls = List::new(alloc);
+    for number in 0..count {
+        calls.push(call(alloc, number)?)?;
+    }
+    Ok(calls)
+}
+
+/// The outcomes of so many inserts under a schedule, and the server after them.
+fn run(
+    alloc: Global,
+    count: i32,
+    code: u64,
+    length: u64,
+) -> Result<(List<Outcome>, ModelServer), AllocError> {
+    let calls = calls(alloc, count)?;
+    let schedule = schedule(alloc, code, length)?;
+    let setup = Setup {
+        description: SERVER,
+        transactions: true,
+        timeout_ms: Some(1_800_000),
+    };
+    let options = ClientOptions {
+        client_number: 1,
+        retry_writes: None,
+    };
+    let mut client = Client::new(options, PlainStore::new(alloc, CountingIds::new()));
+    let mut outside = Outside {
+        link: ModelServer::new(alloc, setup, schedule),
+        clock: MemClock::new(0, 0),
+        words: Pcg32::seed_from_u64(1),
+        call: 0,
+    };
+    let outcomes = run_calls(alloc, &mut client, &mut outside, calls.as_slice())?;
+    let Outside {
+        link,
+        clock: _,
+        words: _,
+        call: _,
+    } = outside;
+    Ok((outcomes, link))
+}
+
+/// Whether two entries have one place.
+fn is_same_place(a: &Entry, b: &Entry) -> bool {
+    a.place.call == b.place.call && a.place.index == b.place.index
+}
+
+/// How many entries have the place of this one.
+fn times(log: &[Entry], entry: &Entry) -> u64 {
+    let mut count: u64 = 0;
+    for other in log {
+        if is_same_place(other, entry) {
+            count = count.saturating_add(1);
+        }
+    }
+    count
+}
+
+/// Whether an entry is the insert that the caller gave as the call of its place.
+fn is_own(entry: &Entry, count: i32) -> bool {
+    let number = match entry.written.document.get("x") {
+        Some(Bson::Int32(number)) => *number,
+        _ => return false,
+    };
+    number >= 0
+        && number < count
+        && entry.place.call == number as u64
+        && entry.place.index == 0
+        && entry.written.namespace.db.as_str() == "shop"
+        && entry.written.namespace.coll.as_str() == "items"
+}
+
+/// Whether each entry is the caller's own, and stands at its place alone.
+fn is_sound(log: &[Entry], count: i32) -> bool {
+    for entry in log {
+        if !is_own(entry, count) || times(log, entry) != 1 {
+            return false;
+        }
+    }
+    true
+}
+
+/// Whether an entry of this call stands, with this id.
+fn stands(log: &[Entry], call: u64, id: &Bson) -> bool {
+    for entry in log {
+        if entry.place.call == call {
+            return entry.written.document.get("_id") == Some(id);
+        }
+    }
+    false
+}
+
+/// Whether an error is that of a connection that was reset, with the label of a retryable write.
+fn is_reset(error: &Error) -> bool {
+    let reset = match error.kind() {
+        ErrorKind::Io(kind) => *kind == IoKind::ConnectionReset,
+        _ => false,
+    };
+    reset && error.has_own_label(RETRYABLE_WRITE_ERROR)
+}
+
+/// Whether an outcome is an Ok whose write stands with its id, or such an error.
+fn is_ended(log: &[Entry], call: u64, outcome: &Outcome) -> bool {
+    match &outcome.result {
+        Ok(Answer::Single(SingleAnswer::Inserted(result))) => {
+            stands(log, call, &result.inserted_id)
+        }
+        Err(error) => is_reset(error),
+    }
+}
+
+/// Whether each outcome ended so.
+fn have_ended(log: &[Entry], outcomes: &[Outcome]) -> bool {
+    let mut call: u64 = 0;
+    for outcome in outcomes {
+        if !is_ended(log, call, outcome) {
+            return false;
+        }
+        call = call.saturating_add(1);
+    }
+    true
+}
+
+/// Whether a number is among these.
+fn is_among(numbers: &[u64], number: u64) -> bool {
+    for other in numbers {
+        if *other == number {
+            return true;
+        }
+    }
+    false
+}
+
+/// The number at a place of those below a count that are not among these, from 0.
+fn unused(numbers: &[u64], count: u64, at: u64) -> u64 {
+    let mut left = at;
+    for number in 0..count {
+        if is_among(numbers, number) {
+            continue;
+        }
+        if left == 0 {
+            return number;
+        }
+        left -= 1;
+    }
+    count
+}
+
+/// The order of a number of all numbers below a count.
+fn order(alloc: Global, code: u64, count: u64) -> Result<List<u64>, AllocError> {
+    let mut order = List::new(alloc);
+    let mut rest = code;
+    for used in 0..count {
+        let left = count - used;
+        let next = unused(order.as_slice(), count, rest % left);
+        order.push(next)?;
+        rest /= left;
+    }
+    Ok(order)
+}
+
+/// How many orders so many numbers have, for five at most.
+fn orders(count: u64) -> Option<u64> {
+    match count {
+        0 | 1 => Some(1),
+        2 => Some(2),
+        3 => Some(6),
+        4 => Some(24),
+        5 => Some(120),
+        _ => None,
+    }
+}
+
+/// Serves the waiting sends in this order.
+fn deliver(server: &mut ModelServer, alloc: Global, order: &[u64]) -> bool {
+    for pick in order {
+        if !matches!(server.deliver_late(alloc, *pick), Ok(true)) {
+            return false;
+        }
+    }
+    true
+}
+
+fn holds(server: &Server, outcomes: &[Outcome], count: i32) -> bool {
+    let log = server.log.as_slice();
+    count >= 0
+        && outcomes.len() == count as usize
+        && is_sound(log, count)
+        && have_ended(log, outcomes)
+}
+
+/// Whether a schedule holds before late deliveries, and how many sends wait.
+fn waiting(alloc: Global, count: i32, code: u64, length: u64) -> Option<u64> {
+    let Ok((outcomes, server)) = run(alloc, count, code, length) else {
+        return None;
+    };
+    let well = holds(server.server(), outcomes.as_slice(), count);
+    let waiting = server.server().waiting.len() as u64;
+    drop(outcomes);
+    if well { Some(waiting) } else { None }
+}
+
+/// Whether a schedule holds after the late deliveries of an order.
+fn order_holds(alloc: Global, count: i32, code: u64, length: u64, picks: &[u64]) -> bool {
+    let Ok((outcomes, mut server)) = run(alloc, count, code, length) else {
+        return false;
+    };
+    let well = deliver(&mut server, alloc, picks)
+        && holds(server.server(), outcomes.as_slice(), count);
+    drop(outcomes);
+    well
+}
+
+/// Whether a schedule holds before late deliveries and after each order of them.
+fn schedule_holds(alloc: Global, count: i32, code: u64, length: u64) -> bool {
+    let Some(waiting) = waiting(alloc, count, code, length) else {
+        return false;
+    };
+    let Some(orders) = orders(waiting) else {
+        return false;
+    };
+    for number in 0..orders {
+        let Ok(picks) = order(alloc, number, waiting) else {
+            return false;
+        };
+        if !order_holds(alloc, count, code, length, picks.as_slice()) {
+            return false;
+        }
+    }
+    true
+}
+
+/// Whether each schedule of a length holds.
+fn length_holds(alloc: Global, count: i32, length: u64, schedules: u64) -> bool {
+    for code in 0..schedules {
+        if !schedule_holds(alloc, count, code, length) {
+            return false;
+        }
+    }
+    true
+}
+
+/// Whether each schedule of up to four items holds.
+fn all_hold(alloc: Global, count: i32) -> bool {
+    for (length, schedules) in LENGTHS {
+        if !length_holds(alloc, count, length, schedules) {
+            return false;
+        }
+    }
+    true
+}
+
+#[test]
+fn one_insert_stands_once(rt: HostRuntime) {
+    assert!(rt; all_hold(rt.alloc(), 1));
+}
+
+#[test]
+fn two_inserts_stand_once(rt: HostRuntime) {
+    assert!(rt; all_hold(rt.alloc(), 2));
+}
+
+#[test]
+fn three_inserts_stand_once(rt: HostRuntime) {
+    assert!(rt; all_hold(rt.alloc(), 3));
+}
