@@ -3,19 +3,20 @@ use Rattle.std.proofs.Common.{◌≡◌, ℕ, zero, suc, ◌+◌, ◌<◌, ◌^�
 use Rattle.driver_link.proofs.Counting.{sessions_apart}
 use Rattle.driver_link.specs.Apart as source
 use Rattle.driver_link.specs.CountingIds.{IdsDrawn, none_drawn, session_at}
-use Rattle.driver_link.specs.Exchange.{replayed, empty_server}
+use Rattle.driver_link.specs.Exchange.{after_picks, replayed, empty_server}
 use Rattle.driver_link.specs.Told.{Told}
 use Rattle.driver_link.specs.WellFormed.{IsWellFormed}
 use Rattle.driver_link.specs.declared.machine.Schedule.{Schedule}
+use Rattle.driver_link.specs.declared.options.ClientOptions.{ClientOptions}
 use Rattle.driver_actions.specs.declared.call.Call.{Call}
 use Rattle.driver_actions.specs.declared.call.Outcome.{Outcome}
 use Rattle.driver_exec.specs.declared.client.Client.{Client}
-use Rattle.driver_actions.specs.Causes.{Moment, moment, HaveCauses}
+use Rattle.driver_actions.specs.Causes.{Moment, moment}
 use Rattle.driver_exec.specs.Client.{options_of}
-use Rattle.driver_actions.specs.MainTheorem.{Begins, Holds, Completes}
+use Rattle.driver_actions.specs.MainTheorem.{Begins, HaveEnded, Holds}
 use Rattle.driver_exec.specs.Pool.{Stock, ToldStore, DrawsMore, AllApart, NotAmong, first_ids, empty_pool}
 use Rattle.driver_cli.specs.declared.script.Script.{Script}
-use Rattle.driver_cli.specs.Ended.{IsRunOf, begun_moment, moment_of}
+use Rattle.driver_cli.specs.Ended.{IsRunOf, begun_moment, link_of, moment_of, new_model}
 use Rattle.model_server.specs.ModelState.{ModelState}
 
 -- so many ids are as many
@@ -49,46 +50,47 @@ drawn_apart old now new more few apart =
     rw is (apart more.count count)
 
 -- a new client and a new server tell nothing yet
-pub begins : (store : Stock IdsDrawn) (model : ModelState) → store ≡ record { ids = none_drawn; pool = empty_pool } → model.faults ≡ 0 → model.answers ≡ []
-    → moment model.faults (Some model.answers) (Some (record { pool = store.pool; to_come = λ k. session_at store.ids k })) ≡ begun_moment
-begins store model new faults answers =
-    λ i. moment (faults i) (Some (answers i)) (Some (record { pool = (new i).pool; to_come = λ k. session_at (new i).ids k }))
+pub begins : (asked : Script) (store : Stock IdsDrawn) (model : ModelState) → store ≡ record { ids = none_drawn; pool = empty_pool } → model ≡ new_model asked
+    → moment (Some (record { pool = store.pool; to_come = λ k. session_at store.ids k })) (link_of model) ≡ begun_moment asked
+begins asked store model new made =
+    λ i. moment (Some (record { pool = (new i).pool; to_come = λ k. session_at (new i).ids k })) (link_of (made i))
 
--- the run of a script
-pub run_made : (asked : Script) (calls : List Call) (outcomes : List Outcome) (client : Client (Stock IdsDrawn)) (model : ModelState)
-    (store store_now : ToldStore) (told : Told) (first : Moment)
-    → HaveCauses calls outcomes first (moment_of client model) → first ≡ begun_moment
+-- the run of a script: its calls made the server before, and its late deliveries the server now
+pub run_made : (asked : Script) (calls : List Call) (outcomes : List Outcome) (client : Client (Stock IdsDrawn)) (before model : ModelState) (picks : List ℕ)
+    (store store_now : ToldStore) (told : Told) (given : ClientOptions) (first : Moment)
+    → first ≡ begun_moment asked → given ≡ asked.options
     → DrawsMore store store_now
-    → (Begins (Some store) (Some told) (Some store_now) → Holds calls outcomes model.server)
-    → (Begins (Some store) (Some told) (Some store_now) → Completes calls outcomes model.schedule model.server)
-    → ((told.server ≡ empty_server) × IsWellFormed told.schedule → model.server ≡ replayed model.schedule empty_server model.server.trace)
-    → (model.setup ≡ told.setup) × (model.schedule ≡ told.schedule)
+    → (Begins (Some store) (Some told) (Some store_now) → Holds calls outcomes before.server)
+    → (Begins (Some store) (Some told) (Some store_now) → HaveEnded given calls outcomes first (moment_of client before))
+    → ((told.server ≡ empty_server) × IsWellFormed told.schedule → before.server ≡ replayed before.schedule empty_server before.server.trace)
+    → (before.setup ≡ told.setup) × (before.schedule ≡ told.schedule)
     → calls ≡ asked.calls → options_of client ≡ asked.options
     → store.pool ≡ empty_pool → told.server ≡ empty_server → told.setup ≡ asked.setup → told.schedule ≡ asked.schedule → IsWellFormed asked.schedule
     → ((count : ℕ) → count < 2 ^ 64 → AllApart (first_ids count store.to_come))
     → length store_now.pool.drawn < 2 ^ 64
+    → model ≡ record before { server = after_picks before.server picks } → picks ≡ asked.late
     → IsRunOf asked (record { script = Some asked; outcomes = Some outcomes; client = Some client; server = Some model })
-run_made asked calls outcomes client model store store_now told first caused begun draws main complete replays keeps same options new fresh setup schedule well_formed apart few =
+run_made asked calls outcomes client before model picks store store_now told given first begun made draws main complete replays keeps same options new fresh setup schedule well_formed apart few late named =
     let begun_well : IsWellFormed told.schedule = subst (λ (s : Schedule). IsWellFormed s) (sym schedule) well_formed in
-    let kept : model.schedule ≡ asked.schedule = keeps.1 ∙ schedule in
+    let kept : before.schedule ≡ asked.schedule = keeps.1 ∙ schedule in
     let start : Begins (Some store) (Some told) (Some store_now) = record { new = new; fresh = (fresh, begun_well); apart = drawn_apart store store_now new draws few apart } in
-    let holds : Holds calls outcomes model.server = main start in
-    let completes : Completes calls outcomes asked.schedule model.server
-    = subst (λ (s : Schedule). Completes calls outcomes s model.server) kept (complete start) in
+    let holds : Holds calls outcomes before.server = main start in
+    let ended = subst (λ (m : Moment). HaveEnded given calls outcomes m (moment_of client before)) begun (complete start) in
     record {
       outcomes = outcomes;
       client = client;
+      before = before;
       model = model;
       script_kept = refl;
       outcomes_kept = refl;
       client_kept = refl;
       server_kept = refl;
       options = options;
-      setup = keeps.0 ∙ setup;
-      schedule = kept;
-      replayed = subst (λ (s : Schedule). model.server ≡ replayed s empty_server model.server.trace) kept (replays (fresh, begun_well));
-      holds = subst (λ (c : List Call). Holds c outcomes model.server) same holds;
-      completes = subst (λ (c : List Call). Completes c outcomes asked.schedule model.server) same completes;
-      causes = subst (λ (c : List Call). HaveCauses c outcomes begun_moment (moment_of client model)) same
-          (subst (λ (m : Moment). HaveCauses calls outcomes m (moment_of client model)) begun caused);
+      setup = ap (λ (m : ModelState). m.setup) late ∙ keeps.0 ∙ setup;
+      schedule = ap (λ (m : ModelState). m.schedule) late ∙ kept;
+      replayed = subst (λ (s : Schedule). before.server ≡ replayed s empty_server before.server.trace) kept (replays (fresh, begun_well));
+      holds = subst (λ (c : List Call). Holds c outcomes before.server) same holds;
+      ended = subst (λ (c : List Call). HaveEnded asked.options c outcomes (begun_moment asked) (moment_of client before)) same
+          (subst (λ (o : ClientOptions). HaveEnded o calls outcomes (begun_moment asked) (moment_of client before)) made ended);
+      late = late ∙ ap (λ (sends : List ℕ). record before { server = after_picks before.server sends }) named;
     }

@@ -1,6 +1,6 @@
 -- Pairs and arrays of a script, from what their parts are read as.
 use Rattle.std.proofs.Common.{◌≡◌, ℕ, ◌<◌, ◌+◌, List, [], ◌∷◌, ◌++◌, length, drop, get_or, refl, sym, ap, ◌∙◌, arith}
-use Rattle.std.specs.Prelude.{Option, None, Some, Result, Err}
+use Rattle.std.specs.Prelude.{Option, None, Some, Err}
 use Rattle.std.specs.List.{IsFirstAndRest}
 use Rattle.std.specs.Option.{option_and_then, option_map}
 use Rattle.std.proofs.lemmas.List.{append_assoc, at_drop_more}

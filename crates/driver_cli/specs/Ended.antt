@@ -1,13 +1,13 @@
 -- How a run of the program ends: for each status what was read, what was written and what was made.
 use Rattle.std.specs.Prelude.{◌≡◌, ℕ, ◌<◌, ◌≤◌, List, [], ◌∷◌, ◌++◌, length, ◌⊎◌, codes, Option, None, Some, Ok, Err, bytes_eq, if◌then◌else◌}
 use Rattle.driver_link.specs.CountingIds.{IdsDrawn, none_drawn, session_at}
-use Rattle.driver_link.specs.Exchange.{replayed, empty_server}
+use Rattle.driver_link.specs.Exchange.{after_picks, replayed, empty_server}
 use Rattle.driver_link.specs.Faults.{Rose}
 use Rattle.driver_link.specs.Streams.{Appends}
-use Rattle.driver_actions.specs.Causes.{Moment, moment, HaveCauses}
+use Rattle.driver_actions.specs.Causes.{Moment, moment}
 use Rattle.driver_exec.specs.Client.{options_of, store_of}
-use Rattle.driver_actions.specs.MainTheorem.{Holds}
-use Rattle.driver_actions.specs.MainTheorem.{Completes as CompletesCalls}
+use Rattle.driver_actions.specs.MainTheorem.{HaveEnded, Holds}
+use Rattle.driver_exec.specs.Links.{ToldLink, told_link}
 use Rattle.driver_exec.specs.Pool.{Stock, empty_pool}
 use Rattle.driver_actions.specs.declared.call.Outcome.{Outcome}
 use Rattle.driver_exec.specs.declared.client.Client.{Client}
@@ -19,27 +19,36 @@ use Rattle.driver_cli.specs.declared.script.Script.{Script}
 use Rattle.driver_cli.specs.declared.status.Status.{Status}
 use Rattle.driver_cli.specs.declared.status.Status.TheVariants as status
 use Rattle.driver_cli.specs.declared.streams.TheConstants.{LIMIT}
-use Rattle.model_server.specs.ModelState.{ModelState}
+use Rattle.model_server.specs.ModelState.{ModelState, no_calls, told_of}
 use Rattle.driver_cli.specs.Lines.{newline}
 use Rattle.driver_cli.specs.Report.{report}
 use Rattle.driver_cli.specs.Script.{script}
 use Rattle.driver_cli.specs.Streamed.{ReadToEnd, ReadMore, ReadFailed, TookFront}
 
+-- the server of a script that has seen nothing
+abbrev pub new_model : Script → ModelState
+new_model asked = record { server = empty_server; setup = asked.setup; schedule = asked.schedule; counts = no_calls; answers = []; faults = 0 }
+
+-- what a server tells
+abbrev pub link_of : ModelState → ToldLink
+link_of model = told_link (Some (told_of model)) (Some model.setup) (Some model.answers) model.faults
+
 -- what a new client and a new server tell before the first call
-abbrev pub begun_moment : Moment
-begun_moment = moment 0 (Some []) (Some (record { pool = empty_pool; to_come = λ k. session_at none_drawn k }))
+abbrev pub begun_moment : Script → Moment
+begun_moment asked = moment (Some (record { pool = empty_pool; to_come = λ k. session_at none_drawn k })) (link_of (new_model asked))
 
 -- what a client and a server tell
 abbrev pub moment_of : Client (Stock IdsDrawn) → ModelState → Moment
-moment_of client model =
-    moment model.faults (Some model.answers) (Some (record { pool = (store_of client).pool; to_come = λ k. session_at (store_of client).ids k }))
+moment_of client model = moment (Some (record { pool = (store_of client).pool; to_come = λ k. session_at (store_of client).ids k })) (link_of model)
 
--- a run of a script: its client and server are made by the script, the server is the fold of the
--- exchanges over its trace, the main theorem and completeness hold of the outcomes and the server, and
--- every outcome has its cause
+-- a run of a script: its client and server are made by the script; before the late deliveries the server was
+-- the fold of the exchanges over its trace, the main theorem held of the outcomes and the server, and every call
+-- ended with its cause, and well where it is valid and its part of the schedule is gentle; then the waiting sends
+-- that the script names were served in order, and nothing else changed
 pub record IsRunOf (asked : Script) (run : Run) : Type 0 where
   pub outcomes : List Outcome
   pub client : Client (Stock IdsDrawn)
+  pub before : ModelState
   pub model : ModelState
   pub script_kept : run.script ≡ Some asked
   pub outcomes_kept : run.outcomes ≡ Some outcomes
@@ -48,10 +57,10 @@ pub record IsRunOf (asked : Script) (run : Run) : Type 0 where
   pub options : options_of client ≡ asked.options
   pub setup : model.setup ≡ asked.setup
   pub schedule : model.schedule ≡ asked.schedule
-  pub replayed : model.server ≡ replayed asked.schedule empty_server model.server.trace
-  pub holds : Holds asked.calls outcomes model.server
-  pub completes : CompletesCalls asked.calls outcomes asked.schedule model.server
-  pub causes : HaveCauses asked.calls outcomes begun_moment (moment_of client model)
+  pub replayed : before.server ≡ replayed asked.schedule empty_server before.server.trace
+  pub holds : Holds asked.calls outcomes before.server
+  pub ended : HaveEnded asked.options asked.calls outcomes (begun_moment asked) (moment_of client before)
+  pub late : model ≡ record before { server = after_picks before.server asked.late }
 
 -- the input and the output before and now: what is left to read, what was written, how many calls failed
 pub record Ends : Type 0 where

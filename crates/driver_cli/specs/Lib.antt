@@ -4,6 +4,7 @@ pub mod Json
 pub mod Lines
 pub mod Report
 pub mod Script
+pub mod Steps
 pub mod Streamed
 pub mod Values
 pub mod Words

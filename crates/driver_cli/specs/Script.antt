@@ -2,29 +2,27 @@
 use Rattle.std.specs.Prelude.{◌≡◌, ℕ, ◌<◌, ◌≤◌, true, false, if◌then◌else◌, pos, List, [], ◌∷◌, length, codes, Option, None, Some, Result, Ok, Err, unwrap_or, bytes_eq}
 use Rattle.std.specs.Option.{option_and_then, option_map, ok_or}
 use Rattle.std.specs.Str.{is_utf8}
-use Rattle.driver_link.specs.declared.machine.Item.{Item}
-use Rattle.driver_link.specs.declared.machine.Item.TheVariants.{Lost}
-use Rattle.driver_link.specs.declared.machine.Schedule.{Schedule}
 use Rattle.driver_link.specs.declared.machine.Scheduled.{Scheduled}
-use Rattle.driver_link.specs.Exchange.{usual_item}
 use Rattle.driver_link.specs.declared.machine.Setup.{Setup}
 use Rattle.driver_link.specs.declared.options.ClientOptions.{ClientOptions}
 use Rattle.driver_actions.specs.declared.call.Call.{Call}
 use Rattle.driver_actions.specs.declared.call.Call.TheVariants.{Single}
 use Rattle.driver_actions.specs.declared.call.SingleWrite.TheVariants.{InsertOne}
-use Rattle.serde_json.specs.Data.{Data, string, object, no_members, member}
+use Rattle.serde_json.specs.Data.{Data, object, no_members, member}
 use Rattle.serde_json.specs.Read.{read}
-use Rattle.driver_cli.specs.declared.keys.TheConstants.{CALLS, DOC, INSERT_ONE, LOST, NS, SCHEDULE, SERVE}
+use Rattle.driver_cli.specs.declared.keys.TheConstants.{CALLS, DOC, FAULTS, INSERT_ONE, LATE, NS, SCHEDULE}
+use Rattle.driver_cli.specs.declared.schedule.Faults.{Faults}
 use Rattle.driver_cli.specs.declared.script.TheConstants.{MOST_CALLS}
 use Rattle.driver_cli.specs.declared.script.Script.{Script}
 use Rattle.driver_cli.specs.declared.script.ScriptFault.{ScriptFault}
 use Rattle.driver_cli.specs.declared.script.ScriptFault.TheVariants.{Wrong, TooManyCalls, Memory}
 use Rattle.driver_cli.specs.Json.{list_of, needed, optional, has_only}
+use Rattle.driver_cli.specs.Steps.{count_of, faults_of, no_faults, schedule_with, step_of}
 use Rattle.driver_cli.specs.Values.{namespace_of, document_of}
 
 -- the options of a script's client, which is the first
 abbrev pub usual_options : ClientOptions
-usual_options = record { client_number = 1 }
+usual_options = record { client_number = 1; retry_writes = None }
 
 -- the setup of a script's server
 abbrev pub usual_setup : Setup
@@ -42,32 +40,6 @@ usual_setup = record {
   timeout_ms = Some 1800000;
 }
 
--- the schedule of these steps, in which no other call fails
-abbrev pub schedule_with : List Scheduled → Schedule
-schedule_with steps =
-    record { items = steps; selects = []; check_outs = []; overloaded_check_outs = []; reauthentications = []; supports = [] }
-
--- the schedule that lets each exchange be served
-abbrev pub empty_schedule : Schedule
-empty_schedule = schedule_with []
-
--- the item of a name
-unfoldable pub item_named : List ℕ → Option Item
-item_named name = if bytes_eq name SERVE.now then Some usual_item else if bytes_eq name LOST.now then Some Lost else None
-
--- a step before which no waiting send is served
-abbrev pub step_with : Item → Scheduled
-step_with item = record { deliver = []; item = item }
-
--- a step of a schedule: the text that names its item
-unfoldable pub step_of : Data → Option Scheduled
-step_of (string name) = option_map step_with (item_named name)
-step_of d = None
-
--- a schedule: the list of its steps
-unfoldable pub schedule_of : Data → Option Schedule
-schedule_of d = option_map schedule_with (list_of step_of d)
-
 -- an insert of one document, with its namespace
 unfoldable pub insert_one_of : Data → Option Call
 insert_one_of d =
@@ -81,15 +53,27 @@ call_of (object (member name d no_members)) = if bytes_eq name INSERT_ONE.now th
 call_of d = None
 
 -- a script with these calls
-abbrev pub script_with : List Call → Option Schedule → Script
-script_with calls schedule =
-    record { options = usual_options; setup = usual_setup; calls = calls; schedule = unwrap_or schedule empty_schedule }
+abbrev pub script_with : List Call → Option (List Scheduled) → Option Faults → Option (List ℕ) → Script
+script_with calls steps faults late = record {
+  options = usual_options;
+  setup = usual_setup;
+  calls = calls;
+  schedule = schedule_with (unwrap_or steps []) (unwrap_or faults no_faults);
+  late = unwrap_or late [];
+}
 
--- a script: an object with its calls, and maybe a schedule
+-- what a script may leave out: its schedule, the calls of the link that fail, and the waiting sends to serve
+-- after the calls
+unfoldable pub script_around : List Call → Data → Option Script
+script_around calls d =
+    option_and_then (λ steps. option_and_then (λ faults. option_map (script_with calls steps faults)
+    (optional (list_of count_of) LATE.now d)) (optional faults_of FAULTS.now d)) (optional (list_of step_of) SCHEDULE.now d)
+
+-- a script: an object with its calls, and what it may leave out
 unfoldable pub script_of : Data → Option Script
 script_of d =
-    if has_only (CALLS.now ∷ SCHEDULE.now ∷ []) d
-    then option_and_then (λ calls. option_map (script_with calls) (optional schedule_of SCHEDULE.now d)) (needed (list_of call_of) CALLS.now d)
+    if has_only (CALLS.now ∷ SCHEDULE.now ∷ FAULTS.now ∷ LATE.now ∷ []) d
+    then option_and_then (λ calls. script_around calls d) (needed (list_of call_of) CALLS.now d)
     else None
 
 -- the value of a text in JSON

@@ -14,6 +14,7 @@ mod namespaces;
 pub mod program;
 pub mod report;
 pub mod running;
+mod schedule;
 pub mod script;
 mod standard;
 mod status;

@@ -1,5 +1,6 @@
 //! The program: words to a command, and a script from its input to its report.
-ghost use Rattle.std.specs.Prelude.{◌≡◌, ◌≢◌, ◌≤◌, ◌↔◌, Some, None, IfOk, length, ◌<◌, ◌^◌, ◌+◌, ◌-◌};
+ghost use Rattle.std.specs.Prelude.{◌≡◌, ◌≢◌, ◌≤◌, ◌↔◌, Some, None, IfOk, OnOk, length, ◌<◌, ◌^◌, ◌+◌, ◌-◌};
+ghost use Rattle.driver_link.specs.Exchange.{after_picks, delivered};
 ghost use Rattle.driver_link.specs.Faults.{Rose};
 ghost use Rattle.driver_link.specs.WellFormed.{IsWellFormed};
 ghost use Rattle.driver_cli.specs.Ended.{Completes, Ended, EndsWith, HasRun, IsRefused, IsRunOf, IsTooLarge, SaysTo, Refusal, Reported, command_of, refused_line, usage_line};
@@ -54,13 +55,15 @@ fn say<O: Sink>(sink: &mut O, line: &[u8])
     let _ = write_all(sink, line);
 }
 
-/// Makes the calls of a script on a new client over a new model server.
+/// Makes the calls of a script on a new client over a new model server, and then serves the waiting sends that
+/// the script names.
 fn run_of(alloc: Global, asked: Script) -> Result<Run, AllocError>
     requires { IsWellFormed asked.schedule }
     ensures { IfOk result (λ run. IsRunOf asked run) }
 {
     let options = ClientOptions {
         client_number: asked.options.client_number,
+        retry_writes: asked.options.retry_writes,
     };
     let mut client = Client::new(options, PlainStore::new(alloc, CountingIds::new()));
     let schedule = asked.schedule.try_clone(alloc)?;
@@ -73,19 +76,45 @@ fn run_of(alloc: Global, asked: Script) -> Result<Run, AllocError>
     let outcomes = run_calls(alloc, &mut client, &mut outside, asked.calls.as_slice())?;
     bound_drawn(&client);
     let Outside {
-        link,
+        mut link,
         clock,
         words,
         call: _,
     } = outside;
     drop(clock);
     drop(words);
+    deliver_each(&mut link, alloc, asked.late.as_slice())?;
     Ok(Run {
         script: Some(asked),
         outcomes: Some(outcomes),
         client: Some(client),
         server: Some(link),
     })
+}
+
+/// Serves the waiting sends of a list of picks in turn; a pick that is not waiting is passed over.
+#[tactic(auto, unfolding(driver_link::specs::Exchange::after_picks))]
+fn deliver_each(server: &mut ModelServer, alloc: Global, picks: &[u64]) -> Result<(), AllocError>
+    ensures { OnOk result (server.new ≡ record server.old { server = after_picks server.old.server picks.now }) }
+{
+    for pick in picks {
+        deliver(server, alloc, *pick)?;
+    }
+    Ok(())
+}
+
+/// Serves the send that waits at a place, where one does.
+fn deliver(server: &mut ModelServer, alloc: Global, pick: u64) -> Result<(), AllocError>
+    ensures { OnOk result (server.new ≡ record server.old { server = delivered server.old.server pick }) }
+{
+    match server.deliver_late(alloc, pick) {
+        Ok(_) => Ok(()),
+        // It fails for want of memory alone.
+        Err(error) => {
+            drop(error);
+            Err(AllocError)
+        }
+    }
 }
 
 /// The ids that a store drew stand in memory, so they are fewer than 2^64.

@@ -3,15 +3,15 @@ ghost use Rattle.std.specs.Prelude.{◌≡◌, codes, option_and_then, IfOk};
 ghost use Rattle.driver_link.specs.WellFormed.{IsWellFormed};
 ghost use Rattle.serde_json.specs.Data.{Data};
 ghost use Rattle.serde_json.specs.View.{view};
-ghost use Rattle.driver_link.specs.Exchange.{usual_item};
 ghost use Rattle.driver_cli.specs.Json.{Gives};
-ghost use Rattle.driver_cli.specs.Script.{insert_one_of, call_of, item_named, step_of, schedule_of, schedule_with, script_of, script, value_read, usual_options, usual_setup, IsWrong, Reads};
+ghost use Rattle.driver_cli.specs.Script.{insert_one_of, call_of, script_of, script, value_read, usual_options, usual_setup, IsWrong, Reads};
 
 use crate::json::{FromJson, Unread, is_object_of, read_needed, read_optional};
-use crate::keys::{CALLS, DOC, INSERT_ONE, LOST, NS, SCHEDULE, SERVE};
+use crate::keys::{CALLS, DOC, FAULTS, INSERT_ONE, LATE, NS, SCHEDULE};
+use crate::schedule::{no_faults, schedule_with};
 use bson_lite::{List, Text};
 use driver_actions::{Call, SingleWrite};
-use driver_link::{ClientOptions, Description, Item, Schedule, Scheduled, Setup};
+use driver_link::{ClientOptions, Description, Schedule, Setup};
 use serde_json::Value;
 use std::alloc::{AllocError, Global};
 
@@ -25,6 +25,8 @@ pub struct Script {
     pub setup: Setup,
     pub calls: List<Call>,
     pub schedule: Schedule,
+    /// The waiting sends to serve after the calls, by the order of lateness from 0.
+    pub late: List<u64>,
 }
 
 /// Why bytes are not run as a script.
@@ -87,18 +89,25 @@ fn any_script(alloc: Global, bytes: &[u8]) -> Result<Script, Unread>
 impl FromJson for Script {
     ghost spec = { script_of };
 
-    #[tactic(auto, unfolding(crate::specs::Script::script_of))]
+    #[tactic(auto, unfolding(crate::specs::Script::script_of, crate::specs::Script::script_around))]
     fn read(alloc: Global, value: &Value) -> Result<Script, Unread> {
-        if !is_object_of(value, &[CALLS, SCHEDULE]) {
+        if !is_object_of(value, &[CALLS, SCHEDULE, FAULTS, LATE]) {
             return Err(Unread::Wrong);
         }
         let calls = read_needed(alloc, value, CALLS)?;
-        let schedule = read_optional(alloc, value, SCHEDULE)?;
+        let steps = read_optional(alloc, value, SCHEDULE)?;
+        let faults = read_optional(alloc, value, FAULTS)?;
+        let late = read_optional(alloc, value, LATE)?;
         Ok(Script {
             options: options_of_scripts(),
             setup: setup_of_scripts(),
             calls,
-            schedule: schedule.unwrap_or(schedule_with(alloc, List::new(alloc))),
+            schedule: schedule_with(
+                alloc,
+                steps.unwrap_or(List::new(alloc)),
+                faults.unwrap_or(no_faults(alloc)),
+            ),
+            late: late.unwrap_or(List::new(alloc)),
         })
     }
 }
@@ -106,7 +115,10 @@ impl FromJson for Script {
 fn options_of_scripts() -> ClientOptions
     ensures { result ≡ usual_options }
 {
-    ClientOptions { client_number: 1 }
+    ClientOptions {
+        client_number: 1,
+        retry_writes: None,
+    }
 }
 
 fn setup_of_scripts() -> Setup
@@ -124,74 +136,6 @@ fn setup_of_scripts() -> Setup
         },
         transactions: true,
         timeout_ms: Some(1_800_000),
-    }
-}
-
-impl FromJson for Schedule {
-    ghost spec = { schedule_of };
-
-    #[tactic(auto, unfolding(crate::specs::Script::schedule_of))]
-    fn read(alloc: Global, value: &Value) -> Result<Schedule, Unread> {
-        let steps = List::<Scheduled>::read(alloc, value)?;
-        Ok(schedule_with(alloc, steps))
-    }
-}
-
-/// The schedule of these steps, in which no other call fails.
-fn schedule_with(alloc: Global, steps: List<Scheduled>) -> Schedule
-    ensures { result ≡ schedule_with steps }
-{
-    Schedule {
-        items: steps,
-        selects: List::new(alloc),
-        check_outs: List::new(alloc),
-        overloaded_check_outs: List::new(alloc),
-        reauthentications: List::new(alloc),
-        supports: List::new(alloc),
-    }
-}
-
-impl FromJson for Scheduled {
-    ghost spec = { step_of };
-
-    #[tactic(auto, unfolding(crate::specs::Script::step_of))]
-    fn read(alloc: Global, value: &Value) -> Result<Scheduled, Unread> {
-        let Value::String(name) = value else {
-            return Err(Unread::Wrong);
-        };
-        match item_named(alloc, name.as_str()) {
-            Some(item) => Ok(Scheduled {
-                deliver: List::new(alloc),
-                item,
-            }),
-            None => Err(Unread::Wrong),
-        }
-    }
-}
-
-/// The item of a name.
-#[tactic(auto, unfolding(crate::specs::Script::item_named))]
-fn item_named(alloc: Global, name: &str) -> Option<Item>
-    ensures { result ≡ item_named name.now }
-{
-    if name == SERVE {
-        return Some(usual_item(alloc));
-    }
-    if name == LOST {
-        return Some(Item::Lost);
-    }
-    None
-}
-
-/// The item by which an exchange is served and answered as usual.
-fn usual_item(alloc: Global) -> Item
-    ensures { result ≡ usual_item }
-{
-    Item::Serve {
-        results: List::new(alloc),
-        fail: List::new(alloc),
-        write_concern_error: None,
-        page: None,
     }
 }
 

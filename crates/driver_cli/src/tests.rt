@@ -10,24 +10,28 @@ use std::sync::Wait;
 use std::test::Fail;
 use std::thread::Threads;
 
+mod retries;
+mod schedules;
+
 const INSERT: &str =
     "{\"calls\":[{\"insertOne\":{\"ns\":\"shop.items\",\"doc\":[[\"x\",1]]}}],\"schedule\":[]}";
 
 const UPDATE: &str = "{\"calls\":[{\"updateOne\":{\"ns\":\"shop.items\",\"doc\":[]}}]}";
 
-/// Two inserts, of which the first is lost.
+/// Two inserts, of which the first is lost once.
 const LOST: &str =
     "{\"calls\":[{\"insertOne\":{\"ns\":\"shop.items\",\"doc\":[[\"x\",1]]}},{\"insertOne\":{\"ns\":\"shop.items\",\"doc\":[[\"x\",1]]}}],\"schedule\":[\"lost\"]}";
 
-const REPORT_OF_LOST: &str =
-    "call 0 insertOne: err Io ConnectionReset labels=RetryableWriteError source=-
+const REPORT_OF_LOST: &str = "call 0 insertOne: ok id=000000000000000000000001
 call 1 insertOne: ok id=000000000000000000000002
 send 0: insert session=1 number=1 places=0.0
-send 1: insert session=2 number=1 places=1.0
-entry 0: 1.0 session=2 number=1 n=1
+send 1: insert session=1 number=1 places=0.0
+send 2: insert session=2 number=1 places=1.0
+entry 0: 0.0 session=1 number=1 n=1
+entry 1: 1.0 session=2 number=1 n=1
 ids: distinct
 waiting: 0
-totals: calls=2 ok=1 sends=2 entries=1
+totals: calls=2 ok=2 sends=3 entries=2
 ";
 
 /// An insert into a database whose name has a dot.

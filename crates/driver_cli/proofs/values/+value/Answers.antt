@@ -4,7 +4,6 @@ use Rattle.std.proofs.lemmas.Result.{err_from_is_err_and}
 use Rattle.serde_json.specs.Data.{array}
 use Rattle.serde_json.specs.View.{view, items_view}
 use Rattle.serde_json.specs.declared.value.Value as value
-use Rattle.driver_cli.specs.Json.{Gives}
 use Rattle.driver_cli.specs.Values.{pair_of}
 use Rattle.driver_cli.proofs.ValueLaws.{two_items, pair_read, pair_wrong, values_more}
 use Rattle.driver_cli.proofs.values.+value.Goals as goal
