@@ -324,12 +324,12 @@ module _ (write : PlacedWrite) (bytes : List ℕ) (spelled : Spells write.writte
       readied apart = prepared.readied ready.held ready.store conn.description is_conn readies.holds apart
 
     -- the operation ends at once only for want of memory
-    refused_memory : (now : Scene) (error : Error) → DrawnApart now.store → EndsRefused trial mid now error → kind_of error ≡ kind.Memory
-    refused_memory now error apart refused =
+    refused_memory : (again : Bool) (now : Scene) (error : Error) → DrawnApart now.store → EndsRefused trial again mid now error → kind_of error ≡ kind.Memory
+    refused_memory again now error apart refused =
         let here = readied refused.ready refused.address refused.conn refused.readies (subst DrawnApart refused.store apart) in elim refused.refused [
           | inl none ↦ absurd (here.allowed none.none)
           | inr other ↦ elim other [
-            | inl none ↦ here.unnumbered (on_connection own refused.conn.description) now.held error none
+            | inl none ↦ here.unnumbered (on_connection own refused.conn.description) now.held error none.draws
             | inr none ↦ frame_memory (kind_of error) none.why
           ]
         ]
@@ -365,7 +365,7 @@ module _ (write : PlacedWrite) (bytes : List ℕ) (spelled : Spells write.writte
     }
 
     -- an attempt of the part
-    module _ (moment : Told) (mid : Scene) (prepared : IsPrepared moment mid) (now : Scene) (last : Told) (now_is : now.link.server ≡ Some last) (later : IsBefore last told_now)
+    module _ (again : Bool) (moment : Told) (mid : Scene) (prepared : IsPrepared moment mid) (now : Scene) (last : Told) (now_is : now.link.server ≡ Some last) (later : IsBefore last told_now)
         (apart : DrawnApart now.store) where
       unselected_none : (error : Error) → NotSelected mid now error → ⊥
       unselected_none error fails =
@@ -378,7 +378,7 @@ module _ (write : PlacedWrite) (bytes : List ℕ) (spelled : Spells write.writte
           first.is now_is later fails.fault fails.own fails.checks_out
 
       -- the insert went out
-      module _ (address : Address) (conn : Conn) (result : Result (List ℕ) LinkError) (sends : Sends trial mid now address conn result) where
+      module _ (address : Address) (conn : Conn) (result : Result (List ℕ) LinkError) (sends : Sends trial again mid now address conn result) where
         came : LeadsCalling moment mid.link sends.ready.link
         came = reached moment mid prepared sends.ready address conn sends.readies
 
@@ -477,7 +477,7 @@ module _ (write : PlacedWrite) (bytes : List ℕ) (spelled : Spells write.writte
             since_after = before_twice told before (told_after before send) since_told (after_before before send)
 
       -- a reply spells no failure
-      spelled_none : (address : Address) (error : Error) → SpellsFailure trial mid now address error → ⊥
+      spelled_none : (address : Address) (error : Error) → SpellsFailure trial again mid now address error → ⊥
       spelled_none address error fails =
           let bare = fails.is.is in
           let plain = plain_reply address fails.conn (Ok fails.reply) fails.sends fails.reply (steps address fails.conn (Ok fails.reply) fails.sends) in
@@ -489,7 +489,7 @@ module _ (write : PlacedWrite) (bytes : List ℕ) (spelled : Spells write.writte
         lost : Lost moment now
         labelled : has_label (labels_of (reworded error)) RETRYABLE_WRITE_ERROR.now ≡ true
 
-      loses_well : (address : Address) (error : Error) → LosesExchange trial mid now address error → LosesWell error
+      loses_well : (address : Address) (error : Error) → LosesExchange trial again mid now address error → LosesWell error
       loses_well address error fails =
           let result = Err (Fault fails.fault fails.own) in
           let turn = on_connection own fails.conn.description in
@@ -505,7 +505,7 @@ module _ (write : PlacedWrite) (bytes : List ℕ) (spelled : Spells write.writte
           }
 
       -- an attempt of the part fails only so
-      fails_well : (address : Address) (phase : FailurePhase) (error : Error) → FailsIn trial mid now address phase error → LosesWell error
+      fails_well : (address : Address) (phase : FailurePhase) (error : Error) → FailsIn trial again mid now address phase error → LosesWell error
       fails_well address Establishment error fails = absurd (unconnected_none address error fails)
       fails_well address Execution error fails = elim fails [
         | inl lost ↦ loses_well address error lost
@@ -524,10 +524,10 @@ module _ (write : PlacedWrite) (bytes : List ℕ) (spelled : Spells write.writte
 
     -- a further attempt does not fail
     again_none : (retry : Kept) (mid : Scene) (once : LostOnce retry mid) (now : Scene) (last : Told) → now.link.server ≡ Some last → IsBefore last told_now → DrawnApart now.store
-        → (address : Address) (phase : FailurePhase) (error : Error) → FailsIn trial mid now address phase error → ⊥
+        → (address : Address) (phase : FailurePhase) (error : Error) → FailsIn trial true mid now address phase error → ⊥
     again_none retry mid once now last now_is later apart address phase error fails =
         let first = once.lost in
-        let second = (fails_well first.moment mid (again_prepared told mid first) now last now_is later apart address phase error fails).lost in
+        let second = (fails_well true first.moment mid (again_prepared told mid first) now last now_is later apart address phase error fails).lost in
         let same = gentle.one first.at second.at first.part second.part first.lossy second.lossy in
         omega (arith, first.until, second.since, same)
 
@@ -552,14 +552,14 @@ module _ (write : PlacedWrite) (bytes : List ℕ) (spelled : Spells write.writte
 
       -- one failure more
       first_fails : (now : Scene) (last : Told) (now_is : now.link.server ≡ Some last) (later : IsBefore last told_now) (apart : DrawnApart now.store) (address : Address) (phase : FailurePhase) (error : Error)
-          → FailsIn trial (first_scene store link) now address phase error → LosesWell told (first_scene store link) first_prepared now last now_is later apart error
-      first_fails now last now_is later apart address phase error fails = fails_well told (first_scene store link) first_prepared now last now_is later apart address phase error fails
+          → FailsIn trial false (first_scene store link) now address phase error → LosesWell false told (first_scene store link) first_prepared now last now_is later apart error
+      first_fails now last now_is later apart address phase error fails = fails_well false told (first_scene store link) first_prepared now last now_is later apart address phase error fails
 
       fails_far : (kept : Option Kept) (mid now : Scene) (last : Told) → SoFar kept mid → now.link.server ≡ Some last → IsBefore last told_now → DrawnApart now.store → (failing : Failing) (retry : Kept)
-          → FailsIn trial mid now failing.address failing.failure.phase failing.failure.error → decided trial sharded kept failing now ≡ Ok retry → LostOnce retry now
+          → FailsIn trial (is_some kept) mid now failing.address failing.failure.phase failing.failure.error → decided trial sharded kept failing now ≡ Ok retry → LostOnce retry now
       fails_far None mid now last far now_is later apart failing retry fails decides =
           let error = failing.failure.error in
-          let begun = subst (λ s. FailsIn trial s now failing.address failing.failure.phase error) far fails in
+          let begun = subst (λ s. FailsIn trial false s now failing.address failing.failure.phase error) far fails in
           let well = first_fails now last now_is later apart failing.address failing.failure.phase error begun in
           first_retry now failing well.lost well.labelled retry decides
       fails_far (Some earlier) mid now last far now_is later apart failing retry fails decides =
@@ -573,7 +573,7 @@ module _ (write : PlacedWrite) (bytes : List ℕ) (spelled : Spells write.writte
           let rest = reaches.1.1.1 in
           let came = reaches_leads failures rest.0 mid rest.1.0 in
           leads_twice told link mid.link now.link came
-          (fails_lead trial (insert_asked write) asked came.moment mid now came.is failing.address failing.failure.phase failing.failure.error rest.1.1.tries)
+          (fails_lead trial (is_some rest.0) (insert_asked write) asked came.moment mid now came.is failing.address failing.failure.phase failing.failure.error rest.1.1.tries)
 
       -- what it has come to there
       reaches_far : (failures : List Failing) (kept : Option Kept) (now : Scene) (last : Told) → Reaches trial sharded (first_scene store link) failures kept now
@@ -583,9 +583,9 @@ module _ (write : PlacedWrite) (bytes : List ℕ) (spelled : Spells write.writte
           let mid = reaches.1.1.0 in
           let rest = reaches.1.1.1 in
           let came = reaches_leads failures rest.0 mid rest.1.0 in
-          let more = fails_lead trial (insert_asked write) asked came.moment mid now came.is failing.address failing.failure.phase failing.failure.error rest.1.1.tries in
+          let more = fails_lead trial (is_some rest.0) (insert_asked write) asked came.moment mid now came.is failing.address failing.failure.phase failing.failure.error rest.1.1.tries in
           let here = subst (IsBefore came.moment) (one_moment now.link more.moment last more.is now_is) more.later in
-          let earlier = fails_apart trial mid now failing.address failing.failure.phase failing.failure.error rest.1.1.tries apart in
+          let earlier = fails_apart trial (is_some rest.0) mid now failing.address failing.failure.phase failing.failure.error rest.1.1.tries apart in
           let far = reaches_far failures rest.0 mid came.moment rest.1.0 came.is (before_twice came.moment last told_now here later) earlier in
           subst (λ k. SoFar k now) (sym reaches.1.0) (fails_far rest.0 mid now last far now_is later apart failing reaches.0 rest.1.1.tries rest.1.1.decides)
 
@@ -631,14 +631,14 @@ module _ (write : PlacedWrite) (bytes : List ℕ) (spelled : Spells write.writte
             by_kept None far ends = absurd ends
             by_kept (Some retry) far ends = absurd (stops_none retry far stops)
 
-        ended_quiet : (error : Error) → EndsAtOnce trial mid now error → kind_of error ≡ kind.Memory
-        ended_quiet error ends = elim ends [
+        ended_quiet : (again : Bool) (error : Error) → EndsAtOnce trial again mid now error → kind_of error ≡ kind.Memory
+        ended_quiet again error ends = elim ends [
           | inl unready ↦ unready.why
           | inr other ↦ elim other [
             | inl refused ↦
                 let came = (connects_lead came_last.moment mid.link refused.ready.link refused.address refused.conn came_last.is refused.readies.connects).leads in
                 let here = prepares (subst (Leads came_last.moment mid.link) (sym refused.link) came) in
-                refused_memory here.moment mid here.prepared now error apart refused
+                refused_memory here.moment mid here.prepared again now error apart refused
             | inr sent ↦ sent.why
           ]
         ]
@@ -648,9 +648,9 @@ module _ (write : PlacedWrite) (bytes : List ℕ) (spelled : Spells write.writte
         last_quiet again (Failed failing) result tries ends = absurd ends
         last_quiet again (Unselected error) result tries ends =
             let here = prepares (selects_lead came_last.moment mid.link now.link (Err (Fault tries.fault tries.own)) came_last.is tries.selects).leads in
-            absurd (unselected_none here.moment mid here.prepared now told_now now_is (before_refl told_now) apart error tries)
+            absurd (unselected_none again here.moment mid here.prepared now told_now now_is (before_refl told_now) apart error tries)
         last_quiet again Stopped result tries ends = stopped_quiet result tries.1 ends
-        last_quiet again (Ended error) result tries ends = quiet_memory error result ends (ended_quiet error tries)
+        last_quiet again (Ended error) result tries ends = quiet_memory error result ends (ended_quiet again error tries)
 
         -- the limit is not reached
         limit_none : (retry : Kept) → kept ≡ Some retry → limit_reached kept ≡ true → now ≡ mid → ⊥
@@ -660,18 +660,18 @@ module _ (write : PlacedWrite) (bytes : List ℕ) (spelled : Spells write.writte
             not_both (sym reached ∙ ap limit_reached is ∙ ap (λ n. nat_lt n retry.attempt) once.limit ∙ ap (λ n. nat_lt 1 n) once.attempt)
 
         -- a failure is not refused a further attempt
-        refused_none : (failing : Failing) (error : Error) → FailsIn trial mid now failing.address failing.failure.phase failing.failure.error
+        refused_none : (failing : Failing) (error : Error) → FailsIn trial (is_some kept) mid now failing.address failing.failure.phase failing.failure.error
             → decided trial sharded kept failing now ≡ Err error → ⊥
         refused_none failing error fails refuses =
-            let more = fails_lead trial (insert_asked write) asked came_last.moment mid now came_last.is failing.address failing.failure.phase failing.failure.error fails in
-            by_kept kept (far_last more) refuses
+            let more = fails_lead trial (is_some kept) (insert_asked write) asked came_last.moment mid now came_last.is failing.address failing.failure.phase failing.failure.error fails in
+            by_kept kept (far_last more) fails refuses
           where
-            by_kept : (found : Option Kept) → SoFar found mid → decided trial sharded found failing now ≡ Err error → ⊥
-            by_kept None far refuses =
-                let begun = subst (λ s. FailsIn trial s now failing.address failing.failure.phase failing.failure.error) far fails in
+            by_kept : (found : Option Kept) → SoFar found mid → FailsIn trial (is_some found) mid now failing.address failing.failure.phase failing.failure.error → decided trial sharded found failing now ≡ Err error → ⊥
+            by_kept None far fails refuses =
+                let begun = subst (λ s. FailsIn trial false s now failing.address failing.failure.phase failing.failure.error) far fails in
                 let well = first_fails now told_now now_is (before_refl told_now) apart failing.address failing.failure.phase failing.failure.error begun in
                 first_refused now failing well.lost well.labelled error refuses
-            by_kept (Some retry) far refuses =
+            by_kept (Some retry) far fails refuses =
                 again_none retry mid far now told_now now_is (before_refl told_now) apart failing.address failing.failure.phase failing.failure.error fails
 
         ends_quietly : (result : Result (Unit {0}) Error) → Ends trial sharded kept mid now result → EndsQuietly result

@@ -1,5 +1,6 @@
 pub mod Frames
 pub mod Inserting
+pub mod KeepingCalls
 pub mod Attempts
 pub mod Drawing
 pub mod Ids

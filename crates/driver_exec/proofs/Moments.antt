@@ -1,6 +1,6 @@
 -- The moments of a link that tells its server, in order: each call leads to one that is not before it.
 use Rattle.std.proofs.Common.{◌≡◌, ℕ, ◌+◌, ◌-◌, ◌^◌, ◌≤◌, min, false, List, [], ◌∷◌, length, refl, sym, ap, subst, ◌∙◌, inl, inr, arith, length-append}
-use Rattle.std.specs.Prelude.{Option, None, Some, Result, Ok, Err}
+use Rattle.std.specs.Prelude.{Bool, Option, None, Some, Result, Ok, Err}
 use Rattle.driver_error.specs.declared.error.Error.{Error}
 use Rattle.driver_error.specs.declared.kind.IoKind.TheVariants.{ConnectionRefused}
 use Rattle.driver_link.specs.declared.fault.LinkCall.{LinkCall}
@@ -168,8 +168,8 @@ steps_lead a before now send result setup steps = by_result result steps
     by_result (Err Memory) steps = elim steps [ inl same ↦ stayed same | inr more ↦ moved more ]
 
 -- an attempt that failed
-module _ {A : Type 0} (trial : Trial A) (body : SendBody) (asked : trial.meaning.asked trial.places body) (a : Told) (mid now : Scene) (is : mid.link.server ≡ Some a) where
-  pub sends_lead : (address : Address) (conn : Conn) (result : Result (List ℕ) LinkError) → Sends trial mid now address conn result → Leads a mid.link now.link
+module _ {A : Type 0} (trial : Trial A) (again : Bool) (body : SendBody) (asked : trial.meaning.asked trial.places body) (a : Told) (mid now : Scene) (is : mid.link.server ≡ Some a) where
+  pub sends_lead : (address : Address) (conn : Conn) (result : Result (List ℕ) LinkError) → Sends trial again mid now address conn result → Leads a mid.link now.link
   sends_lead address conn result sends =
       let ready = sends.ready in
       let first = (connects_lead a mid.link ready.link address conn is sends.readies.connects).leads in
@@ -183,7 +183,7 @@ module _ {A : Type 0} (trial : Trial A) (body : SendBody) (asked : trial.meaning
       (calling_twice a mid.link fails.mid now.link first
       (checks_lead first.leads.moment fails.mid now.link (Err (Fault fails.fault fails.own)) first.leads.is fails.checks_out)).leads
 
-  pub fails_lead : (address : Address) (phase : FailurePhase) (error : Error) → FailsIn trial mid now address phase error → Leads a mid.link now.link
+  pub fails_lead : (address : Address) (phase : FailurePhase) (error : Error) → FailsIn trial again mid now address phase error → Leads a mid.link now.link
   fails_lead address Establishment error fails = unconnected_leads address error fails
   fails_lead address Execution error fails = elim fails [
     | inl lost ↦ sends_lead address lost.conn (Err (Fault lost.fault lost.own)) lost.sends

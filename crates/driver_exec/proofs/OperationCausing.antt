@@ -48,7 +48,7 @@ use Rattle.driver_exec.specs.Links.{ToldLink}
 use Rattle.driver_exec.proofs.Causes.{notes_nothing}
 use Rattle.driver_exec.proofs.HeldSessions.{AtEnd, IsOf, Stands, draw_holds, draws_on, exchange_holds, is_of, last_draws_none, none_draws, ready_holds, ready_stands, sent_stands, sessionless, stands_at_first, unnumbered_at_end}
 use Rattle.driver_exec.proofs.MoreAnswers.{early_twice, end_after, end_before, last_after, notes_twice}
-use Rattle.driver_exec.proofs.Trying.{later_of}
+use Rattle.driver_exec.proofs.Trying.{early_counted, later_of}
 
 -- a link noted these; its count of faults did not fall, and its setup stays
 record Adds (link now : ToldLink) (items : List Answered) : Type 0 where
@@ -287,7 +287,7 @@ module _ {A : Type 0} (meaning : Meaning A) (places : List Place) (own : Retryab
   Lasts error = KindAtLast meaning.refused (kind_of error)
 
   -- one attempt
-  module _ (mid : Scene) (setup_is : mid.link.setup ≡ link.setup) (stands : StandsAt mid) where
+  module _ (again : Bool) (mid : Scene) (setup_is : mid.link.setup ≡ link.setup) (stands : StandsAt mid) where
     -- each connection has the description of the setup
     conn_is : (now : ToldLink) (address : Address) (conn : Conn) → Connects mid.link now address conn → IsOf link.setup conn.description
     conn_is now address conn connects = is_of link.setup connects.mid.setup address conn (connects.selects.setup ∙ setup_is) connects.to
@@ -316,7 +316,7 @@ module _ {A : Type 0} (meaning : Meaning A) (places : List Place) (own : Retryab
           let holds = ready_holds store link.setup meaning.sessions conn.description is_conn mid.store ready.store mid.held ready.held takes.0 unsent readies.holds in
           last_draws_none (next_number store) turn ready.held numbered number at.last takes.1 holds.0 holds.1 stands_ready.first draws
 
-    module _ (now : Scene) (address : Address) (conn : Conn) (result : Result (List ℕ) LinkError) (sends : Sends trial mid now address conn result) where
+    module _ (now : Scene) (address : Address) (conn : Conn) (result : Result (List ℕ) LinkError) (sends : Sends trial again mid now address conn result) where
       -- what a command that went out noted
       sends_add : Adds mid.link now.link (noted Exchange reply_noted result)
       sends_add = adds_twice mid.link sends.ready.link now.link [] (noted Exchange reply_noted result) (ready_adds sends.ready address conn sends.readies)
@@ -369,7 +369,7 @@ module _ {A : Type 0} (meaning : Meaning A) (places : List Place) (own : Retryab
         }
 
     -- the exchange failed
-    loses_exchange : (now : Scene) (address : Address) (error : Error) → LosesExchange trial mid now address error → Fails now (reworded error)
+    loses_exchange : (now : Scene) (address : Address) (error : Error) → LosesExchange trial again mid now address error → Fails now (reworded error)
     loses_exchange now address error fails =
         let conn = fails.conn in
         let sends = fails.sends in
@@ -389,7 +389,7 @@ module _ {A : Type 0} (meaning : Meaning A) (places : List Place) (own : Retryab
         }
 
     -- the reply spelled an error
-    spells_failure : (now : Scene) (address : Address) (error : Error) → SpellsFailure trial mid now address error → Fails now (reworded error)
+    spells_failure : (now : Scene) (address : Address) (error : Error) → SpellsFailure trial again mid now address error → Fails now (reworded error)
     spells_failure now address error fails =
         let conn = fails.conn in
         let sends = fails.sends in
@@ -409,7 +409,7 @@ module _ {A : Type 0} (meaning : Meaning A) (places : List Place) (own : Retryab
         }
 
     -- an attempt that failed in a phase
-    fails_in : (now : Scene) (address : Address) (phase : FailurePhase) (error : Error) → FailsIn trial mid now address phase error → Fails now (reworded error)
+    fails_in : (now : Scene) (address : Address) (phase : FailurePhase) (error : Error) → FailsIn trial again mid now address phase error → Fails now (reworded error)
     fails_in now address Establishment error fails = not_connected now address error fails
     fails_in now address Execution error fails = elim fails [
       | inl lost ↦ loses_exchange now address error lost
@@ -432,7 +432,7 @@ module _ {A : Type 0} (meaning : Meaning A) (places : List Place) (own : Retryab
     }
 
     -- the reply was read
-    finishes_done : (now : Scene) (output : A) → IsAnswered trial mid now output → Finishes now None
+    finishes_done : (now : Scene) (output : A) → IsAnswered trial again mid now output → Finishes now None
     finishes_done now output answered = record {
       more = answer.Reply answered.reply ∷ [];
       adds = sends_add now answered.address answered.conn (Ok answered.reply) answered.sends;
@@ -456,15 +456,16 @@ module _ {A : Type 0} (meaning : Meaning A) (places : List Place) (own : Retryab
 
     -- there was no memory before a session was lent
     finishes_unready : (now : Scene) (error : Error) → EndsUnready mid now error → Finishes now (Some (failure_of error))
-    finishes_unready now error ends = record {
-      more = ends.link.items;
-      adds = record { noted = ends.link.notes; later = ends.link.later; setup = ends.link.setup };
-      needs = memory_needs on mid.link.faults now.link.faults ends.link.items error ends.why;
-      early = λ at unsent. (ends.link.early, memory_at_last on mid.link.faults now.link.faults ends.link.items error ends.why);
-    }
+    finishes_unready now error ends =
+        let counted = early_counted mid.link now.link ends.asks in record {
+          more = counted.items;
+          adds = record { noted = counted.notes; later = counted.later; setup = counted.setup };
+          needs = memory_needs on mid.link.faults now.link.faults counted.items error ends.why;
+          early = λ at unsent. (counted.early, memory_at_last on mid.link.faults now.link.faults counted.items error ends.why);
+        }
 
     -- there was no memory after the command went out
-    finishes_sent : (now : Scene) (error : Error) → EndsSent trial mid now error → Finishes now (Some (failure_of error))
+    finishes_sent : (now : Scene) (error : Error) → EndsSent trial again mid now error → Finishes now (Some (failure_of error))
     finishes_sent now error ends = record {
       more = noted Exchange reply_noted ends.result;
       adds = sends_add now ends.address ends.conn ends.result ends.sends;
@@ -488,9 +489,9 @@ module _ {A : Type 0} (meaning : Meaning A) (places : List Place) (own : Retryab
           }
 
       -- there was no number
-      finishes_unnumbered : NoNumber (on_connection own conn.description) ready.held now.held error → Finishes now (Some (failure_of error))
+      finishes_unnumbered : NoNumber again (on_connection own conn.description) ready.held now.held error → Finishes now (Some (failure_of error))
       finishes_unnumbered refused =
-          let tells = unnumbered_at_end (next_number store) (on_connection own conn.description) ready.held now.held error (stands_ready ready address conn readies).first refused in record {
+          let tells = unnumbered_at_end (next_number store) (on_connection own conn.description) ready.held now.held error (stands_ready ready address conn readies).first refused.draws in record {
             more = [];
             adds = refused_adds;
             needs = end_needs on mid.link.faults now.link.faults [] error tells;
@@ -498,7 +499,7 @@ module _ {A : Type 0} (meaning : Meaning A) (places : List Place) (own : Retryab
           }
 
       -- there was no frame
-      finishes_unframed : NoFrame meaning (on_connection own conn.description) ready.held now.held error → Finishes now (Some (failure_of error))
+      finishes_unframed : NoFrame meaning again (on_connection own conn.description) ready.held now.held error → Finishes now (Some (failure_of error))
       finishes_unframed refused = record {
         more = [];
         adds = refused_adds;
@@ -507,7 +508,7 @@ module _ {A : Type 0} (meaning : Meaning A) (places : List Place) (own : Retryab
       }
 
     -- the command was refused before it went out
-    finishes_refused : (now : Scene) (error : Error) → EndsRefused trial mid now error → Finishes now (Some (failure_of error))
+    finishes_refused : (now : Scene) (error : Error) → EndsRefused trial again mid now error → Finishes now (Some (failure_of error))
     finishes_refused now error ends = elim ends.refused [
       | inl none ↦ finishes_sessionless now ends.ready ends.address ends.conn ends.readies ends.link error none
       | inr other ↦ elim other [
@@ -517,7 +518,7 @@ module _ {A : Type 0} (meaning : Meaning A) (places : List Place) (own : Retryab
     ]
 
     -- the attempt ended the operation at once
-    finishes_ended : (now : Scene) (error : Error) → EndsAtOnce trial mid now error → Finishes now (Some (failure_of error))
+    finishes_ended : (now : Scene) (error : Error) → EndsAtOnce trial again mid now error → Finishes now (Some (failure_of error))
     finishes_ended now error ends = elim ends [
       | inl unready ↦ finishes_unready now error unready
       | inr other ↦ elim other [
@@ -541,8 +542,8 @@ module _ {A : Type 0} (meaning : Meaning A) (places : List Place) (own : Retryab
   -- one more failure, and what is decided after it
   module _ (sharded : Bool) (kept : Option Kept) (mid now : Scene) (far : SoFar kept mid) (failing : Failing) (again : Bool) (tries : Tries trial again mid now (Failed failing)) where
     -- what the failure needs
-    failed : Fails mid far.adds.setup far.stands now (reworded failing.failure.error)
-    failed = fails_in mid far.adds.setup far.stands now failing.address failing.failure.phase failing.failure.error tries
+    failed : Fails again mid far.adds.setup far.stands now (reworded failing.failure.error)
+    failed = fails_in again mid far.adds.setup far.stands now failing.address failing.failure.phase failing.failure.error tries
 
     -- what the link noted so far
     abbrev items : List Answered
@@ -613,7 +614,7 @@ module _ {A : Type 0} (meaning : Meaning A) (places : List Place) (own : Retryab
   module _ (sharded : Bool) (kept : Option Kept) (mid now : Scene) (far : SoFar kept mid) where
     -- the last attempt ended the operation so
     abbrev FinishesAt : Option causes.Failure → Type 0
-    FinishesAt ended = Finishes mid far.adds.setup far.stands now ended
+    FinishesAt ended = Finishes (is_some kept) mid far.adds.setup far.stands now ended
 
     -- the end is of the last attempt
     caused_new : (ended : Option causes.Failure) → FinishesAt ended → CausedAt now ended
@@ -664,16 +665,16 @@ module _ {A : Type 0} (meaning : Meaning A) (places : List Place) (own : Retryab
         by_kept (Some retry) is ends = subst CausedBy (sym ends) (caused_kept [] added tt retry is)
 
     -- the last attempt did not fail, or failed to select a server
-    caused_last : (again : Bool) (attempt : Attempt A) (result : Result A Error) → Tries trial again mid now attempt → EndsWith kept attempt result → CausedBy result
-    caused_last again (Done output) result tries ends = subst CausedBy (sym ends) (caused_new None (finishes_done mid far.adds.setup far.stands now output tries))
-    caused_last again (Failed failing) result tries ends = absurd ends
-    caused_last again (Unselected error) result tries ends =
-        kept_or_new error (answer.Fault Select tries.fault tries.own ∷ []) result (selection_adds mid far.adds.setup far.stands now error tries) tt
-        (finishes_unselected mid far.adds.setup far.stands now error tries) ends
-    caused_last again Stopped result tries ends =
-        kept_stopped result (ready_adds mid far.adds.setup far.stands now tries.1.address tries.1.conn tries.1.readies) ends
-    caused_last again (Ended error) result tries ends =
-        subst CausedBy (sym ends) (caused_new (Some (failure_of error)) (finishes_ended mid far.adds.setup far.stands now error tries))
+    caused_last : (attempt : Attempt A) (result : Result A Error) → Tries trial (is_some kept) mid now attempt → EndsWith kept attempt result → CausedBy result
+    caused_last (Done output) result tries ends = subst CausedBy (sym ends) (caused_new None (finishes_done (is_some kept) mid far.adds.setup far.stands now output tries))
+    caused_last (Failed failing) result tries ends = absurd ends
+    caused_last (Unselected error) result tries ends =
+        kept_or_new error (answer.Fault Select tries.fault tries.own ∷ []) result (selection_adds (is_some kept) mid far.adds.setup far.stands now error tries) tt
+        (finishes_unselected (is_some kept) mid far.adds.setup far.stands now error tries) ends
+    caused_last Stopped result tries ends =
+        kept_stopped result (ready_adds (is_some kept) mid far.adds.setup far.stands now tries.1.address tries.1.conn tries.1.readies) ends
+    caused_last (Ended error) result tries ends =
+        subst CausedBy (sym ends) (caused_new (Some (failure_of error)) (finishes_ended (is_some kept) mid far.adds.setup far.stands now error tries))
 
     -- the last failure may not be followed by another attempt
     caused_refused : (failing : Failing) (again : Bool) (error : Error) → Tries trial again mid now (Failed failing)
@@ -704,7 +705,7 @@ module _ {A : Type 0} (meaning : Meaning A) (places : List Place) (own : Retryab
     -- an operation's end
     caused_ends : (result : Result A Error) → Ends trial sharded kept mid now result → CausedBy result
     caused_ends result ends = elim ends [
-      | inl last ↦ caused_last (is_some kept) last.attempt result last.tries last.ends
+      | inl last ↦ caused_last last.attempt result last.tries last.ends
       | inr other ↦ elim other [
         | inl limit ↦ subst CausedBy (sym limit.answers)
             (caused_kept [] (subst (λ s. Adds mid.link s.link []) (sym limit.same) (adds_nothing mid.link)) tt limit.retry limit.is)

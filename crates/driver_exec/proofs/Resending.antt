@@ -39,7 +39,7 @@ use Rattle.driver_exec.proofs.Drawing.{draws_lending, draws_staying, draws_takin
 use Rattle.driver_exec.proofs.Lending.{lends_staying, lends_turning}
 use Rattle.driver_exec.proofs.Staying.{stays_then_lends, stays_twice}
 use Rattle.driver_exec.proofs.Executing.{AtMostOne, attempts_left, decided_fewer, one_left}
-use Rattle.driver_exec.proofs.Trying.{both_true, checked_counted, connected_counted, selected_counted, stays_same}
+use Rattle.driver_exec.proofs.Trying.{both_true, checked_counted, connected_counted, early_counted, selected_counted, stays_same}
 
 keeps_twice : (a b c : Told) → KeepsServer a b → KeepsServer b c → KeepsServer a c
 keeps_twice a b c first second =
@@ -594,9 +594,9 @@ module _ {A : Type 0} (trial : Trial A) (store : Option ToldStore) (link : ToldL
       (subst (λ h. Course trial.meaning trial.places store link.server most mid.store now.link.server h.session h.sent) (sym rest.held)
       (counted trial.meaning trial.places store link.server most mid.store mid.link.server now.link.server mid.held.session mid.held.sent counts course))
 
-  module _ (most : ℕ) (mid : Scene) (goes : MayGoOn mid.held.sent) (course : CourseAt most mid) where
+  module _ (again : Bool) (most : ℕ) (mid : Scene) (goes : MayGoOn mid.held.sent) (course : CourseAt most mid) where
     -- an exchange of the command
-    module _ (now : Scene) (address : Address) (conn : Conn) (result : Result (List ℕ) LinkError) (sends : Sends trial mid now address conn result) where
+    module _ (now : Scene) (address : Address) (conn : Conn) (result : Result (List ℕ) LinkError) (sends : Sends trial again mid now address conn result) where
       abbrev turn : Retryability
       turn = on_connection trial.own conn.description
 
@@ -643,7 +643,7 @@ module _ {A : Type 0} (trial : Trial A) (store : Option ToldStore) (link : ToldL
       }
 
     -- an attempt that failed
-    fails_in : (now : Scene) (address : Address) (phase : FailurePhase) (error : Error) → FailsIn trial mid now address phase error → CourseAt (suc most) now
+    fails_in : (now : Scene) (address : Address) (phase : FailurePhase) (error : Error) → FailsIn trial again mid now address phase error → CourseAt (suc most) now
     fails_in now address Establishment error fails =
         one_more trial.meaning trial.places store link.server most now.store now.link.server now.held.session now.held.sent
         (only_link most mid now fails.rest
@@ -653,11 +653,11 @@ module _ {A : Type 0} (trial : Trial A) (store : Option ToldStore) (link : ToldL
       | inr spelled ↦ answered_at now address spelled.conn (Ok spelled.reply) spelled.sends spelled.reply refl
     ]
 
-    failed_course : (again : Bool) (now : Scene) (failing : Failing) → Tries trial again mid now (Failed failing) → CourseAt (suc most) now
-    failed_course again now failing tries = fails_in now failing.address failing.failure.phase failing.failure.error tries
+    failed_course : (now : Scene) (failing : Failing) → Tries trial again mid now (Failed failing) → CourseAt (suc most) now
+    failed_course now failing tries = fails_in now failing.address failing.failure.phase failing.failure.error tries
 
     -- where the decision allows a further attempt, its sends have a number
-    goes_phase : (now : Scene) (address : Address) (phase : FailurePhase) (error : Error) → FailsIn trial mid now address phase error
+    goes_phase : (now : Scene) (address : Address) (phase : FailurePhase) (error : Error) → FailsIn trial again mid now address phase error
         → may_be_sent phase (number_before now.held) ≡ true → MayGoOn now.held.sent
     goes_phase now address Establishment error fails may_send = subst (λ h. MayGoOn h.sent) (sym fails.rest.held) goes
     goes_phase now address Execution error fails may_send = by_sent now.held.sent may_send
@@ -696,8 +696,8 @@ module _ {A : Type 0} (trial : Trial A) (sharded : Bool) (store : Option ToldSto
       let earlier = rest.0 in
       let came = reaches_course failures earlier mid rest.1.0 in
       let fails = rest.1.1 in (
-        failed_course trial store link (length failures) mid came.1 came.0 (is_some earlier) now failing fails.tries,
-        goes_phase trial store link (length failures) mid came.1 came.0 now failing.address failing.failure.phase failing.failure.error fails.tries
+        failed_course trial store link (is_some earlier) (length failures) mid came.1 came.0 now failing fails.tries,
+        goes_phase trial store link (is_some earlier) (length failures) mid came.1 came.0 now failing.address failing.failure.phase failing.failure.error fails.tries
             (decided_sent earlier failing.failure (number_before now.held) failing.address trial.own sharded reaches.0 fails.decides),
       )
 
@@ -805,29 +805,29 @@ module _ {A : Type 0} (trial : Trial A) (sharded : Bool) (store : Option ToldSto
             let same = subst (λ s. DrawsNumber s turn ready.held numbered (Ok number)) is draws in
             subst (λ h. OverReady ready h.session h.sent) (sym same.0) (ready_over ready done)
 
-    refused_over : (error : Error) → EndsRefused trial mid now error → OverAt trial store link most now
-    refused_over error refused =
+    refused_over : (again : Bool) (error : Error) → EndsRefused trial again mid now error → OverAt trial store link most now
+    refused_over again error refused =
         let ready = refused.ready in
         let done = ready_course trial store link most mid ready refused.address refused.conn refused.readies course in
         elim refused.refused [
           | inl none ↦ at_ready ready refused.link refused.store ready.held none.same (ready_over ready done)
           | inr other ↦ elim other [
             | inl none ↦ at_ready ready refused.link refused.store ready.held
-                (undrawn_same ready.held now.held (on_connection trial.own refused.conn.description) error none) (ready_over ready done)
+                (undrawn_same ready.held now.held (on_connection trial.own refused.conn.description) error none.draws) (ready_over ready done)
             | inr none ↦ at_ready ready refused.link refused.store now.held refl
                 (unframed_ready ready (on_connection trial.own refused.conn.description) none.number now.held none.draws done)
           ]
         ]
 
-    ended_over : (error : Error) → EndsAtOnce trial mid now error → OverAt trial store link (suc most) now
-    ended_over error ends = elim ends [
+    ended_over : (again : Bool) (error : Error) → EndsAtOnce trial again mid now error → OverAt trial store link (suc most) now
+    ended_over again error ends = elim ends [
       | inl unready ↦ more_course
           (subst (λ h. Course trial.meaning trial.places store link.server most now.store now.link.server h.session h.sent) (sym unready.held)
           (store_stays trial.meaning trial.places store link.server most mid.store now.store now.link.server mid.held.session mid.held.sent unready.store
-          (counted trial.meaning trial.places store link.server most mid.store mid.link.server now.link.server mid.held.session mid.held.sent unready.link.server course)))
+          (counted trial.meaning trial.places store link.server most mid.store mid.link.server now.link.server mid.held.session mid.held.sent (early_counted mid.link now.link unready.asks).server course)))
       | inr other ↦ elim other [
-        | inl refused ↦ more_over (refused_over error refused)
-        | inr sent ↦ over_at trial store link most mid goes course now sent.address sent.conn sent.result sent.sends
+        | inl refused ↦ more_over (refused_over again error refused)
+        | inr sent ↦ over_at trial store link again most mid goes course now sent.address sent.conn sent.result sent.sends
       ]
     ]
 
@@ -841,8 +841,8 @@ module _ {A : Type 0} (trial : Trial A) (sharded : Bool) (store : Option ToldSto
     tried_last : (again : Bool) (attempt : Attempt A) (result : Result A Error) → Tries trial again mid now attempt → EndsWith kept attempt result → LastAt result
     tried_last again (Done output) result tries ends =
         subst LastAt (sym ends) (
-          over_at trial store link most mid goes course now tries.address tries.conn (Ok tries.reply) tries.sends,
-          reads_at trial store link most mid goes course now tries.address tries.conn (Ok tries.reply) tries.sends few tries.reply output refl tries.reads,
+          over_at trial store link again most mid goes course now tries.address tries.conn (Ok tries.reply) tries.sends,
+          reads_at trial store link again most mid goes course now tries.address tries.conn (Ok tries.reply) tries.sends few tries.reply output refl tries.reads,
         )
     tried_last again (Failed failing) result tries ends = absurd ends
     tried_last again (Unselected error) result tries ends = by_kept kept ends
@@ -861,7 +861,7 @@ module _ {A : Type 0} (trial : Trial A) (sharded : Bool) (store : Option ToldSto
         by_kept : (kept : Option Kept) → EndsWith {A = A} kept Stopped result → LastAt result
         by_kept None ends = absurd ends
         by_kept (Some retry) ends = err_last retry.failure.error result ends over
-    tried_last again (Ended error) result tries ends = err_last error result ends (ended_over error tries)
+    tried_last again (Ended error) result tries ends = err_last error result ends (ended_over again error tries)
 
   -- the operation is over
   record Finished (now : Scene) (result : Result A Error) : Type 0 where
@@ -892,7 +892,7 @@ module _ {A : Type 0} (trial : Trial A) (sharded : Bool) (store : Option ToldSto
           | inr refused ↦
               let left = one_left kept few.once refused.goes_on in
               let one : length failures ≤ 1 = omega (arith, few.left, left) in
-              let done = failed_course trial store link (length failures) mid came.1 came.0 (is_some kept) now refused.failing refused.tries in
+              let done = failed_course trial store link (is_some kept) (length failures) mid came.1 came.0 now refused.failing refused.tries in
               record {
                 most = suc (length failures);
                 few = omega arith;

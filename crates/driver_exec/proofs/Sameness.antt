@@ -51,12 +51,13 @@ module _ {A : Type 0} (old now : Meaning A) (same : MeansTheSame old now) (place
     cause = exchanges.cause;
   }
 
-  sends_same : (before after : Scene) (address : Address) (conn : Conn) (result : Result (List ℕ) LinkError) → Sends told before after address conn result
-      → Sends was before after address conn result
-  sends_same before after address conn result sends = record {
+  sends_same : (again : Bool) (before after : Scene) (address : Address) (conn : Conn) (result : Result (List ℕ) LinkError) → Sends told again before after address conn result
+      → Sends was again before after address conn result
+  sends_same again before after address conn result sends = record {
     ready = sends.ready;
     readies = readies_same before sends.ready address conn sends.readies;
     allowed = sends.allowed;
+    goes = sends.goes;
     numbered = sends.numbered;
     number = sends.number;
     draws = sends.draws;
@@ -65,9 +66,9 @@ module _ {A : Type 0} (old now : Meaning A) (same : MeansTheSame old now) (place
     held_is = sends.held_is;
   }
 
-  fails_same : (before after : Scene) (address : Address) (phase : FailurePhase) (error : Error) → FailsIn told before after address phase error
-      → FailsIn was before after address phase error
-  fails_same before after address Establishment error fails = record {
+  fails_same : (again : Bool) (before after : Scene) (address : Address) (phase : FailurePhase) (error : Error) → FailsIn told again before after address phase error
+      → FailsIn was again before after address phase error
+  fails_same again before after address Establishment error fails = record {
     mid = fails.mid;
     selects = fails.selects;
     fault = fails.fault;
@@ -76,18 +77,18 @@ module _ {A : Type 0} (old now : Meaning A) (same : MeansTheSame old now) (place
     is = fails.is;
     rest = fails.rest;
   }
-  fails_same before after address Execution error fails = elim fails [
+  fails_same again before after address Execution error fails = elim fails [
     | inl lost ↦ inl (record {
       conn = lost.conn;
       fault = lost.fault;
       own = lost.own;
-      sends = sends_same before after address lost.conn _ lost.sends;
+      sends = sends_same again before after address lost.conn _ lost.sends;
       is = lost.is;
     })
     | inr spelled ↦ inr (record {
       conn = spelled.conn;
       reply = spelled.reply;
-      sends = sends_same before after address spelled.conn _ spelled.sends;
+      sends = sends_same again before after address spelled.conn _ spelled.sends;
       is = record {
         bare = spelled.is.bare;
         is = record {
@@ -100,8 +101,8 @@ module _ {A : Type 0} (old now : Meaning A) (same : MeansTheSame old now) (place
     })
   ]
 
-  ends_same : (before after : Scene) (error : Error) → EndsAtOnce told before after error → EndsAtOnce was before after error
-  ends_same before after error ends = elim ends [
+  ends_same : (again : Bool) (before after : Scene) (error : Error) → EndsAtOnce told again before after error → EndsAtOnce was again before after error
+  ends_same again before after error ends = elim ends [
     | inl unready ↦ inl unready
     | inr other ↦ elim other [
       | inl refused ↦ inr (inl (record {
@@ -115,7 +116,7 @@ module _ {A : Type 0} (old now : Meaning A) (same : MeansTheSame old now) (place
           | inl none ↦ inl none
           | inr later ↦ elim later [
             | inl none ↦ inr (inl none)
-            | inr none ↦ inr (inr (record { number = none.number; draws = none.draws; why = unframed_same (kind_of error) none.why }))
+            | inr none ↦ inr (inr (record { goes = none.goes; number = none.number; draws = none.draws; why = unframed_same (kind_of error) none.why }))
           ]
         ];
       }))
@@ -123,7 +124,7 @@ module _ {A : Type 0} (old now : Meaning A) (same : MeansTheSame old now) (place
         address = sent.address;
         conn = sent.conn;
         result = sent.result;
-        sends = sends_same before after sent.address sent.conn sent.result sent.sends;
+        sends = sends_same again before after sent.address sent.conn sent.result sent.sends;
         why = sent.why;
       }))
     ]
@@ -134,10 +135,10 @@ module _ {A : Type 0} (old now : Meaning A) (same : MeansTheSame old now) (place
     address = tries.address;
     conn = tries.conn;
     reply = tries.reply;
-    sends = sends_same before after tries.address tries.conn (Ok tries.reply) tries.sends;
+    sends = sends_same again before after tries.address tries.conn (Ok tries.reply) tries.sends;
     reads = answers_same old now same tries.reply (Ok output) tries.reads;
   }
-  tries_same again before after (Failed failing) tries = fails_same before after failing.address failing.failure.phase failing.failure.error tries
+  tries_same again before after (Failed failing) tries = fails_same again before after failing.address failing.failure.phase failing.failure.error tries
   tries_same again before after (Unselected error) tries = tries
   tries_same again before after Stopped tries = (
     tries.0,
@@ -148,4 +149,4 @@ module _ {A : Type 0} (old now : Meaning A) (same : MeansTheSame old now) (place
       nothing = tries.1.nothing;
     },
   )
-  tries_same again before after (Ended error) tries = ends_same before after error tries
+  tries_same again before after (Ended error) tries = ends_same again before after error tries

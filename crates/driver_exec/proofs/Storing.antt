@@ -29,23 +29,23 @@ module _ {A : Type 0} (trial : Trial A) (mid now : Scene) where
   readies_draws address conn readies =
       holds_draws (needs_session (asks_session trial.sessions conn.description) mid.held) mid.store now.store mid.held now.held readies.holds
 
-module _ {A : Type 0} (trial : Trial A) (mid now : Scene) where
-  sends_draws : (address : Address) (conn : Conn) (result : Result (List ℕ) LinkError) → Sends trial mid now address conn result → Draws mid.store now.store
+module _ {A : Type 0} (trial : Trial A) (again : Bool) (mid now : Scene) where
+  sends_draws : (address : Address) (conn : Conn) (result : Result (List ℕ) LinkError) → Sends trial again mid now address conn result → Draws mid.store now.store
   sends_draws address conn result sends = subst (Draws mid.store) (sym sends.store_is) (readies_draws trial mid sends.ready address conn sends.readies)
 
-  fails_draws : (address : Address) (phase : FailurePhase) (error : Error) → FailsIn trial mid now address phase error → Draws mid.store now.store
+  fails_draws : (address : Address) (phase : FailurePhase) (error : Error) → FailsIn trial again mid now address phase error → Draws mid.store now.store
   fails_draws address Establishment error fails = draws_same mid.store now.store fails.rest.store
   fails_draws address Execution error fails = elim fails [
     | inl lost ↦ sends_draws address lost.conn _ lost.sends
     | inr says ↦ sends_draws address says.conn _ says.sends
   ]
 
-  tries_draws : (again : Bool) (attempt : Attempt A) → Tries trial again mid now attempt → Draws mid.store now.store
-  tries_draws again (Done output) tries = sends_draws tries.address tries.conn _ tries.sends
-  tries_draws again (Failed failing) tries = fails_draws failing.address failing.failure.phase failing.failure.error tries
-  tries_draws again (Unselected error) tries = draws_same mid.store now.store tries.rest.store
-  tries_draws again Stopped tries = readies_draws trial mid now tries.1.address tries.1.conn tries.1.readies
-  tries_draws again (Ended error) tries = elim tries [
+  pub tries_draws : (attempt : Attempt A) → Tries trial again mid now attempt → Draws mid.store now.store
+  tries_draws (Done output) tries = sends_draws tries.address tries.conn _ tries.sends
+  tries_draws (Failed failing) tries = fails_draws failing.address failing.failure.phase failing.failure.error tries
+  tries_draws (Unselected error) tries = draws_same mid.store now.store tries.rest.store
+  tries_draws Stopped tries = readies_draws trial mid now tries.1.address tries.1.conn tries.1.readies
+  tries_draws (Ended error) tries = elim tries [
     | inl unready ↦ draws_staying mid.store now.store unready.store
     | inr other ↦ elim other [
       | inl refused ↦ subst (Draws mid.store) (sym refused.store) (readies_draws trial mid refused.ready refused.address refused.conn refused.readies)
@@ -54,16 +54,17 @@ module _ {A : Type 0} (trial : Trial A) (mid now : Scene) where
   ]
 
   -- where the ids are apart after a failure they were before it
-  pub fails_apart : (address : Address) (phase : FailurePhase) (error : Error) → FailsIn trial mid now address phase error → DrawnApart now.store → DrawnApart mid.store
+  pub fails_apart : (address : Address) (phase : FailurePhase) (error : Error) → FailsIn trial again mid now address phase error → DrawnApart now.store → DrawnApart mid.store
   fails_apart address phase error fails apart = apart_before mid.store now.store (fails_draws address phase error fails) apart
 
-  -- and before the end of an operation
+-- and before the end of an operation
+module _ {A : Type 0} (trial : Trial A) (mid now : Scene) where
   pub ends_apart : (sharded : Bool) (kept : Option Kept) (result : Result A Error) → Ends trial sharded kept mid now result → DrawnApart now.store → DrawnApart mid.store
   ends_apart sharded kept result ends apart = elim ends [
-    | inl last ↦ apart_before mid.store now.store (tries_draws (is_some kept) last.attempt last.tries) apart
+    | inl last ↦ apart_before mid.store now.store (tries_draws trial (is_some kept) mid now last.attempt last.tries) apart
     | inr other ↦ elim other [
       | inl limit ↦ subst (λ s. DrawnApart s.store) limit.same apart
-      | inr refused ↦ fails_apart refused.failing.address refused.failing.failure.phase refused.failing.failure.error refused.tries apart
+      | inr refused ↦ fails_apart trial (is_some kept) mid now refused.failing.address refused.failing.failure.phase refused.failing.failure.error refused.tries apart
     ]
   ]
 

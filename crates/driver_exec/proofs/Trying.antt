@@ -4,19 +4,21 @@ use Rattle.std.specs.Prelude.{ℤ, Bool, true, false, ◌&&◌, Option, None, So
 use Rattle.driver_error.specs.declared.error.Error.{Error}
 use Rattle.driver_error.specs.declared.kind.ErrorKind.TheVariants as kind
 use Rattle.driver_error.specs.Error.{kind_of}
+use Rattle.driver_link.specs.declared.fault.Answered.{Answered}
 use Rattle.driver_link.specs.declared.fault.LinkCall.TheVariants.{CheckOut, Select}
 use Rattle.driver_link.specs.declared.fault.LinkError.{LinkError}
 use Rattle.driver_link.specs.declared.fault.LinkError.TheVariants.{Fault, Memory}
 use Rattle.driver_link.specs.declared.machine.Place.{Place}
 use Rattle.driver_link.specs.declared.options.Address.{Address}
 use Rattle.driver_link.specs.declared.options.Conn.{Conn}
+use Rattle.driver_link.specs.Counting.{OnlyCounts}
 use Rattle.driver_link.specs.Faults.{HasLinkCause}
 use Rattle.driver_link.specs.Framed.{Framed}
-use Rattle.driver_link.specs.Told.{noted, nothing_noted}
+use Rattle.driver_link.specs.Told.{Notes, noted, nothing_noted}
 use Rattle.driver_exec.specs.declared.attempt_end.Attempt.{Attempt}
 use Rattle.driver_exec.specs.declared.attempt_end.Attempt.TheVariants.{Ended, Failed, Stopped, Unselected}
 use Rattle.driver_exec.specs.declared.retryability.Retryability.{Retryability}
-use Rattle.driver_exec.specs.Attempting.{ChecksOut, Comes, Connects, FailsIn, Exchanging, LosesExchange, NotConnected, OnlyCounted, ReadsAnswer, Readies, Scene, Selects, Sending, Sends, SpellsFailure, Trial, Tries, asks_session, is_nothing, may_use, on_connection, scene, trial_of}
+use Rattle.driver_exec.specs.Attempting.{AsksEarly, ChecksOut, Comes, Connects, FailsIn, Exchanging, LosesExchange, NotConnected, ReadsAnswer, Readies, Scene, Selects, Sending, Sends, SpellsFailure, Trial, Tries, asks_session, is_nothing, may_use, on_connection, scene, stops, trial_of}
 use Rattle.driver_exec.specs.Causes.{AllEarly}
 use Rattle.driver_exec.specs.Failing.{EndsLost, EndsRead, EndsUnconnected, EndsUnselected}
 use Rattle.driver_exec.specs.Holding.{Held, HoldsSession, needs_session}
@@ -25,6 +27,15 @@ use Rattle.driver_exec.specs.Pool.{StaysTold, ToldStore}
 use Rattle.driver_exec.specs.Links.{ToldLink}
 use Rattle.driver_exec.proofs.Attempts.{check_out_counts, counts_twice, select_counts}
 use Rattle.driver_exec.proofs.Causes.{notes_since}
+
+-- only calls of the link were counted, and nothing was exchanged
+pub record OnlyCounted (link now : ToldLink) : Type 0 where
+  pub server : OnlyCounts link.server now.server
+  pub setup : now.setup ≡ link.setup
+  pub items : List Answered
+  pub notes : Notes link.answers now.answers items
+  pub early : AllEarly items
+  pub later : link.faults ≤ now.faults
 
 pub stays_same : (store : Option ToldStore) → StaysTold store store
 stays_same None = refl
@@ -80,6 +91,16 @@ checked_counted link mid now address result selects checks = record {
 pub connected_counted : (link now : ToldLink) (address : Address) (conn : Conn) → Connects link now address conn → OnlyCounted link now
 connected_counted link now address conn connects = checked_counted link connects.mid now address (Ok conn) connects.selects connects.checks_out
 
+asks_connection : (link mid now : ToldLink) (address : Address) (result : Result Conn LinkError) → Selects link mid (Ok address) → ChecksOut mid now result → AsksEarly link now
+asks_connection link mid now address result selects checks = inr (record { mid = mid; address = address; selects = selects; result = result; checks_out = checks })
+
+-- the calls of an attempt that came to no session were only counted
+pub early_counted : (link now : ToldLink) → AsksEarly link now → OnlyCounted link now
+early_counted link now asks = elim asks [
+  | inl fails ↦ selected_counted link now (Err fails.failure) fails.selects
+  | inr more ↦ checked_counted link more.mid now more.address more.result more.selects more.checks_out
+]
+
 -- an operation tells before and now the same
 module _ {A : Type 0} (old now : Meaning A) (same : MeansTheSame old now) where
   pub reads_same : (session : Option (List ℕ)) (number : Option ℤ) (frame : Framed) → ReadsAsAsked old session number frame → ReadsAsAsked now session number frame
@@ -131,9 +152,9 @@ module _ {A : Type 0} (meaning : Meaning A) (places : List Place) (own : Retryab
   unselected_tries store link now held (Fault fault labels) (Unselected error) selects is =
       record { fault = fault; own = labels; selects = selects; is = is; rest = record { store = refl; held = refl } }
   unselected_tries store link now held (Fault fault labels) (Ended error) selects memory =
-      inl (record { link = selected_counted link now (Err (Fault fault labels)) selects; store = stays_same store; held = refl; why = memory })
+      inl (record { asks = inl (record { failure = Fault fault labels; selects = selects }); store = stays_same store; held = refl; why = memory })
   unselected_tries store link now held Memory (Ended error) selects memory =
-      inl (record { link = selected_counted link now (Err Memory) selects; store = stays_same store; held = refl; why = memory })
+      inl (record { asks = inl (record { failure = Memory; selects = selects }); store = stays_same store; held = refl; why = memory })
   unselected_tries store link now held (Fault fault labels) _ selects ends = absurd ends
   unselected_tries store link now held Memory _ selects ends = absurd ends
 
@@ -142,7 +163,7 @@ module _ {A : Type 0} (meaning : Meaning A) (places : List Place) (own : Retryab
       → Selects link mid (Ok address) → ChecksOut mid now (Err failure) → EndsUnconnected own address failure attempt
       → Tries trial again (scene store link held) (scene store now held) attempt
   unconnected_tries store link mid now held address (Fault fault labels) (Failed failing) selects checks ends =
-      subst (λ phase. FailsIn trial (scene store link held) (scene store now held) failing.address phase failing.failure.error) (sym ends.phase_is)
+      subst (λ phase. FailsIn trial again (scene store link held) (scene store now held) failing.address phase failing.failure.error) (sym ends.phase_is)
       (subst (λ at. NotConnected trial (scene store link held) (scene store now held) at failing.failure.error) (sym ends.address_is) (record {
         mid = mid;
         selects = selects;
@@ -153,9 +174,9 @@ module _ {A : Type 0} (meaning : Meaning A) (places : List Place) (own : Retryab
         rest = record { store = refl; held = refl };
       }))
   unconnected_tries store link mid now held address (Fault fault labels) (Ended error) selects checks memory =
-      inl (record { link = checked_counted link mid now address (Err (Fault fault labels)) selects checks; store = stays_same store; held = refl; why = memory })
+      inl (record { asks = asks_connection link mid now address (Err (Fault fault labels)) selects checks; store = stays_same store; held = refl; why = memory })
   unconnected_tries store link mid now held address Memory (Ended error) selects checks memory =
-      inl (record { link = checked_counted link mid now address (Err Memory) selects checks; store = stays_same store; held = refl; why = memory })
+      inl (record { asks = asks_connection link mid now address (Err Memory) selects checks; store = stays_same store; held = refl; why = memory })
   unconnected_tries store link mid now held address (Fault fault labels) _ selects checks ends = absurd ends
   unconnected_tries store link mid now held address Memory _ selects checks ends = absurd ends
 
@@ -178,7 +199,7 @@ module _ {A : Type 0} (meaning : Meaning A) (places : List Place) (own : Retryab
 
         by_need : (needed : Bool) → HoldsSession needed store store_now held ready (Err error) → Tries trial again (scene store before held) (scene store_now link ready) (Ended error)
         by_need false holds = absurd (ok_err (sym holds.2))
-        by_need true holds = inl (record { link = connected_counted before link address conn connects; store = holds.0; held = holds.1; why = holds.2 })
+        by_need true holds = inl (record { asks = asks_connection before connects.mid link address (Ok conn) connects.selects connects.checks_out; store = holds.0; held = holds.1; why = holds.2 })
 
     module _ (holds : HoldsSession (needs_session (asks_session meaning.sessions conn.description) held) store store_now held ready (Ok tt)) where
       readied : Readies trial (scene store before held) (scene store_now link ready) address conn
@@ -201,7 +222,7 @@ module _ {A : Type 0} (meaning : Meaning A) (places : List Place) (own : Retryab
       pub stopped_tries : again ≡ true → is_nothing (on_connection own conn.description) ≡ true → Tries trial again (scene store before held) (scene store_now link ready) Stopped
       stopped_tries is nothing = (is, record { address = address; conn = conn; readies = readied; nothing = nothing })
 
-      module _ (allowed : may_use ready conn.description ≡ true) (link_now : ToldLink) (held_now : Held) where
+      module _ (allowed : may_use ready conn.description ≡ true) (goes : stops again (on_connection own conn.description) ≡ false) (link_now : ToldLink) (held_now : Held) where
         abbrev turn : Retryability
         turn = on_connection own conn.description
 
@@ -215,13 +236,13 @@ module _ {A : Type 0} (meaning : Meaning A) (places : List Place) (own : Retryab
         came = scene store_now link_now held_now
 
         -- the command's reply was read
-        read_tries : (reply : List ℕ) (answer : Result A Error) (attempt : Attempt A) → Sends trial began came address conn (Ok reply) → ReadsAnswer meaning reply answer
+        read_tries : (reply : List ℕ) (answer : Result A Error) (attempt : Attempt A) → Sends trial again began came address conn (Ok reply) → ReadsAnswer meaning reply answer
             → EndsRead turn version address answer attempt → Tries trial again began came attempt
         read_tries reply (Ok output) attempt sends reads ends =
             subst (λ a. Tries trial again began came a) (sym ends) (record { address = address; conn = conn; reply = reply; sends = sends; reads = reads })
         read_tries reply (Err read) (Failed failing) sends reads ends =
-            subst (λ phase. FailsIn trial began came failing.address phase failing.failure.error) (sym ends.phase_is)
-            (inr (subst (λ at. SpellsFailure trial began came at failing.failure.error) (sym ends.address_is) (record {
+            subst (λ phase. FailsIn trial again began came failing.address phase failing.failure.error) (sym ends.phase_is)
+            (inr (subst (λ at. SpellsFailure trial again began came at failing.failure.error) (sym ends.address_is) (record {
               conn = conn;
               reply = reply;
               sends = sends;
@@ -236,11 +257,11 @@ module _ {A : Type 0} (meaning : Meaning A) (places : List Place) (own : Retryab
         read_tries reply (Err read) _ sends reads ends = absurd ends
 
         -- its exchange failed
-        lost_tries : (failure : LinkError) (attempt : Attempt A) → Sends trial began came address conn (Err failure) → EndsLost turn version address failure attempt
+        lost_tries : (failure : LinkError) (attempt : Attempt A) → Sends trial again began came address conn (Err failure) → EndsLost turn version address failure attempt
             → Tries trial again began came attempt
         lost_tries (Fault fault labels) (Failed failing) sends ends =
-            subst (λ phase. FailsIn trial began came failing.address phase failing.failure.error) (sym ends.phase_is)
-            (inl (subst (λ at. LosesExchange trial began came at failing.failure.error) (sym ends.address_is) (record {
+            subst (λ phase. FailsIn trial again began came failing.address phase failing.failure.error) (sym ends.phase_is)
+            (inl (subst (λ at. LosesExchange trial again began came at failing.failure.error) (sym ends.address_is) (record {
               conn = conn;
               fault = fault;
               own = labels;
@@ -253,7 +274,7 @@ module _ {A : Type 0} (meaning : Meaning A) (places : List Place) (own : Retryab
         lost_tries (Fault fault labels) _ sends ends = absurd ends
         lost_tries Memory _ sends ends = absurd ends
 
-        came_tries : (result : Result (List ℕ) LinkError) (attempt : Attempt A) → Sends trial began came address conn result → Comes meaning turn version address result attempt
+        came_tries : (result : Result (List ℕ) LinkError) (attempt : Attempt A) → Sends trial again began came address conn result → Comes meaning turn version address result attempt
             → Tries trial again began came attempt
         came_tries (Ok reply) attempt sends comes = read_tries reply comes.answer attempt sends comes.reads comes.ends
         came_tries (Err failure) attempt sends comes = lost_tries failure attempt sends comes
@@ -267,7 +288,7 @@ module _ {A : Type 0} (meaning : Meaning A) (places : List Place) (own : Retryab
             readies = readied;
             link = none.link_is;
             store = refl;
-            refused = inr (inl none.draws);
+            refused = inr (inl (record { goes = goes; draws = none.draws }));
           })))
           | inr other ↦ elim other [
             | inl none ↦ subst (λ a. Tries trial again began came a) (sym none.ends) (inr (inl (record {
@@ -277,12 +298,13 @@ module _ {A : Type 0} (meaning : Meaning A) (places : List Place) (own : Retryab
               readies = readied;
               link = none.link_is;
               store = refl;
-              refused = inr (inr (record { number = none.number; draws = none.draws; why = none.why }));
+              refused = inr (inr (record { goes = goes; number = none.number; draws = none.draws; why = none.why }));
             })))
             | inr out ↦ came_tries out.exchanging.result attempt (record {
               ready = scene store_now link ready;
               readies = readied;
               allowed = allowed;
+              goes = goes;
               numbered = out.numbered;
               number = out.number;
               draws = out.draws;

@@ -431,7 +431,7 @@ module _ (made : ℕ) (old now : ToldStore) (told told_now : Told) (write : Plac
       ]
 
   -- what the insert leaves
-  left_of : (session : Option (List ℕ)) (number : Option ℤ) (count : ℕ) → Borrows (Some old) (Some now) session number → (number ≡ None → count ≤ 1)
+  pub left_of : (session : Option (List ℕ)) (number : Option ℤ) (count : ℕ) → Borrows (Some old) (Some now) session number → (number ≡ None → count ≤ 1)
       → SendsTold told told_now (insert_send session number write) count → Left made session number write now told.server told_now.server
   left_of (Some id) (Some number) count borrows once sends = numbered_left id number borrows count sends
   left_of (Some id) None count borrows once sends = free_left id borrows count (once refl) sends

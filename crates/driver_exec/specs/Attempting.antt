@@ -65,6 +65,10 @@ abbrev pub is_nothing : Retryability → Bool
 is_nothing may.None = true
 is_nothing other = false
 
+-- an attempt that is not the first stops where nothing may be repeated
+abbrev pub stops : Bool → Retryability → Bool
+stops again turn = again && is_nothing turn
+
 -- a call of the link that is counted, with what it notes
 pub record CallsLink {B : Type 0} (which : LinkCall) (next : Told → Told) (fault : Told → Option Listed) (link now : ToldLink) (result : Result B LinkError) : Type 0 where
   pub counts : Counts next fault link.server now.server result
@@ -134,11 +138,13 @@ abbrev pub held_after : Result (List ℕ) LinkError → Held → Held
 held_after (Ok reply) held = held
 held_after (Err failure) held = held_after_failure failure held
 
--- the command went out on a connection, under the number of the send before or a first one
-pub record Sends {A : Type 0} (trial : Trial A) (before now : Scene) (address : Address) (conn : Conn) (result : Result (List ℕ) LinkError) : Type 0 where
+-- the command went out on a connection, under the number of the send before or a first one; a further attempt sends it only
+-- where it may be repeated there
+pub record Sends {A : Type 0} (trial : Trial A) (again : Bool) (before now : Scene) (address : Address) (conn : Conn) (result : Result (List ℕ) LinkError) : Type 0 where
   pub ready : Scene
   pub readies : Readies trial before ready address conn
   pub allowed : may_use ready.held conn.description ≡ true
+  pub goes : stops again (on_connection trial.own conn.description) ≡ false
   pub numbered : Held
   pub number : Option ℤ
   pub draws : DrawsNumber ready.held.sent (on_connection trial.own conn.description) ready.held numbered (Ok number)
@@ -212,19 +218,19 @@ Sending meaning places link link_now turn version address held held_now attempt 
     ⊎ (EndsUnframed meaning link link_now turn held held_now attempt ⊎ SendsOut meaning places link link_now turn version address held held_now attempt)
 
 -- the attempt's reply was read
-pub record IsAnswered {A : Type 0} (trial : Trial A) (before now : Scene) (output : A) : Type 0 where
+pub record IsAnswered {A : Type 0} (trial : Trial A) (again : Bool) (before now : Scene) (output : A) : Type 0 where
   pub address : Address
   pub conn : Conn
   pub reply : List ℕ
-  pub sends : Sends trial before now address conn (Ok reply)
+  pub sends : Sends trial again before now address conn (Ok reply)
   pub reads : ReadsAnswer trial.meaning reply (Ok output)
 
 -- the exchange of the attempt's command failed
-pub record LosesExchange {A : Type 0} (trial : Trial A) (before now : Scene) (address : Address) (error : Error) : Type 0 where
+pub record LosesExchange {A : Type 0} (trial : Trial A) (again : Bool) (before now : Scene) (address : Address) (error : Error) : Type 0 where
   pub conn : Conn
   pub fault : LinkFault
   pub own : List (List ℕ)
-  pub sends : Sends trial before now address conn (Err (Fault fault own))
+  pub sends : Sends trial again before now address conn (Err (Fault fault own))
   pub is : IsVersioned (IsFaultOf fault own (on_connection trial.own conn.description)) conn.description.max_wire_version error
 
 -- an error that was read in a reply, with the labels of the table
@@ -234,16 +240,16 @@ pub record IsReadIn {A : Type 0} (meaning : Meaning A) (bytes : List ℕ) (turn 
   pub labelled : IsLabelledRead turn bare error
 
 -- the reply to the attempt's command spelled an error
-pub record SpellsFailure {A : Type 0} (trial : Trial A) (before now : Scene) (address : Address) (error : Error) : Type 0 where
+pub record SpellsFailure {A : Type 0} (trial : Trial A) (again : Bool) (before now : Scene) (address : Address) (error : Error) : Type 0 where
   pub conn : Conn
   pub reply : List ℕ
-  pub sends : Sends trial before now address conn (Ok reply)
+  pub sends : Sends trial again before now address conn (Ok reply)
   pub is : IsVersioned (IsReadIn trial.meaning reply (on_connection trial.own conn.description)) conn.description.max_wire_version error
 
 -- an attempt failed in a phase
-abbrev pub FailsIn : {A : Type 0} → Trial A → Scene → Scene → Address → FailurePhase → Error → Type 0
-FailsIn trial before now address Establishment error = NotConnected trial before now address error
-FailsIn trial before now address Execution error = LosesExchange trial before now address error ⊎ SpellsFailure trial before now address error
+abbrev pub FailsIn : {A : Type 0} → Trial A → Bool → Scene → Scene → Address → FailurePhase → Error → Type 0
+FailsIn trial again before now address Establishment error = NotConnected trial before now address error
+FailsIn trial again before now address Execution error = LosesExchange trial again before now address error ⊎ SpellsFailure trial again before now address error
 
 -- nothing may be repeated on the connection of a further attempt
 pub record Stops {A : Type 0} (trial : Trial A) (before now : Scene) : Type 0 where
@@ -252,18 +258,26 @@ pub record Stops {A : Type 0} (trial : Trial A) (before now : Scene) : Type 0 wh
   pub readies : Readies trial before now address conn
   pub nothing : is_nothing (on_connection trial.own conn.description) ≡ true
 
--- only calls of the link were counted, and nothing was exchanged
-pub record OnlyCounted (link now : ToldLink) : Type 0 where
-  pub server : OnlyCounts link.server now.server
-  pub setup : now.setup ≡ link.setup
-  pub items : List Answered
-  pub notes : Notes link.answers now.answers items
-  pub early : AllEarly items
-  pub later : link.faults ≤ now.faults
+-- a selection failed
+pub record SelectionFails (link now : ToldLink) : Type 0 where
+  pub failure : LinkError
+  pub selects : Selects link now (Err failure)
+
+-- a server was selected, and a connection to it asked for
+pub record AsksConnection (link now : ToldLink) : Type 0 where
+  pub mid : ToldLink
+  pub address : Address
+  pub selects : Selects link mid (Ok address)
+  pub result : Result Conn LinkError
+  pub checks_out : ChecksOut mid now result
+
+-- the calls of an attempt that came to no session
+abbrev pub AsksEarly : ToldLink → ToldLink → Type 0
+AsksEarly link now = SelectionFails link now ⊎ AsksConnection link now
 
 -- there was no memory before a session was lent
 pub record EndsUnready (before now : Scene) (error : Error) : Type 0 where
-  pub link : OnlyCounted before.link now.link
+  pub asks : AsksEarly before.link now.link
   pub store : StaysTold before.store now.store
   pub held : now.held ≡ before.held
   pub why : kind_of error ≡ kind.Memory
@@ -275,17 +289,19 @@ pub record NoSessions (description : Description) (ready now : Held) (error : Er
   pub why : kind_of error ≡ kind.SessionsNotSupported
 
 -- there was no number
-abbrev pub NoNumber : Retryability → Held → Held → Error → Type 0
-NoNumber turn ready now error = DrawsNumber ready.sent turn ready now (Err error)
+pub record NoNumber (again : Bool) (turn : Retryability) (ready now : Held) (error : Error) : Type 0 where
+  pub goes : stops again turn ≡ false
+  pub draws : DrawsNumber ready.sent turn ready now (Err error)
 
 -- there was no frame under the number
-pub record NoFrame {A : Type 0} (meaning : Meaning A) (turn : Retryability) (ready now : Held) (error : Error) : Type 0 where
+pub record NoFrame {A : Type 0} (meaning : Meaning A) (again : Bool) (turn : Retryability) (ready now : Held) (error : Error) : Type 0 where
+  pub goes : stops again turn ≡ false
   pub number : Option ℤ
   pub draws : DrawsNumber ready.sent turn ready now (Ok number)
   pub why : TellsUnframed meaning (kind_of error)
 
 -- a connection was had, and the command was refused before it went out
-pub record EndsRefused {A : Type 0} (trial : Trial A) (before now : Scene) (error : Error) : Type 0 where
+pub record EndsRefused {A : Type 0} (trial : Trial A) (again : Bool) (before now : Scene) (error : Error) : Type 0 where
   pub ready : Scene
   pub address : Address
   pub conn : Conn
@@ -293,24 +309,24 @@ pub record EndsRefused {A : Type 0} (trial : Trial A) (before now : Scene) (erro
   pub link : now.link ≡ ready.link
   pub store : now.store ≡ ready.store
   pub refused : NoSessions conn.description ready.held now.held error
-      ⊎ (NoNumber (on_connection trial.own conn.description) ready.held now.held error ⊎ NoFrame trial.meaning (on_connection trial.own conn.description) ready.held now.held error)
+      ⊎ (NoNumber again (on_connection trial.own conn.description) ready.held now.held error ⊎ NoFrame trial.meaning again (on_connection trial.own conn.description) ready.held now.held error)
 
 -- the command went out, and there was no memory for what came of it
-pub record EndsSent {A : Type 0} (trial : Trial A) (before now : Scene) (error : Error) : Type 0 where
+pub record EndsSent {A : Type 0} (trial : Trial A) (again : Bool) (before now : Scene) (error : Error) : Type 0 where
   pub address : Address
   pub conn : Conn
   pub result : Result (List ℕ) LinkError
-  pub sends : Sends trial before now address conn result
+  pub sends : Sends trial again before now address conn result
   pub why : kind_of error ≡ kind.Memory
 
 -- the operation ends at once
-abbrev pub EndsAtOnce : {A : Type 0} → Trial A → Scene → Scene → Error → Type 0
-EndsAtOnce trial before now error = EndsUnready before now error ⊎ (EndsRefused trial before now error ⊎ EndsSent trial before now error)
+abbrev pub EndsAtOnce : {A : Type 0} → Trial A → Bool → Scene → Scene → Error → Type 0
+EndsAtOnce trial again before now error = EndsUnready before now error ⊎ (EndsRefused trial again before now error ⊎ EndsSent trial again before now error)
 
 -- one attempt, by how it ended; only one that is not the first stops
 abbrev pub Tries : {A : Type 0} → Trial A → Bool → Scene → Scene → Attempt A → Type 0
-Tries trial again before now (Done output) = IsAnswered trial before now output
-Tries trial again before now (Failed failing) = FailsIn trial before now failing.address failing.failure.phase failing.failure.error
+Tries trial again before now (Done output) = IsAnswered trial again before now output
+Tries trial again before now (Failed failing) = FailsIn trial again before now failing.address failing.failure.phase failing.failure.error
 Tries trial again before now (Unselected error) = NotSelected before now error
 Tries trial again before now Stopped = (again ≡ true) × Stops trial before now
-Tries trial again before now (Ended error) = EndsAtOnce trial before now error
+Tries trial again before now (Ended error) = EndsAtOnce trial again before now error

@@ -1,6 +1,6 @@
 -- An operation outside transactions as a whole: attempts that failed, each of which the decision allowed to be followed
 -- by another, and the one after them.
-use Rattle.std.specs.Prelude.{◌≡◌, Bool, true, false, List, [], ◌∷◌, Option, None, Some, is_some, ◌⊎◌, Result, Ok, Err, nat_lt}
+use Rattle.std.specs.Prelude.{◌≡◌, Bool, true, false, List, [], ◌∷◌, Option, None, Some, IfSome, is_some, ◌⊎◌, Result, Ok, Err, nat_lt}
 use Rattle.driver_error.specs.declared.error.Error.{Error}
 use Rattle.driver_error.specs.declared.kind.ErrorKind.TheVariants as kind
 use Rattle.driver_error.specs.Error.{kind_of}
@@ -96,9 +96,11 @@ pub record Turns {A : Type 0} (trial : Trial A) (sharded : Bool) (before now : S
   pub reaches : Reaches trial sharded before failures kept mid
   pub ends : Ends trial sharded kept mid now result
 
--- an operation outside transactions: its attempts; then the session that it was lent comes back
+-- an operation outside transactions: its attempts, where the link tells its setup by whether that has routers of shards;
+-- then the session that it was lent comes back
 pub record Executes {A : Type 0} (trial : Trial A) (store store_now : Option ToldStore) (link link_now : ToldLink) (result : Result A Error) : Type 0 where
   pub sharded : Bool
+  pub sharded_is : IfSome link.setup (λ setup. sharded ≡ setup.description.sharded)
   pub last : Scene
   pub turns : Turns trial sharded (first_scene store link) last result
   pub link_is : link_now ≡ last.link

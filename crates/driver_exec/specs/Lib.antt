@@ -11,6 +11,7 @@ pub mod Holding
 pub mod InsertAnswers
 pub mod InsertMeaning
 pub mod Inserts
+pub mod Keeping
 pub mod LabelTable
 pub mod Links
 pub mod OldDeployment

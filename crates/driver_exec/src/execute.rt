@@ -1,17 +1,20 @@
 //! An operation outside transactions: attempts, and between them the decision on a retry.
 ghost use Rattle.std.specs.Prelude.{◌≡◌, ◌≤◌, ◌+◌, IsSome};
+ghost use Rattle.driver_link.specs.declared.machine.PlacedWrite.{PlacedWrite};
 ghost use Rattle.driver_link.specs.declared.machine.SendBody.{SendBody};
 ghost use Rattle.driver_exec.specs.Attempting.{scene, trial_of};
 ghost use Rattle.driver_exec.specs.Causes.{end_of};
 ghost use Rattle.driver_exec.specs.Client.{options_of, store_of};
 ghost use Rattle.driver_exec.specs.Executing.{Executes, IsLastError, Turns, kept_or, limit_reached};
 ghost use Rattle.driver_exec.specs.Holding.{holds_nothing};
+ghost use Rattle.driver_exec.specs.Keeping.{Keeps};
 ghost use Rattle.driver_exec.specs.Pool.{Draws, LendsAsBefore};
 ghost use Rattle.driver_exec.specs.Resending.{Works};
 ghost use Rattle.driver_exec.specs.Retry.{Decides, decide};
 ghost use Rattle.driver_exec.specs.OperationCauses.{Caused, grounds};
 ghost use Rattle.driver_exec.specs.Operations.{MeansTheSame};
 ghost use Rattle.driver_exec.specs.Links.{told_link};
+ghost use Rattle.driver_exec.specs.Writing.{insert_asked};
 
 use crate::attempt_end::{Attempt, Failing};
 use crate::client::Client;
@@ -30,7 +33,8 @@ use std::sync::ledger::Ledger;
 
 /// Runs an operation, with the places of its writes: attempts until one ends it, or its failure may not be
 /// followed by another. An error is that of the failure which is kept, or what ended the operation at once.
-/// `sends` counts the sends of its command, of which there are two at most.
+/// `sends` counts the sends of its command, of which there are two at most. An insert that it runs keeps what
+/// stands between the calls of one client's plain writes (`keeps`).
 pub fn execute_operation<O: Operation, S: SessionStore, L: Link, K: Clock, R, Q: Ledger>(
     alloc: Global,
     client: &mut Client<S>,
@@ -42,6 +46,7 @@ pub fn execute_operation<O: Operation, S: SessionStore, L: Link, K: Clock, R, Q:
     requires { (body : SendBody) × (O.meaning op.old).asked places.now body }
     ensures executes { Executes (trial_of (O.meaning op.old) places.now ((O.meaning op.old).own (options_of client.old))) (S.told (store_of client.old)) (S.told (store_of client.new)) (told_link (L.told outside.old.link) (L.setup outside.old.link) (L.answers outside.old.link) (L.faults outside.old.link)) (told_link (L.told outside.new.link) (L.setup outside.new.link) (L.answers outside.new.link) (L.faults outside.new.link)) result }
     ensures works { Works (O.meaning op.old) places.now (S.told (store_of client.old)) (S.told (store_of client.new)) (L.told outside.old.link) (L.told outside.new.link) result }
+    ensures keeps { (write : PlacedWrite) → (O.meaning op.old).asked places.now (insert_asked write) → Keeps (S.told (store_of client.old)) (S.told (store_of client.new)) (L.told outside.old.link) (L.told outside.new.link) write }
     ensures lent { LendsAsBefore (S.told (store_of client.old)) (S.told (store_of client.new)) }
     ensures drawn { Draws (S.told (store_of client.old)) (S.told (store_of client.new)) }
     ensures caused { Caused (grounds (O.meaning op.old) ((O.meaning op.old).own (options_of client.old)) (L.setup outside.old.link) (S.told (store_of client.old))) (L.faults outside.old.link) (L.faults outside.new.link) (L.answers outside.old.link) (L.answers outside.new.link) (end_of result) }

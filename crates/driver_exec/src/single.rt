@@ -5,6 +5,7 @@ ghost use Rattle.driver_exec.specs.Attempting.{trial_of};
 ghost use Rattle.driver_exec.specs.Causes.{end_of};
 ghost use Rattle.driver_exec.specs.Client.{options_of, store_of};
 ghost use Rattle.driver_exec.specs.InsertMeaning.{insert_meaning, own_of_insert};
+ghost use Rattle.driver_exec.specs.Keeping.{EndsStanding, Keeps};
 ghost use Rattle.driver_exec.specs.OperationCauses.{grounds};
 ghost use Rattle.driver_exec.specs.Pool.{Draws, LendsAsBefore};
 ghost use Rattle.driver_exec.specs.Resending.{Works};
@@ -25,7 +26,8 @@ use std::alloc::Global;
 use std::sync::ledger::Ledger;
 
 /// Inserts one document, whose bytes are given. An error is that of the operation, in the form of a single
-/// write's: a failure of its insert is a `Write`.
+/// write's: a failure of its insert is a `Write`. Under what stands between calls (`keeps`) an insert that was done
+/// has its entry in the log (`stands`).
 pub fn insert_single<S: SessionStore, L: Link, K: Clock, R, Q: Ledger>(
     alloc: Global,
     client: &mut Client<S>,
@@ -39,6 +41,8 @@ pub fn insert_single<S: SessionStore, L: Link, K: Clock, R, Q: Ledger>(
     ensures caused { CausedSingle (grounds (insert_meaning write.now.written.namespace bytes) (own_of_insert (options_of client.old)) (L.setup outside.old.link) (S.told (store_of client.old))) (L.faults outside.old.link) (L.faults outside.new.link) (L.answers outside.old.link) (L.answers outside.new.link) result }
     ensures works { Works (insert_meaning write.now.written.namespace bytes) (write.now.place ∷ []) (S.told (store_of client.old)) (S.told (store_of client.new)) (L.told outside.old.link) (L.told outside.new.link) result }
     ensures wrote { Wrote (S.told (store_of client.old)) (S.told (store_of client.new)) (L.told outside.old.link) (L.told outside.new.link) write.now (end_of result) }
+    ensures keeps { Keeps (S.told (store_of client.old)) (S.told (store_of client.new)) (L.told outside.old.link) (L.told outside.new.link) write.now }
+    ensures stands { EndsStanding (S.told (store_of client.old)) (S.told (store_of client.new)) (L.told outside.old.link) (L.told outside.new.link) write.now (end_of result) }
     ensures lent { LendsAsBefore (S.told (store_of client.old)) (S.told (store_of client.new)) }
     ensures drawn { Draws (S.told (store_of client.old)) (S.told (store_of client.new)) }
     ensures options { options_of client.new ≡ options_of client.old }

@@ -1,10 +1,10 @@
 //! One attempt of an operation outside transactions: a server, a connection, a session where none is held,
 //! one command and its reply.
-ghost use Rattle.std.specs.Prelude.{◌≡◌, ◌≤◌, ◌+◌, ◌&&◌, Err, IfOk, None, Some, is_some};
+ghost use Rattle.std.specs.Prelude.{◌≡◌, ◌≤◌, ◌+◌, Err, IfOk, None, Some, is_some};
 ghost use Rattle.std.specs.Option.{option_copied};
 ghost use Rattle.bson_lite.specs.Spelling.{Spells};
 ghost use Rattle.driver_link.specs.declared.machine.SendBody.{SendBody};
-ghost use Rattle.driver_exec.specs.Attempting.{Connects, Exchanging, ReadsAnswer, Sending, Tries, asks_session, is_nothing, may_use, on_connection, scene, trial_of};
+ghost use Rattle.driver_exec.specs.Attempting.{Connects, Exchanging, ReadsAnswer, Sending, Tries, asks_session, is_nothing, may_use, on_connection, scene, stops, trial_of};
 ghost use Rattle.driver_exec.specs.declared.retryability.Retryability.{Retryability as Repeated};
 ghost use Rattle.driver_exec.specs.Client.{options_of, store_of};
 ghost use Rattle.driver_exec.specs.Failing.{EndsLost, EndsRead, EndsUnconnected, EndsUnselected};
@@ -132,7 +132,7 @@ fn is_nothing(turn: Retryability) -> bool
 
 /// Whether an attempt that is not the first stops, since nothing may be repeated.
 fn stops(turn: &Turn<'_>) -> bool
-    ensures { result ≡ (turn.now.again && is_nothing turn.now.turn) }
+    ensures { result ≡ stops turn.now.again turn.now.turn }
 {
     turn.again && is_nothing(turn.turn)
 }

@@ -2,7 +2,7 @@
 use crate::inserting::{Ended, SERVER, insert};
 use bson_lite::{Bytes, List};
 use driver_error::IoKind;
-use driver_link::{FakeLink, FakeStep, Frame, LinkFault};
+use driver_link::{Description, FakeLink, FakeStep, Frame, LinkFault};
 use std::alloc::{AllocError, Global};
 
 /// `{ok: 1, n: 1}`
@@ -14,6 +14,17 @@ const NO_NUMBERS: &[u8] =
 
 /// A reply that is no document.
 const BROKEN: &[u8] = b"\x05\0\0\0";
+
+/// A connection's server that takes sessions, and no retryable writes.
+const NO_REPEATS: Description = Description {
+    max_wire_version: Some(25),
+    max_bson_object_size: 16_777_216,
+    max_message_size_bytes: 48_000_000,
+    max_write_batch_size: 100_000,
+    supports_sessions: true,
+    supports_retryable_writes: false,
+    sharded: false,
+};
 
 /// What an exchange answers.
 #[derive(Clone, Copy)]
@@ -29,9 +40,11 @@ fn step(alloc: Global, given: Given) -> Result<FakeStep, AllocError> {
     })
 }
 
-fn link(alloc: Global, given: &[Given]) -> Result<FakeLink, AllocError> {
+/// A link whose first connection is to `SERVER`, and each further one so.
+fn link(alloc: Global, further: Description, given: &[Given]) -> Result<FakeLink, AllocError> {
     let mut descriptions = List::new(alloc);
     descriptions.push(SERVER)?;
+    descriptions.push(further)?;
     let mut steps = List::new(alloc);
     for one in given {
         steps.push(step(alloc, *one)?)?;
@@ -40,8 +53,8 @@ fn link(alloc: Global, given: &[Given]) -> Result<FakeLink, AllocError> {
 }
 
 /// How an insert ends whose exchanges answer so, and the link afterwards, or none where there is no memory.
-fn inserted(alloc: Global, given: &[Given]) -> Option<(Ended, FakeLink)> {
-    let Ok(link) = link(alloc, given) else {
+fn inserted(alloc: Global, further: Description, given: &[Given]) -> Option<(Ended, FakeLink)> {
+    let Ok(link) = link(alloc, further, given) else {
         return None;
     };
     let (seen, link) = insert(alloc, link)?;
@@ -49,8 +62,8 @@ fn inserted(alloc: Global, given: &[Given]) -> Option<(Ended, FakeLink)> {
 }
 
 /// Whether an insert ends so after one send.
-fn ends_at_once(alloc: Global, given: &[Given], ended: Ended) -> bool {
-    match inserted(alloc, given) {
+fn ends_at_once(alloc: Global, further: Description, given: &[Given], ended: Ended) -> bool {
+    match inserted(alloc, further, given) {
         Some((found, link)) => found == ended && link.frames().len() == 1,
         None => false,
     }
@@ -84,7 +97,7 @@ fn has_equal_frames(link: &FakeLink) -> bool {
 
 /// Whether a lost command goes out again in the same bytes, and is done.
 fn resend_is_the_same(alloc: Global) -> bool {
-    match inserted(alloc, &[Given::Reset, Given::Reply(DONE)]) {
+    match inserted(alloc, SERVER, &[Given::Reset, Given::Reply(DONE)]) {
         Some((ended, link)) => ended == Ended::Done && has_equal_frames(&link),
         None => false,
     }
@@ -92,7 +105,14 @@ fn resend_is_the_same(alloc: Global) -> bool {
 
 #[test]
 fn a_deployment_without_numbers_is_told_in_words(rt: HostRuntime) {
-    assert!(rt; ends_at_once(rt.alloc(), &[Given::Reply(NO_NUMBERS)], Ended::NoNumbers));
+    assert!(rt;
+        ends_at_once(
+            rt.alloc(),
+            SERVER,
+            &[Given::Reply(NO_NUMBERS)],
+            Ended::NoNumbers
+        )
+    );
 }
 
 #[test]
@@ -100,8 +120,21 @@ fn a_reply_that_is_no_document_is_not_sent_again(rt: HostRuntime) {
     assert!(rt;
         ends_at_once(
             rt.alloc(),
+            SERVER,
             &[Given::Reply(BROKEN), Given::Reply(DONE)],
             Ended::InvalidResponse
+        )
+    );
+}
+
+#[test]
+fn nothing_is_sent_again_where_nothing_may_be_repeated(rt: HostRuntime) {
+    assert!(rt;
+        ends_at_once(
+            rt.alloc(),
+            NO_REPEATS,
+            &[Given::Reset, Given::Reply(DONE)],
+            Ended::Io(IoKind::ConnectionReset)
         )
     );
 }

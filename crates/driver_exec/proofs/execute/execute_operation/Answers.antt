@@ -4,6 +4,7 @@ use Rattle.driver_exec.specs.Attempting.{scene, trial_of}
 use Rattle.driver_exec.specs.Client.{options_of, store_of}
 use Rattle.driver_exec.specs.Executing.{Executes}
 use Rattle.driver_exec.specs.Links.{told_link}
+use Rattle.driver_exec.proofs.KeepingCalls.{works_keeps}
 use Rattle.driver_exec.proofs.OperationCausing.{executes_caused}
 use Rattle.driver_exec.proofs.Resending.{executes_draws, executes_lends, executes_works}
 use Rattle.driver_exec.proofs.execute.execute_operation.Goals as goal
@@ -18,6 +19,7 @@ returns-clause-caused g c =
     let link_now = told_link (g.L.Link.told c.turns-held.new.outside.link) (g.L.Link.setup c.turns-held.new.outside.link) (g.L.Link.answers c.turns-held.new.outside.link) (g.L.Link.faults c.turns-held.new.outside.link) in
     let executes : Executes (trial_of meaning c.args.places.now own) store store_now link link_now c.turns-held.result.1 = record {
       sharded = c.is_sharded-sharded.result;
+      sharded_is = c.is_sharded-sharded.ensures;
       last = scene (g.S.SessionStore.told (store_of c.turns-held.new.client)) link_now c.turns-held.result.0;
       turns = c.turns-held.ensures.turns;
       link_is = refl;
@@ -35,12 +37,18 @@ returns-clause-works g c =
     let link_now = told_link (g.L.Link.told c.turns-held.new.outside.link) (g.L.Link.setup c.turns-held.new.outside.link) (g.L.Link.answers c.turns-held.new.outside.link) (g.L.Link.faults c.turns-held.new.outside.link) in
     let executes : Executes (trial_of meaning c.args.places.now own) store store_now link link_now c.turns-held.result.1 = record {
       sharded = c.is_sharded-sharded.result;
+      sharded_is = c.is_sharded-sharded.ensures;
       last = scene (g.S.SessionStore.told (store_of c.turns-held.new.client)) link_now c.turns-held.result.0;
       turns = c.turns-held.ensures.turns;
       link_is = refl;
       comes_back = c.give_back.ensures.takes;
     } in
     executes_works (trial_of meaning c.args.places.now own) store store_now link link_now c.turns-held.result.1 executes
+
+pub returns-clause-keeps : goal.returns-clause-keeps
+returns-clause-keeps g c = λ write asked.
+    works_keeps (g.O.Operation.meaning c.args.op.now) c.args.places.now (g.S.SessionStore.told (store_of c.args.client.now)) (g.S.SessionStore.told (store_of c.give_back.new.client))
+    (g.L.Link.told c.args.outside.now.link) (g.L.Link.told c.turns-held.new.outside.link) c.turns-held.result.1 (returns-clause-works g c) write asked
 
 pub returns-clause-lent : goal.returns-clause-lent
 returns-clause-lent g c =
@@ -52,6 +60,7 @@ returns-clause-lent g c =
     let link_now = told_link (g.L.Link.told c.turns-held.new.outside.link) (g.L.Link.setup c.turns-held.new.outside.link) (g.L.Link.answers c.turns-held.new.outside.link) (g.L.Link.faults c.turns-held.new.outside.link) in
     let executes : Executes (trial_of meaning c.args.places.now own) store store_now link link_now c.turns-held.result.1 = record {
       sharded = c.is_sharded-sharded.result;
+      sharded_is = c.is_sharded-sharded.ensures;
       last = scene (g.S.SessionStore.told (store_of c.turns-held.new.client)) link_now c.turns-held.result.0;
       turns = c.turns-held.ensures.turns;
       link_is = refl;
@@ -69,6 +78,7 @@ returns-clause-drawn g c =
     let link_now = told_link (g.L.Link.told c.turns-held.new.outside.link) (g.L.Link.setup c.turns-held.new.outside.link) (g.L.Link.answers c.turns-held.new.outside.link) (g.L.Link.faults c.turns-held.new.outside.link) in
     let executes : Executes (trial_of meaning c.args.places.now own) store store_now link link_now c.turns-held.result.1 = record {
       sharded = c.is_sharded-sharded.result;
+      sharded_is = c.is_sharded-sharded.ensures;
       last = scene (g.S.SessionStore.told (store_of c.turns-held.new.client)) link_now c.turns-held.result.0;
       turns = c.turns-held.ensures.turns;
       link_is = refl;

@@ -11,6 +11,7 @@ use Rattle.driver_exec.specs.OperationCauses.{Caused, grounds}
 use Rattle.driver_exec.specs.Resending.{Works}
 use Rattle.driver_exec.proofs.Singling.{insert_caused, insert_executes, insert_works, works_single}
 use Rattle.driver_exec.specs.Writing.{insert_asked}
+use Rattle.driver_exec.proofs.KeepingCalls.{works_keeps, wrote_ends}
 use Rattle.driver_exec.proofs.Wrote.{asks_write, works_wrote}
 use Rattle.driver_exec.proofs.single.insert_single.Goals as goal
 
@@ -118,3 +119,23 @@ pub returns-clause-wrote : goal.returns-clause-wrote
 returns-clause-wrote g c =
     works_wrote c.args.write.now c.args.bytes c.requires (g.S.SessionStore.told (store_of c.args.client.now)) (g.S.SessionStore.told (store_of c.execute_operation.new.client))
     (g.L.Link.told c.args.outside.now.link) (g.L.Link.told c.execute_operation.new.outside.link) (Err c.convert_insert_many_error.result) (returns-clause-works g c)
+
+pub returns-in-Ok-clause-keeps : goal.returns-in-Ok-clause-keeps
+returns-in-Ok-clause-keeps g c =
+    works_keeps (insert_meaning c.args.write.now.written.namespace c.args.bytes) (c.args.write.now.place ∷ []) (g.S.SessionStore.told (store_of c.args.client.now)) (g.S.SessionStore.told (store_of c.execute_operation.new.client))
+    (g.L.Link.told c.args.outside.now.link) (g.L.Link.told c.execute_operation.new.outside.link) (Ok c.in-Ok.field-0) (returns-in-Ok-clause-works g c) c.args.write.now (asks_write c.args.write.now c.args.bytes c.requires)
+
+pub returns-in-Ok-clause-stands : goal.returns-in-Ok-clause-stands
+returns-in-Ok-clause-stands g c =
+    wrote_ends (g.S.SessionStore.told (store_of c.args.client.now)) (g.S.SessionStore.told (store_of c.execute_operation.new.client))
+    (g.L.Link.told c.args.outside.now.link) (g.L.Link.told c.execute_operation.new.outside.link) c.args.write.now (end_of {A = Unit {0}} (Ok c.in-Ok.field-0)) (returns-in-Ok-clause-wrote g c)
+
+pub returns-clause-keeps : goal.returns-clause-keeps
+returns-clause-keeps g c =
+    works_keeps (insert_meaning c.args.write.now.written.namespace c.args.bytes) (c.args.write.now.place ∷ []) (g.S.SessionStore.told (store_of c.args.client.now)) (g.S.SessionStore.told (store_of c.execute_operation.new.client))
+    (g.L.Link.told c.args.outside.now.link) (g.L.Link.told c.execute_operation.new.outside.link) (Err c.convert_insert_many_error.result) (returns-clause-works g c) c.args.write.now (asks_write c.args.write.now c.args.bytes c.requires)
+
+pub returns-clause-stands : goal.returns-clause-stands
+returns-clause-stands g c =
+    wrote_ends (g.S.SessionStore.told (store_of c.args.client.now)) (g.S.SessionStore.told (store_of c.execute_operation.new.client))
+    (g.L.Link.told c.args.outside.now.link) (g.L.Link.told c.execute_operation.new.outside.link) c.args.write.now (end_of {A = Unit {0}} (Err c.convert_insert_many_error.result)) (returns-clause-wrote g c)

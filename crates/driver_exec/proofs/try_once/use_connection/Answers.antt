@@ -1,7 +1,7 @@
 -- Where there is no session, or nothing may be repeated, the attempt ends so; else its command goes out.
 use Rattle.std.proofs.Common.{ap, ◌∙◌, sym}
 use Rattle.std.specs.Prelude.{Ok, Err}
-use Rattle.driver_exec.specs.Attempting.{asks_session, is_nothing}
+use Rattle.driver_exec.specs.Attempting.{asks_session, is_nothing, stops}
 use Rattle.driver_exec.specs.Client.{store_of}
 use Rattle.driver_exec.specs.Links.{told_link}
 use Rattle.driver_exec.proofs.Trying.{both_true, holds_asked, sent_tries, sessionless_tries, stopped_tries, unready_tries}
@@ -41,7 +41,7 @@ returns-then-may_use-clause-tries g c = λ own turn before connects.
     sent_tries meaning c.args.places.now own c.args.turn.now.again store store_now before link c.args.held c.hold_session-held.result.0 c.args.address c.args.turn.now.conn.now connects
     (holds_asked meaning c.args.places.now own c.args.turn.now.again store store_now before link c.args.held c.hold_session-held.result.0 c.args.address c.args.turn.now.conn.now connects
     c.asks_session-asked.result c.hold_session-held.result.1 (Ok tt) asked c.in-Ok.is c.hold_session-held.ensures.holds)
-    (sym c.may_use.ensures ∙ c.if-may_use.true) _ _ _ _ turn c.send.ensures.sending
+    (sym c.may_use.ensures ∙ c.if-may_use.true) (ap (λ t. stops c.args.turn.now.again t) (sym turn) ∙ sym c.stops.ensures ∙ c.if-stops.false) _ _ _ _ turn c.send.ensures.sending
 
 pub returns-clause-tries : goal.returns-clause-tries
 returns-clause-tries g c = λ own turn before connects.
