@@ -31,7 +31,7 @@ new_model asked = record { server = empty_server; setup = asked.setup; schedule 
 
 -- what a server tells
 abbrev pub link_of : ModelState → ToldLink
-link_of model = told_link (Some (told_of model)) (Some model.setup) (Some model.answers) model.faults
+link_of model = told_link (Some (told_of model)) (Some model.setup) (Some model.answers) None None model.faults
 
 -- what a new client and a new server tell before the first call
 abbrev pub begun_moment : Script → Moment

@@ -162,7 +162,7 @@ module _ (write : PlacedWrite) (bytes : List ℕ) (spelled : Spells write.writte
     (first_ready : (caller moment : ℕ) (lent : Option ToldStore) (session : Session) (number : ℤ) → Lends store lent caller moment session → DrawnApart lent
     → number ≡ session.number +ℤ pos 1 → Ready (insert_send (Some session.id) (Some number) write) told.server)
     (bare_ready : (session : Option (List ℕ)) → Ready (insert_send session None write) told.server)
-    (unspelled : (fault : EncodeFault) → BodyRefused write.written.namespace fault → ⊥)
+    (unspelled : (session : Option (List ℕ)) (number : Option ℤ) (fault : EncodeFault) → BodyRefused write.written.namespace session number fault → ⊥)
     (not_last : (caller moment : ℕ) (lent : Option ToldStore) (session : Session) → Lends store lent caller moment session → session.number ≡ last_number → ⊥) where
   -- the insert as its attempts see it
   abbrev trial : Trial (Unit {0})
@@ -295,8 +295,8 @@ module _ (write : PlacedWrite) (bytes : List ℕ) (spelled : Spells write.writte
     readied : (ready : Held) (store_now : Option ToldStore) (description : Description) → IsOf link.setup description
         → HoldsSession (needs_session (asks_session true description) mid.held) mid.store store_now mid.held ready (Ok tt) → DrawnApart store_now → IsReadied moment.server description ready
 
-  first_prepared : IsPrepared told (first_scene store link)
-  first_prepared = record {
+  first_prepared : (count : ℕ) → IsPrepared told (first_scene store link count)
+  first_prepared count = record {
     is = link_is;
     after = before_refl told;
     setup = refl;
@@ -304,16 +304,16 @@ module _ (write : PlacedWrite) (bytes : List ℕ) (spelled : Spells write.writte
   }
 
   -- there is a frame, unless memory runs out
-  frame_memory : (why : ErrorKind) → TellsUnframed trial.meaning why → why ≡ kind.Memory
-  frame_memory (kind.InvalidArgument message) tells = absurd tells
-  frame_memory (kind.BsonSerialization fault) tells = elim tells [ inl none ↦ absurd none | inr refused ↦ absurd (unspelled fault refused) ]
-  frame_memory kind.Memory tells = refl
-  frame_memory _ tells = absurd tells
+  frame_memory : (session : Option (List ℕ)) (number : Option ℤ) (why : ErrorKind) → TellsUnframed trial.meaning session number why → why ≡ kind.Memory
+  frame_memory session number (kind.InvalidArgument message) tells = absurd tells
+  frame_memory session number (kind.BsonSerialization fault) tells = elim tells [ inl none ↦ absurd none | inr refused ↦ absurd (unspelled session number fault refused) ]
+  frame_memory session number kind.Memory tells = refl
+  frame_memory session number _ tells = absurd tells
 
   -- an attempt
   module _ (moment : Told) (mid : Scene) (prepared : IsPrepared moment mid) where
     -- a connection was had
-    module _ (ready : Scene) (address : Address) (conn : Conn) (readies : Readies trial mid ready address conn) where
+    module _ {past : Option Kept} (ready : Scene) (address : Address) (conn : Conn) (readies : Readies trial past mid ready address conn) where
       is_conn : IsOf link.setup conn.description
       is_conn = is_of link.setup readies.connects.mid.setup address conn (readies.connects.selects.setup ∙ prepared.setup) readies.connects.to
 
@@ -324,18 +324,18 @@ module _ (write : PlacedWrite) (bytes : List ℕ) (spelled : Spells write.writte
       readied apart = prepared.readied ready.held ready.store conn.description is_conn readies.holds apart
 
     -- the operation ends at once only for want of memory
-    refused_memory : (again : Bool) (now : Scene) (error : Error) → DrawnApart now.store → EndsRefused trial again mid now error → kind_of error ≡ kind.Memory
-    refused_memory again now error apart refused =
+    refused_memory : (past : Option Kept) (now : Scene) (error : Error) → DrawnApart now.store → EndsRefused trial past mid now error → kind_of error ≡ kind.Memory
+    refused_memory past now error apart refused =
         let here = readied refused.ready refused.address refused.conn refused.readies (subst DrawnApart refused.store apart) in elim refused.refused [
           | inl none ↦ absurd (here.allowed none.none)
           | inr other ↦ elim other [
             | inl none ↦ here.unnumbered (on_connection own refused.conn.description) now.held error none.draws
-            | inr none ↦ frame_memory (kind_of error) none.why
+            | inr none ↦ frame_memory _ none.number (kind_of error) none.why
           ]
         ]
 
   -- the part that is gentle
-  module _ (told_now : Told) (gentle : IsGentlePart (DrawsNumbers true own link.setup) told told_now) where
+  module _ (count : ℕ) (told_now : Told) (gentle : IsGentlePart (DrawsNumbers true own link.setup) told told_now) where
     -- one exchange of the part was lost, from a moment on
     record Lost (from : Told) (now : Scene) : Type 0 where
       draws : DrawsNumbers true own link.setup
@@ -365,20 +365,20 @@ module _ (write : PlacedWrite) (bytes : List ℕ) (spelled : Spells write.writte
     }
 
     -- an attempt of the part
-    module _ (again : Bool) (moment : Told) (mid : Scene) (prepared : IsPrepared moment mid) (now : Scene) (last : Told) (now_is : now.link.server ≡ Some last) (later : IsBefore last told_now)
+    module _ (past : Option Kept) (moment : Told) (mid : Scene) (prepared : IsPrepared moment mid) (now : Scene) (last : Told) (now_is : now.link.server ≡ Some last) (later : IsBefore last told_now)
         (apart : DrawnApart now.store) where
-      unselected_none : (error : Error) → NotSelected mid now error → ⊥
+      unselected_none : (error : Error) → NotSelected past mid now error → ⊥
       unselected_none error fails =
           selects_well (DrawsNumbers true own link.setup) told told_now gentle moment prepared.after mid.link now.link last prepared.is now_is later fails.fault fails.own fails.selects
 
-      unconnected_none : (address : Address) (error : Error) → NotConnected trial mid now address error → ⊥
+      unconnected_none : (address : Address) (error : Error) → NotConnected trial past mid now address error → ⊥
       unconnected_none address error fails =
           let first = (selects_lead moment mid.link fails.mid (Ok address) prepared.is fails.selects).leads in
           checks_well (DrawsNumbers true own link.setup) told told_now gentle first.moment (before_twice told moment first.moment prepared.after first.later) fails.mid now.link last
           first.is now_is later fails.fault fails.own fails.checks_out
 
       -- the insert went out
-      module _ (address : Address) (conn : Conn) (result : Result (List ℕ) LinkError) (sends : Sends trial again mid now address conn result) where
+      module _ (address : Address) (conn : Conn) (result : Result (List ℕ) LinkError) (sends : Sends trial past mid now address conn result) where
         came : LeadsCalling moment mid.link sends.ready.link
         came = reached moment mid prepared sends.ready address conn sends.readies
 
@@ -477,7 +477,7 @@ module _ (write : PlacedWrite) (bytes : List ℕ) (spelled : Spells write.writte
             since_after = before_twice told before (told_after before send) since_told (after_before before send)
 
       -- a reply spells no failure
-      spelled_none : (address : Address) (error : Error) → SpellsFailure trial again mid now address error → ⊥
+      spelled_none : (address : Address) (error : Error) → SpellsFailure trial past mid now address error → ⊥
       spelled_none address error fails =
           let bare = fails.is.is in
           let plain = plain_reply address fails.conn (Ok fails.reply) fails.sends fails.reply (steps address fails.conn (Ok fails.reply) fails.sends) in
@@ -489,7 +489,7 @@ module _ (write : PlacedWrite) (bytes : List ℕ) (spelled : Spells write.writte
         lost : Lost moment now
         labelled : has_label (labels_of (reworded error)) RETRYABLE_WRITE_ERROR.now ≡ true
 
-      loses_well : (address : Address) (error : Error) → LosesExchange trial again mid now address error → LosesWell error
+      loses_well : (address : Address) (error : Error) → LosesExchange trial past mid now address error → LosesWell error
       loses_well address error fails =
           let result = Err (Fault fails.fault fails.own) in
           let turn = on_connection own fails.conn.description in
@@ -505,7 +505,7 @@ module _ (write : PlacedWrite) (bytes : List ℕ) (spelled : Spells write.writte
           }
 
       -- an attempt of the part fails only so
-      fails_well : (address : Address) (phase : FailurePhase) (error : Error) → FailsIn trial again mid now address phase error → LosesWell error
+      fails_well : (address : Address) (phase : FailurePhase) (error : Error) → FailsIn trial past mid now address phase error → LosesWell error
       fails_well address Establishment error fails = absurd (unconnected_none address error fails)
       fails_well address Execution error fails = elim fails [
         | inl lost ↦ loses_well address error lost
@@ -519,15 +519,15 @@ module _ (write : PlacedWrite) (bytes : List ℕ) (spelled : Spells write.writte
       limit : retry.limit ≡ 1
 
     abbrev SoFar : Option Kept → Scene → Type 0
-    SoFar None now = now ≡ first_scene store link
+    SoFar None now = now ≡ first_scene store link count
     SoFar (Some retry) now = LostOnce retry now
 
     -- a further attempt does not fail
     again_none : (retry : Kept) (mid : Scene) (once : LostOnce retry mid) (now : Scene) (last : Told) → now.link.server ≡ Some last → IsBefore last told_now → DrawnApart now.store
-        → (address : Address) (phase : FailurePhase) (error : Error) → FailsIn trial true mid now address phase error → ⊥
+        → (address : Address) (phase : FailurePhase) (error : Error) → FailsIn trial (Some retry) mid now address phase error → ⊥
     again_none retry mid once now last now_is later apart address phase error fails =
         let first = once.lost in
-        let second = (fails_well true first.moment mid (again_prepared told mid first) now last now_is later apart address phase error fails).lost in
+        let second = (fails_well (Some retry) first.moment mid (again_prepared told mid first) now last now_is later apart address phase error fails).lost in
         let same = gentle.one first.at second.at first.part second.part first.lossy second.lossy in
         omega (arith, first.until, second.since, same)
 
@@ -552,45 +552,45 @@ module _ (write : PlacedWrite) (bytes : List ℕ) (spelled : Spells write.writte
 
       -- one failure more
       first_fails : (now : Scene) (last : Told) (now_is : now.link.server ≡ Some last) (later : IsBefore last told_now) (apart : DrawnApart now.store) (address : Address) (phase : FailurePhase) (error : Error)
-          → FailsIn trial false (first_scene store link) now address phase error → LosesWell false told (first_scene store link) first_prepared now last now_is later apart error
-      first_fails now last now_is later apart address phase error fails = fails_well false told (first_scene store link) first_prepared now last now_is later apart address phase error fails
+          → FailsIn trial None (first_scene store link count) now address phase error → LosesWell None told (first_scene store link count) (first_prepared count) now last now_is later apart error
+      first_fails now last now_is later apart address phase error fails = fails_well None told (first_scene store link count) (first_prepared count) now last now_is later apart address phase error fails
 
       fails_far : (kept : Option Kept) (mid now : Scene) (last : Told) → SoFar kept mid → now.link.server ≡ Some last → IsBefore last told_now → DrawnApart now.store → (failing : Failing) (retry : Kept)
-          → FailsIn trial (is_some kept) mid now failing.address failing.failure.phase failing.failure.error → decided trial sharded kept failing now ≡ Ok retry → LostOnce retry now
+          → FailsIn trial kept mid now failing.address failing.failure.phase failing.failure.error → decided trial sharded kept failing now ≡ Ok retry → LostOnce retry now
       fails_far None mid now last far now_is later apart failing retry fails decides =
           let error = failing.failure.error in
-          let begun = subst (λ s. FailsIn trial false s now failing.address failing.failure.phase error) far fails in
+          let begun = subst (λ s. FailsIn trial None s now failing.address failing.failure.phase error) far fails in
           let well = first_fails now last now_is later apart failing.address failing.failure.phase error begun in
           first_retry now failing well.lost well.labelled retry decides
       fails_far (Some earlier) mid now last far now_is later apart failing retry fails decides =
           absurd (again_none earlier mid far now last now_is later apart failing.address failing.failure.phase failing.failure.error fails)
 
       -- each moment that an operation reaches is not before the first one
-      reaches_leads : (failures : List Failing) (kept : Option Kept) (now : Scene) → Reaches trial sharded (first_scene store link) failures kept now → Leads told link now.link
+      reaches_leads : (failures : List Failing) (kept : Option Kept) (now : Scene) → Reaches trial sharded (first_scene store link count) failures kept now → Leads told link now.link
       reaches_leads [] kept now reaches = subst (λ s. Leads told link s.link) (sym reaches.1) (leads_same told link link_is)
       reaches_leads (failing ∷ failures) kept now reaches =
           let mid = reaches.1.1.0 in
           let rest = reaches.1.1.1 in
           let came = reaches_leads failures rest.0 mid rest.1.0 in
           leads_twice told link mid.link now.link came
-          (fails_lead trial (is_some rest.0) (insert_asked write) asked came.moment mid now came.is failing.address failing.failure.phase failing.failure.error rest.1.1.tries)
+          (fails_lead trial rest.0 (insert_asked write) asked came.moment mid now came.is failing.address failing.failure.phase failing.failure.error rest.1.1.tries)
 
       -- what it has come to there
-      reaches_far : (failures : List Failing) (kept : Option Kept) (now : Scene) (last : Told) → Reaches trial sharded (first_scene store link) failures kept now
+      reaches_far : (failures : List Failing) (kept : Option Kept) (now : Scene) (last : Told) → Reaches trial sharded (first_scene store link count) failures kept now
           → now.link.server ≡ Some last → IsBefore last told_now → DrawnApart now.store → SoFar kept now
       reaches_far [] kept now last reaches now_is later apart = subst (λ k. SoFar k now) (sym reaches.0) reaches.1
       reaches_far (failing ∷ failures) kept now last reaches now_is later apart =
           let mid = reaches.1.1.0 in
           let rest = reaches.1.1.1 in
           let came = reaches_leads failures rest.0 mid rest.1.0 in
-          let more = fails_lead trial (is_some rest.0) (insert_asked write) asked came.moment mid now came.is failing.address failing.failure.phase failing.failure.error rest.1.1.tries in
+          let more = fails_lead trial rest.0 (insert_asked write) asked came.moment mid now came.is failing.address failing.failure.phase failing.failure.error rest.1.1.tries in
           let here = subst (IsBefore came.moment) (one_moment now.link more.moment last more.is now_is) more.later in
-          let earlier = fails_apart trial (is_some rest.0) mid now failing.address failing.failure.phase failing.failure.error rest.1.1.tries apart in
+          let earlier = fails_apart trial rest.0 mid now failing.address failing.failure.phase failing.failure.error rest.1.1.tries apart in
           let far = reaches_far failures rest.0 mid came.moment rest.1.0 came.is (before_twice came.moment last told_now here later) earlier in
           subst (λ k. SoFar k now) (sym reaches.1.0) (fails_far rest.0 mid now last far now_is later apart failing reaches.0 rest.1.1.tries rest.1.1.decides)
 
       -- the last attempt
-      module _ (failures : List Failing) (kept : Option Kept) (mid now : Scene) (reaches : Reaches trial sharded (first_scene store link) failures kept mid)
+      module _ (failures : List Failing) (kept : Option Kept) (mid now : Scene) (reaches : Reaches trial sharded (first_scene store link count) failures kept mid)
           (now_is : now.link.server ≡ Some told_now) (apart_mid : DrawnApart mid.store) (apart : DrawnApart now.store) where
         came_last : Leads told link mid.link
         came_last = reaches_leads failures kept mid reaches
@@ -608,21 +608,21 @@ module _ (write : PlacedWrite) (bytes : List ℕ) (spelled : Spells write.writte
         prepares more = by_kept kept (far_last more)
           where
             by_kept : (found : Option Kept) → SoFar found mid → Prepares
-            by_kept None far = record { moment = told; prepared = subst (IsPrepared told) (sym far) first_prepared }
+            by_kept None far = record { moment = told; prepared = subst (IsPrepared told) (sym far) (first_prepared count) }
             by_kept (Some retry) far = record { moment = far.lost.moment; prepared = again_prepared told mid far.lost }
 
         quiet_memory : (error : Error) (result : Result (Unit {0}) Error) → result ≡ Err error → kind_of error ≡ kind.Memory → EndsQuietly result
         quiet_memory error result is memory = subst EndsQuietly (sym is) memory
 
         -- the write may be repeated on a further connection
-        stops_none : (retry : Kept) → LostOnce retry mid → Stops trial mid now → ⊥
+        stops_none : {past : Option Kept} (retry : Kept) → LostOnce retry mid → Stops trial past mid now → ⊥
         stops_none retry once stops =
             let lost = once.lost in
             let is = is_conn lost.moment mid (again_prepared told mid lost) now stops.address stops.conn stops.readies in
             let takes = draws_on true own link.setup stops.conn.description lost.draws is in
             not_both (sym stops.nothing ∙ ap is_nothing takes.1)
 
-        stopped_quiet : (result : Result (Unit {0}) Error) → Stops trial mid now → EndsWith {A = Unit {0}} kept Stopped result → EndsQuietly result
+        stopped_quiet : {past : Option Kept} (result : Result (Unit {0}) Error) → Stops trial past mid now → EndsWith {A = Unit {0}} kept Stopped result → EndsQuietly result
         stopped_quiet result stops ends =
             let more = (connects_lead came_last.moment mid.link now.link stops.address stops.conn came_last.is stops.readies.connects).leads in
             by_kept kept (far_last more) ends
@@ -631,26 +631,26 @@ module _ (write : PlacedWrite) (bytes : List ℕ) (spelled : Spells write.writte
             by_kept None far ends = absurd ends
             by_kept (Some retry) far ends = absurd (stops_none retry far stops)
 
-        ended_quiet : (again : Bool) (error : Error) → EndsAtOnce trial again mid now error → kind_of error ≡ kind.Memory
-        ended_quiet again error ends = elim ends [
+        ended_quiet : (past : Option Kept) (error : Error) → EndsAtOnce trial past mid now error → kind_of error ≡ kind.Memory
+        ended_quiet past error ends = elim ends [
           | inl unready ↦ unready.why
           | inr other ↦ elim other [
             | inl refused ↦
                 let came = (connects_lead came_last.moment mid.link refused.ready.link refused.address refused.conn came_last.is refused.readies.connects).leads in
                 let here = prepares (subst (Leads came_last.moment mid.link) (sym refused.link) came) in
-                refused_memory here.moment mid here.prepared again now error apart refused
+                refused_memory here.moment mid here.prepared past now error apart refused
             | inr sent ↦ sent.why
           ]
         ]
 
-        last_quiet : (again : Bool) (attempt : Attempt (Unit {0})) (result : Result (Unit {0}) Error) → Tries trial again mid now attempt → EndsWith kept attempt result → EndsQuietly result
-        last_quiet again (Done output) result tries ends = subst EndsQuietly (sym ends) tt
-        last_quiet again (Failed failing) result tries ends = absurd ends
-        last_quiet again (Unselected error) result tries ends =
+        last_quiet : (past : Option Kept) (attempt : Attempt (Unit {0})) (result : Result (Unit {0}) Error) → Tries trial past mid now attempt → EndsWith kept attempt result → EndsQuietly result
+        last_quiet past (Done output) result tries ends = subst EndsQuietly (sym ends) tt
+        last_quiet past (Failed failing) result tries ends = absurd ends
+        last_quiet past (Unselected error) result tries ends =
             let here = prepares (selects_lead came_last.moment mid.link now.link (Err (Fault tries.fault tries.own)) came_last.is tries.selects).leads in
-            absurd (unselected_none again here.moment mid here.prepared now told_now now_is (before_refl told_now) apart error tries)
-        last_quiet again Stopped result tries ends = stopped_quiet result tries.1 ends
-        last_quiet again (Ended error) result tries ends = quiet_memory error result ends (ended_quiet again error tries)
+            absurd (unselected_none past here.moment mid here.prepared now told_now now_is (before_refl told_now) apart error tries)
+        last_quiet past Stopped result tries ends = stopped_quiet result tries.1 ends
+        last_quiet past (Ended error) result tries ends = quiet_memory error result ends (ended_quiet past error tries)
 
         -- the limit is not reached
         limit_none : (retry : Kept) → kept ≡ Some retry → limit_reached kept ≡ true → now ≡ mid → ⊥
@@ -660,15 +660,15 @@ module _ (write : PlacedWrite) (bytes : List ℕ) (spelled : Spells write.writte
             not_both (sym reached ∙ ap limit_reached is ∙ ap (λ n. nat_lt n retry.attempt) once.limit ∙ ap (λ n. nat_lt 1 n) once.attempt)
 
         -- a failure is not refused a further attempt
-        refused_none : (failing : Failing) (error : Error) → FailsIn trial (is_some kept) mid now failing.address failing.failure.phase failing.failure.error
+        refused_none : (failing : Failing) (error : Error) → FailsIn trial kept mid now failing.address failing.failure.phase failing.failure.error
             → decided trial sharded kept failing now ≡ Err error → ⊥
         refused_none failing error fails refuses =
-            let more = fails_lead trial (is_some kept) (insert_asked write) asked came_last.moment mid now came_last.is failing.address failing.failure.phase failing.failure.error fails in
+            let more = fails_lead trial kept (insert_asked write) asked came_last.moment mid now came_last.is failing.address failing.failure.phase failing.failure.error fails in
             by_kept kept (far_last more) fails refuses
           where
-            by_kept : (found : Option Kept) → SoFar found mid → FailsIn trial (is_some found) mid now failing.address failing.failure.phase failing.failure.error → decided trial sharded found failing now ≡ Err error → ⊥
+            by_kept : (found : Option Kept) → SoFar found mid → FailsIn trial found mid now failing.address failing.failure.phase failing.failure.error → decided trial sharded found failing now ≡ Err error → ⊥
             by_kept None far fails refuses =
-                let begun = subst (λ s. FailsIn trial false s now failing.address failing.failure.phase failing.failure.error) far fails in
+                let begun = subst (λ s. FailsIn trial None s now failing.address failing.failure.phase failing.failure.error) far fails in
                 let well = first_fails now told_now now_is (before_refl told_now) apart failing.address failing.failure.phase failing.failure.error begun in
                 first_refused now failing well.lost well.labelled error refuses
             by_kept (Some retry) far fails refuses =
@@ -676,7 +676,7 @@ module _ (write : PlacedWrite) (bytes : List ℕ) (spelled : Spells write.writte
 
         ends_quietly : (result : Result (Unit {0}) Error) → Ends trial sharded kept mid now result → EndsQuietly result
         ends_quietly result ends = elim ends [
-          | inl last ↦ last_quiet (is_some kept) last.attempt result last.tries last.ends
+          | inl last ↦ last_quiet kept last.attempt result last.tries last.ends
           | inr other ↦ elim other [
             | inl limit ↦ absurd (limit_none limit.retry limit.is limit.reached limit.same)
             | inr refused ↦ elim refused.refused [
@@ -694,13 +694,13 @@ module _ (write : PlacedWrite) (bytes : List ℕ) (spelled : Spells write.writte
       let same : now ≡ error = subst (λ why. ConvertsKind why error now) memory becomes in ap kind_of same ∙ memory
 
   -- an insert of one document whose part of the schedule is gentle
-  pub gentle_ends : (store_now : Option ToldStore) (link_now : ToldLink) (told_now : Told) (result : Result (Unit {0}) Error) → link_now.server ≡ Some told_now
-      → DrawnApart store_now → IsGentlePart (DrawsNumbers true own link.setup) told told_now → ExecutesSingle trial store store_now link link_now result → EndsQuietly result
-  gentle_ends store_now link_now told_now result now_is drawn gentle single =
+  pub gentle_ends : (store_now : Option ToldStore) (link_now : ToldLink) (told_now : Told) (count count_now : ℕ) (result : Result (Unit {0}) Error) → link_now.server ≡ Some told_now
+      → DrawnApart store_now → IsGentlePart (DrawsNumbers true own link.setup) told told_now → ExecutesSingle trial store store_now link link_now count count_now result → EndsQuietly result
+  gentle_ends store_now link_now told_now count count_now result now_is drawn gentle single =
       let executes = single.executes in
       let turns = executes.turns in
       let last_is = ap (λ l. l.server) (sym executes.link_is) ∙ now_is in
       let apart = back_apart executes.last.store store_now executes.last.held.session executes.comes_back drawn in
       let apart_mid = ends_apart trial turns.mid executes.last executes.sharded turns.kept single.executed turns.ends apart in
-      let quiet = ends_quietly told_now gentle executes.sharded turns.failures turns.kept turns.mid executes.last turns.reaches last_is apart_mid apart single.executed turns.ends in
+      let quiet = ends_quietly count told_now gentle executes.sharded turns.failures turns.kept turns.mid executes.last turns.reaches last_is apart_mid apart single.executed turns.ends in
       single_quiet single.executed result single.becomes quiet

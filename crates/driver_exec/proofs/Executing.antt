@@ -1,6 +1,6 @@
 -- The attempts of an operation one after another: what is kept of their failures, and how they end.
 use Rattle.std.proofs.Common.{◌≡◌, ℕ, ◌+◌, ◌-◌, ◌<◌, ◌≤◌, List, [], ◌∷◌, refl, sym, ap, subst, ◌∙◌, inl, inr, arith}
-use Rattle.std.specs.Prelude.{ℤ, Bool, true, false, if◌then◌else◌, Option, None, Some, is_some, Result, Ok, Err}
+use Rattle.std.specs.Prelude.{ℤ, Bool, true, false, if◌then◌else◌, Option, None, Some, Result, Ok, Err}
 use Rattle.driver_error.specs.declared.error.Error.{Error}
 use Rattle.driver_exec.specs.declared.attempt_end.Attempt.{Attempt}
 use Rattle.driver_exec.specs.declared.attempt_end.Attempt.TheVariants.{Done, Ended, Failed, Stopped, Unselected}
@@ -41,7 +41,7 @@ module _ {A : Type 0} (trial : Trial A) (sharded : Bool) (before : Scene) where
         }
 
     module _ (now : Scene) (goes_on : limit_reached kept ≡ false) where
-      last_of : (attempt : Attempt A) (result : Result A Error) → Tries trial (is_some kept) mid now attempt → EndsWith kept attempt result
+      last_of : (attempt : Attempt A) (result : Result A Error) → Tries trial kept mid now attempt → EndsWith kept attempt result
           → Turns trial sharded before now result
       last_of attempt result tries ends = record {
         failures = far.failures;
@@ -51,13 +51,13 @@ module _ {A : Type 0} (trial : Trial A) (sharded : Bool) (before : Scene) where
         ends = inl (record { goes_on = goes_on; attempt = attempt; tries = tries; ends = ends });
       }
 
-      pub ends_done : (output : A) → Tries trial (is_some kept) mid now (Done output) → Turns trial sharded before now (Ok output)
+      pub ends_done : (output : A) → Tries trial kept mid now (Done output) → Turns trial sharded before now (Ok output)
       ends_done output tries = last_of (Done output) (Ok output) tries refl
 
-      pub ends_ended : (error : Error) → Tries trial (is_some kept) mid now (Ended error) → Turns trial sharded before now (Err error)
+      pub ends_ended : (error : Error) → Tries trial kept mid now (Ended error) → Turns trial sharded before now (Err error)
       ends_ended error tries = last_of (Ended error) (Err error) tries refl
 
-      pub ends_unselected : (error answer : Error) → Tries trial (is_some kept) mid now (Unselected error) → answer ≡ kept_or kept error
+      pub ends_unselected : (error answer : Error) → Tries trial kept mid now (Unselected error) → answer ≡ kept_or kept error
           → Turns trial sharded before now (Err answer)
       ends_unselected error answer tries is = last_of (Unselected error) (Err answer) tries (by_kept kept is)
         where
@@ -65,7 +65,7 @@ module _ {A : Type 0} (trial : Trial A) (sharded : Bool) (before : Scene) where
           by_kept None is = ap (λ e. Err e) is
           by_kept (Some retry) is = ap (λ e. Err e) is
 
-      pub ends_stopped : (answer : Error) → Tries trial (is_some kept) mid now Stopped → IsLastError kept answer → Turns trial sharded before now (Err answer)
+      pub ends_stopped : (answer : Error) → Tries trial kept mid now Stopped → IsLastError kept answer → Turns trial sharded before now (Err answer)
       ends_stopped answer tries last = last_of Stopped (Err answer) tries (by_kept kept last)
         where
           by_kept : (kept : Option Kept) → IsLastError kept answer → EndsWith {A = A} kept Stopped (Err answer)
@@ -73,7 +73,7 @@ module _ {A : Type 0} (trial : Trial A) (sharded : Bool) (before : Scene) where
           by_kept (Some retry) last = ap (λ e. Err e) last
 
       -- the decision allows no further attempt
-      pub ends_refused : (failing : Failing) (error : Error) → Tries trial (is_some kept) mid now (Failed failing) → Decides (decided trial sharded kept failing now) (Err error)
+      pub ends_refused : (failing : Failing) (error : Error) → Tries trial kept mid now (Failed failing) → Decides (decided trial sharded kept failing now) (Err error)
           → Turns trial sharded before now (Err error)
       ends_refused failing error tries decides = record {
         failures = far.failures;
@@ -84,7 +84,7 @@ module _ {A : Type 0} (trial : Trial A) (sharded : Bool) (before : Scene) where
       }
 
       -- it allows one
-      pub goes_further : (failing : Failing) (retry : Kept) → Tries trial (is_some kept) mid now (Failed failing) → Decides (decided trial sharded kept failing now) (Ok retry)
+      pub goes_further : (failing : Failing) (retry : Kept) → Tries trial kept mid now (Failed failing) → Decides (decided trial sharded kept failing now) (Ok retry)
           → SoFar (Some retry) now
       goes_further failing retry tries decides = record {
         failures = failing ∷ far.failures;
@@ -92,11 +92,11 @@ module _ {A : Type 0} (trial : Trial A) (sharded : Bool) (before : Scene) where
       }
 
 -- one attempt of a turn, of the operation as it was
-pub tried : {A : Type 0} (old now : Meaning A) (same : MeansTheSame old now) (places : List Place) (found own : Retryability) (seen again : Bool) (before after : Scene) (given attempt : Attempt A)
-    → found ≡ own → seen ≡ again → given ≡ attempt → Tries (trial_of now places found) seen before after given → Tries (trial_of old places own) again before after attempt
-tried old now same places found own seen again before after given attempt is_own is_again is_attempt tries =
-    tries_same old now same places own again before after attempt
-    (subst (λ a. Tries (trial_of now places own) again before after a) is_attempt
+pub tried : {A : Type 0} (old now : Meaning A) (same : MeansTheSame old now) (places : List Place) (found own : Retryability) (seen past : Option Kept) (before after : Scene) (given attempt : Attempt A)
+    → found ≡ own → seen ≡ past → given ≡ attempt → Tries (trial_of now places found) seen before after given → Tries (trial_of old places own) past before after attempt
+tried old now same places found own seen past before after given attempt is_own is_again is_attempt tries =
+    tries_same old now same places own past before after attempt
+    (subst (λ a. Tries (trial_of now places own) past before after a) is_attempt
     (subst (λ b. Tries (trial_of now places own) b before after given) is_again
     (subst (λ o. Tries (trial_of now places o) seen before after given) is_own tries)))
 
@@ -104,9 +104,13 @@ tried old now same places found own seen again before after given attempt is_own
 pub same_twice : {A : Type 0} (a b c : Meaning A) → MeansTheSame a b → MeansTheSame b c → MeansTheSame a c
 same_twice a b c first second = record {
   name = second.name ∙ first.name;
+  commands = λ command. (λ x. (second.commands command).0 ((first.commands command).0 x), λ x. (first.commands command).1 ((second.commands command).1 x));
   asked = λ places body. (λ x. (second.asked places body).0 ((first.asked places body).0 x), λ x. (first.asked places body).1 ((second.asked places body).1 x));
   refused = λ why. (λ x. (second.refused why).0 ((first.refused why).0 x), λ x. (first.refused why).1 ((second.refused why).1 x));
-  unspelled = λ fault. (λ x. (second.unspelled fault).0 ((first.unspelled fault).0 x), λ x. (first.unspelled fault).1 ((second.unspelled fault).1 x));
+  unspelled = λ session number fault. (
+    λ x. (second.unspelled session number fault).0 ((first.unspelled session number fault).0 x),
+    λ x. (first.unspelled session number fault).1 ((second.unspelled session number fault).1 x),
+  );
   own = λ options. second.own options ∙ first.own options;
   sessions = second.sessions ∙ first.sessions;
   answers = λ reply result. (λ x. (second.answers reply result).0 ((first.answers reply result).0 x), λ x. (first.answers reply result).1 ((second.answers reply result).1 x));

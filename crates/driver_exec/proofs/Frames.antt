@@ -182,22 +182,25 @@ reads_as_asked meaning statements session number command whole frame sixteen bui
 
 -- why there is no such frame
 pub unframed : {A : Type 0} (meaning : Meaning A) (statements : ℕ) (session : Option (List ℕ)) (number : Option ℤ) (command whole : Command) (why : ErrorKind)
-    → IsSixteen session → IsBuilt meaning statements command → whole ≡ with_fields session number command → TellsRefusal whole.body why → TellsUnframed meaning why
+    → IsSixteen session → IsBuilt meaning statements command → whole ≡ with_fields session number command → TellsRefusal whole.body why → TellsUnframed meaning session number why
 unframed meaning statements session number command whole (kind.BsonSerialization fault) sixteen built appended tells =
     inr (built.spelling session number fault sixteen (subst (λ whole. refusal whole.body ≡ Some fault) appended tells))
 unframed meaning statements session number command whole kind.Memory sixteen built appended tells = tt
 unframed meaning statements session number command whole _ sixteen built appended tells = absurd tells
 
-pub unbuilt : {A : Type 0} (meaning : Meaning A) (why : ErrorKind) → TellsUnbuilt meaning why → TellsUnframed meaning why
-unbuilt meaning (kind.InvalidArgument message) tells = tells
-unbuilt meaning (kind.BsonSerialization fault) tells = inl tells
-unbuilt meaning kind.Memory tells = tt
-unbuilt meaning _ tells = absurd tells
+pub unbuilt : {A : Type 0} (meaning : Meaning A) (session : Option (List ℕ)) (number : Option ℤ) (why : ErrorKind) → TellsUnbuilt meaning why → TellsUnframed meaning session number why
+unbuilt meaning session number (kind.InvalidArgument message) tells = tells
+unbuilt meaning session number (kind.BsonSerialization fault) tells = inl tells
+unbuilt meaning session number kind.Memory tells = tt
+unbuilt meaning session number _ tells = absurd tells
 
 -- a built command with the executor's fields, in bytes
 pub frames_builds : {A : Type 0} (meaning : Meaning A) (statements : ℕ) (session : Option (List ℕ)) (number : Option ℤ) (command whole : Command) (result : Result Framed Error)
     → IsSixteen session → IsBuilt meaning statements command → whole ≡ with_fields session number command → Frames whole result → BuildsFrame meaning session number result
 frames_builds meaning statements session number command whole (Ok frame) sixteen built appended framed =
-    reads_as_asked meaning statements session number command whole frame sixteen built appended framed
+    record {
+      framed = record { statements = statements; command = command; built = built; is = subst (λ w. IsFrameOf w frame) appended framed };
+      reads = reads_as_asked meaning statements session number command whole frame sixteen built appended framed;
+    }
 frames_builds meaning statements session number command whole (Err error) sixteen built appended tells =
     unframed meaning statements session number command whole (kind_of error) sixteen built appended tells

@@ -73,11 +73,9 @@ module _ (namespace : Namespace) (bytes : List ℕ) (made : Command) (is_databas
   }
 
   spelling : (session : Option (List ℕ)) (number : Option ℤ) (fault : EncodeFault) → IsSixteen session → refusal (with_fields session number made).body ≡ Some fault
-      → BodyRefused namespace fault
+      → BodyRefused namespace session number fault
   spelling session number fault sixteen refused = record {
-    session = session;
     sixteen = sixteen;
-    number = number;
     is = subst (λ body. refusal body ≡ Some fault) (body_is namespace session number)
         (subst (λ database. refusal (insert_command namespace ++ executor_fields session number database) ≡ Some fault) is_database
         (subst (λ body. refusal (body ++ executor_fields session number made.database) ≡ Some fault) is_body refused));
@@ -87,6 +85,7 @@ module _ (namespace : Namespace) (bytes : List ℕ) (made : Command) (is_databas
   pub built_insert : {A : Type 0} → made.name ≡ name.Insert → IsBuilt {A = A} (insert_meaning namespace bytes) 1 made
   built_insert is_name = record {
     name = is_name;
+    is = record { database = is_database; body = is_body; sequences = one };
     plain = subst IsPlain (sym is_body) (plain_is namespace);
     asks = asks_for;
     counts = λ places body asked. ap length asked.alone;
@@ -96,9 +95,10 @@ module _ (namespace : Namespace) (bytes : List ℕ) (made : Command) (is_databas
 pub means_the_same : {A : Type 0} (meaning : Meaning A) → MeansTheSame meaning meaning
 means_the_same meaning = record {
   name = refl;
+  commands = λ command. (λ built. built, λ built. built);
   asked = λ places body. (λ asked. asked, λ asked. asked);
   refused = λ why. (λ refused. refused, λ refused. refused);
-  unspelled = λ fault. (λ refused. refused, λ refused. refused);
+  unspelled = λ session number fault. (λ refused. refused, λ refused. refused);
   own = λ options. refl;
   sessions = refl;
   answers = λ reply result. (λ answers. answers, λ answers. answers);

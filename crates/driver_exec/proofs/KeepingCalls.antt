@@ -1,6 +1,6 @@
 -- What an operation that asks for an insert does to what stands between calls, read off what it leaves.
-use Rattle.std.proofs.Common.{ℕ, List, refl}
-use Rattle.std.specs.Prelude.{Option, None, Some, Result, Ok, Err}
+use Rattle.std.proofs.Common.{List, refl}
+use Rattle.std.specs.Prelude.{Option, None, Some, Result}
 use Rattle.driver_error.specs.declared.error.Error.{Error}
 use Rattle.driver_link.specs.declared.machine.Place.{Place}
 use Rattle.driver_link.specs.declared.machine.PlacedWrite.{PlacedWrite}

@@ -1,6 +1,6 @@
 -- The moments of a link that tells its server, in order: each call leads to one that is not before it.
 use Rattle.std.proofs.Common.{◌≡◌, ℕ, ◌+◌, ◌-◌, ◌^◌, ◌≤◌, min, false, List, [], ◌∷◌, length, refl, sym, ap, subst, ◌∙◌, inl, inr, arith, length-append}
-use Rattle.std.specs.Prelude.{Bool, Option, None, Some, Result, Ok, Err}
+use Rattle.std.specs.Prelude.{Option, None, Some, Result, Ok, Err}
 use Rattle.driver_error.specs.declared.error.Error.{Error}
 use Rattle.driver_error.specs.declared.kind.IoKind.TheVariants.{ConnectionRefused}
 use Rattle.driver_link.specs.declared.fault.LinkCall.{LinkCall}
@@ -13,6 +13,7 @@ use Rattle.driver_link.specs.declared.keys.TheConstants.{SELECTION_FAILURE}
 use Rattle.driver_link.specs.declared.machine.Send.{Send}
 use Rattle.driver_link.specs.declared.machine.SendBody.{SendBody}
 use Rattle.driver_link.specs.declared.options.Address.{Address}
+use Rattle.driver_link.specs.declared.options.Asked.{Asked}
 use Rattle.driver_link.specs.declared.options.Conn.{Conn}
 use Rattle.driver_link.specs.Counting.{Counts, Listed, check_out_fault, checked_out, fault_where, is_listed, one_more, overload_labels, select_fault, selected}
 use Rattle.driver_link.specs.Exchange.{next_step}
@@ -24,6 +25,7 @@ use Rattle.driver_exec.specs.Attempting.{CallsLink, Connects, FailsIn, NotConnec
 use Rattle.driver_exec.specs.Gentle.{IsCounted, IsGentlePart}
 use Rattle.driver_exec.specs.Holding.{held_id}
 use Rattle.driver_exec.specs.Operations.{plain_send}
+use Rattle.driver_exec.specs.Retry.{Kept}
 use Rattle.driver_exec.specs.Links.{ToldLink}
 
 -- a moment is not after another: the schedule is the same, and neither the trace nor a count became less
@@ -129,16 +131,16 @@ module _ {B : Type 0} (which : LinkCall) (next : Told → Told) (fault : Told �
       by_result (Err (Fault found labels)) counts = moved counts.0
       by_result (Err Memory) counts = elim counts [ inl same ↦ stayed same | inr more ↦ moved more ]
 
-  calls_lead : (a : Told) (before now : ToldLink) (result : Result B LinkError) → before.server ≡ Some a → CallsLink which next fault before now result → LeadsCalling a before now
+  calls_lead : {asks : Option Asked} (a : Told) (before now : ToldLink) (result : Result B LinkError) → before.server ≡ Some a → CallsLink which asks next fault before now result → LeadsCalling a before now
   calls_lead a before now result is calls = counts_lead a before now result calls.setup (subst (λ s. Counts next fault s now.server result) is calls.counts)
 
 -- a selection
-pub selects_lead : {B : Type 0} (a : Told) (before now : ToldLink) (result : Result B LinkError) → before.server ≡ Some a → CallsLink Select selected select_fault before now result
+pub selects_lead : {B : Type 0} {asks : Option Asked} (a : Told) (before now : ToldLink) (result : Result B LinkError) → before.server ≡ Some a → CallsLink Select asks selected select_fault before now result
     → LeadsCalling a before now
 selects_lead a before now result is calls = calls_lead Select selected select_fault selected_before (λ t. refl) a before now result is calls
 
 -- a check-out
-pub checks_lead : {B : Type 0} (a : Told) (before now : ToldLink) (result : Result B LinkError) → before.server ≡ Some a → CallsLink CheckOut checked_out check_out_fault before now result
+pub checks_lead : {B : Type 0} {asks : Option Asked} (a : Told) (before now : ToldLink) (result : Result B LinkError) → before.server ≡ Some a → CallsLink CheckOut asks checked_out check_out_fault before now result
     → LeadsCalling a before now
 checks_lead a before now result is calls = calls_lead CheckOut checked_out check_out_fault checked_before (λ t. refl) a before now result is calls
 
@@ -147,7 +149,7 @@ unfolding leads_twice
 calling_twice a before mid now first second = record { leads = leads_twice a before mid now first.leads second.leads; server = second.server ∙ first.server }
 
 -- a connection that was had
-pub connects_lead : (a : Told) (before now : ToldLink) (address : Address) (conn : Conn) → before.server ≡ Some a → Connects before now address conn → LeadsCalling a before now
+pub connects_lead : {avoid : List Address} (a : Told) (before now : ToldLink) (address : Address) (conn : Conn) → before.server ≡ Some a → Connects avoid before now address conn → LeadsCalling a before now
 connects_lead a before now address conn is connects =
     let first = selects_lead a before connects.mid (Ok address) is connects.selects in
     calling_twice a before connects.mid now first (checks_lead first.leads.moment connects.mid now (Ok conn) first.leads.is connects.checks_out)
@@ -168,8 +170,8 @@ steps_lead a before now send result setup steps = by_result result steps
     by_result (Err Memory) steps = elim steps [ inl same ↦ stayed same | inr more ↦ moved more ]
 
 -- an attempt that failed
-module _ {A : Type 0} (trial : Trial A) (again : Bool) (body : SendBody) (asked : trial.meaning.asked trial.places body) (a : Told) (mid now : Scene) (is : mid.link.server ≡ Some a) where
-  pub sends_lead : (address : Address) (conn : Conn) (result : Result (List ℕ) LinkError) → Sends trial again mid now address conn result → Leads a mid.link now.link
+module _ {A : Type 0} (trial : Trial A) (past : Option Kept) (body : SendBody) (asked : trial.meaning.asked trial.places body) (a : Told) (mid now : Scene) (is : mid.link.server ≡ Some a) where
+  pub sends_lead : (address : Address) (conn : Conn) (result : Result (List ℕ) LinkError) → Sends trial past mid now address conn result → Leads a mid.link now.link
   sends_lead address conn result sends =
       let ready = sends.ready in
       let first = (connects_lead a mid.link ready.link address conn is sends.readies.connects).leads in
@@ -177,13 +179,13 @@ module _ {A : Type 0} (trial : Trial A) (again : Bool) (body : SendBody) (asked 
       let steps = subst (λ s. Steps s now.link.server send result) first.is (sends.exchanges.steps body asked) in
       leads_twice a mid.link ready.link now.link first (steps_lead first.moment ready.link now.link send result sends.exchanges.setup steps)
 
-  pub unconnected_leads : (address : Address) (error : Error) → NotConnected trial mid now address error → Leads a mid.link now.link
+  pub unconnected_leads : (address : Address) (error : Error) → NotConnected trial past mid now address error → Leads a mid.link now.link
   unconnected_leads address error fails =
       let first = selects_lead a mid.link fails.mid (Ok address) is fails.selects in
       (calling_twice a mid.link fails.mid now.link first
       (checks_lead first.leads.moment fails.mid now.link (Err (Fault fails.fault fails.own)) first.leads.is fails.checks_out)).leads
 
-  pub fails_lead : (address : Address) (phase : FailurePhase) (error : Error) → FailsIn trial again mid now address phase error → Leads a mid.link now.link
+  pub fails_lead : (address : Address) (phase : FailurePhase) (error : Error) → FailsIn trial past mid now address phase error → Leads a mid.link now.link
   fails_lead address Establishment error fails = unconnected_leads address error fails
   fails_lead address Execution error fails = elim fails [
     | inl lost ↦ sends_lead address lost.conn (Err (Fault lost.fault lost.own)) lost.sends
@@ -231,13 +233,13 @@ module _ (repeats : Type 0) (told told_now : Told) (gentle : IsGentlePart repeat
     at_now next found = subst (λ t. IsBefore t told_now) (one_moment now m next is_now found) later
 
     -- a selection of the part does not fail
-    pub selects_well : {B : Type 0} (found : LinkFault) (labels : List (List ℕ)) → CallsLink {B = B} Select selected select_fault before now (Err (Fault found labels)) → ⊥
+    pub selects_well : {B : Type 0} {asks : Option Asked} (found : LinkFault) (labels : List (List ℕ)) → CallsLink {B = B} Select asks selected select_fault before now (Err (Fault found labels)) → ⊥
     selects_well {B = B} found labels calls =
         let counts = subst (λ s. Counts {A = B} selected select_fault s now.server (Err (Fault found labels))) is calls.counts in
         no_select_fault a (record { fault = found; labels = labels }) after (at_now (selected a) counts.0) counts.1
 
     -- nor does a check-out
-    pub checks_well : {B : Type 0} (found : LinkFault) (labels : List (List ℕ)) → CallsLink {B = B} CheckOut checked_out check_out_fault before now (Err (Fault found labels)) → ⊥
+    pub checks_well : {B : Type 0} {asks : Option Asked} (found : LinkFault) (labels : List (List ℕ)) → CallsLink {B = B} CheckOut asks checked_out check_out_fault before now (Err (Fault found labels)) → ⊥
     checks_well {B = B} found labels calls =
         let counts = subst (λ s. Counts {A = B} checked_out check_out_fault s now.server (Err (Fault found labels))) is calls.counts in
         no_check_out_fault a (record { fault = found; labels = labels }) after (at_now (checked_out a) counts.0) counts.1

@@ -18,6 +18,7 @@ use Rattle.driver_link.specs.declared.fault.LinkFault.TheVariants as fault
 use Rattle.driver_link.specs.declared.machine.Place.{Place}
 use Rattle.driver_link.specs.declared.machine.Setup.{Setup}
 use Rattle.driver_link.specs.declared.options.Address.{Address}
+use Rattle.driver_link.specs.declared.options.Asked.{Asked}
 use Rattle.driver_link.specs.declared.options.Conn.{Conn}
 use Rattle.driver_link.specs.declared.options.Description.{Description}
 use Rattle.driver_link.specs.Counting.{Listed}
@@ -37,7 +38,7 @@ use Rattle.driver_exec.specs.Causes as causes
 use Rattle.driver_exec.specs.Causes.{AllEarly, IsLast, KindAtLast, end_of, failure_of, is_network, next_number}
 use Rattle.driver_exec.specs.Executing.{Ends, EndsWith, Executes, Reaches, decided, first_scene}
 use Rattle.driver_exec.specs.Failing.{IsFaultOf}
-use Rattle.driver_exec.specs.Holding.{DrawsNumber, Held, number_before}
+use Rattle.driver_exec.specs.Holding.{DrawsNumber, Held, held_id, number_before}
 use Rattle.driver_exec.specs.LabelTable.{labels_outside_transactions}
 use Rattle.driver_exec.specs.OldDeployment.{reworded, reworded_kind}
 use Rattle.driver_exec.specs.OperationCauses.{Caused, DrawsNumbers, EndAtLast, EndNeeds, FaultLabels, Grounds, KindNeeds, SpellsEnd, grounds, labels_after}
@@ -69,12 +70,12 @@ adds_twice link mid now items more first second = record {
 }
 
 -- what a call noted that is no exchange
-calls_add : {B : Type 0} (which : LinkCall) (next : Told → Told) (found : Told → Option Listed) (link now : ToldLink) (result : Result B LinkError)
-    → CallsLink which next found link now result → Adds link now (noted which nothing_noted result)
+calls_add : {B : Type 0} {asks : Option Asked} (which : LinkCall) (next : Told → Told) (found : Told → Option Listed) (link now : ToldLink) (result : Result B LinkError)
+    → CallsLink which asks next found link now result → Adds link now (noted which nothing_noted result)
 calls_add which next found link now result calls = record { noted = calls.notes; later = later_of link.faults now.faults result calls.cause; setup = calls.setup }
 
 -- a connection that was had noted nothing
-connects_add : (link now : ToldLink) (address : Address) (conn : Conn) → Connects link now address conn → Adds link now []
+connects_add : {avoid : List Address} (link now : ToldLink) (address : Address) (conn : Conn) → Connects avoid link now address conn → Adds link now []
 connects_add link now address conn connects = adds_twice link connects.mid now [] []
     (calls_add Select _ _ link connects.mid (Ok address) connects.selects) (calls_add CheckOut _ _ connects.mid now (Ok conn) connects.checks_out)
 
@@ -233,12 +234,15 @@ module _ {A : Type 0} (on : Grounds A) (before now : ℕ) (items : List Answered
   sessions_needs none is = inl (subst (KindNeeds on before now items (labels_of error)) (sym is) none)
 
   -- a command without a frame
-  unframed_needs : TellsUnframed on.meaning (kind_of error) → EndNeeds on before now items (Some (failure_of error))
-  unframed_needs tells = inl (by_kind (kind_of error) tells)
+  unframed_needs : (session : Option (List ℕ)) (number : Option ℤ) → TellsUnframed on.meaning session number (kind_of error) → EndNeeds on before now items (Some (failure_of error))
+  unframed_needs session number tells = inl (by_kind (kind_of error) tells)
     where
-      by_kind : (why : ErrorKind) → TellsUnframed on.meaning why → KindNeeds on before now items (labels_of error) why
+      by_kind : (why : ErrorKind) → TellsUnframed on.meaning session number why → KindNeeds on before now items (labels_of error) why
       by_kind (kind.InvalidArgument message) tells = tells
-      by_kind (kind.BsonSerialization refusal) tells = tells
+      by_kind (kind.BsonSerialization refusal) tells = elim tells [
+        | inl refused ↦ inl refused
+        | inr unspelled ↦ inr (record { session = session; number = number; is = unspelled })
+      ]
       by_kind kind.Memory tells = tt
       by_kind _ tells = absurd tells
 
@@ -287,12 +291,12 @@ module _ {A : Type 0} (meaning : Meaning A) (places : List Place) (own : Retryab
   Lasts error = KindAtLast meaning.refused (kind_of error)
 
   -- one attempt
-  module _ (again : Bool) (mid : Scene) (setup_is : mid.link.setup ≡ link.setup) (stands : StandsAt mid) where
+  module _ (past : Option Kept) (mid : Scene) (setup_is : mid.link.setup ≡ link.setup) (stands : StandsAt mid) where
     -- each connection has the description of the setup
-    conn_is : (now : ToldLink) (address : Address) (conn : Conn) → Connects mid.link now address conn → IsOf link.setup conn.description
+    conn_is : {avoid : List Address} (now : ToldLink) (address : Address) (conn : Conn) → Connects avoid mid.link now address conn → IsOf link.setup conn.description
     conn_is now address conn connects = is_of link.setup connects.mid.setup address conn (connects.selects.setup ∙ setup_is) connects.to
 
-    module _ (ready : Scene) (address : Address) (conn : Conn) (readies : Readies trial mid ready address conn) where
+    module _ (ready : Scene) (address : Address) (conn : Conn) (readies : Readies trial past mid ready address conn) where
       -- what may be repeated on the connection
       abbrev turn : Retryability
       turn = on_connection own conn.description
@@ -316,7 +320,7 @@ module _ {A : Type 0} (meaning : Meaning A) (places : List Place) (own : Retryab
           let holds = ready_holds store link.setup meaning.sessions conn.description is_conn mid.store ready.store mid.held ready.held takes.0 unsent readies.holds in
           last_draws_none (next_number store) turn ready.held numbered number at.last takes.1 holds.0 holds.1 stands_ready.first draws
 
-    module _ (now : Scene) (address : Address) (conn : Conn) (result : Result (List ℕ) LinkError) (sends : Sends trial again mid now address conn result) where
+    module _ (now : Scene) (address : Address) (conn : Conn) (result : Result (List ℕ) LinkError) (sends : Sends trial past mid now address conn result) where
       -- what a command that went out noted
       sends_add : Adds mid.link now.link (noted Exchange reply_noted result)
       sends_add = adds_twice mid.link sends.ready.link now.link [] (noted Exchange reply_noted result) (ready_adds sends.ready address conn sends.readies)
@@ -348,7 +352,7 @@ module _ {A : Type 0} (meaning : Meaning A) (places : List Place) (own : Retryab
       early : AtLast → mid.held.sent ≡ None → AllEarly more × (now.held.sent ≡ None) × Lasts error
 
     -- there was no connection
-    not_connected : (now : Scene) (address : Address) (error : Error) → NotConnected trial mid now address error → Fails now (reworded error)
+    not_connected : (now : Scene) (address : Address) (error : Error) → NotConnected trial past mid now address error → Fails now (reworded error)
     not_connected now address error fails =
         let is = fault_error fails.fault fails.own own error fails.is in
         let kind_is = reworded_same fails.fault error is.0 in
@@ -369,7 +373,7 @@ module _ {A : Type 0} (meaning : Meaning A) (places : List Place) (own : Retryab
         }
 
     -- the exchange failed
-    loses_exchange : (now : Scene) (address : Address) (error : Error) → LosesExchange trial again mid now address error → Fails now (reworded error)
+    loses_exchange : (now : Scene) (address : Address) (error : Error) → LosesExchange trial past mid now address error → Fails now (reworded error)
     loses_exchange now address error fails =
         let conn = fails.conn in
         let sends = fails.sends in
@@ -389,7 +393,7 @@ module _ {A : Type 0} (meaning : Meaning A) (places : List Place) (own : Retryab
         }
 
     -- the reply spelled an error
-    spells_failure : (now : Scene) (address : Address) (error : Error) → SpellsFailure trial again mid now address error → Fails now (reworded error)
+    spells_failure : (now : Scene) (address : Address) (error : Error) → SpellsFailure trial past mid now address error → Fails now (reworded error)
     spells_failure now address error fails =
         let conn = fails.conn in
         let sends = fails.sends in
@@ -409,7 +413,7 @@ module _ {A : Type 0} (meaning : Meaning A) (places : List Place) (own : Retryab
         }
 
     -- an attempt that failed in a phase
-    fails_in : (now : Scene) (address : Address) (phase : FailurePhase) (error : Error) → FailsIn trial again mid now address phase error → Fails now (reworded error)
+    fails_in : (now : Scene) (address : Address) (phase : FailurePhase) (error : Error) → FailsIn trial past mid now address phase error → Fails now (reworded error)
     fails_in now address Establishment error fails = not_connected now address error fails
     fails_in now address Execution error fails = elim fails [
       | inl lost ↦ loses_exchange now address error lost
@@ -432,7 +436,7 @@ module _ {A : Type 0} (meaning : Meaning A) (places : List Place) (own : Retryab
     }
 
     -- the reply was read
-    finishes_done : (now : Scene) (output : A) → IsAnswered trial again mid now output → Finishes now None
+    finishes_done : (now : Scene) (output : A) → IsAnswered trial past mid now output → Finishes now None
     finishes_done now output answered = record {
       more = answer.Reply answered.reply ∷ [];
       adds = sends_add now answered.address answered.conn (Ok answered.reply) answered.sends;
@@ -441,11 +445,11 @@ module _ {A : Type 0} (meaning : Meaning A) (places : List Place) (own : Retryab
     }
 
     -- what a selection that failed noted
-    selection_adds : (now : Scene) (error : Error) (selected : NotSelected mid now error) → Adds mid.link now.link (answer.Fault Select selected.fault selected.own ∷ [])
+    selection_adds : (now : Scene) (error : Error) (selected : NotSelected past mid now error) → Adds mid.link now.link (answer.Fault Select selected.fault selected.own ∷ [])
     selection_adds now error selected = calls_add Select _ _ mid.link now.link (Err (Fault selected.fault selected.own)) selected.selects
 
     -- no server was selected
-    finishes_unselected : (now : Scene) (error : Error) → NotSelected mid now error → Finishes now (Some (failure_of error))
+    finishes_unselected : (now : Scene) (error : Error) → NotSelected past mid now error → Finishes now (Some (failure_of error))
     finishes_unselected now error selected =
         let is = fault_error selected.fault selected.own may.None error selected.is in record {
           more = answer.Fault Select selected.fault selected.own ∷ [];
@@ -455,7 +459,7 @@ module _ {A : Type 0} (meaning : Meaning A) (places : List Place) (own : Retryab
         }
 
     -- there was no memory before a session was lent
-    finishes_unready : (now : Scene) (error : Error) → EndsUnready mid now error → Finishes now (Some (failure_of error))
+    finishes_unready : (now : Scene) (error : Error) → EndsUnready past mid now error → Finishes now (Some (failure_of error))
     finishes_unready now error ends =
         let counted = early_counted mid.link now.link ends.asks in record {
           more = counted.items;
@@ -465,7 +469,7 @@ module _ {A : Type 0} (meaning : Meaning A) (places : List Place) (own : Retryab
         }
 
     -- there was no memory after the command went out
-    finishes_sent : (now : Scene) (error : Error) → EndsSent trial again mid now error → Finishes now (Some (failure_of error))
+    finishes_sent : (now : Scene) (error : Error) → EndsSent trial past mid now error → Finishes now (Some (failure_of error))
     finishes_sent now error ends = record {
       more = noted Exchange reply_noted ends.result;
       adds = sends_add now ends.address ends.conn ends.result ends.sends;
@@ -473,7 +477,7 @@ module _ {A : Type 0} (meaning : Meaning A) (places : List Place) (own : Retryab
       early = λ at unsent. absurd (sends_not_at_last now ends.address ends.conn ends.result ends.sends at unsent);
     }
 
-    module _ (now ready : Scene) (address : Address) (conn : Conn) (readies : Readies trial mid ready address conn) (same : now.link ≡ ready.link) (error : Error) where
+    module _ (now ready : Scene) (address : Address) (conn : Conn) (readies : Readies trial past mid ready address conn) (same : now.link ≡ ready.link) (error : Error) where
       -- the link noted nothing until a command was refused
       refused_adds : Adds mid.link now.link []
       refused_adds = subst (λ l. Adds mid.link l []) (sym same) (ready_adds ready address conn readies)
@@ -484,12 +488,12 @@ module _ {A : Type 0} (meaning : Meaning A) (places : List Place) (own : Retryab
           let none = sessionless link.setup conn.description ready.held.session (is_conn ready address conn readies) (stands_ready ready address conn readies).takes refused.none in record {
             more = [];
             adds = refused_adds;
-            needs = sessions_needs on mid.link.faults now.link.faults [] error none refused.why;
+            needs = sessions_needs on mid.link.faults now.link.faults [] error none refused.is.kind_is;
             early = λ at unsent. absurd (none_draws meaning.sessions own (subst (DrawsNumbers meaning.sessions own) none at.draws));
           }
 
       -- there was no number
-      finishes_unnumbered : NoNumber again (on_connection own conn.description) ready.held now.held error → Finishes now (Some (failure_of error))
+      finishes_unnumbered : NoNumber past (on_connection own conn.description) ready.held now.held error → Finishes now (Some (failure_of error))
       finishes_unnumbered refused =
           let tells = unnumbered_at_end (next_number store) (on_connection own conn.description) ready.held now.held error (stands_ready ready address conn readies).first refused.draws in record {
             more = [];
@@ -499,16 +503,16 @@ module _ {A : Type 0} (meaning : Meaning A) (places : List Place) (own : Retryab
           }
 
       -- there was no frame
-      finishes_unframed : NoFrame meaning again (on_connection own conn.description) ready.held now.held error → Finishes now (Some (failure_of error))
+      finishes_unframed : NoFrame meaning past (on_connection own conn.description) ready.held now.held error → Finishes now (Some (failure_of error))
       finishes_unframed refused = record {
         more = [];
         adds = refused_adds;
-        needs = unframed_needs on mid.link.faults now.link.faults [] error refused.why;
+        needs = unframed_needs on mid.link.faults now.link.faults [] error (held_id now.held) refused.number refused.why;
         early = λ at unsent. absurd (draws_none ready address conn readies at unsent now.held refused.number refused.draws);
       }
 
     -- the command was refused before it went out
-    finishes_refused : (now : Scene) (error : Error) → EndsRefused trial again mid now error → Finishes now (Some (failure_of error))
+    finishes_refused : (now : Scene) (error : Error) → EndsRefused trial past mid now error → Finishes now (Some (failure_of error))
     finishes_refused now error ends = elim ends.refused [
       | inl none ↦ finishes_sessionless now ends.ready ends.address ends.conn ends.readies ends.link error none
       | inr other ↦ elim other [
@@ -518,7 +522,7 @@ module _ {A : Type 0} (meaning : Meaning A) (places : List Place) (own : Retryab
     ]
 
     -- the attempt ended the operation at once
-    finishes_ended : (now : Scene) (error : Error) → EndsAtOnce trial again mid now error → Finishes now (Some (failure_of error))
+    finishes_ended : (now : Scene) (error : Error) → EndsAtOnce trial past mid now error → Finishes now (Some (failure_of error))
     finishes_ended now error ends = elim ends [
       | inl unready ↦ finishes_unready now error unready
       | inr other ↦ elim other [
@@ -536,14 +540,14 @@ module _ {A : Type 0} (meaning : Meaning A) (places : List Place) (own : Retryab
     early : AtLast → AllEarly items × (now.held.sent ≡ None) × KeptHas Lasts kept
 
   -- an operation that has not begun
-  begins : SoFar None (first_scene store link)
-  begins = record { items = []; adds = adds_nothing link; stands = stands_at_first store link.setup; needs = tt; early = λ at. (tt, refl, tt) }
+  begins : (count : ℕ) → SoFar None (first_scene store link count)
+  begins count = record { items = []; adds = adds_nothing link; stands = stands_at_first store link.setup; needs = tt; early = λ at. (tt, refl, tt) }
 
   -- one more failure, and what is decided after it
-  module _ (sharded : Bool) (kept : Option Kept) (mid now : Scene) (far : SoFar kept mid) (failing : Failing) (again : Bool) (tries : Tries trial again mid now (Failed failing)) where
+  module _ (sharded : Bool) (kept : Option Kept) (mid now : Scene) (far : SoFar kept mid) (failing : Failing) (past : Option Kept) (tries : Tries trial past mid now (Failed failing)) where
     -- what the failure needs
-    failed : Fails again mid far.adds.setup far.stands now (reworded failing.failure.error)
-    failed = fails_in again mid far.adds.setup far.stands now failing.address failing.failure.phase failing.failure.error tries
+    failed : Fails past mid far.adds.setup far.stands now (reworded failing.failure.error)
+    failed = fails_in past mid far.adds.setup far.stands now failing.address failing.failure.phase failing.failure.error tries
 
     -- what the link noted so far
     abbrev items : List Answered
@@ -593,15 +597,15 @@ module _ {A : Type 0} (meaning : Meaning A) (places : List Place) (own : Retryab
     }
 
   -- each moment that an operation reaches
-  reaches_far : (sharded : Bool) (failures : List Failing) (kept : Option Kept) (now : Scene) → Reaches trial sharded (first_scene store link) failures kept now → SoFar kept now
-  reaches_far sharded [] kept now reaches = subst (λ k. SoFar k now) (sym reaches.0) (subst (SoFar None) (sym reaches.1) begins)
-  reaches_far sharded (failing ∷ failures) kept now reaches =
+  reaches_far : (count : ℕ) (sharded : Bool) (failures : List Failing) (kept : Option Kept) (now : Scene) → Reaches trial sharded (first_scene store link count) failures kept now → SoFar kept now
+  reaches_far count sharded [] kept now reaches = subst (λ k. SoFar k now) (sym reaches.0) (subst (SoFar None) (sym reaches.1) (begins count))
+  reaches_far count sharded (failing ∷ failures) kept now reaches =
       let mid = reaches.1.1.0 in
       let rest = reaches.1.1.1 in
       let earlier = rest.0 in
       let fails = rest.1.1 in
-      let far = reaches_far sharded failures earlier mid rest.1.0 in
-      subst (λ k. SoFar k now) (sym reaches.1.0) (goes_further sharded earlier mid now far failing (is_some earlier) fails.tries reaches.0 fails.decides)
+      let far = reaches_far count sharded failures earlier mid rest.1.0 in
+      subst (λ k. SoFar k now) (sym reaches.1.0) (goes_further sharded earlier mid now far failing earlier fails.tries reaches.0 fails.decides)
 
   -- an end at a moment has its cause
   abbrev CausedAt : Scene → Option causes.Failure → Type 0
@@ -614,7 +618,7 @@ module _ {A : Type 0} (meaning : Meaning A) (places : List Place) (own : Retryab
   module _ (sharded : Bool) (kept : Option Kept) (mid now : Scene) (far : SoFar kept mid) where
     -- the last attempt ended the operation so
     abbrev FinishesAt : Option causes.Failure → Type 0
-    FinishesAt ended = Finishes (is_some kept) mid far.adds.setup far.stands now ended
+    FinishesAt ended = Finishes kept mid far.adds.setup far.stands now ended
 
     -- the end is of the last attempt
     caused_new : (ended : Option causes.Failure) → FinishesAt ended → CausedAt now ended
@@ -665,30 +669,30 @@ module _ {A : Type 0} (meaning : Meaning A) (places : List Place) (own : Retryab
         by_kept (Some retry) is ends = subst CausedBy (sym ends) (caused_kept [] added tt retry is)
 
     -- the last attempt did not fail, or failed to select a server
-    caused_last : (attempt : Attempt A) (result : Result A Error) → Tries trial (is_some kept) mid now attempt → EndsWith kept attempt result → CausedBy result
-    caused_last (Done output) result tries ends = subst CausedBy (sym ends) (caused_new None (finishes_done (is_some kept) mid far.adds.setup far.stands now output tries))
+    caused_last : (attempt : Attempt A) (result : Result A Error) → Tries trial kept mid now attempt → EndsWith kept attempt result → CausedBy result
+    caused_last (Done output) result tries ends = subst CausedBy (sym ends) (caused_new None (finishes_done kept mid far.adds.setup far.stands now output tries))
     caused_last (Failed failing) result tries ends = absurd ends
     caused_last (Unselected error) result tries ends =
-        kept_or_new error (answer.Fault Select tries.fault tries.own ∷ []) result (selection_adds (is_some kept) mid far.adds.setup far.stands now error tries) tt
-        (finishes_unselected (is_some kept) mid far.adds.setup far.stands now error tries) ends
+        kept_or_new error (answer.Fault Select tries.fault tries.own ∷ []) result (selection_adds kept mid far.adds.setup far.stands now error tries) tt
+        (finishes_unselected kept mid far.adds.setup far.stands now error tries) ends
     caused_last Stopped result tries ends =
-        kept_stopped result (ready_adds (is_some kept) mid far.adds.setup far.stands now tries.1.address tries.1.conn tries.1.readies) ends
+        kept_stopped result (ready_adds kept mid far.adds.setup far.stands now tries.1.address tries.1.conn tries.1.readies) ends
     caused_last (Ended error) result tries ends =
-        subst CausedBy (sym ends) (caused_new (Some (failure_of error)) (finishes_ended (is_some kept) mid far.adds.setup far.stands now error tries))
+        subst CausedBy (sym ends) (caused_new (Some (failure_of error)) (finishes_ended kept mid far.adds.setup far.stands now error tries))
 
     -- the last failure may not be followed by another attempt
-    caused_refused : (failing : Failing) (again : Bool) (error : Error) → Tries trial again mid now (Failed failing)
+    caused_refused : (failing : Failing) (past : Option Kept) (error : Error) → Tries trial past mid now (Failed failing)
         → (decided trial sharded kept failing now ≡ Err error) ⊎ (kind_of error ≡ kind.Memory) → CausedAt now (Some (failure_of error))
-    caused_refused failing again error tries refused =
-        let fails = failed sharded kept mid now far failing again tries in
+    caused_refused failing past error tries refused =
+        let fails = failed sharded kept mid now far failing past tries in
         let adds = adds_twice link mid.link now.link far.items fails.more far.adds fails.adds in
         let all = far.items ++ fails.more in elim refused [
           | inl is ↦ record {
             items = all;
             noted = adds.noted;
             never_falls = adds.later;
-            needs = decided_needs sharded kept mid now far failing again tries (Err error) is;
-            at_last = λ draws last. let early = decided_early sharded kept mid now far failing again tries (Err error) is (at_last draws last) in (early.items_are, early.lasts);
+            needs = decided_needs sharded kept mid now far failing past tries (Err error) is;
+            at_last = λ draws last. let early = decided_early sharded kept mid now far failing past tries (Err error) is (at_last draws last) in (early.items_are, early.lasts);
           }
           | inr memory ↦ record {
             items = all;
@@ -709,16 +713,16 @@ module _ {A : Type 0} (meaning : Meaning A) (places : List Place) (own : Retryab
       | inr other ↦ elim other [
         | inl limit ↦ subst CausedBy (sym limit.answers)
             (caused_kept [] (subst (λ s. Adds mid.link s.link []) (sym limit.same) (adds_nothing mid.link)) tt limit.retry limit.is)
-        | inr refused ↦ subst CausedBy (sym refused.answers) (caused_refused refused.failing (is_some kept) refused.error refused.tries refused.refused)
+        | inr refused ↦ subst CausedBy (sym refused.answers) (caused_refused refused.failing kept refused.error refused.tries refused.refused)
       ]
     ]
 
 -- an operation has its cause
-pub executes_caused : {A : Type 0} (meaning : Meaning A) (places : List Place) (own : Retryability) (store store_now : Option ToldStore) (link link_now : ToldLink) (result : Result A Error)
-    → Executes (trial_of meaning places own) store store_now link link_now result
+pub executes_caused : {A : Type 0} (meaning : Meaning A) (places : List Place) (own : Retryability) (store store_now : Option ToldStore) (link link_now : ToldLink) (count count_now : ℕ) (result : Result A Error)
+    → Executes (trial_of meaning places own) store store_now link link_now count count_now result
     → Caused (grounds meaning own link.setup store) link.faults link_now.faults link.answers link_now.answers (end_of result)
-executes_caused meaning places own store store_now link link_now result executes =
+executes_caused meaning places own store store_now link link_now count count_now result executes =
     let turns = executes.turns in
-    let far = reaches_far meaning places own store link executes.sharded turns.failures turns.kept turns.mid turns.reaches in
+    let far = reaches_far meaning places own store link count executes.sharded turns.failures turns.kept turns.mid turns.reaches in
     let caused = caused_ends meaning places own store link executes.sharded turns.kept turns.mid executes.last far result turns.ends in
     subst (λ l. Caused (grounds meaning own link.setup store) link.faults l.faults link.answers l.answers (end_of result)) (sym executes.link_is) caused

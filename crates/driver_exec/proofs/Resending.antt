@@ -30,7 +30,7 @@ use Rattle.driver_exec.specs.Executing.{Ends, EndsWith, Executes, Reaches, first
 use Rattle.driver_exec.specs.Holding.{DrawsNumber, DrawsSession, GivesBack, GivesNumber, Held, HoldsSession, dirty_session, held_id, needs_session, number_before}
 use Rattle.driver_exec.specs.Operations.{Meaning, plain_send}
 use Rattle.driver_exec.specs.Pool.{Draws, Lends, LendsAsBefore, LendsFrom, StaysTold, ToldStore}
-use Rattle.driver_exec.specs.Resending.{AnsweredLast, Borrows, EndsRead, IsNumbered, ReadsLast, SendsTold, SentTimes, SentWithin, Works}
+use Rattle.driver_exec.specs.Resending.{AnsweredLast, Borrows, EndsWithReading, IsNumbered, ReadsLast, SendsTold, SentTimes, SentWithin, Works}
 use Rattle.driver_exec.specs.Retry.{Kept, after, avoiding, decide, may_be_retried, may_be_sent, told}
 use Rattle.driver_exec.specs.Session.{MayRaise, Numbers, Raises, Session}
 use Rattle.driver_exec.specs.Links.{ToldLink}
@@ -573,14 +573,14 @@ module _ {A : Type 0} (trial : Trial A) (store : Option ToldStore) (link : ToldL
   abbrev OverAt : ℕ → Scene → Type 0
   OverAt most now = Over trial.meaning trial.places store link.server most now.store now.link.server now.held.session now.held.sent
 
-  ready_course : (most : ℕ) (mid ready : Scene) (address : Address) (conn : Conn) → Readies trial mid ready address conn → CourseAt most mid → CourseAt most ready
+  ready_course : {past : Option Kept} (most : ℕ) (mid ready : Scene) (address : Address) (conn : Conn) → Readies trial past mid ready address conn → CourseAt most mid → CourseAt most ready
   ready_course most mid ready address conn readies course =
       readied trial.meaning trial.places store link.server most mid.store ready.store ready.link.server (asks_session trial.sessions conn.description) mid.held ready.held readies.holds
       (counted trial.meaning trial.places store link.server most mid.store mid.link.server ready.link.server mid.held.session mid.held.sent
       (connected_counted mid.link ready.link address conn readies.connects).server course)
 
   -- nothing is sent until a session is there
-  ready_sent : (mid ready : Scene) (address : Address) (conn : Conn) → Readies trial mid ready address conn → ready.held.sent ≡ mid.held.sent
+  ready_sent : {past : Option Kept} (mid ready : Scene) (address : Address) (conn : Conn) → Readies trial past mid ready address conn → ready.held.sent ≡ mid.held.sent
   ready_sent mid ready address conn readies = by_need (needs_session (asks_session trial.sessions conn.description) mid.held) readies.holds
     where
       by_need : (needed : Bool) → HoldsSession needed mid.store ready.store mid.held ready.held (Ok tt) → ready.held.sent ≡ mid.held.sent
@@ -594,9 +594,9 @@ module _ {A : Type 0} (trial : Trial A) (store : Option ToldStore) (link : ToldL
       (subst (λ h. Course trial.meaning trial.places store link.server most mid.store now.link.server h.session h.sent) (sym rest.held)
       (counted trial.meaning trial.places store link.server most mid.store mid.link.server now.link.server mid.held.session mid.held.sent counts course))
 
-  module _ (again : Bool) (most : ℕ) (mid : Scene) (goes : MayGoOn mid.held.sent) (course : CourseAt most mid) where
+  module _ (past : Option Kept) (most : ℕ) (mid : Scene) (goes : MayGoOn mid.held.sent) (course : CourseAt most mid) where
     -- an exchange of the command
-    module _ (now : Scene) (address : Address) (conn : Conn) (result : Result (List ℕ) LinkError) (sends : Sends trial again mid now address conn result) where
+    module _ (now : Scene) (address : Address) (conn : Conn) (result : Result (List ℕ) LinkError) (sends : Sends trial past mid now address conn result) where
       abbrev turn : Retryability
       turn = on_connection trial.own conn.description
 
@@ -643,7 +643,7 @@ module _ {A : Type 0} (trial : Trial A) (store : Option ToldStore) (link : ToldL
       }
 
     -- an attempt that failed
-    fails_in : (now : Scene) (address : Address) (phase : FailurePhase) (error : Error) → FailsIn trial again mid now address phase error → CourseAt (suc most) now
+    fails_in : (now : Scene) (address : Address) (phase : FailurePhase) (error : Error) → FailsIn trial past mid now address phase error → CourseAt (suc most) now
     fails_in now address Establishment error fails =
         one_more trial.meaning trial.places store link.server most now.store now.link.server now.held.session now.held.sent
         (only_link most mid now fails.rest
@@ -653,11 +653,11 @@ module _ {A : Type 0} (trial : Trial A) (store : Option ToldStore) (link : ToldL
       | inr spelled ↦ answered_at now address spelled.conn (Ok spelled.reply) spelled.sends spelled.reply refl
     ]
 
-    failed_course : (now : Scene) (failing : Failing) → Tries trial again mid now (Failed failing) → CourseAt (suc most) now
+    failed_course : (now : Scene) (failing : Failing) → Tries trial past mid now (Failed failing) → CourseAt (suc most) now
     failed_course now failing tries = fails_in now failing.address failing.failure.phase failing.failure.error tries
 
     -- where the decision allows a further attempt, its sends have a number
-    goes_phase : (now : Scene) (address : Address) (phase : FailurePhase) (error : Error) → FailsIn trial again mid now address phase error
+    goes_phase : (now : Scene) (address : Address) (phase : FailurePhase) (error : Error) → FailsIn trial past mid now address phase error
         → may_be_sent phase (number_before now.held) ≡ true → MayGoOn now.held.sent
     goes_phase now address Establishment error fails may_send = subst (λ h. MayGoOn h.sent) (sym fails.rest.held) goes
     goes_phase now address Execution error fails may_send = by_sent now.held.sent may_send
@@ -686,18 +686,18 @@ decided_sent kept failure number address own sharded retry is = by_test (may_be_
 
 module _ {A : Type 0} (trial : Trial A) (sharded : Bool) (store : Option ToldStore) (link : ToldLink) where
   -- where an operation has come so far
-  reaches_course : (failures : List Failing) (kept : Option Kept) (now : Scene) → Reaches trial sharded (first_scene store link) failures kept now
+  reaches_course : (count : ℕ) (failures : List Failing) (kept : Option Kept) (now : Scene) → Reaches trial sharded (first_scene store link count) failures kept now
       → CourseAt trial store link (length failures) now × MayGoOn now.held.sent
-  reaches_course [] kept now reaches =
+  reaches_course count [] kept now reaches =
       subst (λ s. CourseAt trial store link 0 s × MayGoOn s.held.sent) (sym reaches.1) (starts trial.meaning trial.places store link.server, tt)
-  reaches_course (failing ∷ failures) kept now reaches =
+  reaches_course count (failing ∷ failures) kept now reaches =
       let mid = reaches.1.1.0 in
       let rest = reaches.1.1.1 in
       let earlier = rest.0 in
-      let came = reaches_course failures earlier mid rest.1.0 in
+      let came = reaches_course count failures earlier mid rest.1.0 in
       let fails = rest.1.1 in (
-        failed_course trial store link (is_some earlier) (length failures) mid came.1 came.0 now failing fails.tries,
-        goes_phase trial store link (is_some earlier) (length failures) mid came.1 came.0 now failing.address failing.failure.phase failing.failure.error fails.tries
+        failed_course trial store link earlier (length failures) mid came.1 came.0 now failing fails.tries,
+        goes_phase trial store link earlier (length failures) mid came.1 came.0 now failing.address failing.failure.phase failing.failure.error fails.tries
             (decided_sent earlier failing.failure (number_before now.held) failing.address trial.own sharded reaches.0 fails.decides),
       )
 
@@ -706,13 +706,13 @@ module _ {A : Type 0} (trial : Trial A) (sharded : Bool) (store : Option ToldSto
     once : AtMostOne kept
     left : length failures + attempts_left kept ≤ 2
 
-  reaches_few : (failures : List Failing) (kept : Option Kept) (now : Scene) → Reaches trial sharded (first_scene store link) failures kept now → Few failures kept
-  reaches_few [] kept now reaches = subst (Few []) (sym reaches.0) (record { once = tt; left = omega arith })
-  reaches_few (failing ∷ failures) kept now reaches =
+  reaches_few : (count : ℕ) (failures : List Failing) (kept : Option Kept) (now : Scene) → Reaches trial sharded (first_scene store link count) failures kept now → Few failures kept
+  reaches_few count [] kept now reaches = subst (Few []) (sym reaches.0) (record { once = tt; left = omega arith })
+  reaches_few count (failing ∷ failures) kept now reaches =
       let mid = reaches.1.1.0 in
       let rest = reaches.1.1.1 in
       let earlier = rest.0 in
-      let few = reaches_few failures earlier mid rest.1.0 in
+      let few = reaches_few count failures earlier mid rest.1.0 in
       let fails = rest.1.1 in
       let fewer = decided_fewer failing.failure (number_before now.held) failing.address trial.own sharded earlier reaches.0 few.once fails.goes_on fails.decides in
       subst (Few (failing ∷ failures)) (sym reaches.1.0) (record { once = fewer.once; left = omega (arith, few.left, fewer.fewer) })
@@ -805,8 +805,8 @@ module _ {A : Type 0} (trial : Trial A) (sharded : Bool) (store : Option ToldSto
             let same = subst (λ s. DrawsNumber s turn ready.held numbered (Ok number)) is draws in
             subst (λ h. OverReady ready h.session h.sent) (sym same.0) (ready_over ready done)
 
-    refused_over : (again : Bool) (error : Error) → EndsRefused trial again mid now error → OverAt trial store link most now
-    refused_over again error refused =
+    refused_over : (past : Option Kept) (error : Error) → EndsRefused trial past mid now error → OverAt trial store link most now
+    refused_over past error refused =
         let ready = refused.ready in
         let done = ready_course trial store link most mid ready refused.address refused.conn refused.readies course in
         elim refused.refused [
@@ -819,33 +819,33 @@ module _ {A : Type 0} (trial : Trial A) (sharded : Bool) (store : Option ToldSto
           ]
         ]
 
-    ended_over : (again : Bool) (error : Error) → EndsAtOnce trial again mid now error → OverAt trial store link (suc most) now
-    ended_over again error ends = elim ends [
+    ended_over : (past : Option Kept) (error : Error) → EndsAtOnce trial past mid now error → OverAt trial store link (suc most) now
+    ended_over past error ends = elim ends [
       | inl unready ↦ more_course
           (subst (λ h. Course trial.meaning trial.places store link.server most now.store now.link.server h.session h.sent) (sym unready.held)
           (store_stays trial.meaning trial.places store link.server most mid.store now.store now.link.server mid.held.session mid.held.sent unready.store
           (counted trial.meaning trial.places store link.server most mid.store mid.link.server now.link.server mid.held.session mid.held.sent (early_counted mid.link now.link unready.asks).server course)))
       | inr other ↦ elim other [
-        | inl refused ↦ more_over (refused_over again error refused)
-        | inr sent ↦ over_at trial store link again most mid goes course now sent.address sent.conn sent.result sent.sends
+        | inl refused ↦ more_over (refused_over past error refused)
+        | inr sent ↦ over_at trial store link past most mid goes course now sent.address sent.conn sent.result sent.sends
       ]
     ]
 
     abbrev LastAt : Result A Error → Type 0
     LastAt result = OverAt trial store link (suc most) now
-        × EndsRead trial.meaning trial.places link.server now.link.server (id_of now.held.session) (number_of now.held.sent) result
+        × EndsWithReading trial.meaning trial.places link.server now.link.server (id_of now.held.session) (number_of now.held.sent) result
 
     err_last : (error : Error) (result : Result A Error) → result ≡ Err error → OverAt trial store link (suc most) now → LastAt result
     err_last error result is over = subst LastAt (sym is) (over, tt)
 
-    tried_last : (again : Bool) (attempt : Attempt A) (result : Result A Error) → Tries trial again mid now attempt → EndsWith kept attempt result → LastAt result
-    tried_last again (Done output) result tries ends =
+    tried_last : (past : Option Kept) (attempt : Attempt A) (result : Result A Error) → Tries trial past mid now attempt → EndsWith kept attempt result → LastAt result
+    tried_last past (Done output) result tries ends =
         subst LastAt (sym ends) (
-          over_at trial store link again most mid goes course now tries.address tries.conn (Ok tries.reply) tries.sends,
-          reads_at trial store link again most mid goes course now tries.address tries.conn (Ok tries.reply) tries.sends few tries.reply output refl tries.reads,
+          over_at trial store link past most mid goes course now tries.address tries.conn (Ok tries.reply) tries.sends,
+          reads_at trial store link past most mid goes course now tries.address tries.conn (Ok tries.reply) tries.sends few tries.reply output refl tries.reads,
         )
-    tried_last again (Failed failing) result tries ends = absurd ends
-    tried_last again (Unselected error) result tries ends = by_kept kept ends
+    tried_last past (Failed failing) result tries ends = absurd ends
+    tried_last past (Unselected error) result tries ends = by_kept kept ends
       where
         over : OverAt trial store link (suc most) now
         over = more_course (only_link trial store link most mid now tries.rest (selected_counted mid.link now.link (Err (Fault tries.fault tries.own)) tries.selects).server course)
@@ -853,7 +853,7 @@ module _ {A : Type 0} (trial : Trial A) (sharded : Bool) (store : Option ToldSto
         by_kept : (kept : Option Kept) → EndsWith {A = A} kept (Unselected error) result → LastAt result
         by_kept None ends = err_last error result ends over
         by_kept (Some retry) ends = err_last retry.failure.error result ends over
-    tried_last again Stopped result tries ends = by_kept kept ends
+    tried_last past Stopped result tries ends = by_kept kept ends
       where
         over : OverAt trial store link (suc most) now
         over = more_course (ready_course trial store link most mid now tries.1.address tries.1.conn tries.1.readies course)
@@ -861,25 +861,25 @@ module _ {A : Type 0} (trial : Trial A) (sharded : Bool) (store : Option ToldSto
         by_kept : (kept : Option Kept) → EndsWith {A = A} kept Stopped result → LastAt result
         by_kept None ends = absurd ends
         by_kept (Some retry) ends = err_last retry.failure.error result ends over
-    tried_last again (Ended error) result tries ends = err_last error result ends (ended_over again error tries)
+    tried_last past (Ended error) result tries ends = err_last error result ends (ended_over past error tries)
 
   -- the operation is over
   record Finished (now : Scene) (result : Result A Error) : Type 0 where
     most : ℕ
     few : most ≤ 2
     over : OverAt trial store link most now
-    ends : EndsRead trial.meaning trial.places link.server now.link.server (id_of now.held.session) (number_of now.held.sent) result
+    ends : EndsWithReading trial.meaning trial.places link.server now.link.server (id_of now.held.session) (number_of now.held.sent) result
 
-  finishes : (failures : List Failing) (kept : Option Kept) (mid now : Scene) (result : Result A Error) → Reaches trial sharded (first_scene store link) failures kept mid
+  finishes : (count : ℕ) (failures : List Failing) (kept : Option Kept) (mid now : Scene) (result : Result A Error) → Reaches trial sharded (first_scene store link count) failures kept mid
       → Ends trial sharded kept mid now result → Finished now result
-  finishes failures kept mid now result reaches ends =
-      let came = reaches_course failures kept mid reaches in
-      let few = reaches_few failures kept mid reaches in
+  finishes count failures kept mid now result reaches ends =
+      let came = reaches_course count failures kept mid reaches in
+      let few = reaches_few count failures kept mid reaches in
       elim ends [
         | inl last ↦
             let left = one_left kept few.once last.goes_on in
             let one : length failures ≤ 1 = omega (arith, few.left, left) in
-            let over = tried_last (length failures) one kept mid now came.1 came.0 (is_some kept) last.attempt result last.tries last.ends in
+            let over = tried_last (length failures) one kept mid now came.1 came.0 kept last.attempt result last.tries last.ends in
             record { most = suc (length failures); few = omega arith; over = over.0; ends = over.1 }
         | inr other ↦ elim other [
           | inl limit ↦ record {
@@ -887,17 +887,17 @@ module _ {A : Type 0} (trial : Trial A) (sharded : Bool) (store : Option ToldSto
             few = omega (arith, few.left);
             over = subst (OverAt trial store link (length failures)) (sym limit.same)
                 (course_over trial.meaning trial.places store link.server (length failures) mid.store mid.link.server mid.held.session mid.held.sent came.0);
-            ends = subst (λ r. EndsRead trial.meaning trial.places link.server now.link.server (id_of now.held.session) (number_of now.held.sent) r) (sym limit.answers) tt;
+            ends = subst (λ r. EndsWithReading trial.meaning trial.places link.server now.link.server (id_of now.held.session) (number_of now.held.sent) r) (sym limit.answers) tt;
           }
           | inr refused ↦
               let left = one_left kept few.once refused.goes_on in
               let one : length failures ≤ 1 = omega (arith, few.left, left) in
-              let done = failed_course trial store link (is_some kept) (length failures) mid came.1 came.0 now refused.failing refused.tries in
+              let done = failed_course trial store link kept (length failures) mid came.1 came.0 now refused.failing refused.tries in
               record {
                 most = suc (length failures);
                 few = omega arith;
                 over = course_over trial.meaning trial.places store link.server (suc (length failures)) now.store now.link.server now.held.session now.held.sent done;
-                ends = subst (λ r. EndsRead trial.meaning trial.places link.server now.link.server (id_of now.held.session) (number_of now.held.sent) r) (sym refused.answers) tt;
+                ends = subst (λ r. EndsWithReading trial.meaning trial.places link.server now.link.server (id_of now.held.session) (number_of now.held.sent) r) (sym refused.answers) tt;
               }
         ]
       ]
@@ -935,10 +935,10 @@ borrows_draws store now (Some id) number borrows =
     (draws_taking borrows.lent now borrows.back_by borrows.back borrows.back_at borrows.takes)
 
 -- an operation as a whole
-module _ {A : Type 0} (trial : Trial A) (store store_now : Option ToldStore) (link link_now : ToldLink) (result : Result A Error)
-    (executes : Executes trial store store_now link link_now result) where
+module _ {A : Type 0} (trial : Trial A) (store store_now : Option ToldStore) (link link_now : ToldLink) (count count_now : ℕ) (result : Result A Error)
+    (executes : Executes trial store store_now link link_now count count_now result) where
   done : Finished trial executes.sharded store link executes.last result
-  done = finishes trial executes.sharded store link executes.turns.failures executes.turns.kept executes.turns.mid executes.last result executes.turns.reaches executes.turns.ends
+  done = finishes trial executes.sharded store link count executes.turns.failures executes.turns.kept executes.turns.mid executes.last result executes.turns.reaches executes.turns.ends
 
   works_last : Works trial.meaning trial.places store store_now link.server executes.last.link.server result
   works_last = record {

@@ -1,6 +1,6 @@
 -- An attempt of an operation that tells now what it told before is one of the operation as it was.
 use Rattle.std.proofs.Common.{ℕ, List, subst, inl, inr}
-use Rattle.std.specs.Prelude.{ℤ, Bool, Option, Result, Ok, Err}
+use Rattle.std.specs.Prelude.{ℤ, Option, Result, Ok, Err}
 use Rattle.driver_error.specs.declared.error.Error.{Error}
 use Rattle.driver_error.specs.declared.kind.ErrorKind.TheVariants as kind
 use Rattle.driver_error.specs.Error.{ErrorKind, kind_of}
@@ -16,18 +16,19 @@ use Rattle.driver_exec.specs.declared.retryability.Retryability.{Retryability}
 use Rattle.driver_exec.specs.Attempting.{EndsAtOnce, Exchanges, FailsIn, Readies, Scene, Sends, Trial, Tries, asks_session, trial_of}
 use Rattle.driver_exec.specs.Holding.{HoldsSession, needs_session}
 use Rattle.driver_exec.specs.Operations.{Meaning, MeansTheSame, TellsUnframed}
+use Rattle.driver_exec.specs.Retry.{Kept}
 use Rattle.driver_exec.specs.Links.{ToldLink}
-use Rattle.driver_exec.proofs.Trying.{answers_same}
+use Rattle.driver_exec.proofs.Trying.{answers_same, framed_same, same_back}
 
 module _ {A : Type 0} (old now : Meaning A) (same : MeansTheSame old now) (places : List Place) (own : Retryability) where
-  unframed_same : (why : ErrorKind) → TellsUnframed now why → TellsUnframed old why
-  unframed_same (kind.InvalidArgument message) tells = (same.refused (kind.InvalidArgument message)).1 tells
-  unframed_same (kind.BsonSerialization fault) tells = elim tells [
+  unframed_same : (session : Option (List ℕ)) (number : Option ℤ) (why : ErrorKind) → TellsUnframed now session number why → TellsUnframed old session number why
+  unframed_same session number (kind.InvalidArgument message) tells = (same.refused (kind.InvalidArgument message)).1 tells
+  unframed_same session number (kind.BsonSerialization fault) tells = elim tells [
     | inl refused ↦ inl ((same.refused (kind.BsonSerialization fault)).1 refused)
-    | inr unspelled ↦ inr ((same.unspelled fault).1 unspelled)
+    | inr unspelled ↦ inr ((same.unspelled session number fault).1 unspelled)
   ]
-  unframed_same kind.Memory tells = tt
-  unframed_same _ tells = absurd tells
+  unframed_same session number kind.Memory tells = tt
+  unframed_same session number _ tells = absurd tells
 
   abbrev told : Trial A
   told = trial_of now places own
@@ -35,11 +36,12 @@ module _ {A : Type 0} (old now : Meaning A) (same : MeansTheSame old now) (place
   abbrev was : Trial A
   was = trial_of old places own
 
-  readies_same : (before after : Scene) (address : Address) (conn : Conn) → Readies told before after address conn → Readies was before after address conn
+  readies_same : {past : Option Kept} (before after : Scene) (address : Address) (conn : Conn) → Readies told past before after address conn → Readies was past before after address conn
   readies_same before after address conn readies = record {
     connects = readies.connects;
     holds = subst (λ sessions. HoldsSession (needs_session (asks_session sessions conn.description) before.held) before.store after.store before.held after.held (Ok tt)) same.sessions
         readies.holds;
+    count = readies.count;
   }
 
   exchanges_same : (link link_now : ToldLink) (session : Option (List ℕ)) (number : Option ℤ) (result : Result (List ℕ) LinkError)
@@ -48,12 +50,16 @@ module _ {A : Type 0} (old now : Meaning A) (same : MeansTheSame old now) (place
     steps = λ body asked. exchanges.steps body ((same.asked places body).0 asked);
     setup = exchanges.setup;
     notes = exchanges.notes;
+    frame = exchanges.frame;
+    framed = framed_same now old (same_back old now same) session number exchanges.frame exchanges.framed;
+    frames = exchanges.frames;
+    asked = exchanges.asked;
     cause = exchanges.cause;
   }
 
-  sends_same : (again : Bool) (before after : Scene) (address : Address) (conn : Conn) (result : Result (List ℕ) LinkError) → Sends told again before after address conn result
-      → Sends was again before after address conn result
-  sends_same again before after address conn result sends = record {
+  sends_same : (past : Option Kept) (before after : Scene) (address : Address) (conn : Conn) (result : Result (List ℕ) LinkError) → Sends told past before after address conn result
+      → Sends was past before after address conn result
+  sends_same past before after address conn result sends = record {
     ready = sends.ready;
     readies = readies_same before sends.ready address conn sends.readies;
     allowed = sends.allowed;
@@ -64,11 +70,12 @@ module _ {A : Type 0} (old now : Meaning A) (same : MeansTheSame old now) (place
     exchanges = exchanges_same _ _ _ _ result sends.exchanges;
     store_is = sends.store_is;
     held_is = sends.held_is;
+    counted = sends.counted;
   }
 
-  fails_same : (again : Bool) (before after : Scene) (address : Address) (phase : FailurePhase) (error : Error) → FailsIn told again before after address phase error
-      → FailsIn was again before after address phase error
-  fails_same again before after address Establishment error fails = record {
+  fails_same : (past : Option Kept) (before after : Scene) (address : Address) (phase : FailurePhase) (error : Error) → FailsIn told past before after address phase error
+      → FailsIn was past before after address phase error
+  fails_same past before after address Establishment error fails = record {
     mid = fails.mid;
     selects = fails.selects;
     fault = fails.fault;
@@ -77,18 +84,18 @@ module _ {A : Type 0} (old now : Meaning A) (same : MeansTheSame old now) (place
     is = fails.is;
     rest = fails.rest;
   }
-  fails_same again before after address Execution error fails = elim fails [
+  fails_same past before after address Execution error fails = elim fails [
     | inl lost ↦ inl (record {
       conn = lost.conn;
       fault = lost.fault;
       own = lost.own;
-      sends = sends_same again before after address lost.conn _ lost.sends;
+      sends = sends_same past before after address lost.conn _ lost.sends;
       is = lost.is;
     })
     | inr spelled ↦ inr (record {
       conn = spelled.conn;
       reply = spelled.reply;
-      sends = sends_same again before after address spelled.conn _ spelled.sends;
+      sends = sends_same past before after address spelled.conn _ spelled.sends;
       is = record {
         bare = spelled.is.bare;
         is = record {
@@ -101,8 +108,8 @@ module _ {A : Type 0} (old now : Meaning A) (same : MeansTheSame old now) (place
     })
   ]
 
-  ends_same : (again : Bool) (before after : Scene) (error : Error) → EndsAtOnce told again before after error → EndsAtOnce was again before after error
-  ends_same again before after error ends = elim ends [
+  ends_same : (past : Option Kept) (before after : Scene) (error : Error) → EndsAtOnce told past before after error → EndsAtOnce was past before after error
+  ends_same past before after error ends = elim ends [
     | inl unready ↦ inl unready
     | inr other ↦ elim other [
       | inl refused ↦ inr (inl (record {
@@ -112,11 +119,12 @@ module _ {A : Type 0} (old now : Meaning A) (same : MeansTheSame old now) (place
         readies = readies_same before refused.ready refused.address refused.conn refused.readies;
         link = refused.link;
         store = refused.store;
+        count = refused.count;
         refused = elim refused.refused [
           | inl none ↦ inl none
           | inr later ↦ elim later [
             | inl none ↦ inr (inl none)
-            | inr none ↦ inr (inr (record { goes = none.goes; number = none.number; draws = none.draws; why = unframed_same (kind_of error) none.why }))
+            | inr none ↦ inr (inr (record { goes = none.goes; number = none.number; draws = none.draws; why = unframed_same _ none.number (kind_of error) none.why }))
           ]
         ];
       }))
@@ -124,29 +132,30 @@ module _ {A : Type 0} (old now : Meaning A) (same : MeansTheSame old now) (place
         address = sent.address;
         conn = sent.conn;
         result = sent.result;
-        sends = sends_same again before after sent.address sent.conn sent.result sent.sends;
+        sends = sends_same past before after sent.address sent.conn sent.result sent.sends;
         why = sent.why;
       }))
     ]
   ]
 
-  pub tries_same : (again : Bool) (before after : Scene) (attempt : Attempt A) → Tries told again before after attempt → Tries was again before after attempt
-  tries_same again before after (Done output) tries = record {
+  pub tries_same : (past : Option Kept) (before after : Scene) (attempt : Attempt A) → Tries told past before after attempt → Tries was past before after attempt
+  tries_same past before after (Done output) tries = record {
     address = tries.address;
     conn = tries.conn;
     reply = tries.reply;
-    sends = sends_same again before after tries.address tries.conn (Ok tries.reply) tries.sends;
+    sends = sends_same past before after tries.address tries.conn (Ok tries.reply) tries.sends;
     reads = answers_same old now same tries.reply (Ok output) tries.reads;
   }
-  tries_same again before after (Failed failing) tries = fails_same again before after failing.address failing.failure.phase failing.failure.error tries
-  tries_same again before after (Unselected error) tries = tries
-  tries_same again before after Stopped tries = (
+  tries_same past before after (Failed failing) tries = fails_same past before after failing.address failing.failure.phase failing.failure.error tries
+  tries_same past before after (Unselected error) tries = tries
+  tries_same past before after Stopped tries = (
     tries.0,
     record {
       address = tries.1.address;
       conn = tries.1.conn;
       readies = readies_same before after tries.1.address tries.1.conn tries.1.readies;
+      allowed = tries.1.allowed;
       nothing = tries.1.nothing;
     },
   )
-  tries_same again before after (Ended error) tries = ends_same again before after error tries
+  tries_same past before after (Ended error) tries = ends_same past before after error tries

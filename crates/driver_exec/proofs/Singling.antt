@@ -20,12 +20,12 @@ use Rattle.driver_exec.specs.Singles.{BecomesSingle}
 use Rattle.driver_exec.specs.Links.{ToldLink}
 
 pub insert_executes : (made namespace : Namespace) (held bytes : List ℕ) (places : List Place) (own : Retryability) (store store_now : Option ToldStore) (link link_now : ToldLink)
-    (result : Result (Unit {0}) Error) → made ≡ namespace → held ≡ bytes
-    → Executes (trial_of (insert_meaning made held) places own) store store_now link link_now result
-    → Executes (trial_of (insert_meaning namespace bytes) places own) store store_now link link_now result
-insert_executes made namespace held bytes places own store store_now link link_now result is_namespace is_bytes executes =
-    subst (λ n. Executes (trial_of (insert_meaning n bytes) places own) store store_now link link_now result) is_namespace
-    (subst (λ b. Executes (trial_of (insert_meaning made b) places own) store store_now link link_now result) is_bytes executes)
+    (count count_now : ℕ) (result : Result (Unit {0}) Error) → made ≡ namespace → held ≡ bytes
+    → Executes (trial_of (insert_meaning made held) places own) store store_now link link_now count count_now result
+    → Executes (trial_of (insert_meaning namespace bytes) places own) store store_now link link_now count count_now result
+insert_executes made namespace held bytes places own store store_now link link_now count count_now result is_namespace is_bytes executes =
+    subst (λ n. Executes (trial_of (insert_meaning n bytes) places own) store store_now link link_now count count_now result) is_namespace
+    (subst (λ b. Executes (trial_of (insert_meaning made b) places own) store store_now link link_now count count_now result) is_bytes executes)
 
 pub insert_works : (made namespace : Namespace) (held bytes : List ℕ) (places : List Place) (store store_now : Option ToldStore) (link link_now : Option Told)
     (result : Result (Unit {0}) Error) → made ≡ namespace → held ≡ bytes

@@ -1,6 +1,6 @@
 -- What the attempts of an operation draw from a store: the ids that it drew grow, so where the last are apart all were.
 use Rattle.std.proofs.Common.{◌≡◌, ℕ, sym, subst, inl, inr}
-use Rattle.std.specs.Prelude.{Bool, true, false, List, Option, None, Some, is_some, Result, Ok}
+use Rattle.std.specs.Prelude.{Bool, true, false, List, Option, None, Some, Result, Ok}
 use Rattle.driver_error.specs.declared.error.Error.{Error}
 use Rattle.driver_link.specs.declared.fault.LinkError.{LinkError}
 use Rattle.driver_link.specs.declared.options.Address.{Address}
@@ -25,22 +25,22 @@ holds_draws false store now held held_now holds = draws_same store now holds.0
 holds_draws true store now held held_now holds = draws_lending store now holds.caller holds.moment holds.session holds.lends
 
 module _ {A : Type 0} (trial : Trial A) (mid now : Scene) where
-  readies_draws : (address : Address) (conn : Conn) → Readies trial mid now address conn → Draws mid.store now.store
+  readies_draws : {past : Option Kept} (address : Address) (conn : Conn) → Readies trial past mid now address conn → Draws mid.store now.store
   readies_draws address conn readies =
       holds_draws (needs_session (asks_session trial.sessions conn.description) mid.held) mid.store now.store mid.held now.held readies.holds
 
-module _ {A : Type 0} (trial : Trial A) (again : Bool) (mid now : Scene) where
-  sends_draws : (address : Address) (conn : Conn) (result : Result (List ℕ) LinkError) → Sends trial again mid now address conn result → Draws mid.store now.store
+module _ {A : Type 0} (trial : Trial A) (past : Option Kept) (mid now : Scene) where
+  sends_draws : (address : Address) (conn : Conn) (result : Result (List ℕ) LinkError) → Sends trial past mid now address conn result → Draws mid.store now.store
   sends_draws address conn result sends = subst (Draws mid.store) (sym sends.store_is) (readies_draws trial mid sends.ready address conn sends.readies)
 
-  fails_draws : (address : Address) (phase : FailurePhase) (error : Error) → FailsIn trial again mid now address phase error → Draws mid.store now.store
+  fails_draws : (address : Address) (phase : FailurePhase) (error : Error) → FailsIn trial past mid now address phase error → Draws mid.store now.store
   fails_draws address Establishment error fails = draws_same mid.store now.store fails.rest.store
   fails_draws address Execution error fails = elim fails [
     | inl lost ↦ sends_draws address lost.conn _ lost.sends
     | inr says ↦ sends_draws address says.conn _ says.sends
   ]
 
-  pub tries_draws : (attempt : Attempt A) → Tries trial again mid now attempt → Draws mid.store now.store
+  pub tries_draws : (attempt : Attempt A) → Tries trial past mid now attempt → Draws mid.store now.store
   tries_draws (Done output) tries = sends_draws tries.address tries.conn _ tries.sends
   tries_draws (Failed failing) tries = fails_draws failing.address failing.failure.phase failing.failure.error tries
   tries_draws (Unselected error) tries = draws_same mid.store now.store tries.rest.store
@@ -54,17 +54,17 @@ module _ {A : Type 0} (trial : Trial A) (again : Bool) (mid now : Scene) where
   ]
 
   -- where the ids are apart after a failure they were before it
-  pub fails_apart : (address : Address) (phase : FailurePhase) (error : Error) → FailsIn trial again mid now address phase error → DrawnApart now.store → DrawnApart mid.store
+  pub fails_apart : (address : Address) (phase : FailurePhase) (error : Error) → FailsIn trial past mid now address phase error → DrawnApart now.store → DrawnApart mid.store
   fails_apart address phase error fails apart = apart_before mid.store now.store (fails_draws address phase error fails) apart
 
 -- and before the end of an operation
 module _ {A : Type 0} (trial : Trial A) (mid now : Scene) where
   pub ends_apart : (sharded : Bool) (kept : Option Kept) (result : Result A Error) → Ends trial sharded kept mid now result → DrawnApart now.store → DrawnApart mid.store
   ends_apart sharded kept result ends apart = elim ends [
-    | inl last ↦ apart_before mid.store now.store (tries_draws trial (is_some kept) mid now last.attempt last.tries) apart
+    | inl last ↦ apart_before mid.store now.store (tries_draws trial kept mid now last.attempt last.tries) apart
     | inr other ↦ elim other [
       | inl limit ↦ subst (λ s. DrawnApart s.store) limit.same apart
-      | inr refused ↦ fails_apart trial (is_some kept) mid now refused.failing.address refused.failing.failure.phase refused.failing.failure.error refused.tries apart
+      | inr refused ↦ fails_apart trial kept mid now refused.failing.address refused.failing.failure.phase refused.failing.failure.error refused.tries apart
     ]
   ]
 

@@ -1,29 +1,33 @@
 -- One attempt of an operation, from the calls in which it was made.
 use Rattle.std.proofs.Common.{◌≡◌, ℕ, ◌≤◌, List, refl, sym, subst, ◌∙◌, inl, inr, arith}
-use Rattle.std.specs.Prelude.{ℤ, Bool, true, false, ◌&&◌, Option, None, Some, Result, Ok, Err}
+use Rattle.std.specs.Prelude.{ℤ, Bool, true, false, ◌&&◌, Option, None, Some, is_some, Result, Ok, Err}
 use Rattle.driver_error.specs.declared.error.Error.{Error}
 use Rattle.driver_error.specs.declared.kind.ErrorKind.TheVariants as kind
-use Rattle.driver_error.specs.Error.{kind_of}
+use Rattle.driver_error.specs.Error.{IsAlone}
+use Rattle.driver_error.specs.LabelTexts.{no_labels}
 use Rattle.driver_link.specs.declared.fault.Answered.{Answered}
 use Rattle.driver_link.specs.declared.fault.LinkCall.TheVariants.{CheckOut, Select}
 use Rattle.driver_link.specs.declared.fault.LinkError.{LinkError}
 use Rattle.driver_link.specs.declared.fault.LinkError.TheVariants.{Fault, Memory}
 use Rattle.driver_link.specs.declared.machine.Place.{Place}
 use Rattle.driver_link.specs.declared.options.Address.{Address}
+use Rattle.driver_link.specs.declared.options.Asked.{Asked}
 use Rattle.driver_link.specs.declared.options.Conn.{Conn}
-use Rattle.driver_link.specs.Counting.{OnlyCounts}
+use Rattle.driver_link.specs.Counting.{OnlyCounts, select_fault, selected}
 use Rattle.driver_link.specs.Faults.{HasLinkCause}
 use Rattle.driver_link.specs.Framed.{Framed}
-use Rattle.driver_link.specs.Told.{Notes, noted, nothing_noted}
+use Rattle.driver_link.specs.Told.{MayNote, Notes, noted, nothing_noted}
 use Rattle.driver_exec.specs.declared.attempt_end.Attempt.{Attempt}
 use Rattle.driver_exec.specs.declared.attempt_end.Attempt.TheVariants.{Ended, Failed, Stopped, Unselected}
 use Rattle.driver_exec.specs.declared.retryability.Retryability.{Retryability}
-use Rattle.driver_exec.specs.Attempting.{AsksEarly, ChecksOut, Comes, Connects, FailsIn, Exchanging, LosesExchange, NotConnected, ReadsAnswer, Readies, Scene, Selects, Sending, Sends, SpellsFailure, Trial, Tries, asks_session, is_nothing, may_use, on_connection, scene, stops, trial_of}
+use Rattle.driver_exec.specs.Attempting.{AsksEarly, CallsLink, ChecksOut, Comes, Connects, FailsIn, Exchanging, LosesExchange, NotConnected, NotesAsked, ReadsAnswer, Readies, Scene, Selects, Sending, Sends, SpellsFailure, Trial, Tries, asked_for, asks_session, avoided, is_nothing, may_use, on_connection, scene, stops, trial_of}
 use Rattle.driver_exec.specs.Causes.{AllEarly}
 use Rattle.driver_exec.specs.Failing.{EndsLost, EndsRead, EndsUnconnected, EndsUnselected}
 use Rattle.driver_exec.specs.Holding.{Held, HoldsSession, needs_session}
-use Rattle.driver_exec.specs.Operations.{Meaning, MeansTheSame, ReadsAsAsked}
+use Rattle.driver_exec.specs.declared.command.Command.{Command}
+use Rattle.driver_exec.specs.Operations.{GivesFrame, IsBuilt, IsFramed, Meaning, MeansTheSame}
 use Rattle.driver_exec.specs.Pool.{StaysTold, ToldStore}
+use Rattle.driver_exec.specs.Retry.{Kept}
 use Rattle.driver_exec.specs.Links.{ToldLink}
 use Rattle.driver_exec.proofs.Attempts.{check_out_counts, counts_twice, select_counts}
 use Rattle.driver_exec.proofs.Causes.{notes_since}
@@ -65,8 +69,13 @@ check_out_early (Ok given) = tt
 check_out_early (Err (Fault fault own)) = tt
 check_out_early (Err Memory) = tt
 
+-- a selection asks for a server outside these
+pub asks_avoided : {B : Type 0} (given avoid : List Address) (before now : Option (List Asked)) (result : Result B LinkError) → given ≡ avoid
+    → MayNote before now (asked_for given) result → NotesAsked (Some (asked_for avoid)) before now result
+asks_avoided given avoid before now result is notes = subst (λ a. MayNote before now (asked_for a) result) is notes
+
 -- a selection is a call that was counted
-pub selected_counted : (link now : ToldLink) (result : Result Address LinkError) → Selects link now result → OnlyCounted link now
+pub selected_counted : {asks : Option Asked} (link now : ToldLink) (result : Result Address LinkError) → CallsLink Select asks selected select_fault link now result → OnlyCounted link now
 selected_counted link now result selects = record {
   server = select_counts Address link.server now.server result selects.counts;
   setup = selects.setup;
@@ -77,7 +86,8 @@ selected_counted link now result selects = record {
 }
 
 -- so is a check-out after it
-pub checked_counted : (link mid now : ToldLink) (address : Address) (result : Result Conn LinkError) → Selects link mid (Ok address) → ChecksOut mid now result → OnlyCounted link now
+pub checked_counted : {asks : Option Asked} (link mid now : ToldLink) (address : Address) (result : Result Conn LinkError)
+    → CallsLink Select asks selected select_fault link mid (Ok address) → ChecksOut mid now result → OnlyCounted link now
 checked_counted link mid now address result selects checks = record {
   server = counts_twice link.server mid.server now.server (select_counts Address link.server mid.server (Ok address) selects.counts)
       (check_out_counts Conn mid.server now.server result checks.counts);
@@ -88,24 +98,56 @@ checked_counted link mid now address result selects checks = record {
   later = omega (arith, later_of link.faults mid.faults (Ok address) selects.cause, later_of mid.faults now.faults result checks.cause);
 }
 
-pub connected_counted : (link now : ToldLink) (address : Address) (conn : Conn) → Connects link now address conn → OnlyCounted link now
+pub connected_counted : {avoid : List Address} (link now : ToldLink) (address : Address) (conn : Conn) → Connects avoid link now address conn → OnlyCounted link now
 connected_counted link now address conn connects = checked_counted link connects.mid now address (Ok conn) connects.selects connects.checks_out
 
-asks_connection : (link mid now : ToldLink) (address : Address) (result : Result Conn LinkError) → Selects link mid (Ok address) → ChecksOut mid now result → AsksEarly link now
-asks_connection link mid now address result selects checks = inr (record { mid = mid; address = address; selects = selects; result = result; checks_out = checks })
+asks_connection : (avoid : List Address) (link mid now : ToldLink) (address : Address) (result : Result Conn LinkError) → Selects avoid link mid (Ok address) → ChecksOut mid now result
+    → AsksEarly avoid link now
+asks_connection avoid link mid now address result selects checks = inr (record { mid = mid; address = address; selects = selects; result = result; checks_out = checks })
 
 -- the calls of an attempt that came to no session were only counted
-pub early_counted : (link now : ToldLink) → AsksEarly link now → OnlyCounted link now
+pub early_counted : {avoid : List Address} (link now : ToldLink) → AsksEarly avoid link now → OnlyCounted link now
 early_counted link now asks = elim asks [
   | inl fails ↦ selected_counted link now (Err fails.failure) fails.selects
   | inr more ↦ checked_counted link more.mid now more.address more.result more.selects more.checks_out
 ]
 
+-- it told the same before
+pub same_back : {A : Type 0} (old now : Meaning A) → MeansTheSame old now → MeansTheSame now old
+same_back old now same = record {
+  name = sym same.name;
+  commands = λ command. ((same.commands command).1, (same.commands command).0);
+  asked = λ places body. ((same.asked places body).1, (same.asked places body).0);
+  refused = λ why. ((same.refused why).1, (same.refused why).0);
+  unspelled = λ session number fault. ((same.unspelled session number fault).1, (same.unspelled session number fault).0);
+  own = λ options. sym (same.own options);
+  sessions = sym same.sessions;
+  answers = λ reply result. ((same.answers reply result).1, (same.answers reply result).0);
+}
+
+-- a command and a frame of such an operation
+module _ {A : Type 0} (old now : Meaning A) (same : MeansTheSame old now) where
+  built_same : (statements : ℕ) (command : Command) → IsBuilt old statements command → IsBuilt now statements command
+  built_same statements command built = record {
+    name = built.name ∙ sym same.name;
+    is = (same.commands command).0 built.is;
+    plain = built.plain;
+    asks = λ places body asked. built.asks places body ((same.asked places body).1 asked);
+    counts = λ places body asked. built.counts places body ((same.asked places body).1 asked);
+    spelling = λ session number fault sixteen refused. (same.unspelled session number fault).0 (built.spelling session number fault sixteen refused);
+  }
+
+  pub framed_same : (session : Option (List ℕ)) (number : Option ℤ) (frame : Framed) → IsFramed old session number frame → IsFramed now session number frame
+  framed_same session number frame framed =
+      record { statements = framed.statements; command = framed.command; built = built_same framed.statements framed.command framed.built; is = framed.is }
+
+  -- a frame of the operation as it was is one of it now
+  pub gives_same : (session : Option (List ℕ)) (number : Option ℤ) (frame : Framed) → GivesFrame old session number frame → GivesFrame now session number frame
+  gives_same session number frame gives =
+      record { framed = framed_same session number frame gives.framed; reads = λ places body asked. gives.reads places body ((same.asked places body).1 asked) }
+
 -- an operation tells before and now the same
 module _ {A : Type 0} (old now : Meaning A) (same : MeansTheSame old now) where
-  pub reads_same : (session : Option (List ℕ)) (number : Option ℤ) (frame : Framed) → ReadsAsAsked old session number frame → ReadsAsAsked now session number frame
-  reads_same session number frame reads places body asked = reads places body ((same.asked places body).1 asked)
-
   pub answers_same : (reply : List ℕ) (answer : Result A Error) → ReadsAnswer now reply answer → ReadsAnswer old reply answer
   answers_same reply (Ok output) reads = record { response = reads.response; done = reads.done; reads = (same.answers reads.response.body (Ok output)).1 reads.reads }
   answers_same reply (Err error) reads = elim reads [
@@ -136,51 +178,55 @@ module _ {A : Type 0} (old now : Meaning A) (same : MeansTheSame old now) where
       steps = λ body asked. exchanging.exchanges.steps body ((same.asked places body).0 asked);
       setup = exchanging.exchanges.setup;
       notes = exchanging.exchanges.notes;
+      frame = exchanging.exchanges.frame;
+      framed = framed_same now old (same_back old now same) _ _ exchanging.exchanges.frame exchanging.exchanges.framed;
+      frames = exchanging.exchanges.frames;
+      asked = exchanging.exchanges.asked;
       cause = exchanging.exchanges.cause;
     };
     held_is = exchanging.held_is;
     comes = comes_same turn version address exchanging.result attempt exchanging.comes;
   }
 
-module _ {A : Type 0} (meaning : Meaning A) (places : List Place) (own : Retryability) (again : Bool) where
+module _ {A : Type 0} (meaning : Meaning A) (places : List Place) (own : Retryability) (past : Option Kept) where
   abbrev trial : Trial A
   trial = trial_of meaning places own
 
   -- no server was selected
-  pub unselected_tries : (store : Option ToldStore) (link now : ToldLink) (held : Held) (failure : LinkError) (attempt : Attempt A)
-      → Selects link now (Err failure) → EndsUnselected failure attempt → Tries trial again (scene store link held) (scene store now held) attempt
-  unselected_tries store link now held (Fault fault labels) (Unselected error) selects is =
-      record { fault = fault; own = labels; selects = selects; is = is; rest = record { store = refl; held = refl } }
-  unselected_tries store link now held (Fault fault labels) (Ended error) selects memory =
-      inl (record { asks = inl (record { failure = Fault fault labels; selects = selects }); store = stays_same store; held = refl; why = memory })
-  unselected_tries store link now held Memory (Ended error) selects memory =
-      inl (record { asks = inl (record { failure = Memory; selects = selects }); store = stays_same store; held = refl; why = memory })
-  unselected_tries store link now held (Fault fault labels) _ selects ends = absurd ends
-  unselected_tries store link now held Memory _ selects ends = absurd ends
+  pub unselected_tries : (store : Option ToldStore) (link now : ToldLink) (held : Held) (count : ℕ) (failure : LinkError) (attempt : Attempt A)
+      → Selects (avoided past) link now (Err failure) → EndsUnselected failure attempt → Tries trial past (scene store link held count) (scene store now held count) attempt
+  unselected_tries store link now held count (Fault fault labels) (Unselected error) selects is =
+      record { fault = fault; own = labels; selects = selects; is = is; rest = record { store = refl; held = refl; count = refl } }
+  unselected_tries store link now held count (Fault fault labels) (Ended error) selects memory =
+      inl (record { asks = inl (record { failure = Fault fault labels; selects = selects }); store = stays_same store; held = refl; count = refl; why = memory })
+  unselected_tries store link now held count Memory (Ended error) selects memory =
+      inl (record { asks = inl (record { failure = Memory; selects = selects }); store = stays_same store; held = refl; count = refl; why = memory })
+  unselected_tries store link now held count (Fault fault labels) _ selects ends = absurd ends
+  unselected_tries store link now held count Memory _ selects ends = absurd ends
 
   -- no connection was had
-  pub unconnected_tries : (store : Option ToldStore) (link mid now : ToldLink) (held : Held) (address : Address) (failure : LinkError) (attempt : Attempt A)
-      → Selects link mid (Ok address) → ChecksOut mid now (Err failure) → EndsUnconnected own address failure attempt
-      → Tries trial again (scene store link held) (scene store now held) attempt
-  unconnected_tries store link mid now held address (Fault fault labels) (Failed failing) selects checks ends =
-      subst (λ phase. FailsIn trial again (scene store link held) (scene store now held) failing.address phase failing.failure.error) (sym ends.phase_is)
-      (subst (λ at. NotConnected trial (scene store link held) (scene store now held) at failing.failure.error) (sym ends.address_is) (record {
+  pub unconnected_tries : (store : Option ToldStore) (link mid now : ToldLink) (held : Held) (count : ℕ) (address : Address) (failure : LinkError) (attempt : Attempt A)
+      → Selects (avoided past) link mid (Ok address) → ChecksOut mid now (Err failure) → EndsUnconnected own address failure attempt
+      → Tries trial past (scene store link held count) (scene store now held count) attempt
+  unconnected_tries store link mid now held count address (Fault fault labels) (Failed failing) selects checks ends =
+      subst (λ phase. FailsIn trial past (scene store link held count) (scene store now held count) failing.address phase failing.failure.error) (sym ends.phase_is)
+      (subst (λ at. NotConnected trial past (scene store link held count) (scene store now held count) at failing.failure.error) (sym ends.address_is) (record {
         mid = mid;
         selects = selects;
         fault = fault;
         own = labels;
         checks_out = checks;
         is = ends.error;
-        rest = record { store = refl; held = refl };
+        rest = record { store = refl; held = refl; count = refl };
       }))
-  unconnected_tries store link mid now held address (Fault fault labels) (Ended error) selects checks memory =
-      inl (record { asks = asks_connection link mid now address (Err (Fault fault labels)) selects checks; store = stays_same store; held = refl; why = memory })
-  unconnected_tries store link mid now held address Memory (Ended error) selects checks memory =
-      inl (record { asks = asks_connection link mid now address (Err Memory) selects checks; store = stays_same store; held = refl; why = memory })
-  unconnected_tries store link mid now held address (Fault fault labels) _ selects checks ends = absurd ends
-  unconnected_tries store link mid now held address Memory _ selects checks ends = absurd ends
+  unconnected_tries store link mid now held count address (Fault fault labels) (Ended error) selects checks memory =
+      inl (record { asks = asks_connection (avoided past) link mid now address (Err (Fault fault labels)) selects checks; store = stays_same store; held = refl; count = refl; why = memory })
+  unconnected_tries store link mid now held count address Memory (Ended error) selects checks memory =
+      inl (record { asks = asks_connection (avoided past) link mid now address (Err Memory) selects checks; store = stays_same store; held = refl; count = refl; why = memory })
+  unconnected_tries store link mid now held count address (Fault fault labels) _ selects checks ends = absurd ends
+  unconnected_tries store link mid now held count address Memory _ selects checks ends = absurd ends
 
-  module _ (store store_now : Option ToldStore) (before link : ToldLink) (held ready : Held) (address : Address) (conn : Conn) (connects : Connects before link address conn) where
+  module _ (store store_now : Option ToldStore) (before link : ToldLink) (held ready : Held) (count : ℕ) (address : Address) (conn : Conn) (connects : Connects (avoided past) before link address conn) where
     -- a session was asked for where both sides take one
     pub holds_asked : (asked : Bool) (given result : Result (Unit {0}) Error) → asked ≡ asks_session meaning.sessions conn.description → given ≡ result
         → HoldsSession (needs_session asked held) store store_now held ready given
@@ -191,38 +237,39 @@ module _ {A : Type 0} (meaning : Meaning A) (places : List Place) (own : Retryab
 
     -- there was no memory for a session
     pub unready_tries : (error : Error) → HoldsSession (needs_session (asks_session meaning.sessions conn.description) held) store store_now held ready (Err error)
-        → Tries trial again (scene store before held) (scene store_now link ready) (Ended error)
+        → Tries trial past (scene store before held count) (scene store_now link ready count) (Ended error)
     unready_tries error holds = by_need (needs_session (asks_session meaning.sessions conn.description) held) holds
       where
         ok_err : ◌≡◌ {A = Result (Unit {0}) Error} (Ok tt) (Err error) → ⊥
         ok_err same = cc
 
-        by_need : (needed : Bool) → HoldsSession needed store store_now held ready (Err error) → Tries trial again (scene store before held) (scene store_now link ready) (Ended error)
+        by_need : (needed : Bool) → HoldsSession needed store store_now held ready (Err error) → Tries trial past (scene store before held count) (scene store_now link ready count) (Ended error)
         by_need false holds = absurd (ok_err (sym holds.2))
-        by_need true holds = inl (record { asks = asks_connection before connects.mid link address (Ok conn) connects.selects connects.checks_out; store = holds.0; held = holds.1; why = holds.2 })
+        by_need true holds = inl (record { asks = asks_connection (avoided past) before connects.mid link address (Ok conn) connects.selects connects.checks_out; store = holds.0; held = holds.1; count = refl; why = holds.2 })
 
     module _ (holds : HoldsSession (needs_session (asks_session meaning.sessions conn.description) held) store store_now held ready (Ok tt)) where
-      readied : Readies trial (scene store before held) (scene store_now link ready) address conn
-      readied = record { connects = connects; holds = holds }
+      readied : Readies trial past (scene store before held count) (scene store_now link ready count) address conn
+      readied = record { connects = connects; holds = holds; count = refl }
 
       -- a session is held, and the connection takes none
-      pub sessionless_tries : (error : Error) → may_use ready conn.description ≡ false → kind_of error ≡ kind.SessionsNotSupported
-          → Tries trial again (scene store before held) (scene store_now link ready) (Ended error)
+      pub sessionless_tries : (error : Error) → may_use ready conn.description ≡ false → IsAlone kind.SessionsNotSupported no_labels error
+          → Tries trial past (scene store before held count) (scene store_now link ready count) (Ended error)
       sessionless_tries error none is = inr (inl (record {
-        ready = scene store_now link ready;
+        ready = scene store_now link ready count;
         address = address;
         conn = conn;
         readies = readied;
         link = refl;
         store = refl;
-        refused = inl (record { none = none; same = refl; why = is });
+        count = refl;
+        refused = inl (record { none = none; same = refl; is = is });
       }))
 
       -- nothing may be repeated
-      pub stopped_tries : again ≡ true → is_nothing (on_connection own conn.description) ≡ true → Tries trial again (scene store before held) (scene store_now link ready) Stopped
-      stopped_tries is nothing = (is, record { address = address; conn = conn; readies = readied; nothing = nothing })
+      pub stopped_tries : is_some past ≡ true → may_use ready conn.description ≡ true → is_nothing (on_connection own conn.description) ≡ true → Tries trial past (scene store before held count) (scene store_now link ready count) Stopped
+      stopped_tries is allowed nothing = (is, record { address = address; conn = conn; readies = readied; allowed = allowed; nothing = nothing })
 
-      module _ (allowed : may_use ready conn.description ≡ true) (goes : stops again (on_connection own conn.description) ≡ false) (link_now : ToldLink) (held_now : Held) where
+      module _ (allowed : may_use ready conn.description ≡ true) (goes : stops (is_some past) (on_connection own conn.description) ≡ false) (link_now : ToldLink) (held_now : Held) (count_now : ℕ) where
         abbrev turn : Retryability
         turn = on_connection own conn.description
 
@@ -230,19 +277,19 @@ module _ {A : Type 0} (meaning : Meaning A) (places : List Place) (own : Retryab
         version = conn.description.max_wire_version
 
         abbrev began : Scene
-        began = scene store before held
+        began = scene store before held count
 
         abbrev came : Scene
-        came = scene store_now link_now held_now
+        came = scene store_now link_now held_now count_now
 
         -- the command's reply was read
-        read_tries : (reply : List ℕ) (answer : Result A Error) (attempt : Attempt A) → Sends trial again began came address conn (Ok reply) → ReadsAnswer meaning reply answer
-            → EndsRead turn version address answer attempt → Tries trial again began came attempt
+        read_tries : (reply : List ℕ) (answer : Result A Error) (attempt : Attempt A) → Sends trial past began came address conn (Ok reply) → ReadsAnswer meaning reply answer
+            → EndsRead turn version address answer attempt → Tries trial past began came attempt
         read_tries reply (Ok output) attempt sends reads ends =
-            subst (λ a. Tries trial again began came a) (sym ends) (record { address = address; conn = conn; reply = reply; sends = sends; reads = reads })
+            subst (λ a. Tries trial past began came a) (sym ends) (record { address = address; conn = conn; reply = reply; sends = sends; reads = reads })
         read_tries reply (Err read) (Failed failing) sends reads ends =
-            subst (λ phase. FailsIn trial again began came failing.address phase failing.failure.error) (sym ends.phase_is)
-            (inr (subst (λ at. SpellsFailure trial again began came at failing.failure.error) (sym ends.address_is) (record {
+            subst (λ phase. FailsIn trial past began came failing.address phase failing.failure.error) (sym ends.phase_is)
+            (inr (subst (λ at. SpellsFailure trial past began came at failing.failure.error) (sym ends.address_is) (record {
               conn = conn;
               reply = reply;
               sends = sends;
@@ -257,11 +304,11 @@ module _ {A : Type 0} (meaning : Meaning A) (places : List Place) (own : Retryab
         read_tries reply (Err read) _ sends reads ends = absurd ends
 
         -- its exchange failed
-        lost_tries : (failure : LinkError) (attempt : Attempt A) → Sends trial again began came address conn (Err failure) → EndsLost turn version address failure attempt
-            → Tries trial again began came attempt
+        lost_tries : (failure : LinkError) (attempt : Attempt A) → Sends trial past began came address conn (Err failure) → EndsLost turn version address failure attempt
+            → Tries trial past began came attempt
         lost_tries (Fault fault labels) (Failed failing) sends ends =
-            subst (λ phase. FailsIn trial again began came failing.address phase failing.failure.error) (sym ends.phase_is)
-            (inl (subst (λ at. LosesExchange trial again began came at failing.failure.error) (sym ends.address_is) (record {
+            subst (λ phase. FailsIn trial past began came failing.address phase failing.failure.error) (sym ends.phase_is)
+            (inl (subst (λ at. LosesExchange trial past began came at failing.failure.error) (sym ends.address_is) (record {
               conn = conn;
               fault = fault;
               own = labels;
@@ -274,34 +321,36 @@ module _ {A : Type 0} (meaning : Meaning A) (places : List Place) (own : Retryab
         lost_tries (Fault fault labels) _ sends ends = absurd ends
         lost_tries Memory _ sends ends = absurd ends
 
-        came_tries : (result : Result (List ℕ) LinkError) (attempt : Attempt A) → Sends trial again began came address conn result → Comes meaning turn version address result attempt
-            → Tries trial again began came attempt
+        came_tries : (result : Result (List ℕ) LinkError) (attempt : Attempt A) → Sends trial past began came address conn result → Comes meaning turn version address result attempt
+            → Tries trial past began came attempt
         came_tries (Ok reply) attempt sends comes = read_tries reply comes.answer attempt sends comes.reads comes.ends
         came_tries (Err failure) attempt sends comes = lost_tries failure attempt sends comes
 
-        sending_tries : (attempt : Attempt A) → Sending meaning places link link_now turn version address ready held_now attempt → Tries trial again began came attempt
+        sending_tries : (attempt : Attempt A) → Sending meaning places link link_now turn version address ready held_now count count_now attempt → Tries trial past began came attempt
         sending_tries attempt sending = elim sending [
-          | inl none ↦ subst (λ a. Tries trial again began came a) (sym none.ends) (inr (inl (record {
-            ready = scene store_now link ready;
+          | inl none ↦ subst (λ a. Tries trial past began came a) (sym none.ends) (inr (inl (record {
+            ready = scene store_now link ready count;
             address = address;
             conn = conn;
             readies = readied;
             link = none.link_is;
             store = refl;
+            count = none.uncounted;
             refused = inr (inl (record { goes = goes; draws = none.draws }));
           })))
           | inr other ↦ elim other [
-            | inl none ↦ subst (λ a. Tries trial again began came a) (sym none.ends) (inr (inl (record {
-              ready = scene store_now link ready;
+            | inl none ↦ subst (λ a. Tries trial past began came a) (sym none.ends) (inr (inl (record {
+              ready = scene store_now link ready count;
               address = address;
               conn = conn;
               readies = readied;
               link = none.link_is;
               store = refl;
+              count = none.uncounted;
               refused = inr (inr (record { goes = goes; number = none.number; draws = none.draws; why = none.why }));
             })))
             | inr out ↦ came_tries out.exchanging.result attempt (record {
-              ready = scene store_now link ready;
+              ready = scene store_now link ready count;
               readies = readied;
               allowed = allowed;
               goes = goes;
@@ -311,11 +360,12 @@ module _ {A : Type 0} (meaning : Meaning A) (places : List Place) (own : Retryab
               exchanges = out.exchanging.exchanges;
               store_is = refl;
               held_is = out.exchanging.held_is;
+              counted = out.counted;
             }) out.exchanging.comes
           ]
         ]
 
         -- the command of an attempt on its connection
-        pub sent_tries : (found : Retryability) (attempt : Attempt A) → found ≡ turn → Sending meaning places link link_now found version address ready held_now attempt
-            → Tries trial again began came attempt
-        sent_tries found attempt is sending = sending_tries attempt (subst (λ t. Sending meaning places link link_now t version address ready held_now attempt) is sending)
+        pub sent_tries : (found : Retryability) (attempt : Attempt A) → found ≡ turn → Sending meaning places link link_now found version address ready held_now count count_now attempt
+            → Tries trial past began came attempt
+        sent_tries found attempt is sending = sending_tries attempt (subst (λ t. Sending meaning places link link_now t version address ready held_now count count_now attempt) is sending)

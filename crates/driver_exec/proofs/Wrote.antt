@@ -5,6 +5,8 @@ use Rattle.bson_lite.specs.declared.bson.Bson.{Bson}
 use Rattle.bson_lite.specs.declared.document.Pair.{Pair}
 use Rattle.bson_lite.specs.Spelling.{Spells}
 use Rattle.driver_error.specs.declared.error.Error.{Error}
+use Rattle.bson_lite.specs.declared.namespace.Namespace.{Namespace}
+use Rattle.driver_link.specs.declared.machine.Place.{Place}
 use Rattle.driver_link.specs.declared.machine.PlacedWrite.{PlacedWrite}
 use Rattle.driver_link.specs.declared.machine.Send.{Send}
 use Rattle.driver_link.specs.Told.{IsReply, Told, told_answer}
@@ -12,20 +14,27 @@ use Rattle.driver_exec.specs.Attempting.{ReadsOutput}
 use Rattle.driver_exec.specs.Causes.{end_of}
 use Rattle.driver_exec.specs.InsertMeaning.{AsksInsert, insert_meaning}
 use Rattle.driver_exec.specs.Inserts.{is_done_reply}
+use Rattle.driver_exec.specs.Keeping.{ReadsDone}
+use Rattle.driver_exec.specs.Operations.{Meaning}
 use Rattle.driver_exec.specs.Pool.{ToldStore}
-use Rattle.driver_exec.specs.Resending.{AnsweredLast, EndsRead, LastAnswer, Works}
+use Rattle.driver_exec.specs.Resending.{AnsweredLast, EndsWithReading, LastAnswer, Works}
 use Rattle.driver_exec.specs.Writing.{DoneLast, EndsWritten, WasDoneLast, Wrote, insert_asked, insert_send}
 use Rattle.driver_exec.proofs.Attempts.{spells_one}
 use Rattle.driver_exec.proofs.InsertReading.{output_done}
 
-module _ (write : PlacedWrite) (bytes : List ℕ) (spelled : Spells write.written.document bytes) where
-  -- the insert asks for its write
-  pub asks_write : AsksInsert write.written.namespace bytes (write.place ∷ []) (insert_asked write)
-  asks_write = record { document = write.written.document; place = write.place; spelled = spelled; alone = refl; is = refl }
+-- the insert asks for its write
+pub asks_write : (write : PlacedWrite) (bytes : List ℕ) → Spells write.written.document bytes
+    → AsksInsert write.written.namespace bytes (write.place ∷ []) (insert_asked write)
+asks_write write bytes spelled = record { document = write.written.document; place = write.place; spelled = spelled; alone = refl; is = refl }
 
+-- and reads only a reply that tells that it was done
+pub insert_reads : (namespace : Namespace) (bytes : List ℕ) → ReadsDone {A = Unit {0}} (insert_meaning namespace bytes)
+insert_reads namespace bytes = λ reply output reads. output_done namespace bytes reply output reads
+
+module _ {A : Type 0} (meaning : Meaning A) (places : List Place) (write : PlacedWrite) (asked : meaning.asked places (insert_asked write)) (reads_done : ReadsDone meaning) where
   -- a reply that was read tells of an insert that was done
-  done_last : (told now : Told) (send : Send) (earlier : ℕ) (reply : List ℕ) (output : Unit {0}) → ReadsOutput (insert_meaning write.written.namespace bytes) reply output
-      → LastAnswer told now send earlier reply → DoneLast told now send earlier
+  done_last : (told now : Told) (send : Send) (earlier : ℕ) (reply : List ℕ) (output : A) → ReadsOutput meaning reply output → LastAnswer told now send earlier reply
+      → DoneLast told now send earlier
   done_last told now send earlier reply output reads last = of_answer (told_answer last.mid send) refl last.reply
     where
       of_answer : (answer : Option (List (Pair Bson))) → told_answer last.mid send ≡ answer → IsReply answer reply → DoneLast told now send earlier
@@ -35,34 +44,33 @@ module _ (write : PlacedWrite) (bytes : List ℕ) (spelled : Spells write.writte
         sent = last.sent;
         reply = document;
         is = is;
-        done = ap is_done_reply (spells_one document reads.response.body reply given reads.done.spelled) ∙ output_done write.written.namespace bytes reply output reads;
+        done = ap is_done_reply (spells_one document reads.response.body reply given reads.done.spelled) ∙ reads_done reply output reads;
         rest = last.rest;
       }
 
-  was_done : (link now : Option Told) (send : Send) (earlier : ℕ) (reply : List ℕ) (output : Unit {0}) → ReadsOutput (insert_meaning write.written.namespace bytes) reply output
-      → AnsweredLast link now send earlier reply → WasDoneLast link now send earlier
+  was_done : (link now : Option Told) (send : Send) (earlier : ℕ) (reply : List ℕ) (output : A) → ReadsOutput meaning reply output → AnsweredLast link now send earlier reply
+      → WasDoneLast link now send earlier
   was_done None now send earlier reply output reads last = last
   was_done (Some told) None send earlier reply output reads last = absurd last
   was_done (Some told) (Some now) send earlier reply output reads last = done_last told now send earlier reply output reads last
 
-  ends_written : (link now : Option Told) (session : Option (List ℕ)) (number : Option ℤ) (result : Result (Unit {0}) Error)
-      → EndsRead (insert_meaning write.written.namespace bytes) (write.place ∷ []) link now session number result → EndsWritten link now session number write (end_of result)
+  ends_written : (link now : Option Told) (session : Option (List ℕ)) (number : Option ℤ) (result : Result A Error)
+      → EndsWithReading meaning places link now session number result → EndsWritten link now session number write (end_of result)
   ends_written link now session number (Ok output) last = record {
     earlier = last.earlier;
     within = last.within;
     once = last.once;
-    done = was_done link now (insert_send session number write) last.earlier last.bytes output last.reads (last.answered (insert_asked write) asks_write);
+    done = was_done link now (insert_send session number write) last.earlier last.bytes output last.reads (last.answered (insert_asked write) asked);
   }
   ends_written link now session number (Err error) last = tt
 
   -- what the insert of the write leaves
-  pub works_wrote : (store store_now : Option ToldStore) (link link_now : Option Told) (result : Result (Unit {0}) Error)
-      → Works (insert_meaning write.written.namespace bytes) (write.place ∷ []) store store_now link link_now result
-      → Wrote store store_now link link_now write (end_of result)
+  pub works_wrote : (store store_now : Option ToldStore) (link link_now : Option Told) (result : Result A Error)
+      → Works meaning places store store_now link link_now result → Wrote store store_now link link_now write (end_of result)
   works_wrote store store_now link link_now result works = record {
     session = works.session;
     number = works.number;
     borrows = works.borrows;
-    sends = works.sends (insert_asked write) asks_write;
+    sends = works.sends (insert_asked write) asked;
     ends = ends_written link link_now works.session works.number result works.ends;
   }

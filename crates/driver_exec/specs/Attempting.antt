@@ -1,10 +1,10 @@
 -- One attempt of an operation outside transactions, over any link: a server is selected and a connection checked out,
 -- a session is lent where none is held, and one command goes out under the number of the send before, or a first one.
-use Rattle.std.specs.Prelude.{◌≡◌, ℕ, ◌≤◌, ℤ, Bool, true, false, ◌&&◌, List, Option, Some, is_some, ◌⊎◌, Result, Ok, Err, if◌then◌else◌}
+use Rattle.std.specs.Prelude.{◌≡◌, ℕ, ◌+◌, ℤ, Bool, true, false, ◌&&◌, List, [], Option, None, Some, is_some, ◌⊎◌, Result, Ok, Err, if◌then◌else◌}
 use Rattle.driver_error.specs.declared.error.Error.{Error}
 use Rattle.driver_error.specs.declared.kind.ErrorKind.TheVariants as kind
-use Rattle.driver_error.specs.Error.{HasResponse, kind_of}
-use Rattle.driver_link.specs.declared.fault.Answered.{Answered}
+use Rattle.driver_error.specs.Error.{HasResponse, IsAlone, kind_of}
+use Rattle.driver_error.specs.LabelTexts.{no_labels}
 use Rattle.driver_link.specs.declared.fault.LinkCall.{LinkCall}
 use Rattle.driver_link.specs.declared.fault.LinkCall.TheVariants.{CheckOut, Exchange, Select}
 use Rattle.driver_link.specs.declared.fault.LinkError.{LinkError}
@@ -13,11 +13,13 @@ use Rattle.driver_link.specs.declared.fault.LinkFault.{LinkFault}
 use Rattle.driver_link.specs.declared.machine.Place.{Place}
 use Rattle.driver_link.specs.declared.machine.SendBody.{SendBody}
 use Rattle.driver_link.specs.declared.options.Address.{Address}
+use Rattle.driver_link.specs.declared.options.Asked.{Asked}
 use Rattle.driver_link.specs.declared.options.Conn.{Conn}
 use Rattle.driver_link.specs.declared.options.Description.{Description}
-use Rattle.driver_link.specs.Counting.{Counts, Listed, OnlyCounts, check_out_fault, checked_out, select_fault, selected}
+use Rattle.driver_link.specs.Counting.{Counts, Listed, check_out_fault, checked_out, select_fault, selected}
 use Rattle.driver_link.specs.Faults.{HasLinkCause}
-use Rattle.driver_link.specs.Told.{IsTo, Told, Notes, Steps, noted, nothing_noted, reply_noted}
+use Rattle.driver_link.specs.Framed.{Framed}
+use Rattle.driver_link.specs.Told.{IsTo, MayNote, Told, Notes, Steps, noted, nothing_noted, reply_noted}
 use Rattle.driver_exec.specs.declared.attempt_end.Attempt.{Attempt}
 use Rattle.driver_exec.specs.declared.attempt_end.Attempt.TheVariants.{Done, Ended, Failed, Stopped, Unselected}
 use Rattle.driver_exec.specs.declared.response.CommandResponse.{CommandResponse}
@@ -25,19 +27,20 @@ use Rattle.driver_exec.specs.declared.retry.FailurePhase.{FailurePhase}
 use Rattle.driver_exec.specs.declared.retry.FailurePhase.TheVariants.{Establishment, Execution}
 use Rattle.driver_exec.specs.declared.retryability.Retryability.{Retryability}
 use Rattle.driver_exec.specs.declared.retryability.Retryability.TheVariants as may
-use Rattle.driver_exec.specs.Causes.{AllEarly}
 use Rattle.driver_exec.specs.Failing.{EndsLost, EndsRead, IsFaultOf, IsLabelledRead, IsVersioned}
 use Rattle.driver_exec.specs.Holding.{DrawsNumber, Held, HoldsSession, held_after_failure, held_id, needs_session, number_before}
-use Rattle.driver_exec.specs.Operations.{Meaning, TellsUnframed, plain_send}
+use Rattle.driver_exec.specs.Operations.{IsFramed, Meaning, TellsUnframed, plain_send}
 use Rattle.driver_exec.specs.Pool.{StaysTold, ToldStore}
 use Rattle.driver_exec.specs.Responses.{ReadsResponse}
+use Rattle.driver_exec.specs.Retry.{Kept}
 use Rattle.driver_exec.specs.Links.{ToldLink}
 
--- what store and link tell at one moment of an operation, and what it then holds
+-- what store and link tell at one moment of an operation, what it then holds, and how many sends were counted by then
 pub record Scene : Type 0 where
   pub store : Option ToldStore
   pub link : ToldLink
   pub held : Held
+  pub count : ℕ
 
 -- an operation as its attempts see it: what it tells, the places of its writes, what of it may be repeated by its own
 -- rules, and whether it takes a session
@@ -48,8 +51,8 @@ pub record Trial (A : Type 0) : Type 1 where
   pub sessions : Bool
 
 -- the same from its parts
-abbrev pub scene : Option ToldStore → ToldLink → Held → Scene
-scene store link held = record { store = store; link = link; held = held }
+abbrev pub scene : Option ToldStore → ToldLink → Held → ℕ → Scene
+scene store link held count = record { store = store; link = link; held = held; count = count }
 
 -- an operation by what it tells, the places of its writes, and what of it may be repeated by its own rules
 abbrev pub trial_of : {A : Type 0} → Meaning A → List Place → Retryability → Trial A
@@ -69,46 +72,65 @@ is_nothing other = false
 abbrev pub stops : Bool → Retryability → Bool
 stops again turn = again && is_nothing turn
 
--- a call of the link that is counted, with what it notes
-pub record CallsLink {B : Type 0} (which : LinkCall) (next : Told → Told) (fault : Told → Option Listed) (link now : ToldLink) (result : Result B LinkError) : Type 0 where
+-- the servers that a selection is asked to avoid, which is by what is kept of the failures before
+abbrev pub avoided : Option Kept → List Address
+avoided None = []
+avoided (Some kept) = kept.deprioritized
+
+-- a selection asks for any server outside those
+abbrev pub asked_for : List Address → Asked
+asked_for avoid = record { criteria = None; deprioritized = avoid }
+
+-- what a call asked is noted, where it is a selection
+abbrev pub NotesAsked : {B : Type 0} → Option Asked → Option (List Asked) → Option (List Asked) → Result B LinkError → Type 0
+NotesAsked None before now result = now ≡ before
+NotesAsked (Some asked) before now result = MayNote before now asked result
+
+-- a call of the link that is counted, with what it notes, and what it asks where it is a selection
+pub record CallsLink {B : Type 0} (which : LinkCall) (asks : Option Asked) (next : Told → Told) (fault : Told → Option Listed) (link now : ToldLink) (result : Result B LinkError) : Type 0 where
   pub counts : Counts next fault link.server now.server result
   pub setup : now.setup ≡ link.setup
   pub notes : Notes link.answers now.answers (noted which nothing_noted result)
+  pub frames : now.frames ≡ link.frames
+  pub asked : NotesAsked asks link.asked now.asked result
   pub cause : HasLinkCause link.faults now.faults result
 
-abbrev pub Selects : ToldLink → ToldLink → Result Address LinkError → Type 0
-Selects link now result = CallsLink Select selected select_fault link now result
+-- a selection
+abbrev pub Selects : List Address → ToldLink → ToldLink → Result Address LinkError → Type 0
+Selects avoid link now result = CallsLink Select (Some (asked_for avoid)) selected select_fault link now result
 
+-- a check-out
 abbrev pub ChecksOut : ToldLink → ToldLink → Result Conn LinkError → Type 0
-ChecksOut link now result = CallsLink CheckOut checked_out check_out_fault link now result
+ChecksOut link now result = CallsLink CheckOut None checked_out check_out_fault link now result
 
--- store and what is held are as before
+-- store and what is held are as before, and nothing was sent
 pub record OnlyLink (before now : Scene) : Type 0 where
   pub store : now.store ≡ before.store
   pub held : now.held ≡ before.held
+  pub count : now.count ≡ before.count
 
 -- no server was selected: the fault has its own labels alone
-pub record NotSelected (before now : Scene) (error : Error) : Type 0 where
+pub record NotSelected (kept : Option Kept) (before now : Scene) (error : Error) : Type 0 where
   pub fault : LinkFault
   pub own : List (List ℕ)
-  pub selects : Selects before.link now.link (Err (Fault fault own))
+  pub selects : Selects (avoided kept) before.link now.link (Err (Fault fault own))
   pub is : IsFaultOf fault own may.None error
   pub rest : OnlyLink before now
 
 -- a server was selected, and no connection to it was had
-pub record NotConnected {A : Type 0} (trial : Trial A) (before now : Scene) (address : Address) (error : Error) : Type 0 where
+pub record NotConnected {A : Type 0} (trial : Trial A) (kept : Option Kept) (before now : Scene) (address : Address) (error : Error) : Type 0 where
   pub mid : ToldLink
-  pub selects : Selects before.link mid (Ok address)
+  pub selects : Selects (avoided kept) before.link mid (Ok address)
   pub fault : LinkFault
   pub own : List (List ℕ)
   pub checks_out : ChecksOut mid now.link (Err (Fault fault own))
   pub is : IsFaultOf fault own trial.own error
   pub rest : OnlyLink before now
 
--- a server was selected and a connection to it checked out
-pub record Connects (link now : ToldLink) (address : Address) (conn : Conn) : Type 0 where
+-- a server was selected, which was asked to be none of those to be avoided, and a connection to it checked out
+pub record Connects (avoid : List Address) (link now : ToldLink) (address : Address) (conn : Conn) : Type 0 where
   pub mid : ToldLink
-  pub selects : Selects link mid (Ok address)
+  pub selects : Selects avoid link mid (Ok address)
   pub checks_out : ChecksOut mid now (Ok conn)
   pub to : IsTo mid.setup address conn
 
@@ -121,16 +143,22 @@ abbrev pub may_use : Held → Description → Bool
 may_use held description = if is_some held.session then description.supports_sessions else true
 
 -- a connection was had, and a session where one is needed
-pub record Readies {A : Type 0} (trial : Trial A) (before now : Scene) (address : Address) (conn : Conn) : Type 0 where
-  pub connects : Connects before.link now.link address conn
+pub record Readies {A : Type 0} (trial : Trial A) (kept : Option Kept) (before now : Scene) (address : Address) (conn : Conn) : Type 0 where
+  pub connects : Connects (avoided kept) before.link now.link address conn
   pub holds : HoldsSession (needs_session (asks_session trial.sessions conn.description) before.held) before.store now.store before.held now.held (Ok tt)
+  pub count : now.count ≡ before.count
 
 -- a command went out under a session and a number, where there are such, with this result of the exchange: the server
--- stepped by the send of what was asked, and the answer and its cause were counted
+-- stepped by the send of what was asked, the frame was the built command with the executor's fields, and the frame, the
+-- answer and its cause were noted
 pub record Exchanges {A : Type 0} (meaning : Meaning A) (places : List Place) (link now : ToldLink) (session : Option (List ℕ)) (number : Option ℤ) (result : Result (List ℕ) LinkError) : Type 0 where
   pub steps : (body : SendBody) → meaning.asked places body → Steps link.server now.server (plain_send session number body) result
   pub setup : now.setup ≡ link.setup
   pub notes : Notes link.answers now.answers (noted Exchange reply_noted result)
+  pub frame : Framed
+  pub framed : IsFramed meaning session number frame
+  pub frames : MayNote link.frames now.frames frame result
+  pub asked : now.asked ≡ link.asked
   pub cause : HasLinkCause link.faults now.faults result
 
 -- what is held after an exchange
@@ -138,19 +166,20 @@ abbrev pub held_after : Result (List ℕ) LinkError → Held → Held
 held_after (Ok reply) held = held
 held_after (Err failure) held = held_after_failure failure held
 
--- the command went out on a connection, under the number of the send before or a first one; a further attempt sends it only
--- where it may be repeated there
-pub record Sends {A : Type 0} (trial : Trial A) (again : Bool) (before now : Scene) (address : Address) (conn : Conn) (result : Result (List ℕ) LinkError) : Type 0 where
+-- the command went out on a connection, under the number of the send before or a first one, and was counted; a further
+-- attempt sends it only where it may be repeated there
+pub record Sends {A : Type 0} (trial : Trial A) (kept : Option Kept) (before now : Scene) (address : Address) (conn : Conn) (result : Result (List ℕ) LinkError) : Type 0 where
   pub ready : Scene
-  pub readies : Readies trial before ready address conn
+  pub readies : Readies trial kept before ready address conn
   pub allowed : may_use ready.held conn.description ≡ true
-  pub goes : stops again (on_connection trial.own conn.description) ≡ false
+  pub goes : stops (is_some kept) (on_connection trial.own conn.description) ≡ false
   pub numbered : Held
   pub number : Option ℤ
   pub draws : DrawsNumber ready.held.sent (on_connection trial.own conn.description) ready.held numbered (Ok number)
   pub exchanges : Exchanges trial.meaning trial.places ready.link now.link (held_id numbered) number result
   pub store_is : now.store ≡ ready.store
   pub held_is : now.held ≡ held_after result (record numbered { sent = Some number })
+  pub counted : now.count ≡ ready.count + 1
 
 -- the error that an operation reads in a reply whose command was done, with the reply in it
 pub record ReadsError {A : Type 0} (meaning : Meaning A) (bytes : List ℕ) (error : Error) : Type 0 where
@@ -160,12 +189,14 @@ pub record ReadsError {A : Type 0} (meaning : Meaning A) (bytes : List ℕ) (err
   pub reads : meaning.answers response.body (Err bare)
   pub kept : HasResponse (Some bytes) bare error
 
--- what a reply comes to: the output that the operation reads in it, or the error that the reply or the operation spells
+-- the output that an operation reads in a reply whose command was done
 pub record ReadsOutput {A : Type 0} (meaning : Meaning A) (bytes : List ℕ) (output : A) : Type 0 where
   pub response : CommandResponse
   pub done : ReadsResponse bytes (Ok response)
   pub reads : meaning.answers response.body (Ok output)
 
+-- what a reply comes to: the output that the operation reads in it, the error that the reply or the operation spells, or want
+-- of memory
 abbrev pub ReadsAnswer : {A : Type 0} → Meaning A → List ℕ → Result A Error → Type 0
 ReadsAnswer meaning bytes (Ok output) = ReadsOutput meaning bytes output
 ReadsAnswer meaning bytes (Err error) = ReadsResponse bytes (Err error) ⊎ (ReadsError meaning bytes error ⊎ (kind_of error ≡ kind.Memory))
@@ -189,48 +220,51 @@ pub record Exchanging {A : Type 0} (meaning : Meaning A) (places : List Place) (
   pub comes : Comes meaning turn version address result attempt
 
 -- there was no number, or no frame under it, and nothing went out
-pub record EndsUnnumbered {A : Type 0} (link link_now : ToldLink) (turn : Retryability) (held held_now : Held) (attempt : Attempt A) : Type 0 where
+pub record EndsUnnumbered {A : Type 0} (link link_now : ToldLink) (turn : Retryability) (held held_now : Held) (count count_now : ℕ) (attempt : Attempt A) : Type 0 where
   pub error : Error
   pub draws : DrawsNumber held.sent turn held held_now (Err error)
   pub link_is : link_now ≡ link
+  pub uncounted : count_now ≡ count
   pub ends : attempt ≡ Ended error
 
-pub record EndsUnframed {A : Type 0} (meaning : Meaning A) (link link_now : ToldLink) (turn : Retryability) (held held_now : Held) (attempt : Attempt A) : Type 0 where
+pub record EndsUnframed {A : Type 0} (meaning : Meaning A) (link link_now : ToldLink) (turn : Retryability) (held held_now : Held) (count count_now : ℕ) (attempt : Attempt A) : Type 0 where
   pub error : Error
   pub number : Option ℤ
   pub draws : DrawsNumber held.sent turn held held_now (Ok number)
-  pub why : TellsUnframed meaning (kind_of error)
+  pub why : TellsUnframed meaning (held_id held_now) number (kind_of error)
   pub link_is : link_now ≡ link
+  pub uncounted : count_now ≡ count
   pub ends : attempt ≡ Ended error
 
 -- the command went out under its number
 pub record SendsOut {A : Type 0} (meaning : Meaning A) (places : List Place) (link link_now : ToldLink) (turn : Retryability) (version : Option ℤ) (address : Address) (held held_now : Held)
-    (attempt : Attempt A) : Type 0 where
+    (count count_now : ℕ) (attempt : Attempt A) : Type 0 where
   pub numbered : Held
   pub number : Option ℤ
   pub draws : DrawsNumber held.sent turn held numbered (Ok number)
   pub exchanging : Exchanging meaning places link link_now turn version address (record numbered { sent = Some number }) held_now attempt
+  pub counted : count_now ≡ count + 1
 
 -- the command of an attempt
-abbrev pub Sending : {A : Type 0} → Meaning A → List Place → ToldLink → ToldLink → Retryability → Option ℤ → Address → Held → Held → Attempt A → Type 0
-Sending meaning places link link_now turn version address held held_now attempt =
-    EndsUnnumbered link link_now turn held held_now attempt
-    ⊎ (EndsUnframed meaning link link_now turn held held_now attempt ⊎ SendsOut meaning places link link_now turn version address held held_now attempt)
+abbrev pub Sending : {A : Type 0} → Meaning A → List Place → ToldLink → ToldLink → Retryability → Option ℤ → Address → Held → Held → ℕ → ℕ → Attempt A → Type 0
+Sending meaning places link link_now turn version address held held_now count count_now attempt =
+    EndsUnnumbered link link_now turn held held_now count count_now attempt
+    ⊎ (EndsUnframed meaning link link_now turn held held_now count count_now attempt ⊎ SendsOut meaning places link link_now turn version address held held_now count count_now attempt)
 
 -- the attempt's reply was read
-pub record IsAnswered {A : Type 0} (trial : Trial A) (again : Bool) (before now : Scene) (output : A) : Type 0 where
+pub record IsAnswered {A : Type 0} (trial : Trial A) (kept : Option Kept) (before now : Scene) (output : A) : Type 0 where
   pub address : Address
   pub conn : Conn
   pub reply : List ℕ
-  pub sends : Sends trial again before now address conn (Ok reply)
+  pub sends : Sends trial kept before now address conn (Ok reply)
   pub reads : ReadsAnswer trial.meaning reply (Ok output)
 
 -- the exchange of the attempt's command failed
-pub record LosesExchange {A : Type 0} (trial : Trial A) (again : Bool) (before now : Scene) (address : Address) (error : Error) : Type 0 where
+pub record LosesExchange {A : Type 0} (trial : Trial A) (kept : Option Kept) (before now : Scene) (address : Address) (error : Error) : Type 0 where
   pub conn : Conn
   pub fault : LinkFault
   pub own : List (List ℕ)
-  pub sends : Sends trial again before now address conn (Err (Fault fault own))
+  pub sends : Sends trial kept before now address conn (Err (Fault fault own))
   pub is : IsVersioned (IsFaultOf fault own (on_connection trial.own conn.description)) conn.description.max_wire_version error
 
 -- an error that was read in a reply, with the labels of the table
@@ -240,93 +274,96 @@ pub record IsReadIn {A : Type 0} (meaning : Meaning A) (bytes : List ℕ) (turn 
   pub labelled : IsLabelledRead turn bare error
 
 -- the reply to the attempt's command spelled an error
-pub record SpellsFailure {A : Type 0} (trial : Trial A) (again : Bool) (before now : Scene) (address : Address) (error : Error) : Type 0 where
+pub record SpellsFailure {A : Type 0} (trial : Trial A) (kept : Option Kept) (before now : Scene) (address : Address) (error : Error) : Type 0 where
   pub conn : Conn
   pub reply : List ℕ
-  pub sends : Sends trial again before now address conn (Ok reply)
+  pub sends : Sends trial kept before now address conn (Ok reply)
   pub is : IsVersioned (IsReadIn trial.meaning reply (on_connection trial.own conn.description)) conn.description.max_wire_version error
 
 -- an attempt failed in a phase
-abbrev pub FailsIn : {A : Type 0} → Trial A → Bool → Scene → Scene → Address → FailurePhase → Error → Type 0
-FailsIn trial again before now address Establishment error = NotConnected trial before now address error
-FailsIn trial again before now address Execution error = LosesExchange trial again before now address error ⊎ SpellsFailure trial again before now address error
+abbrev pub FailsIn : {A : Type 0} → Trial A → Option Kept → Scene → Scene → Address → FailurePhase → Error → Type 0
+FailsIn trial kept before now address Establishment error = NotConnected trial kept before now address error
+FailsIn trial kept before now address Execution error = LosesExchange trial kept before now address error ⊎ SpellsFailure trial kept before now address error
 
--- nothing may be repeated on the connection of a further attempt
-pub record Stops {A : Type 0} (trial : Trial A) (before now : Scene) : Type 0 where
+-- a connection was had that what is held may use, and nothing may be repeated on it
+pub record Stops {A : Type 0} (trial : Trial A) (kept : Option Kept) (before now : Scene) : Type 0 where
   pub address : Address
   pub conn : Conn
-  pub readies : Readies trial before now address conn
+  pub readies : Readies trial kept before now address conn
+  pub allowed : may_use now.held conn.description ≡ true
   pub nothing : is_nothing (on_connection trial.own conn.description) ≡ true
 
 -- a selection failed
-pub record SelectionFails (link now : ToldLink) : Type 0 where
+pub record SelectionFails (avoid : List Address) (link now : ToldLink) : Type 0 where
   pub failure : LinkError
-  pub selects : Selects link now (Err failure)
+  pub selects : Selects avoid link now (Err failure)
 
 -- a server was selected, and a connection to it asked for
-pub record AsksConnection (link now : ToldLink) : Type 0 where
+pub record AsksConnection (avoid : List Address) (link now : ToldLink) : Type 0 where
   pub mid : ToldLink
   pub address : Address
-  pub selects : Selects link mid (Ok address)
+  pub selects : Selects avoid link mid (Ok address)
   pub result : Result Conn LinkError
   pub checks_out : ChecksOut mid now result
 
 -- the calls of an attempt that came to no session
-abbrev pub AsksEarly : ToldLink → ToldLink → Type 0
-AsksEarly link now = SelectionFails link now ⊎ AsksConnection link now
+abbrev pub AsksEarly : List Address → ToldLink → ToldLink → Type 0
+AsksEarly avoid link now = SelectionFails avoid link now ⊎ AsksConnection avoid link now
 
 -- there was no memory before a session was lent
-pub record EndsUnready (before now : Scene) (error : Error) : Type 0 where
-  pub asks : AsksEarly before.link now.link
+pub record EndsUnready (kept : Option Kept) (before now : Scene) (error : Error) : Type 0 where
+  pub asks : AsksEarly (avoided kept) before.link now.link
   pub store : StaysTold before.store now.store
   pub held : now.held ≡ before.held
+  pub count : now.count ≡ before.count
   pub why : kind_of error ≡ kind.Memory
 
--- a session is held, and the connection takes none
+-- a session is held, and the connection takes none; the error tells so and nothing else
 pub record NoSessions (description : Description) (ready now : Held) (error : Error) : Type 0 where
   pub none : may_use ready description ≡ false
   pub same : now ≡ ready
-  pub why : kind_of error ≡ kind.SessionsNotSupported
+  pub is : IsAlone kind.SessionsNotSupported no_labels error
 
 -- there was no number
-pub record NoNumber (again : Bool) (turn : Retryability) (ready now : Held) (error : Error) : Type 0 where
-  pub goes : stops again turn ≡ false
+pub record NoNumber (kept : Option Kept) (turn : Retryability) (ready now : Held) (error : Error) : Type 0 where
+  pub goes : stops (is_some kept) turn ≡ false
   pub draws : DrawsNumber ready.sent turn ready now (Err error)
 
 -- there was no frame under the number
-pub record NoFrame {A : Type 0} (meaning : Meaning A) (again : Bool) (turn : Retryability) (ready now : Held) (error : Error) : Type 0 where
-  pub goes : stops again turn ≡ false
+pub record NoFrame {A : Type 0} (meaning : Meaning A) (kept : Option Kept) (turn : Retryability) (ready now : Held) (error : Error) : Type 0 where
+  pub goes : stops (is_some kept) turn ≡ false
   pub number : Option ℤ
   pub draws : DrawsNumber ready.sent turn ready now (Ok number)
-  pub why : TellsUnframed meaning (kind_of error)
+  pub why : TellsUnframed meaning (held_id now) number (kind_of error)
 
 -- a connection was had, and the command was refused before it went out
-pub record EndsRefused {A : Type 0} (trial : Trial A) (again : Bool) (before now : Scene) (error : Error) : Type 0 where
+pub record EndsRefused {A : Type 0} (trial : Trial A) (kept : Option Kept) (before now : Scene) (error : Error) : Type 0 where
   pub ready : Scene
   pub address : Address
   pub conn : Conn
-  pub readies : Readies trial before ready address conn
+  pub readies : Readies trial kept before ready address conn
   pub link : now.link ≡ ready.link
   pub store : now.store ≡ ready.store
+  pub count : now.count ≡ ready.count
   pub refused : NoSessions conn.description ready.held now.held error
-      ⊎ (NoNumber again (on_connection trial.own conn.description) ready.held now.held error ⊎ NoFrame trial.meaning again (on_connection trial.own conn.description) ready.held now.held error)
+      ⊎ (NoNumber kept (on_connection trial.own conn.description) ready.held now.held error ⊎ NoFrame trial.meaning kept (on_connection trial.own conn.description) ready.held now.held error)
 
 -- the command went out, and there was no memory for what came of it
-pub record EndsSent {A : Type 0} (trial : Trial A) (again : Bool) (before now : Scene) (error : Error) : Type 0 where
+pub record EndsSent {A : Type 0} (trial : Trial A) (kept : Option Kept) (before now : Scene) (error : Error) : Type 0 where
   pub address : Address
   pub conn : Conn
   pub result : Result (List ℕ) LinkError
-  pub sends : Sends trial again before now address conn result
+  pub sends : Sends trial kept before now address conn result
   pub why : kind_of error ≡ kind.Memory
 
 -- the operation ends at once
-abbrev pub EndsAtOnce : {A : Type 0} → Trial A → Bool → Scene → Scene → Error → Type 0
-EndsAtOnce trial again before now error = EndsUnready before now error ⊎ (EndsRefused trial again before now error ⊎ EndsSent trial again before now error)
+abbrev pub EndsAtOnce : {A : Type 0} → Trial A → Option Kept → Scene → Scene → Error → Type 0
+EndsAtOnce trial kept before now error = EndsUnready kept before now error ⊎ (EndsRefused trial kept before now error ⊎ EndsSent trial kept before now error)
 
--- one attempt, by how it ended; only one that is not the first stops
-abbrev pub Tries : {A : Type 0} → Trial A → Bool → Scene → Scene → Attempt A → Type 0
-Tries trial again before now (Done output) = IsAnswered trial again before now output
-Tries trial again before now (Failed failing) = FailsIn trial again before now failing.address failing.failure.phase failing.failure.error
-Tries trial again before now (Unselected error) = NotSelected before now error
-Tries trial again before now Stopped = (again ≡ true) × Stops trial before now
-Tries trial again before now (Ended error) = EndsAtOnce trial again before now error
+-- one attempt, by what is kept of the failures before and how it ended; only one that is not the first stops
+abbrev pub Tries : {A : Type 0} → Trial A → Option Kept → Scene → Scene → Attempt A → Type 0
+Tries trial kept before now (Done output) = IsAnswered trial kept before now output
+Tries trial kept before now (Failed failing) = FailsIn trial kept before now failing.address failing.failure.phase failing.failure.error
+Tries trial kept before now (Unselected error) = NotSelected kept before now error
+Tries trial kept before now Stopped = (is_some kept ≡ true) × Stops trial kept before now
+Tries trial kept before now (Ended error) = EndsAtOnce trial kept before now error

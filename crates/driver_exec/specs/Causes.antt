@@ -64,8 +64,8 @@ abbrev pub end_of : {A : Type 0} → Result A Error → Option Failure
 end_of (Ok given) = None
 end_of (Err error) = Some (failure_of error)
 
--- where a session's number is at its end, an error tells so, but for what was found before the session was
--- lent and for want of memory
+-- where a session's number is at its end, an error tells so, but for the faults of calls before a command goes
+-- out, for what a build is refused with, and for want of memory
 abbrev pub KindAtLast : (ErrorKind → Type 0) → ErrorKind → Type 0
 KindAtLast early (kind.Io io) = Unit {0}
 KindAtLast early (kind.ConnectionPoolCleared message) = Unit {0}
@@ -77,11 +77,9 @@ KindAtLast early (kind.Internal message) = Unit {0}
 KindAtLast early kind.Memory = Unit {0}
 KindAtLast early _ = ⊥
 
--- the body of an insert into this namespace, under some session and number, has no spelling
-pub record BodyRefused (namespace : Namespace) (fault : EncodeFault) : Type 0 where
-  pub session : Option (List ℕ)
+-- the body of an insert into this namespace, under this session and number, has no spelling
+pub record BodyRefused (namespace : Namespace) (session : Option (List ℕ)) (number : Option ℤ) (fault : EncodeFault) : Type 0 where
   pub sixteen : IsSixteen session
-  pub number : Option ℤ
   pub is : refusal (insert_body namespace session number) ≡ Some fault
 
 -- the number of the session that a check-out lends

@@ -1,6 +1,6 @@
 -- An operation outside transactions as a whole: attempts that failed, each of which the decision allowed to be followed
 -- by another, and the one after them.
-use Rattle.std.specs.Prelude.{◌≡◌, Bool, true, false, List, [], ◌∷◌, Option, None, Some, IfSome, is_some, ◌⊎◌, Result, Ok, Err, nat_lt}
+use Rattle.std.specs.Prelude.{◌≡◌, ℕ, Bool, true, false, List, [], ◌∷◌, Option, None, Some, IfSome, ◌⊎◌, Result, Ok, Err, nat_lt}
 use Rattle.driver_error.specs.declared.error.Error.{Error}
 use Rattle.driver_error.specs.declared.kind.ErrorKind.TheVariants as kind
 use Rattle.driver_error.specs.Error.{kind_of}
@@ -35,7 +35,7 @@ decided trial sharded kept failing now = decide kept failing.failure (number_bef
 -- one more failure, after which the decision keeps this
 pub record FailsOnce {A : Type 0} (trial : Trial A) (sharded : Bool) (kept : Option Kept) (mid : Scene) (failing : Failing) (retry : Kept) (now : Scene) : Type 0 where
   pub goes_on : limit_reached kept ≡ false
-  pub tries : Tries trial (is_some kept) mid now (Failed failing)
+  pub tries : Tries trial kept mid now (Failed failing)
   pub decides : decided trial sharded kept failing now ≡ Ok retry
 
 -- an operation came to a moment by these failures, the newest first, and this is kept of them
@@ -45,8 +45,8 @@ Reaches trial sharded before (failing ∷ failures) kept now =
     (retry : Kept) × ((kept ≡ Some retry)
     × ((mid : Scene) × ((earlier : Option Kept) × (Reaches trial sharded before failures earlier mid × FailsOnce trial sharded earlier mid failing retry now))))
 
--- the result of an attempt after which there is no other: where no server was selected, or nothing may be repeated, the
--- failure that is kept is answered
+-- the result of an attempt after which there is no other: where no server was selected the failure that is kept is answered,
+-- else the selection's; where nothing may be repeated, the failure that is kept
 abbrev pub EndsWith : {A : Type 0} → Option Kept → Attempt A → Result A Error → Type 0
 EndsWith kept (Done output) result = result ≡ Ok output
 EndsWith kept (Failed failing) result = ⊥
@@ -60,7 +60,7 @@ EndsWith kept (Ended error) result = result ≡ Err error
 pub record EndsLast {A : Type 0} (trial : Trial A) (kept : Option Kept) (mid now : Scene) (result : Result A Error) : Type 0 where
   pub goes_on : limit_reached kept ≡ false
   pub attempt : Attempt A
-  pub tries : Tries trial (is_some kept) mid now attempt
+  pub tries : Tries trial kept mid now attempt
   pub ends : EndsWith kept attempt result
 
 -- no further attempt was made, and the failure that is kept is answered
@@ -73,20 +73,20 @@ pub record EndsAtLimit {A : Type 0} (kept : Option Kept) (mid now : Scene) (resu
 
 -- the last attempt failed, and its failure may not be followed by another: the failure that is kept is answered, or
 -- want of memory
-pub record EndsRefused {A : Type 0} (trial : Trial A) (sharded : Bool) (kept : Option Kept) (mid now : Scene) (result : Result A Error) : Type 0 where
+pub record EndsNotAllowed {A : Type 0} (trial : Trial A) (sharded : Bool) (kept : Option Kept) (mid now : Scene) (result : Result A Error) : Type 0 where
   pub goes_on : limit_reached kept ≡ false
   pub failing : Failing
-  pub tries : Tries trial (is_some kept) mid now (Failed failing)
+  pub tries : Tries trial kept mid now (Failed failing)
   pub error : Error
   pub answers : result ≡ Err error
   pub refused : (decided trial sharded kept failing now ≡ Err error) ⊎ (kind_of error ≡ kind.Memory)
 
 abbrev pub Ends : {A : Type 0} → Trial A → Bool → Option Kept → Scene → Scene → Result A Error → Type 0
-Ends trial sharded kept mid now result = EndsLast trial kept mid now result ⊎ (EndsAtLimit kept mid now result ⊎ EndsRefused trial sharded kept mid now result)
+Ends trial sharded kept mid now result = EndsLast trial kept mid now result ⊎ (EndsAtLimit kept mid now result ⊎ EndsNotAllowed trial sharded kept mid now result)
 
 -- the first moment of an operation
-abbrev pub first_scene : Option ToldStore → ToldLink → Scene
-first_scene store link = record { store = store; link = link; held = holds_nothing }
+abbrev pub first_scene : Option ToldStore → ToldLink → ℕ → Scene
+first_scene store link count = record { store = store; link = link; held = holds_nothing; count = count }
 
 -- the attempts of an operation: its failures, and its end
 pub record Turns {A : Type 0} (trial : Trial A) (sharded : Bool) (before now : Scene) (result : Result A Error) : Type 0 where
@@ -96,12 +96,13 @@ pub record Turns {A : Type 0} (trial : Trial A) (sharded : Bool) (before now : S
   pub reaches : Reaches trial sharded before failures kept mid
   pub ends : Ends trial sharded kept mid now result
 
--- an operation outside transactions: its attempts, where the link tells its setup by whether that has routers of shards;
--- then the session that it was lent comes back
-pub record Executes {A : Type 0} (trial : Trial A) (store store_now : Option ToldStore) (link link_now : ToldLink) (result : Result A Error) : Type 0 where
+-- an operation outside transactions: its attempts, where the link tells its setup by whether that has routers of shards,
+-- with a count of all its sends; then the session that it was lent comes back
+pub record Executes {A : Type 0} (trial : Trial A) (store store_now : Option ToldStore) (link link_now : ToldLink) (count count_now : ℕ) (result : Result A Error) : Type 0 where
   pub sharded : Bool
   pub sharded_is : IfSome link.setup (λ setup. sharded ≡ setup.description.sharded)
   pub last : Scene
-  pub turns : Turns trial sharded (first_scene store link) last result
+  pub turns : Turns trial sharded (first_scene store link count) last result
   pub link_is : link_now ≡ last.link
+  pub count_is : count_now ≡ last.count
   pub comes_back : GivesBack last.store store_now last.held.session

@@ -11,11 +11,18 @@ use Rattle.driver_link.specs.declared.machine.SendBody.{SendBody}
 use Rattle.driver_link.specs.declared.machine.SendBody.TheVariants.{Write}
 use Rattle.driver_link.specs.declared.machine.SendCommand.TheVariants as command
 use Rattle.driver_exec.specs.Causes.{BodyRefused, never}
+use Rattle.driver_exec.specs.declared.command.Command.{Command}
 use Rattle.driver_exec.specs.declared.retryability.Retryability.{Retryability}
 use Rattle.driver_exec.specs.declared.retryability.Retryability.TheVariants as may
 use Rattle.driver_exec.specs.InsertAnswers.{ReadsInsert}
-use Rattle.driver_exec.specs.Inserts.{insert_write}
+use Rattle.driver_exec.specs.Inserts.{IsOneDocument, insert_command, insert_write}
 use Rattle.driver_exec.specs.Operations.{Meaning}
+
+-- the command of an insert: into the namespace's collection, ordered, with one sequence of the one document
+pub record IsInsertCommand (namespace : Namespace) (bytes : List ℕ) (made : Command) : Type 0 where
+  pub database : made.database ≡ namespace.db
+  pub body : made.body ≡ insert_command namespace
+  pub sequences : IsOneDocument made.sequences bytes
 
 -- the insert of the document that the bytes spell, under the one place
 pub record AsksInsert (namespace : Namespace) (bytes : List ℕ) (places : List Place) (body : SendBody) : Type 0 where
@@ -37,6 +44,7 @@ own_of_insert options = repeated_where options.retry_writes
 abbrev pub insert_meaning : {A : Type 0} → Namespace → List ℕ → Meaning A
 insert_meaning namespace bytes = record {
   name = name.Insert;
+  commands = IsInsertCommand namespace bytes;
   asked = AsksInsert namespace bytes;
   refused = never;
   unspelled = BodyRefused namespace;

@@ -1,6 +1,6 @@
 -- What an insert does to what stands between the calls of one client's plain writes: whatever is lost, late or answered,
 -- it keeps it, and where it was done its entry stands.
-use Rattle.std.specs.Prelude.{◌≡◌, ℕ, ◌+◌, ℤ, List, Option, None, Some}
+use Rattle.std.specs.Prelude.{◌≡◌, ℕ, ◌+◌, ℤ, true, List, Option, None, Some}
 use Rattle.driver_link.specs.declared.machine.Counted.{Counted}
 use Rattle.driver_link.specs.declared.machine.Entry.{Entry}
 use Rattle.driver_link.specs.declared.machine.PlacedWrite.{PlacedWrite}
@@ -8,7 +8,10 @@ use Rattle.driver_link.specs.Settled.{Has}
 use Rattle.driver_link.specs.Statements.{entry_of}
 use Rattle.driver_link.specs.Told.{Told}
 use Rattle.driver_exec.specs.BetweenCalls.{Between, Sound}
+use Rattle.driver_exec.specs.Attempting.{ReadsOutput}
 use Rattle.driver_exec.specs.Causes.{Failure}
+use Rattle.driver_exec.specs.Inserts.{is_done_reply}
+use Rattle.driver_exec.specs.Operations.{Meaning}
 use Rattle.driver_exec.specs.Pool.{AllApart, ToldStore}
 use Rattle.driver_exec.specs.Writing.{placed_write}
 
@@ -36,6 +39,10 @@ pub record HasEntry (write : PlacedWrite) (log : List Entry) : Type 0 where
   pub number : Option ℤ
   pub result : Counted
   pub has : Has log (entry_of session number (placed_write write) result)
+
+-- an operation reads only a reply that tells of an insert that was done
+abbrev pub ReadsDone : {A : Type 0} → Meaning A → Type 0
+ReadsDone {A} meaning = (bytes : List ℕ) (output : A) (reads : ReadsOutput meaning bytes output) → is_done_reply reads.response.body ≡ true
 
 -- its entry stands after its call
 abbrev pub IsWritten : Option ToldStore → Option ToldStore → Option Told → Option Told → PlacedWrite → Type 0

@@ -1,5 +1,6 @@
 -- Why an operation outside transactions ended as it did, by what the link answered in it, over any link and any store.
 use Rattle.std.specs.Prelude.{◌≡◌, ℕ, ◌≤◌, ℤ, Bool, true, List, [], ◌∷◌, Option, None, Some, ◌⊎◌, Ok, Err, if◌then◌else◌}
+use Rattle.bson_lite.specs.declared.fault.EncodeFault.{EncodeFault}
 use Rattle.driver_error.specs.declared.error.Error.{Error}
 use Rattle.driver_error.specs.declared.kind.ErrorKind.TheVariants as kind
 use Rattle.driver_error.specs.declared.labels.TheConstants.{RETRYABLE_WRITE_ERROR}
@@ -53,6 +54,12 @@ pub record SpellsEnd {A : Type 0} (meaning : Meaning A) (why : Failure) (bytes :
   pub kind_is : why.kind ≡ reworded_kind (kind_of bare)
   pub labels_are : why.labels ≡ labels_outside_transactions turn bare
 
+-- an operation's command has no spelling, under some session and number
+pub record Unspelled {A : Type 0} (meaning : Meaning A) (fault : EncodeFault) : Type 0 where
+  pub session : Option (List ℕ)
+  pub number : Option ℤ
+  pub is : meaning.unspelled session number fault
+
 -- an operation reads a reply
 abbrev pub IsRead : {A : Type 0} → Meaning A → List ℕ → Type 0
 IsRead {A} meaning bytes = (output : A) × ReadsAnswer meaning bytes (Ok output)
@@ -75,7 +82,7 @@ KindNeeds on before now items labels (kind.ConnectionPoolCleared message) = Rose
 KindNeeds on before now items labels (kind.ServerSelection message) = Rose before now × HasFault on.own on.setup (fault.Selection message) labels items
 KindNeeds on before now items labels (kind.Authentication message) = Rose before now × HasFault on.own on.setup (fault.Authentication message) labels items
 KindNeeds on before now items labels (kind.InvalidArgument message) = on.meaning.refused (kind.InvalidArgument message)
-KindNeeds on before now items labels (kind.BsonSerialization fault) = on.meaning.refused (kind.BsonSerialization fault) ⊎ on.meaning.unspelled fault
+KindNeeds on before now items labels (kind.BsonSerialization fault) = on.meaning.refused (kind.BsonSerialization fault) ⊎ Unspelled on.meaning fault
 KindNeeds on before now items labels (kind.Internal message) = MayBeLast on.number
 KindNeeds on before now items labels kind.SessionsNotSupported = on.setup ≡ None
 KindNeeds on before now items labels kind.Memory = Unit {0}

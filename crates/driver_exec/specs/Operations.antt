@@ -18,17 +18,19 @@ use Rattle.driver_link.specs.Reads.{Reads, SpellSequences}
 use Rattle.driver_link.specs.declared.options.ClientOptions.{ClientOptions}
 use Rattle.driver_exec.specs.declared.command.Command.{Command}
 use Rattle.driver_exec.specs.declared.retryability.Retryability.{Retryability}
-use Rattle.driver_exec.specs.Fields.{AreCommon, IsPlain, IsSixteen, with_fields}
+use Rattle.driver_exec.specs.Fields.{AreCommon, IsFrameOf, IsPlain, IsSixteen, with_fields}
 
--- what an operation tells: the name of its command, what the command asks for with the places of its writes,
--- what a build is refused with beside want of memory, why a built command with the executor's fields has no
--- spelling, what of it may be repeated, whether it takes a session, and how a reply is read which says that the
+-- what an operation tells: the name of its command, which commands it builds, what a command asks for with the places of
+-- its writes,
+-- what a build is refused with beside want of memory, why a built command with the executor's fields, under a session and
+-- a number, has no spelling, what of it may be repeated, whether it takes a session, and how a reply is read which says that the
 -- command was done
 pub record Meaning (A : Type 0) : Type 1 where
   pub name : CommandName
+  pub commands : Command → Type 0
   pub asked : List Place → SendBody → Type 0
   pub refused : ErrorKind → Type 0
-  pub unspelled : EncodeFault → Type 0
+  pub unspelled : Option (List ℕ) → Option ℤ → EncodeFault → Type 0
   pub own : ClientOptions → Retryability
   pub sessions : Bool
   pub answers : List (Pair Bson) → Result A Error → Type 0
@@ -36,9 +38,10 @@ pub record Meaning (A : Type 0) : Type 1 where
 -- an operation tells before and now the same
 pub record MeansTheSame {A : Type 0} (old now : Meaning A) : Type 0 where
   pub name : now.name ≡ old.name
+  pub commands : (command : Command) → old.commands command ↔ now.commands command
   pub asked : (places : List Place) (body : SendBody) → old.asked places body ↔ now.asked places body
   pub refused : (why : ErrorKind) → old.refused why ↔ now.refused why
-  pub unspelled : (fault : EncodeFault) → old.unspelled fault ↔ now.unspelled fault
+  pub unspelled : (session : Option (List ℕ)) (number : Option ℤ) (fault : EncodeFault) → old.unspelled session number fault ↔ now.unspelled session number fault
   pub own : (options : ClientOptions) → now.own options ≡ old.own options
   pub sessions : now.sessions ≡ old.sessions
   pub answers : (reply : List (Pair Bson)) (result : Result A Error) → old.answers reply result ↔ now.answers reply result
@@ -52,11 +55,12 @@ pub record AsksFor (command : Command) (places : List Place) (body : SendBody) :
 -- a command of an operation, without the executor's fields, that has so many statements
 pub record IsBuilt {A : Type 0} (meaning : Meaning A) (statements : ℕ) (command : Command) : Type 0 where
   pub name : command.name ≡ meaning.name
+  pub is : meaning.commands command
   pub plain : IsPlain command.body
   pub asks : (places : List Place) (body : SendBody) → meaning.asked places body → AsksFor command places body
   pub counts : (places : List Place) (body : SendBody) → meaning.asked places body → length places ≡ statements
   pub spelling : (session : Option (List ℕ)) (number : Option ℤ) (fault : EncodeFault) → IsSixteen session → refusal (with_fields session number command).body ≡ Some fault
-      → meaning.unspelled fault
+      → meaning.unspelled session number fault
 
 -- why a build is refused
 abbrev pub TellsUnbuilt : {A : Type 0} → Meaning A → ErrorKind → Type 0
@@ -83,14 +87,26 @@ abbrev pub ReadsAsAsked : {A : Type 0} → Meaning A → Option (List ℕ) → O
 ReadsAsAsked meaning session number frame =
     (places : List Place) (body : SendBody) → meaning.asked places body → Reads frame places (plain_send session number body)
 
--- why there is no frame of a command
-abbrev pub TellsUnframed : {A : Type 0} → Meaning A → ErrorKind → Type 0
-TellsUnframed meaning (kind.InvalidArgument message) = meaning.refused (kind.InvalidArgument message)
-TellsUnframed meaning (kind.BsonSerialization fault) = meaning.refused (kind.BsonSerialization fault) ⊎ meaning.unspelled fault
-TellsUnframed meaning kind.Memory = Unit {0}
-TellsUnframed meaning _ = ⊥
+-- a frame is a built command with the executor's fields, under a session and a number
+pub record IsFramed {A : Type 0} (meaning : Meaning A) (session : Option (List ℕ)) (number : Option ℤ) (frame : Framed) : Type 0 where
+  pub statements : ℕ
+  pub command : Command
+  pub built : IsBuilt meaning statements command
+  pub is : IsFrameOf (with_fields session number command) frame
+
+-- it reads as what is asked for
+pub record GivesFrame {A : Type 0} (meaning : Meaning A) (session : Option (List ℕ)) (number : Option ℤ) (frame : Framed) : Type 0 where
+  pub framed : IsFramed meaning session number frame
+  pub reads : ReadsAsAsked meaning session number frame
+
+-- why there is no frame of a command under a session and a number
+abbrev pub TellsUnframed : {A : Type 0} → Meaning A → Option (List ℕ) → Option ℤ → ErrorKind → Type 0
+TellsUnframed meaning session number (kind.InvalidArgument message) = meaning.refused (kind.InvalidArgument message)
+TellsUnframed meaning session number (kind.BsonSerialization fault) = meaning.refused (kind.BsonSerialization fault) ⊎ meaning.unspelled session number fault
+TellsUnframed meaning session number kind.Memory = Unit {0}
+TellsUnframed meaning session number _ = ⊥
 
 -- the frame of an operation's command, or the error that tells why there is none
 abbrev pub BuildsFrame : {A : Type 0} → Meaning A → Option (List ℕ) → Option ℤ → Result Framed Error → Type 0
-BuildsFrame meaning session number (Ok frame) = ReadsAsAsked meaning session number frame
-BuildsFrame meaning session number (Err error) = TellsUnframed meaning (kind_of error)
+BuildsFrame meaning session number (Ok frame) = GivesFrame meaning session number frame
+BuildsFrame meaning session number (Err error) = TellsUnframed meaning session number (kind_of error)

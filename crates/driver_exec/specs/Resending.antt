@@ -78,9 +78,9 @@ pub record ReadsLast {A : Type 0} (meaning : Meaning A) (places : List Place) (l
   pub once : number ≡ None → earlier ≡ 0
   pub answered : (body : SendBody) → meaning.asked places body → AnsweredLast link now (plain_send session number body) earlier bytes
 
-abbrev pub EndsRead : {A : Type 0} → Meaning A → List Place → Option Told → Option Told → Option (List ℕ) → Option ℤ → Result A Error → Type 0
-EndsRead meaning places link now session number (Ok output) = ReadsLast meaning places link now session number output
-EndsRead meaning places link now session number (Err error) = Unit {0}
+abbrev pub EndsWithReading : {A : Type 0} → Meaning A → List Place → Option Told → Option Told → Option (List ℕ) → Option ℤ → Result A Error → Type 0
+EndsWithReading meaning places link now session number (Ok output) = ReadsLast meaning places link now session number output
+EndsWithReading meaning places link now session number (Err error) = Unit {0}
 
 -- an operation: one send of what was asked for went out at most twice, and at most once where it has no number; the session
 -- that it was under, if any, was borrowed from the store; and an Ok is the reading of the last reply
@@ -89,4 +89,4 @@ pub record Works {A : Type 0} (meaning : Meaning A) (places : List Place) (store
   pub number : Option ℤ
   pub borrows : Borrows store store_now session number
   pub sends : (body : SendBody) → meaning.asked places body → SentWithin 2 link link_now (plain_send session number body)
-  pub ends : EndsRead meaning places link link_now session number result
+  pub ends : EndsWithReading meaning places link link_now session number result

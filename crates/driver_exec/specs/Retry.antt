@@ -26,7 +26,7 @@ pub record Kept : Type 0 where
   pub number : Option ℤ
   pub deprioritized : List Address
 
--- a write is sent where it was not sent before, or was sent with a number
+-- a write may go out where there was no connection, or a number was sent
 abbrev pub may_be_sent : FailurePhase → Option ℤ → Bool
 may_be_sent Establishment number = true
 may_be_sent Execution number = is_some number

@@ -17,9 +17,9 @@ BecomesSingle (Err error) (Ok output) = ⊥
 BecomesSingle (Err error) (Err now) = Converts error now
 
 -- an operation that was executed, with its error in the form of a single write's
-pub record ExecutesSingle {A : Type 0} (trial : Trial A) (store store_now : Option ToldStore) (link link_now : ToldLink) (result : Result A Error) : Type 0 where
+pub record ExecutesSingle {A : Type 0} (trial : Trial A) (store store_now : Option ToldStore) (link link_now : ToldLink) (count count_now : ℕ) (result : Result A Error) : Type 0 where
   pub executed : Result A Error
-  pub executes : Executes trial store store_now link link_now executed
+  pub executes : Executes trial store store_now link link_now count count_now executed
   pub becomes : BecomesSingle executed result
 
 -- an end with its cause, which became that of a single write

@@ -7,7 +7,7 @@ ghost use Rattle.driver_exec.specs.Causes.{end_of};
 ghost use Rattle.driver_exec.specs.Client.{options_of, store_of};
 ghost use Rattle.driver_exec.specs.Executing.{Executes, IsLastError, Turns, kept_or, limit_reached};
 ghost use Rattle.driver_exec.specs.Holding.{holds_nothing};
-ghost use Rattle.driver_exec.specs.Keeping.{Keeps};
+ghost use Rattle.driver_exec.specs.Keeping.{EndsStanding, Keeps, ReadsDone};
 ghost use Rattle.driver_exec.specs.Pool.{Draws, LendsAsBefore};
 ghost use Rattle.driver_exec.specs.Resending.{Works};
 ghost use Rattle.driver_exec.specs.Retry.{Decides, decide};
@@ -33,8 +33,9 @@ use std::sync::ledger::Ledger;
 
 /// Runs an operation, with the places of its writes: attempts until one ends it, or its failure may not be
 /// followed by another. An error is that of the failure which is kept, or what ended the operation at once.
-/// `sends` counts the sends of its command, of which there are two at most. An insert that it runs keeps what
-/// stands between the calls of one client's plain writes (`keeps`).
+/// `sends` counts the sends of its command, each once, of which there are two at most. An insert that it runs
+/// keeps what stands between the calls of one client's plain writes (`keeps`), and where its reply is read as
+/// done its entry stands (`stands`).
 pub fn execute_operation<O: Operation, S: SessionStore, L: Link, K: Clock, R, Q: Ledger>(
     alloc: Global,
     client: &mut Client<S>,
@@ -44,9 +45,10 @@ pub fn execute_operation<O: Operation, S: SessionStore, L: Link, K: Clock, R, Q:
     sends: &mut Steps<Q>,
 ) -> Result<O::Output>
     requires { (body : SendBody) × (O.meaning op.old).asked places.now body }
-    ensures executes { Executes (trial_of (O.meaning op.old) places.now ((O.meaning op.old).own (options_of client.old))) (S.told (store_of client.old)) (S.told (store_of client.new)) (told_link (L.told outside.old.link) (L.setup outside.old.link) (L.answers outside.old.link) (L.faults outside.old.link)) (told_link (L.told outside.new.link) (L.setup outside.new.link) (L.answers outside.new.link) (L.faults outside.new.link)) result }
+    ensures executes { Executes (trial_of (O.meaning op.old) places.now ((O.meaning op.old).own (options_of client.old))) (S.told (store_of client.old)) (S.told (store_of client.new)) (told_link (L.told outside.old.link) (L.setup outside.old.link) (L.answers outside.old.link) (L.frames outside.old.link) (L.asked outside.old.link) (L.faults outside.old.link)) (told_link (L.told outside.new.link) (L.setup outside.new.link) (L.answers outside.new.link) (L.frames outside.new.link) (L.asked outside.new.link) (L.faults outside.new.link)) sends.old sends.new result }
     ensures works { Works (O.meaning op.old) places.now (S.told (store_of client.old)) (S.told (store_of client.new)) (L.told outside.old.link) (L.told outside.new.link) result }
     ensures keeps { (write : PlacedWrite) → (O.meaning op.old).asked places.now (insert_asked write) → Keeps (S.told (store_of client.old)) (S.told (store_of client.new)) (L.told outside.old.link) (L.told outside.new.link) write }
+    ensures stands { (write : PlacedWrite) → (O.meaning op.old).asked places.now (insert_asked write) → ReadsDone (O.meaning op.old) → EndsStanding (S.told (store_of client.old)) (S.told (store_of client.new)) (L.told outside.old.link) (L.told outside.new.link) write (end_of result) }
     ensures lent { LendsAsBefore (S.told (store_of client.old)) (S.told (store_of client.new)) }
     ensures drawn { Draws (S.told (store_of client.old)) (S.told (store_of client.new)) }
     ensures caused { Caused (grounds (O.meaning op.old) ((O.meaning op.old).own (options_of client.old)) (L.setup outside.old.link) (S.told (store_of client.old))) (L.faults outside.old.link) (L.faults outside.new.link) (L.answers outside.old.link) (L.answers outside.new.link) (end_of result) }
@@ -71,7 +73,7 @@ fn turns<O: Operation, S: SessionStore, L: Link, K: Clock, R, Q: Ledger>(
     sends: &mut Steps<Q>,
 ) -> (Held, Result<O::Output>)
     requires { (body : SendBody) × (O.meaning op.old).asked places.now body }
-    ensures turns { Turns (trial_of (O.meaning op.old) places.now ((O.meaning op.old).own (options_of client.old))) sharded (scene (S.told (store_of client.old)) (told_link (L.told outside.old.link) (L.setup outside.old.link) (L.answers outside.old.link) (L.faults outside.old.link)) holds_nothing) (scene (S.told (store_of client.new)) (told_link (L.told outside.new.link) (L.setup outside.new.link) (L.answers outside.new.link) (L.faults outside.new.link)) result.0) result.1 }
+    ensures turns { Turns (trial_of (O.meaning op.old) places.now ((O.meaning op.old).own (options_of client.old))) sharded (scene (S.told (store_of client.old)) (told_link (L.told outside.old.link) (L.setup outside.old.link) (L.answers outside.old.link) (L.frames outside.old.link) (L.asked outside.old.link) (L.faults outside.old.link)) holds_nothing sends.old) (scene (S.told (store_of client.new)) (told_link (L.told outside.new.link) (L.setup outside.new.link) (L.answers outside.new.link) (L.frames outside.new.link) (L.asked outside.new.link) (L.faults outside.new.link)) result.0 sends.new) result.1 }
     ensures options { options_of client.new ≡ options_of client.old }
     ensures call { outside.new.call ≡ outside.old.call }
     ensures sends { sends.new ≤ sends.old + 2 }

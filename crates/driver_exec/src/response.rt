@@ -35,7 +35,7 @@ pub struct CommandResponse {
 }
 
 /// The reply in these bytes, where it says that its command was done. Otherwise the error that it spells,
-/// which keeps it: a Command with the labels of the reply, or InvalidResponse.
+/// which keeps it where it is a document: a Command with the labels of the reply, or InvalidResponse.
 pub fn read_response(alloc: Global, bytes: &[u8]) -> Result<CommandResponse>
     ensures { ReadsResponse bytes.now result }
 {

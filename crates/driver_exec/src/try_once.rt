@@ -1,16 +1,17 @@
 //! One attempt of an operation outside transactions: a server, a connection, a session where none is held,
 //! one command and its reply.
-ghost use Rattle.std.specs.Prelude.{◌≡◌, ◌≤◌, ◌+◌, Err, IfOk, None, Some, is_some};
+ghost use Rattle.std.specs.Prelude.{◌≡◌, ◌≤◌, ◌+◌, Err, IfOk, None, Option, Some, is_some};
 ghost use Rattle.std.specs.Option.{option_copied};
 ghost use Rattle.bson_lite.specs.Spelling.{Spells};
 ghost use Rattle.driver_link.specs.declared.machine.SendBody.{SendBody};
-ghost use Rattle.driver_exec.specs.Attempting.{Connects, Exchanging, ReadsAnswer, Sending, Tries, asks_session, is_nothing, may_use, on_connection, scene, stops, trial_of};
+ghost use Rattle.driver_exec.specs.Attempting.{Connects, Exchanging, ReadsAnswer, Sending, Tries, asks_session, avoided, is_nothing, may_use, on_connection, scene, stops, trial_of};
 ghost use Rattle.driver_exec.specs.declared.retryability.Retryability.{Retryability as Repeated};
 ghost use Rattle.driver_exec.specs.Client.{options_of, store_of};
 ghost use Rattle.driver_exec.specs.Failing.{EndsLost, EndsRead, EndsUnconnected, EndsUnselected};
 ghost use Rattle.driver_exec.specs.Holding.{held_id, number_before};
-ghost use Rattle.driver_exec.specs.Operations.{BuildsFrame, MeansTheSame, ReadsAsAsked};
+ghost use Rattle.driver_exec.specs.Operations.{BuildsFrame, GivesFrame, MeansTheSame};
 ghost use Rattle.driver_exec.specs.Links.{ToldLink, told_link};
+ghost use Rattle.driver_exec.specs.Retry.{Kept};
 
 use crate::attempt_end::{Attempt, lost, read, unconnected, unselected};
 use crate::client::Client;
@@ -49,7 +50,7 @@ pub(crate) fn try_once<O: Operation, S: SessionStore, L: Link, K: Clock, R, Q: L
     sends: &mut Steps<Q>,
 ) -> (Held, Attempt<O::Output>)
     requires { (body : SendBody) × (O.meaning op.old).asked places.now body }
-    ensures tries { Tries (trial_of (O.meaning op.old) places.now ((O.meaning op.old).own (options_of client.old))) (is_some (option_copied kept.entry)) (scene (S.told (store_of client.old)) (told_link (L.told outside.old.link) (L.setup outside.old.link) (L.answers outside.old.link) (L.faults outside.old.link)) held) (scene (S.told (store_of client.new)) (told_link (L.told outside.new.link) (L.setup outside.new.link) (L.answers outside.new.link) (L.faults outside.new.link)) result.0) result.1 }
+    ensures tries { Tries (trial_of (O.meaning op.old) places.now ((O.meaning op.old).own (options_of client.old))) (option_copied kept.entry) (scene (S.told (store_of client.old)) (told_link (L.told outside.old.link) (L.setup outside.old.link) (L.answers outside.old.link) (L.frames outside.old.link) (L.asked outside.old.link) (L.faults outside.old.link)) held sends.old) (scene (S.told (store_of client.new)) (told_link (L.told outside.new.link) (L.setup outside.new.link) (L.answers outside.new.link) (L.frames outside.new.link) (L.asked outside.new.link) (L.faults outside.new.link)) result.0 sends.new) result.1 }
     ensures options { options_of client.new ≡ options_of client.old }
     ensures meaning { MeansTheSame (O.meaning op.old) (O.meaning op.new) }
     ensures call { outside.new.call ≡ outside.old.call }
@@ -78,7 +79,7 @@ pub(crate) fn try_once<O: Operation, S: SessionStore, L: Link, K: Clock, R, Q: L
 
 /// Reports the failure of an attempt, if it is one, and checks its connection in.
 fn part_with<L: Link, T>(link: &mut L, conn: Conn, attempt: &Attempt<T>)
-    ensures { told_link (L.told link.new) (L.setup link.new) (L.answers link.new) (L.faults link.new) ≡ told_link (L.told link.old) (L.setup link.old) (L.answers link.old) (L.faults link.old) }
+    ensures { told_link (L.told link.new) (L.setup link.new) (L.answers link.new) (L.frames link.new) (L.asked link.new) (L.faults link.new) ≡ told_link (L.told link.old) (L.setup link.old) (L.answers link.old) (L.frames link.old) (L.asked link.old) (L.faults link.old) }
 {
     if let Attempt::Failed(failing) = attempt {
         link.report(&conn.address, &failing.failure.error);
@@ -97,7 +98,9 @@ fn is_kept(kept: Option<&Retry>) -> bool
 }
 
 /// The servers to be avoided.
-fn avoided(kept: Option<&Retry>) -> &[Address] {
+fn avoided(kept: Option<&Retry>) -> &[Address]
+    ensures { result.now ≡ avoided (option_copied kept.entry) }
+{
     match kept {
         Some(retry) => retry.deprioritized(),
         None => &[],
@@ -168,7 +171,7 @@ fn use_connection<O: Operation, S: SessionStore, L: Link, K: Clock, R, Q: Ledger
     sends: &mut Steps<Q>,
 ) -> (Held, Attempt<O::Output>)
     requires { (body : SendBody) × (O.meaning op.old).asked places.now body }
-    ensures tries { (own : Repeated) → turn.now.turn ≡ on_connection own turn.now.conn.now.description → (before : ToldLink) → Connects before (told_link (L.told outside.old.link) (L.setup outside.old.link) (L.answers outside.old.link) (L.faults outside.old.link)) address turn.now.conn.now → Tries (trial_of (O.meaning op.old) places.now own) turn.now.again (scene (S.told (store_of client.old)) before held) (scene (S.told (store_of client.new)) (told_link (L.told outside.new.link) (L.setup outside.new.link) (L.answers outside.new.link) (L.faults outside.new.link)) result.0) result.1 }
+    ensures tries { (own : Repeated) → turn.now.turn ≡ on_connection own turn.now.conn.now.description → (kept : Option Kept) → turn.now.again ≡ is_some kept → (before : ToldLink) → Connects (avoided kept) before (told_link (L.told outside.old.link) (L.setup outside.old.link) (L.answers outside.old.link) (L.frames outside.old.link) (L.asked outside.old.link) (L.faults outside.old.link)) address turn.now.conn.now → Tries (trial_of (O.meaning op.old) places.now own) kept (scene (S.told (store_of client.old)) before held sends.old) (scene (S.told (store_of client.new)) (told_link (L.told outside.new.link) (L.setup outside.new.link) (L.answers outside.new.link) (L.frames outside.new.link) (L.asked outside.new.link) (L.faults outside.new.link)) result.0 sends.new) result.1 }
     ensures options { options_of client.new ≡ options_of client.old }
     ensures meaning { MeansTheSame (O.meaning op.old) (O.meaning op.new) }
     ensures call { outside.new.call ≡ outside.old.call }
@@ -212,7 +215,7 @@ fn send<O: Operation, L: Link, Q: Ledger>(
     sends: &mut Steps<Q>,
 ) -> (Held, Attempt<O::Output>)
     requires { (body : SendBody) × (O.meaning op.old).asked places.now body }
-    ensures sending { Sending (O.meaning op.old) places.now (told_link (L.told link.old) (L.setup link.old) (L.answers link.old) (L.faults link.old)) (told_link (L.told link.new) (L.setup link.new) (L.answers link.new) (L.faults link.new)) turn.now.turn turn.now.conn.now.description.max_wire_version address held result.0 result.1 }
+    ensures sending { Sending (O.meaning op.old) places.now (told_link (L.told link.old) (L.setup link.old) (L.answers link.old) (L.frames link.old) (L.asked link.old) (L.faults link.old)) (told_link (L.told link.new) (L.setup link.new) (L.answers link.new) (L.frames link.new) (L.asked link.new) (L.faults link.new)) turn.now.turn turn.now.conn.now.description.max_wire_version address held result.0 sends.old sends.new result.1 }
     ensures meaning { MeansTheSame (O.meaning op.old) (O.meaning op.new) }
     ensures sends { sends.new ≤ sends.old + 1 }
 {
@@ -251,8 +254,8 @@ fn exchange<O: Operation, L: Link, Q: Ledger>(
     sends: &mut Steps<Q>,
 ) -> (Held, Attempt<O::Output>)
     requires asked { (body : SendBody) × (O.meaning op.old).asked places.now body }
-    requires reads { ReadsAsAsked (O.meaning op.old) (held_id held) (number_before held) frame.now }
-    ensures exchanging { Exchanging (O.meaning op.old) places.now (told_link (L.told link.old) (L.setup link.old) (L.answers link.old) (L.faults link.old)) (told_link (L.told link.new) (L.setup link.new) (L.answers link.new) (L.faults link.new)) turn.now.turn turn.now.conn.now.description.max_wire_version address held result.0 result.1 }
+    requires gives { GivesFrame (O.meaning op.old) (held_id held) (number_before held) frame.now }
+    ensures exchanging { Exchanging (O.meaning op.old) places.now (told_link (L.told link.old) (L.setup link.old) (L.answers link.old) (L.frames link.old) (L.asked link.old) (L.faults link.old)) (told_link (L.told link.new) (L.setup link.new) (L.answers link.new) (L.frames link.new) (L.asked link.new) (L.faults link.new)) turn.now.turn turn.now.conn.now.description.max_wire_version address held result.0 result.1 }
     ensures meaning { MeansTheSame (O.meaning op.old) (O.meaning op.new) }
     ensures sends { sends.new ≡ sends.old + 1 }
 {

@@ -1,6 +1,6 @@
 -- Each attempt goes on from the failures before it, and the last one ends the operation.
 use Rattle.std.proofs.Common.{◌+◌, ap, arith, sym, subst, ◌∙◌}
-use Rattle.std.specs.Prelude.{Ok, Err, is_some}
+use Rattle.std.specs.Prelude.{Ok, Err}
 use Rattle.driver_exec.specs.declared.attempt_end.Attempt.TheVariants.{Done, Ended, Failed, Unselected}
 use Rattle.driver_exec.specs.Attempting.{scene, trial_of}
 use Rattle.driver_exec.specs.Client.{options_of, store_of}
@@ -15,8 +15,8 @@ returns-then-limit_reached-clause-turns g c =
     let meaning = g.O.Operation.meaning c.args.op.now in
     let own = meaning.own (options_of c.args.client.now) in
     let trial = trial_of meaning c.args.places.now own in
-    let began = (scene (g.S.SessionStore.told (store_of c.args.client.now)) (told_link (g.L.Link.told c.args.outside.now.link) (g.L.Link.setup c.args.outside.now.link) (g.L.Link.answers c.args.outside.now.link) (g.L.Link.faults c.args.outside.now.link)) holds_nothing) in
-    let mid = (scene (g.S.SessionStore.told (store_of c.turns.client)) (told_link (g.L.Link.told c.turns.outside.link) (g.L.Link.setup c.turns.outside.link) (g.L.Link.answers c.turns.outside.link) (g.L.Link.faults c.turns.outside.link)) c.turns.held) in
+    let began = (scene (g.S.SessionStore.told (store_of c.args.client.now)) (told_link (g.L.Link.told c.args.outside.now.link) (g.L.Link.setup c.args.outside.now.link) (g.L.Link.answers c.args.outside.now.link) (g.L.Link.frames c.args.outside.now.link) (g.L.Link.asked c.args.outside.now.link) (g.L.Link.faults c.args.outside.now.link)) holds_nothing c.args.sends.now) in
+    let mid = (scene (g.S.SessionStore.told (store_of c.turns.client)) (told_link (g.L.Link.told c.turns.outside.link) (g.L.Link.setup c.turns.outside.link) (g.L.Link.answers c.turns.outside.link) (g.L.Link.frames c.turns.outside.link) (g.L.Link.asked c.turns.outside.link) (g.L.Link.faults c.turns.outside.link)) c.turns.held c.turns.sends) in
     ends_at_limit trial c.args.sharded began c.turns.kept mid c.turns.invariant.far c.last_error.result (sym c.limit_reached.ensures ∙ c.if-limit_reached.true) c.last_error.ensures
 
 pub turns-smaller : goal.turns-smaller
@@ -29,13 +29,13 @@ turns-preserved g c =
     let meaning = g.O.Operation.meaning c.args.op.now in
     let own = meaning.own (options_of c.args.client.now) in
     let trial = trial_of meaning c.args.places.now own in
-    let began = (scene (g.S.SessionStore.told (store_of c.args.client.now)) (told_link (g.L.Link.told c.args.outside.now.link) (g.L.Link.setup c.args.outside.now.link) (g.L.Link.answers c.args.outside.now.link) (g.L.Link.faults c.args.outside.now.link)) holds_nothing) in
-    let mid = (scene (g.S.SessionStore.told (store_of c.turns.client)) (told_link (g.L.Link.told c.turns.outside.link) (g.L.Link.setup c.turns.outside.link) (g.L.Link.answers c.turns.outside.link) (g.L.Link.faults c.turns.outside.link)) c.turns.held) in
-    let now = (scene (g.S.SessionStore.told (store_of c.try_once-next.new.client)) (told_link (g.L.Link.told c.try_once-next.new.outside.link) (g.L.Link.setup c.try_once-next.new.outside.link) (g.L.Link.answers c.try_once-next.new.outside.link) (g.L.Link.faults c.try_once-next.new.outside.link)) c.try_once-next.result.0) in
+    let began = (scene (g.S.SessionStore.told (store_of c.args.client.now)) (told_link (g.L.Link.told c.args.outside.now.link) (g.L.Link.setup c.args.outside.now.link) (g.L.Link.answers c.args.outside.now.link) (g.L.Link.frames c.args.outside.now.link) (g.L.Link.asked c.args.outside.now.link) (g.L.Link.faults c.args.outside.now.link)) holds_nothing c.args.sends.now) in
+    let mid = (scene (g.S.SessionStore.told (store_of c.turns.client)) (told_link (g.L.Link.told c.turns.outside.link) (g.L.Link.setup c.turns.outside.link) (g.L.Link.answers c.turns.outside.link) (g.L.Link.frames c.turns.outside.link) (g.L.Link.asked c.turns.outside.link) (g.L.Link.faults c.turns.outside.link)) c.turns.held c.turns.sends) in
+    let now = (scene (g.S.SessionStore.told (store_of c.try_once-next.new.client)) (told_link (g.L.Link.told c.try_once-next.new.outside.link) (g.L.Link.setup c.try_once-next.new.outside.link) (g.L.Link.answers c.try_once-next.new.outside.link) (g.L.Link.frames c.try_once-next.new.outside.link) (g.L.Link.asked c.try_once-next.new.outside.link) (g.L.Link.faults c.try_once-next.new.outside.link)) c.try_once-next.result.0 c.try_once-next.new.sends) in
     let goes_on = sym c.limit_reached.ensures ∙ c.if-limit_reached.false in
     let owned = c.turns.invariant.meaning.own (options_of c.turns.client) ∙ ap (λ options. meaning.own options) c.turns.invariant.options in
-    let tries = tried meaning (g.O.Operation.meaning c.turns.op) c.turns.invariant.meaning c.args.places.now _ own _ (is_some c.turns.kept) mid now c.try_once-next.result.1 (Failed c.in-Failed.failing)
-    owned (ap is_some c.as_ref.ensures.value) c.in-Failed.is c.try_once-next.ensures.tries in
+    let tries = tried meaning (g.O.Operation.meaning c.turns.op) c.turns.invariant.meaning c.args.places.now _ own _ c.turns.kept mid now c.try_once-next.result.1 (Failed c.in-Failed.failing)
+    owned c.as_ref.ensures.value c.in-Failed.is c.try_once-next.ensures.tries in
     let decided = subst (λ o. Decides (decide c.turns.kept c.in-Failed.failing.failure (number_before c.try_once-next.result.0) c.in-Failed.failing.address o c.args.sharded) (Ok c.in-Ok.retry)) c.turns.invariant.own
     (subst (λ n. Decides (decide c.turns.kept c.in-Failed.failing.failure n c.in-Failed.failing.address c.retryability-own.result c.args.sharded) (Ok c.in-Ok.retry)) c.number.ensures c.in-Ok.ensures) in
     let fewer = decided_fewer c.in-Failed.failing.failure c.number.result c.in-Failed.failing.address c.retryability-own.result c.args.sharded c.turns.kept c.in-Ok.retry c.turns.invariant.once
@@ -55,13 +55,13 @@ returns-in-Err-clause-turns g c =
     let meaning = g.O.Operation.meaning c.args.op.now in
     let own = meaning.own (options_of c.args.client.now) in
     let trial = trial_of meaning c.args.places.now own in
-    let began = (scene (g.S.SessionStore.told (store_of c.args.client.now)) (told_link (g.L.Link.told c.args.outside.now.link) (g.L.Link.setup c.args.outside.now.link) (g.L.Link.answers c.args.outside.now.link) (g.L.Link.faults c.args.outside.now.link)) holds_nothing) in
-    let mid = (scene (g.S.SessionStore.told (store_of c.turns.client)) (told_link (g.L.Link.told c.turns.outside.link) (g.L.Link.setup c.turns.outside.link) (g.L.Link.answers c.turns.outside.link) (g.L.Link.faults c.turns.outside.link)) c.turns.held) in
-    let now = (scene (g.S.SessionStore.told (store_of c.try_once-next.new.client)) (told_link (g.L.Link.told c.try_once-next.new.outside.link) (g.L.Link.setup c.try_once-next.new.outside.link) (g.L.Link.answers c.try_once-next.new.outside.link) (g.L.Link.faults c.try_once-next.new.outside.link)) c.try_once-next.result.0) in
+    let began = (scene (g.S.SessionStore.told (store_of c.args.client.now)) (told_link (g.L.Link.told c.args.outside.now.link) (g.L.Link.setup c.args.outside.now.link) (g.L.Link.answers c.args.outside.now.link) (g.L.Link.frames c.args.outside.now.link) (g.L.Link.asked c.args.outside.now.link) (g.L.Link.faults c.args.outside.now.link)) holds_nothing c.args.sends.now) in
+    let mid = (scene (g.S.SessionStore.told (store_of c.turns.client)) (told_link (g.L.Link.told c.turns.outside.link) (g.L.Link.setup c.turns.outside.link) (g.L.Link.answers c.turns.outside.link) (g.L.Link.frames c.turns.outside.link) (g.L.Link.asked c.turns.outside.link) (g.L.Link.faults c.turns.outside.link)) c.turns.held c.turns.sends) in
+    let now = (scene (g.S.SessionStore.told (store_of c.try_once-next.new.client)) (told_link (g.L.Link.told c.try_once-next.new.outside.link) (g.L.Link.setup c.try_once-next.new.outside.link) (g.L.Link.answers c.try_once-next.new.outside.link) (g.L.Link.frames c.try_once-next.new.outside.link) (g.L.Link.asked c.try_once-next.new.outside.link) (g.L.Link.faults c.try_once-next.new.outside.link)) c.try_once-next.result.0 c.try_once-next.new.sends) in
     let goes_on = sym c.limit_reached.ensures ∙ c.if-limit_reached.false in
     let owned = c.turns.invariant.meaning.own (options_of c.turns.client) ∙ ap (λ options. meaning.own options) c.turns.invariant.options in
-    let tries = tried meaning (g.O.Operation.meaning c.turns.op) c.turns.invariant.meaning c.args.places.now _ own _ (is_some c.turns.kept) mid now c.try_once-next.result.1 (Failed c.in-Failed.failing)
-    owned (ap is_some c.as_ref.ensures.value) c.in-Failed.is c.try_once-next.ensures.tries in
+    let tries = tried meaning (g.O.Operation.meaning c.turns.op) c.turns.invariant.meaning c.args.places.now _ own _ c.turns.kept mid now c.try_once-next.result.1 (Failed c.in-Failed.failing)
+    owned c.as_ref.ensures.value c.in-Failed.is c.try_once-next.ensures.tries in
     let decided = subst (λ o. Decides (decide c.turns.kept c.in-Failed.failing.failure (number_before c.try_once-next.result.0) c.in-Failed.failing.address o c.args.sharded) (Err c.in-Err.error)) c.turns.invariant.own
     (subst (λ n. Decides (decide c.turns.kept c.in-Failed.failing.failure n c.in-Failed.failing.address c.retryability-own.result c.args.sharded) (Err c.in-Err.error)) c.number.ensures c.in-Err.ensures) in
     ends_refused trial c.args.sharded began c.turns.kept mid c.turns.invariant.far now goes_on c.in-Failed.failing c.in-Err.error tries decided
@@ -71,13 +71,13 @@ returns-in-Done-clause-turns g c =
     let meaning = g.O.Operation.meaning c.args.op.now in
     let own = meaning.own (options_of c.args.client.now) in
     let trial = trial_of meaning c.args.places.now own in
-    let began = (scene (g.S.SessionStore.told (store_of c.args.client.now)) (told_link (g.L.Link.told c.args.outside.now.link) (g.L.Link.setup c.args.outside.now.link) (g.L.Link.answers c.args.outside.now.link) (g.L.Link.faults c.args.outside.now.link)) holds_nothing) in
-    let mid = (scene (g.S.SessionStore.told (store_of c.turns.client)) (told_link (g.L.Link.told c.turns.outside.link) (g.L.Link.setup c.turns.outside.link) (g.L.Link.answers c.turns.outside.link) (g.L.Link.faults c.turns.outside.link)) c.turns.held) in
-    let now = (scene (g.S.SessionStore.told (store_of c.try_once-next.new.client)) (told_link (g.L.Link.told c.try_once-next.new.outside.link) (g.L.Link.setup c.try_once-next.new.outside.link) (g.L.Link.answers c.try_once-next.new.outside.link) (g.L.Link.faults c.try_once-next.new.outside.link)) c.try_once-next.result.0) in
+    let began = (scene (g.S.SessionStore.told (store_of c.args.client.now)) (told_link (g.L.Link.told c.args.outside.now.link) (g.L.Link.setup c.args.outside.now.link) (g.L.Link.answers c.args.outside.now.link) (g.L.Link.frames c.args.outside.now.link) (g.L.Link.asked c.args.outside.now.link) (g.L.Link.faults c.args.outside.now.link)) holds_nothing c.args.sends.now) in
+    let mid = (scene (g.S.SessionStore.told (store_of c.turns.client)) (told_link (g.L.Link.told c.turns.outside.link) (g.L.Link.setup c.turns.outside.link) (g.L.Link.answers c.turns.outside.link) (g.L.Link.frames c.turns.outside.link) (g.L.Link.asked c.turns.outside.link) (g.L.Link.faults c.turns.outside.link)) c.turns.held c.turns.sends) in
+    let now = (scene (g.S.SessionStore.told (store_of c.try_once-next.new.client)) (told_link (g.L.Link.told c.try_once-next.new.outside.link) (g.L.Link.setup c.try_once-next.new.outside.link) (g.L.Link.answers c.try_once-next.new.outside.link) (g.L.Link.frames c.try_once-next.new.outside.link) (g.L.Link.asked c.try_once-next.new.outside.link) (g.L.Link.faults c.try_once-next.new.outside.link)) c.try_once-next.result.0 c.try_once-next.new.sends) in
     let goes_on = sym c.limit_reached.ensures ∙ c.if-limit_reached.false in
     let owned = c.turns.invariant.meaning.own (options_of c.turns.client) ∙ ap (λ options. meaning.own options) c.turns.invariant.options in
-    let tries = tried meaning (g.O.Operation.meaning c.turns.op) c.turns.invariant.meaning c.args.places.now _ own _ (is_some c.turns.kept) mid now c.try_once-next.result.1 (Done c.in-Done.output)
-    owned (ap is_some c.as_ref.ensures.value) c.in-Done.is c.try_once-next.ensures.tries in
+    let tries = tried meaning (g.O.Operation.meaning c.turns.op) c.turns.invariant.meaning c.args.places.now _ own _ c.turns.kept mid now c.try_once-next.result.1 (Done c.in-Done.output)
+    owned c.as_ref.ensures.value c.in-Done.is c.try_once-next.ensures.tries in
     ends_done trial c.args.sharded began c.turns.kept mid c.turns.invariant.far now goes_on c.in-Done.output tries
 
 pub returns-in-Unselected-clause-turns : goal.returns-in-Unselected-clause-turns
@@ -85,13 +85,13 @@ returns-in-Unselected-clause-turns g c =
     let meaning = g.O.Operation.meaning c.args.op.now in
     let own = meaning.own (options_of c.args.client.now) in
     let trial = trial_of meaning c.args.places.now own in
-    let began = (scene (g.S.SessionStore.told (store_of c.args.client.now)) (told_link (g.L.Link.told c.args.outside.now.link) (g.L.Link.setup c.args.outside.now.link) (g.L.Link.answers c.args.outside.now.link) (g.L.Link.faults c.args.outside.now.link)) holds_nothing) in
-    let mid = (scene (g.S.SessionStore.told (store_of c.turns.client)) (told_link (g.L.Link.told c.turns.outside.link) (g.L.Link.setup c.turns.outside.link) (g.L.Link.answers c.turns.outside.link) (g.L.Link.faults c.turns.outside.link)) c.turns.held) in
-    let now = (scene (g.S.SessionStore.told (store_of c.try_once-next.new.client)) (told_link (g.L.Link.told c.try_once-next.new.outside.link) (g.L.Link.setup c.try_once-next.new.outside.link) (g.L.Link.answers c.try_once-next.new.outside.link) (g.L.Link.faults c.try_once-next.new.outside.link)) c.try_once-next.result.0) in
+    let began = (scene (g.S.SessionStore.told (store_of c.args.client.now)) (told_link (g.L.Link.told c.args.outside.now.link) (g.L.Link.setup c.args.outside.now.link) (g.L.Link.answers c.args.outside.now.link) (g.L.Link.frames c.args.outside.now.link) (g.L.Link.asked c.args.outside.now.link) (g.L.Link.faults c.args.outside.now.link)) holds_nothing c.args.sends.now) in
+    let mid = (scene (g.S.SessionStore.told (store_of c.turns.client)) (told_link (g.L.Link.told c.turns.outside.link) (g.L.Link.setup c.turns.outside.link) (g.L.Link.answers c.turns.outside.link) (g.L.Link.frames c.turns.outside.link) (g.L.Link.asked c.turns.outside.link) (g.L.Link.faults c.turns.outside.link)) c.turns.held c.turns.sends) in
+    let now = (scene (g.S.SessionStore.told (store_of c.try_once-next.new.client)) (told_link (g.L.Link.told c.try_once-next.new.outside.link) (g.L.Link.setup c.try_once-next.new.outside.link) (g.L.Link.answers c.try_once-next.new.outside.link) (g.L.Link.frames c.try_once-next.new.outside.link) (g.L.Link.asked c.try_once-next.new.outside.link) (g.L.Link.faults c.try_once-next.new.outside.link)) c.try_once-next.result.0 c.try_once-next.new.sends) in
     let goes_on = sym c.limit_reached.ensures ∙ c.if-limit_reached.false in
     let owned = c.turns.invariant.meaning.own (options_of c.turns.client) ∙ ap (λ options. meaning.own options) c.turns.invariant.options in
-    let tries = tried meaning (g.O.Operation.meaning c.turns.op) c.turns.invariant.meaning c.args.places.now _ own _ (is_some c.turns.kept) mid now c.try_once-next.result.1 (Unselected c.in-Unselected.error)
-    owned (ap is_some c.as_ref.ensures.value) c.in-Unselected.is c.try_once-next.ensures.tries in
+    let tries = tried meaning (g.O.Operation.meaning c.turns.op) c.turns.invariant.meaning c.args.places.now _ own _ c.turns.kept mid now c.try_once-next.result.1 (Unselected c.in-Unselected.error)
+    owned c.as_ref.ensures.value c.in-Unselected.is c.try_once-next.ensures.tries in
     ends_unselected trial c.args.sharded began c.turns.kept mid c.turns.invariant.far now goes_on c.in-Unselected.error c.kept_or.result tries c.kept_or.ensures
 
 pub returns-in-Ended-clause-turns : goal.returns-in-Ended-clause-turns
@@ -99,13 +99,13 @@ returns-in-Ended-clause-turns g c =
     let meaning = g.O.Operation.meaning c.args.op.now in
     let own = meaning.own (options_of c.args.client.now) in
     let trial = trial_of meaning c.args.places.now own in
-    let began = (scene (g.S.SessionStore.told (store_of c.args.client.now)) (told_link (g.L.Link.told c.args.outside.now.link) (g.L.Link.setup c.args.outside.now.link) (g.L.Link.answers c.args.outside.now.link) (g.L.Link.faults c.args.outside.now.link)) holds_nothing) in
-    let mid = (scene (g.S.SessionStore.told (store_of c.turns.client)) (told_link (g.L.Link.told c.turns.outside.link) (g.L.Link.setup c.turns.outside.link) (g.L.Link.answers c.turns.outside.link) (g.L.Link.faults c.turns.outside.link)) c.turns.held) in
-    let now = (scene (g.S.SessionStore.told (store_of c.try_once-next.new.client)) (told_link (g.L.Link.told c.try_once-next.new.outside.link) (g.L.Link.setup c.try_once-next.new.outside.link) (g.L.Link.answers c.try_once-next.new.outside.link) (g.L.Link.faults c.try_once-next.new.outside.link)) c.try_once-next.result.0) in
+    let began = (scene (g.S.SessionStore.told (store_of c.args.client.now)) (told_link (g.L.Link.told c.args.outside.now.link) (g.L.Link.setup c.args.outside.now.link) (g.L.Link.answers c.args.outside.now.link) (g.L.Link.frames c.args.outside.now.link) (g.L.Link.asked c.args.outside.now.link) (g.L.Link.faults c.args.outside.now.link)) holds_nothing c.args.sends.now) in
+    let mid = (scene (g.S.SessionStore.told (store_of c.turns.client)) (told_link (g.L.Link.told c.turns.outside.link) (g.L.Link.setup c.turns.outside.link) (g.L.Link.answers c.turns.outside.link) (g.L.Link.frames c.turns.outside.link) (g.L.Link.asked c.turns.outside.link) (g.L.Link.faults c.turns.outside.link)) c.turns.held c.turns.sends) in
+    let now = (scene (g.S.SessionStore.told (store_of c.try_once-next.new.client)) (told_link (g.L.Link.told c.try_once-next.new.outside.link) (g.L.Link.setup c.try_once-next.new.outside.link) (g.L.Link.answers c.try_once-next.new.outside.link) (g.L.Link.frames c.try_once-next.new.outside.link) (g.L.Link.asked c.try_once-next.new.outside.link) (g.L.Link.faults c.try_once-next.new.outside.link)) c.try_once-next.result.0 c.try_once-next.new.sends) in
     let goes_on = sym c.limit_reached.ensures ∙ c.if-limit_reached.false in
     let owned = c.turns.invariant.meaning.own (options_of c.turns.client) ∙ ap (λ options. meaning.own options) c.turns.invariant.options in
-    let tries = tried meaning (g.O.Operation.meaning c.turns.op) c.turns.invariant.meaning c.args.places.now _ own _ (is_some c.turns.kept) mid now c.try_once-next.result.1 (Ended c.in-Ended.error)
-    owned (ap is_some c.as_ref.ensures.value) c.in-Ended.is c.try_once-next.ensures.tries in
+    let tries = tried meaning (g.O.Operation.meaning c.turns.op) c.turns.invariant.meaning c.args.places.now _ own _ c.turns.kept mid now c.try_once-next.result.1 (Ended c.in-Ended.error)
+    owned c.as_ref.ensures.value c.in-Ended.is c.try_once-next.ensures.tries in
     ends_ended trial c.args.sharded began c.turns.kept mid c.turns.invariant.far now goes_on c.in-Ended.error tries
 
 pub returns-in-Err-clause-sends : goal.returns-in-Err-clause-sends

@@ -11,9 +11,9 @@ use Rattle.driver_exec.proofs.execute.turns.Given as goal
 abbrev pub invariant-turns : goal.invariant-turns
 invariant-turns g l = record {
   far : SoFar (trial_of (g.O.Operation.meaning l.fn.op) l.places ((g.O.Operation.meaning l.fn.op).own (options_of l.fn.client))) l.sharded
-      (scene (g.S.SessionStore.told (store_of l.fn.client)) (told_link (g.L.Link.told l.fn.outside.link) (g.L.Link.setup l.fn.outside.link) (g.L.Link.answers l.fn.outside.link) (g.L.Link.faults l.fn.outside.link)) holds_nothing)
+      (scene (g.S.SessionStore.told (store_of l.fn.client)) (told_link (g.L.Link.told l.fn.outside.link) (g.L.Link.setup l.fn.outside.link) (g.L.Link.answers l.fn.outside.link) (g.L.Link.frames l.fn.outside.link) (g.L.Link.asked l.fn.outside.link) (g.L.Link.faults l.fn.outside.link)) holds_nothing l.fn.sends)
       l.kept
-      (scene (g.S.SessionStore.told (store_of l.client)) (told_link (g.L.Link.told l.outside.link) (g.L.Link.setup l.outside.link) (g.L.Link.answers l.outside.link) (g.L.Link.faults l.outside.link)) l.held);
+      (scene (g.S.SessionStore.told (store_of l.client)) (told_link (g.L.Link.told l.outside.link) (g.L.Link.setup l.outside.link) (g.L.Link.answers l.outside.link) (g.L.Link.frames l.outside.link) (g.L.Link.asked l.outside.link) (g.L.Link.faults l.outside.link)) l.held l.sends);
   meaning : MeansTheSame (g.O.Operation.meaning l.fn.op) (g.O.Operation.meaning l.op);
   own : l.own ≡ (g.O.Operation.meaning l.fn.op).own (options_of l.fn.client);
   options : options_of l.client ≡ options_of l.fn.client;

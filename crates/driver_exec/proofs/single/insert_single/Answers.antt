@@ -12,7 +12,7 @@ use Rattle.driver_exec.specs.Resending.{Works}
 use Rattle.driver_exec.proofs.Singling.{insert_caused, insert_executes, insert_works, works_single}
 use Rattle.driver_exec.specs.Writing.{insert_asked}
 use Rattle.driver_exec.proofs.KeepingCalls.{works_keeps, wrote_ends}
-use Rattle.driver_exec.proofs.Wrote.{asks_write, works_wrote}
+use Rattle.driver_exec.proofs.Wrote.{asks_write, insert_reads, works_wrote}
 use Rattle.driver_exec.proofs.single.insert_single.Goals as goal
 
 pub execute_operation-requires : goal.execute_operation-requires
@@ -28,15 +28,15 @@ pub returns-in-Ok-clause-single : goal.returns-in-Ok-clause-single
 returns-in-Ok-clause-single g c =
     let store = g.S.SessionStore.told (store_of c.args.client.now) in
     let store_now = g.S.SessionStore.told (store_of c.execute_operation.new.client) in
-    let link = told_link (g.L.Link.told c.args.outside.now.link) (g.L.Link.setup c.args.outside.now.link) (g.L.Link.answers c.args.outside.now.link) (g.L.Link.faults c.args.outside.now.link) in
-    let link_now = told_link (g.L.Link.told c.execute_operation.new.outside.link) (g.L.Link.setup c.execute_operation.new.outside.link) (g.L.Link.answers c.execute_operation.new.outside.link) (g.L.Link.faults c.execute_operation.new.outside.link) in
+    let link = told_link (g.L.Link.told c.args.outside.now.link) (g.L.Link.setup c.args.outside.now.link) (g.L.Link.answers c.args.outside.now.link) (g.L.Link.frames c.args.outside.now.link) (g.L.Link.asked c.args.outside.now.link) (g.L.Link.faults c.args.outside.now.link) in
+    let link_now = told_link (g.L.Link.told c.execute_operation.new.outside.link) (g.L.Link.setup c.execute_operation.new.outside.link) (g.L.Link.answers c.execute_operation.new.outside.link) (g.L.Link.frames c.execute_operation.new.outside.link) (g.L.Link.asked c.execute_operation.new.outside.link) (g.L.Link.faults c.execute_operation.new.outside.link) in
     let own = own_of_insert (options_of c.args.client.now) in
     let places = c.args.write.now.place ∷ [] in
-    let executes = subst (λ r. Executes (trial_of (insert_meaning c.new-insert.result.namespace.now c.new-insert.result.document) places own) store store_now link link_now r) c.in-Ok.is
+    let executes = subst (λ r. Executes (trial_of (insert_meaning c.new-insert.result.namespace.now c.new-insert.result.document) places own) store store_now link link_now c.args.sends.now c.execute_operation.new.sends r) c.in-Ok.is
     c.execute_operation.ensures.executes in
     record {
       executed = Ok c.in-Ok.field-0;
-      executes = insert_executes _ _ _ _ places own store store_now link link_now (Ok c.in-Ok.field-0) c.new-insert.ensures.namespace c.new-insert.ensures.document executes;
+      executes = insert_executes _ _ _ _ places own store store_now link link_now c.args.sends.now c.execute_operation.new.sends (Ok c.in-Ok.field-0) c.new-insert.ensures.namespace c.new-insert.ensures.document executes;
       becomes = refl;
     }
 
@@ -44,15 +44,15 @@ pub returns-clause-single : goal.returns-clause-single
 returns-clause-single g c =
     let store = g.S.SessionStore.told (store_of c.args.client.now) in
     let store_now = g.S.SessionStore.told (store_of c.execute_operation.new.client) in
-    let link = told_link (g.L.Link.told c.args.outside.now.link) (g.L.Link.setup c.args.outside.now.link) (g.L.Link.answers c.args.outside.now.link) (g.L.Link.faults c.args.outside.now.link) in
-    let link_now = told_link (g.L.Link.told c.execute_operation.new.outside.link) (g.L.Link.setup c.execute_operation.new.outside.link) (g.L.Link.answers c.execute_operation.new.outside.link) (g.L.Link.faults c.execute_operation.new.outside.link) in
+    let link = told_link (g.L.Link.told c.args.outside.now.link) (g.L.Link.setup c.args.outside.now.link) (g.L.Link.answers c.args.outside.now.link) (g.L.Link.frames c.args.outside.now.link) (g.L.Link.asked c.args.outside.now.link) (g.L.Link.faults c.args.outside.now.link) in
+    let link_now = told_link (g.L.Link.told c.execute_operation.new.outside.link) (g.L.Link.setup c.execute_operation.new.outside.link) (g.L.Link.answers c.execute_operation.new.outside.link) (g.L.Link.frames c.execute_operation.new.outside.link) (g.L.Link.asked c.execute_operation.new.outside.link) (g.L.Link.faults c.execute_operation.new.outside.link) in
     let own = own_of_insert (options_of c.args.client.now) in
     let places = c.args.write.now.place ∷ [] in
-    let executes = subst (λ r. Executes (trial_of (insert_meaning c.new-insert.result.namespace.now c.new-insert.result.document) places own) store store_now link link_now r) c.in-Err.is
+    let executes = subst (λ r. Executes (trial_of (insert_meaning c.new-insert.result.namespace.now c.new-insert.result.document) places own) store store_now link link_now c.args.sends.now c.execute_operation.new.sends r) c.in-Err.is
     c.execute_operation.ensures.executes in
     record {
       executed = Err c.in-Err.error;
-      executes = insert_executes _ _ _ _ places own store store_now link link_now (Err c.in-Err.error) c.new-insert.ensures.namespace c.new-insert.ensures.document executes;
+      executes = insert_executes _ _ _ _ places own store store_now link link_now c.args.sends.now c.execute_operation.new.sends (Err c.in-Err.error) c.new-insert.ensures.namespace c.new-insert.ensures.document executes;
       becomes = c.convert_insert_many_error.ensures;
     }
 
@@ -112,12 +112,14 @@ returns-clause-works g c =
 
 pub returns-in-Ok-clause-wrote : goal.returns-in-Ok-clause-wrote
 returns-in-Ok-clause-wrote g c =
-    works_wrote c.args.write.now c.args.bytes c.requires (g.S.SessionStore.told (store_of c.args.client.now)) (g.S.SessionStore.told (store_of c.execute_operation.new.client))
+    works_wrote (insert_meaning c.args.write.now.written.namespace c.args.bytes) (c.args.write.now.place ∷ []) c.args.write.now (asks_write c.args.write.now c.args.bytes c.requires)
+    (insert_reads c.args.write.now.written.namespace c.args.bytes) (g.S.SessionStore.told (store_of c.args.client.now)) (g.S.SessionStore.told (store_of c.execute_operation.new.client))
     (g.L.Link.told c.args.outside.now.link) (g.L.Link.told c.execute_operation.new.outside.link) (Ok c.in-Ok.field-0) (returns-in-Ok-clause-works g c)
 
 pub returns-clause-wrote : goal.returns-clause-wrote
 returns-clause-wrote g c =
-    works_wrote c.args.write.now c.args.bytes c.requires (g.S.SessionStore.told (store_of c.args.client.now)) (g.S.SessionStore.told (store_of c.execute_operation.new.client))
+    works_wrote (insert_meaning c.args.write.now.written.namespace c.args.bytes) (c.args.write.now.place ∷ []) c.args.write.now (asks_write c.args.write.now c.args.bytes c.requires)
+    (insert_reads c.args.write.now.written.namespace c.args.bytes) (g.S.SessionStore.told (store_of c.args.client.now)) (g.S.SessionStore.told (store_of c.execute_operation.new.client))
     (g.L.Link.told c.args.outside.now.link) (g.L.Link.told c.execute_operation.new.outside.link) (Err c.convert_insert_many_error.result) (returns-clause-works g c)
 
 pub returns-in-Ok-clause-keeps : goal.returns-in-Ok-clause-keeps

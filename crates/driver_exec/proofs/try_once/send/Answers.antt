@@ -13,6 +13,7 @@ returns-clause-sending g c =
       numbered = c.draw_number-held.result.0;
       number = c.in-Ok.number;
       draws = subst (λ r. DrawsNumber c.args.held.sent c.args.turn.now.turn c.args.held c.draw_number-held.result.0 r) c.in-Ok.is c.draw_number-held.ensures;
-      exchanging = subst (λ h. Exchanging (g.O.Operation.meaning c.args.op.now) c.args.places.now (told_link (g.L.Link.told c.args.link.now) (g.L.Link.setup c.args.link.now) (g.L.Link.answers c.args.link.now) (g.L.Link.faults c.args.link.now)) (told_link (g.L.Link.told c.exchange.new.link) (g.L.Link.setup c.exchange.new.link) (g.L.Link.answers c.exchange.new.link) (g.L.Link.faults c.exchange.new.link)) c.args.turn.now.turn
+      exchanging = subst (λ h. Exchanging (g.O.Operation.meaning c.args.op.now) c.args.places.now (told_link (g.L.Link.told c.args.link.now) (g.L.Link.setup c.args.link.now) (g.L.Link.answers c.args.link.now) (g.L.Link.frames c.args.link.now) (g.L.Link.asked c.args.link.now) (g.L.Link.faults c.args.link.now)) (told_link (g.L.Link.told c.exchange.new.link) (g.L.Link.setup c.exchange.new.link) (g.L.Link.answers c.exchange.new.link) (g.L.Link.frames c.exchange.new.link) (g.L.Link.asked c.exchange.new.link) (g.L.Link.faults c.exchange.new.link)) c.args.turn.now.turn
           c.args.turn.now.conn.now.description.max_wire_version c.args.address h c.exchange.result.0 c.exchange.result.1) c.sent_under.ensures exchanging;
+      counted = c.exchange.ensures.sends;
     }))
