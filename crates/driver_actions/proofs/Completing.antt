@@ -91,10 +91,10 @@ module _ (options : ClientOptions) (made : ℕ) (before now : Moment) (namespace
     first caller moment lent session number lends drawn is =
         lent_goes sent.write made old told.server placed ready.sound ready.between caller moment lent session number (lends_old caller moment lent session lends) drawn is
 
-    unspelled : (fault : EncodeFault) → BodyRefused sent.write.written.namespace fault → ⊥
-    unspelled fault refused =
-        let spelled : refusal (insert_body sent.write.written.namespace refused.session refused.number) ≡ None
-        = ap (λ n. refusal (insert_body n refused.session refused.number)) sent.own.namespace ∙ valid.command refused.session refused.number refused.sixteen in
+    unspelled : (session : Option (List ℕ)) (number : Option ℤ) (fault : EncodeFault) → BodyRefused sent.write.written.namespace session number fault → ⊥
+    unspelled session number fault refused =
+        let spelled : refusal (insert_body sent.write.written.namespace session number) ≡ None
+        = ap (λ n. refusal (insert_body n session number)) sent.own.namespace ∙ valid.command session number refused.sixteen in
         let e : ◌≡◌ {A = Option EncodeFault} None (Some fault) = sym spelled ∙ refused.is in cc
 
     not_last : (caller moment : ℕ) (lent : Option ToldStore) (session : Session) → Lends sent.inserts.store lent caller moment session → session.number ≡ last_number → ⊥
@@ -105,7 +105,7 @@ module _ (options : ClientOptions) (made : ℕ) (before now : Moment) (namespace
     sent_quiet gentle =
         gentle_ends sent.write sent.inserts.bytes sent.inserts.spelled (own_of_insert options) sent.inserts.store told before.link link_is (MayGo sent.write)
         answers (λ id number server step may lossy. go_again sent.write id number server step may lossy) first
-        (λ session. bare_goes sent.write session told.server) unspelled not_last now.store now.link told_now sent.ended now_is apart gentle sent.inserts.executes
+        (λ session. bare_goes sent.write session told.server) unspelled not_last now.store now.link told_now 0 sent.inserts.count sent.ended now_is apart gentle sent.inserts.executes
 
     -- so does its call
     sent_well : (error : Error) → result ≡ Err error → IsGentlePart (DrawsNumbers true (own_of_insert options) before.link.setup) told told_now → kind_of error ≡ kind.Memory

@@ -9,7 +9,7 @@ use Rattle.driver_exec.specs.Causes.{Failure}
 use Rattle.driver_exec.specs.Pool.{AllApart, ToldStore}
 use Rattle.driver_exec.specs.Writing.{Wrote, placed_write}
 use Rattle.driver_exec.proofs.Written.{wrote_leaves, wrote_stands}
-use Rattle.driver_actions.specs.Calls.{Stands}
+use Rattle.driver_actions.specs.Calls.{HasPlace}
 use Rattle.driver_actions.proofs.Logging.{stands_has}
 
 pub insert_keeps : (made : ℕ) (old now : ToldStore) (told told_now : Told) (write : PlacedWrite) (ended : Option Failure) → write.place.call ≡ made → AllApart now.pool.drawn
@@ -20,7 +20,7 @@ insert_keeps made old now told told_now write ended placed apart between sound w
 
 pub insert_stands : (made : ℕ) (old now : ToldStore) (told told_now : Told) (write : PlacedWrite) → write.place.call ≡ made → AllApart now.pool.drawn
     → Between old.pool told.server.trace → Sound made told.server → Wrote (Some old) (Some now) (Some told) (Some told_now) write None
-    → Stands write.place told_now.server.log
+    → HasPlace write.place told_now.server.log
 insert_stands made old now told told_now write placed apart between sound wrote =
     let stands = wrote_stands made old now told told_now write placed apart between sound None wrote refl in
     stands_has write.place told_now.server.log (entry_of wrote.session wrote.number (placed_write write) stands.result) stands.has refl

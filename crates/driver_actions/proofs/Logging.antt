@@ -8,13 +8,13 @@ use Rattle.driver_link.specs.declared.machine.Place.{Place}
 use Rattle.driver_link.specs.Once.{Once, NoneAt}
 use Rattle.driver_link.specs.Settled.{Has}
 use Rattle.driver_actions.specs.declared.call.Call.{Call}
-use Rattle.driver_actions.specs.Calls.{OwnAt, Mine, Stands, Done, write_at, same_place, entry_at}
+use Rattle.driver_actions.specs.Calls.{OwnAt, Mine, HasPlace, Done, write_at, same_place, entry_at}
 
 -- the first place of a call
 abbrev pub first_place : ℕ → Place
 first_place call = record { call = call; index = 0 }
 
-stands_left : (place : Place) (log more : List Entry) → Stands place log → Stands place (log ++ more)
+stands_left : (place : Place) (log more : List Entry) → HasPlace place log → HasPlace place (log ++ more)
 stands_left place [] more stands = absurd stands
 stands_left place (entry ∷ log) more stands = elim stands [ inl at ↦ inl at | inr rest ↦ inr (stands_left place log more rest) ]
 
@@ -76,7 +76,7 @@ entry_found place (first ∷ log) entry once has at = elim has [
       ∙ entry_found place log entry once.1 rest at
 ]
 
-pub stands_has : (place : Place) (log : List Entry) (entry : Entry) → Has log entry → entry.place ≡ place → Stands place log
+pub stands_has : (place : Place) (log : List Entry) (entry : Entry) → Has log entry → entry.place ≡ place → HasPlace place log
 stands_has place [] entry has at = absurd has
 stands_has place (first ∷ log) entry has at = elim has [
   | inl same ↦ inl (ap (λ e. e.place) same ∙ at)

@@ -1,5 +1,5 @@
 -- One call of a single write, from its parts.
-use Rattle.std.proofs.Common.{◌≡◌, ℕ, List, [], refl, sym, ap, subst, ◌∙◌, inl, inr, ◌∷◌}
+use Rattle.std.proofs.Common.{◌≡◌, ℕ, ◌+◌, ◌≤◌, List, [], refl, sym, ap, subst, ◌∙◌, inl, inr, ◌∷◌, arith}
 use Rattle.std.specs.Prelude.{true, Option, Some, is_some, Result, Ok, Err}
 use Rattle.std.proofs.lemmas.Bool.{cond-true}
 use Rattle.bson_lite.specs.declared.bson.Bson.{Bson}
@@ -12,8 +12,10 @@ use Rattle.driver_error.specs.Error.{ErrorKind, kind_of}
 use Rattle.driver_link.specs.declared.machine.Place.{Place}
 use Rattle.driver_link.specs.declared.machine.PlacedWrite.{PlacedWrite}
 use Rattle.driver_link.specs.declared.options.ClientOptions.{ClientOptions}
+use Rattle.driver_exec.specs.Attempting.{Trial}
 use Rattle.driver_exec.specs.Links.{ToldLink}
 use Rattle.driver_exec.specs.Pool.{ToldStore, StaysTold}
+use Rattle.driver_exec.specs.Singles.{ExecutesSingle}
 use Rattle.driver_exec.proofs.Staying.{stays_twice}
 use Rattle.driver_actions.specs.declared.call.SingleAnswer.TheVariants.{Inserted}
 use Rattle.driver_actions.specs.Calls.{IsOwn, inserted}
@@ -37,7 +39,16 @@ is_own : (namespace : Namespace) (document : List (Pair Bson)) (place : Place) (
     → Owns namespace document place write bytes id
     → IsOwn (inserted namespace document) write.written
 is_own namespace document place write bytes id owns =
-    record { kind = owns.kind_is; namespace = owns.namespace_is; id = owns.document.id; document = owns.document.document }
+    record { kind = owns.kind_is; namespace = owns.namespace_is; id = owns.document.id; twelve = owns.document.twelve; document = owns.document.document }
+
+-- a count that began at nothing
+pub from_none : {A : Type 0} (trial : Trial A) (store store_now : Option ToldStore) (link link_now : ToldLink) (from count : ℕ) (result : Result A Error) → from ≡ 0
+    → ExecutesSingle trial store store_now link link_now from count result → ExecutesSingle trial store store_now link link_now 0 count result
+from_none trial store store_now link link_now from count result none executes =
+    subst (λ n. ExecutesSingle trial store store_now link link_now n count result) none executes
+
+pub two_at_most : (from count : ℕ) → from ≡ 0 → count ≤ from + 2 → count ≤ 2
+two_at_most from count none within = omega (arith, none, within)
 
 -- an insert that followed the drawing of an id
 inserts_later : (options same : ClientOptions) (store mid : Option ToldStore) (link : ToldLink) (now : Moment) (write : PlacedWrite) (ended : Result (Unit {0}) Error)
@@ -48,7 +59,9 @@ inserts_later options same store mid link now write ended is stays found =
       stays = stays_twice store mid inserts.store stays inserts.stays;
       bytes = inserts.bytes;
       spelled = inserts.spelled;
+      count = inserts.count;
       executes = inserts.executes;
+      twice = inserts.twice;
       wrote = inserts.wrote;
       lent = inserts.lent;
       drawn = inserts.drawn;

@@ -50,7 +50,7 @@ pub record Ran (calls : List Call) (outcomes : List Outcome) (pool : Pool) (serv
 -- the sent write is the caller's own
 own_sent : (namespace : Namespace) (document : List (Pair Bson)) (sent : Written) → IsOwn (inserted namespace document) sent
     → IsOwn (inserted namespace document) (inserted sent.namespace sent.document)
-own_sent namespace document sent own = record { kind = refl; namespace = own.namespace; id = own.id; document = own.document }
+own_sent namespace document sent own = record { kind = refl; namespace = own.namespace; id = own.id; twelve = own.twelve; document = own.document }
 
 -- the number of calls, once one more was made
 one_more : (outcomes : List Outcome) (last : Outcome) (server : Server) → Sound (length outcomes + 1) server → Sound (length (outcomes ++ last ∷ [])) server

@@ -1,5 +1,5 @@
 -- The writes of a list of calls by their places, and what the log says of a call.
-use Rattle.std.specs.Prelude.{◌≡◌, ℕ, Bool, ◌==◌, ◌&&◌, List, [], ◌∷◌, Option, None, Some, ◌⊎◌, slice_get, if◌then◌else◌, IsSome}
+use Rattle.std.specs.Prelude.{◌≡◌, ℕ, Bool, ◌==◌, ◌&&◌, List, [], ◌∷◌, length, Option, None, Some, ◌⊎◌, slice_get, if◌then◌else◌, IsSome}
 use Rattle.std.specs.Option.{option_and_then, option_map}
 use Rattle.bson_lite.specs.declared.bson.Bson.{Bson}
 use Rattle.bson_lite.specs.declared.bson.ObjectId.{ObjectId}
@@ -34,11 +34,12 @@ write_in (Single write) index = if index == 0 then Some (written write) else Non
 unfoldable pub write_at : List Call → Place → Option Written
 write_at calls place = option_and_then (λ call. write_in call place.index) (slice_get calls place.call)
 
--- a write that was sent is the one given; where an insert's document has no id, one object id was put first
+-- a write that was sent is the one given; where an insert's document has no id, one object id of twelve bytes was put first
 pub record IsOwn (given sent : Written) : Type 0 where
   pub kind : sent.kind ≡ given.kind
   pub namespace : sent.namespace ≡ given.namespace
   pub id : ObjectId
+  pub twelve : length id.bytes ≡ 12
   pub document : sent.document ≡ with_id id given.document
 
 abbrev pub OwnAt : Option Written → Written → Type 0
@@ -51,14 +52,14 @@ Mine calls [] = Unit {0}
 Mine calls (entry ∷ log) = OwnAt (write_at calls entry.place) entry.written × Mine calls log
 
 -- an entry has this place
-abbrev pub Stands : Place → List Entry → Type 0
-Stands place [] = ⊥
-Stands place (entry ∷ log) = (entry.place ≡ place) ⊎ Stands place log
+abbrev pub HasPlace : Place → List Entry → Type 0
+HasPlace place [] = ⊥
+HasPlace place (entry ∷ log) = (entry.place ≡ place) ⊎ HasPlace place log
 
 -- each write of a call stands in the log
 abbrev pub Done : List Call → ℕ → List Entry → Type 0
 Done calls call log =
-    (index : ℕ) → IsSome (write_at calls (record { call = call; index = index })) → Stands (record { call = call; index = index }) log
+    (index : ℕ) → IsSome (write_at calls (record { call = call; index = index })) → HasPlace (record { call = call; index = index }) log
 
 -- two places are the same
 abbrev pub same_place : Place → Place → Bool

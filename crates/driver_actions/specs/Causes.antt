@@ -32,8 +32,8 @@ pub record RefusesFirst (namespace : Namespace) (document : List (Pair Bson)) (e
   pub tells : (why : ErrorKind) → InputRefused namespace document why → TellsKind why ended
 
 -- so is a write of such input
-abbrev pub EndsRefused : SingleWrite → Option Failure → Type 0
-EndsRefused (InsertOne namespace document) ended = RefusesFirst namespace document ended
+abbrev pub RefusesInput : SingleWrite → Option Failure → Type 0
+RefusesInput (InsertOne namespace document) ended = RefusesFirst namespace document ended
 
 -- what store and link tell at one moment
 pub record Moment : Type 0 where
@@ -82,7 +82,7 @@ OperationCaused options before now (InsertOne namespace document) result = Inser
 -- a single write ended with its cause, and input that is refused was refused
 pub record WriteCaused {A : Type 0} (options : ClientOptions) (before now : Moment) (write : SingleWrite) (result : Result A Error) : Type 0 where
   pub caused : EndsEarly before now write result ⊎ OperationCaused options before now write result
-  pub refused : EndsRefused write (end_of result)
+  pub refused : RefusesInput write (end_of result)
 
 -- so does a call
 abbrev pub HasCause : {A : Type 0} → ClientOptions → Moment → Moment → Call → Result A Error → Type 0

@@ -1,5 +1,5 @@
 -- One call of a single write: the document as it is sent, its operation, and the answer that it tells.
-use Rattle.std.specs.Prelude.{◌≡◌, ℕ, List, [], ◌∷◌, length, Option, Some, ◌⊎◌, Result, Ok, Err}
+use Rattle.std.specs.Prelude.{◌≡◌, ℕ, ◌≤◌, List, [], ◌∷◌, length, Option, Some, ◌⊎◌, Result, Ok, Err}
 use Rattle.bson_lite.specs.declared.bson.Bson.{Bson}
 use Rattle.bson_lite.specs.declared.bson.ObjectId.{ObjectId}
 use Rattle.bson_lite.specs.declared.document.Pair.{Pair}
@@ -62,13 +62,16 @@ TellsAnswer document (Ok done) (Ok given) = TellsId document given
 TellsAnswer document (Ok done) (Err error) = ⊥
 TellsAnswer document (Err error) result = result ≡ Err error
 
--- the insert of a write was executed: once an id was drawn, if any, the store stays until a session is borrowed
+-- the insert of a write was executed, with two sends at most: once an id was drawn, if any, the store stays until a session
+-- is borrowed
 pub record Inserts (options : ClientOptions) (before now : Moment) (write : PlacedWrite) (ended : Result (Unit {0}) Error) : Type 0 where
   pub store : Option ToldStore
   pub stays : StaysTold before.store store
   pub bytes : List ℕ
   pub spelled : Spells write.written.document bytes
-  pub executes : ExecutesSingle (trial_of (insert_meaning write.written.namespace bytes) (write.place ∷ []) (own_of_insert options)) store now.store before.link now.link ended
+  pub count : ℕ
+  pub executes : ExecutesSingle (trial_of (insert_meaning write.written.namespace bytes) (write.place ∷ []) (own_of_insert options)) store now.store before.link now.link 0 count ended
+  pub twice : count ≤ 2
   pub wrote : Wrote store now.store before.link.server now.link.server write (end_of ended)
   pub lent : LendsAsBefore store now.store
   pub drawn : Draws store now.store

@@ -1,6 +1,6 @@
 //! Laws: of a run of calls between two of its calls, and of one insert.
 ghost use Rattle.std.specs.Prelude.{◌≡◌, ℕ, ◌+◌, ◌++◌, List, None, Option, Some};
-ghost use Rattle.driver_actions.specs.Calls.{Stands as Stand};
+ghost use Rattle.driver_actions.specs.Calls.{HasPlace};
 ghost use Rattle.driver_actions.specs.Standing.{RunState, Stands};
 ghost use Rattle.driver_actions.specs.declared.call.Call.{Call};
 ghost use Rattle.driver_exec.specs.BetweenCalls.{Between, Sound};
@@ -23,5 +23,5 @@ pub fn an_insert_keeps_the_invariant()
 
 /// Under that invariant an insert that was done stands.
 pub fn an_insert_that_was_done_stands()
-    ensures { (made : ℕ) (old now : ToldStore) (told told_now : Told) (write : PlacedWrite) → write.place.call ≡ made → AllApart now.pool.drawn → Between old.pool told.server.trace → Sound made told.server → Wrote (Some old) (Some now) (Some told) (Some told_now) write None → Stand write.place told_now.server.log }
+    ensures { (made : ℕ) (old now : ToldStore) (told told_now : Told) (write : PlacedWrite) → write.place.call ≡ made → AllApart now.pool.drawn → Between old.pool told.server.trace → Sound made told.server → Wrote (Some old) (Some now) (Some told) (Some told_now) write None → HasPlace write.place told_now.server.log }
 {}

@@ -9,7 +9,7 @@ ghost use Rattle.driver_exec.specs.Links.{told_link};
 ghost use Rattle.driver_exec.specs.OperationCauses.{grounds};
 ghost use Rattle.driver_exec.specs.Pool.{StaysTold};
 ghost use Rattle.driver_exec.specs.Singles.{CausedSingle};
-ghost use Rattle.driver_actions.specs.Causes.{EndsRefused, RefusesFirst, TellsOwnRefusal, WriteCaused, moment};
+ghost use Rattle.driver_actions.specs.Causes.{RefusesInput, RefusesFirst, TellsOwnRefusal, WriteCaused, moment};
 ghost use Rattle.driver_actions.specs.declared.call.SingleWrite.TheVariants.{InsertOne};
 ghost use Rattle.driver_actions.specs.Calls.{inserted, written};
 ghost use Rattle.driver_actions.specs.Turns.{Inserts, Makes, PutsId, Owns};
@@ -33,8 +33,8 @@ pub(crate) fn single<S: SessionStore, L: Link, K: Clock, R>(
     write: &SingleWrite,
     place: Place,
 ) -> Result<SingleAnswer>
-    ensures makes { Makes (options_of client.old) (moment (S.told (store_of client.old)) (told_link (L.told outside.old.link) (L.setup outside.old.link) (L.answers outside.old.link) (L.faults outside.old.link))) (moment (S.told (store_of client.new)) (told_link (L.told outside.new.link) (L.setup outside.new.link) (L.answers outside.new.link) (L.faults outside.new.link))) (written write.now) place result }
-    ensures cause { WriteCaused (options_of client.old) (moment (S.told (store_of client.old)) (told_link (L.told outside.old.link) (L.setup outside.old.link) (L.answers outside.old.link) (L.faults outside.old.link))) (moment (S.told (store_of client.new)) (told_link (L.told outside.new.link) (L.setup outside.new.link) (L.answers outside.new.link) (L.faults outside.new.link))) write.now result }
+    ensures makes { Makes (options_of client.old) (moment (S.told (store_of client.old)) (told_link (L.told outside.old.link) (L.setup outside.old.link) (L.answers outside.old.link) (L.frames outside.old.link) (L.asked outside.old.link) (L.faults outside.old.link))) (moment (S.told (store_of client.new)) (told_link (L.told outside.new.link) (L.setup outside.new.link) (L.answers outside.new.link) (L.frames outside.new.link) (L.asked outside.new.link) (L.faults outside.new.link))) (written write.now) place result }
+    ensures cause { WriteCaused (options_of client.old) (moment (S.told (store_of client.old)) (told_link (L.told outside.old.link) (L.setup outside.old.link) (L.answers outside.old.link) (L.frames outside.old.link) (L.asked outside.old.link) (L.faults outside.old.link))) (moment (S.told (store_of client.new)) (told_link (L.told outside.new.link) (L.setup outside.new.link) (L.answers outside.new.link) (L.frames outside.new.link) (L.asked outside.new.link) (L.faults outside.new.link))) write.now result }
     ensures options { options_of client.new ≡ options_of client.old }
     ensures call { outside.new.call ≡ outside.old.call }
 {
@@ -55,8 +55,8 @@ fn insert_one<S: SessionStore, L: Link, K: Clock, R>(
     document: &Document,
     place: Place,
 ) -> Result<SingleAnswer>
-    ensures makes { Makes (options_of client.old) (moment (S.told (store_of client.old)) (told_link (L.told outside.old.link) (L.setup outside.old.link) (L.answers outside.old.link) (L.faults outside.old.link))) (moment (S.told (store_of client.new)) (told_link (L.told outside.new.link) (L.setup outside.new.link) (L.answers outside.new.link) (L.faults outside.new.link))) (inserted namespace.now document.now) place result }
-    ensures cause { WriteCaused (options_of client.old) (moment (S.told (store_of client.old)) (told_link (L.told outside.old.link) (L.setup outside.old.link) (L.answers outside.old.link) (L.faults outside.old.link))) (moment (S.told (store_of client.new)) (told_link (L.told outside.new.link) (L.setup outside.new.link) (L.answers outside.new.link) (L.faults outside.new.link))) (InsertOne namespace.now document.now) result }
+    ensures makes { Makes (options_of client.old) (moment (S.told (store_of client.old)) (told_link (L.told outside.old.link) (L.setup outside.old.link) (L.answers outside.old.link) (L.frames outside.old.link) (L.asked outside.old.link) (L.faults outside.old.link))) (moment (S.told (store_of client.new)) (told_link (L.told outside.new.link) (L.setup outside.new.link) (L.answers outside.new.link) (L.frames outside.new.link) (L.asked outside.new.link) (L.faults outside.new.link))) (inserted namespace.now document.now) place result }
+    ensures cause { WriteCaused (options_of client.old) (moment (S.told (store_of client.old)) (told_link (L.told outside.old.link) (L.setup outside.old.link) (L.answers outside.old.link) (L.frames outside.old.link) (L.asked outside.old.link) (L.faults outside.old.link))) (moment (S.told (store_of client.new)) (told_link (L.told outside.new.link) (L.setup outside.new.link) (L.answers outside.new.link) (L.frames outside.new.link) (L.asked outside.new.link) (L.faults outside.new.link))) (InsertOne namespace.now document.now) result }
     ensures options { options_of client.new ≡ options_of client.old }
     ensures call { outside.new.call ≡ outside.old.call }
 {
@@ -78,7 +78,7 @@ fn insert<S: SessionStore, L: Link, K: Clock, R>(
     bytes: Bytes,
 ) -> Result<()>
     requires { Spells write.now.written.document bytes }
-    ensures inserts { Inserts (options_of client.old) (moment (S.told (store_of client.old)) (told_link (L.told outside.old.link) (L.setup outside.old.link) (L.answers outside.old.link) (L.faults outside.old.link))) (moment (S.told (store_of client.new)) (told_link (L.told outside.new.link) (L.setup outside.new.link) (L.answers outside.new.link) (L.faults outside.new.link))) write.now result }
+    ensures inserts { Inserts (options_of client.old) (moment (S.told (store_of client.old)) (told_link (L.told outside.old.link) (L.setup outside.old.link) (L.answers outside.old.link) (L.frames outside.old.link) (L.asked outside.old.link) (L.faults outside.old.link))) (moment (S.told (store_of client.new)) (told_link (L.told outside.new.link) (L.setup outside.new.link) (L.answers outside.new.link) (L.frames outside.new.link) (L.asked outside.new.link) (L.faults outside.new.link))) write.now result }
     ensures caused { CausedSingle (grounds (insert_meaning write.now.written.namespace bytes) (own_of_insert (options_of client.old)) (L.setup outside.old.link) (S.told (store_of client.old))) (L.faults outside.old.link) (L.faults outside.new.link) (L.answers outside.old.link) (L.answers outside.new.link) result }
     ensures options { options_of client.new ≡ options_of client.old }
     ensures call { outside.new.call ≡ outside.old.call }
@@ -100,7 +100,7 @@ fn insert_counted<S: SessionStore, L: Link, K: Clock, R, Q: Ledger>(
     requires parts { blank.parts ≡ Q.parts }
     requires some { 0 < blank.parts }
     requires spelled { Spells write.now.written.document bytes }
-    ensures inserts { Inserts (options_of client.old) (moment (S.told (store_of client.old)) (told_link (L.told outside.old.link) (L.setup outside.old.link) (L.answers outside.old.link) (L.faults outside.old.link))) (moment (S.told (store_of client.new)) (told_link (L.told outside.new.link) (L.setup outside.new.link) (L.answers outside.new.link) (L.faults outside.new.link))) write.now result }
+    ensures inserts { Inserts (options_of client.old) (moment (S.told (store_of client.old)) (told_link (L.told outside.old.link) (L.setup outside.old.link) (L.answers outside.old.link) (L.frames outside.old.link) (L.asked outside.old.link) (L.faults outside.old.link))) (moment (S.told (store_of client.new)) (told_link (L.told outside.new.link) (L.setup outside.new.link) (L.answers outside.new.link) (L.frames outside.new.link) (L.asked outside.new.link) (L.faults outside.new.link))) write.now result }
     ensures caused { CausedSingle (grounds (insert_meaning write.now.written.namespace bytes) (own_of_insert (options_of client.old)) (L.setup outside.old.link) (S.told (store_of client.old))) (L.faults outside.old.link) (L.faults outside.new.link) (L.answers outside.old.link) (L.answers outside.new.link) result }
     ensures options { options_of client.new ≡ options_of client.old }
     ensures call { outside.new.call ≡ outside.old.call }

@@ -22,18 +22,18 @@ invariant-calls g l = record {
       → DrawnApart (g.S.SessionStore.told (store_of l.client))
       → HaveEnded (options_of l.fn.client) (take l.run.made l.calls) l.run.outcomes
       (moment (g.S.SessionStore.told (store_of l.fn.client))
-      (told_link (g.L.Link.told l.fn.outside.link) (g.L.Link.setup l.fn.outside.link) (g.L.Link.answers l.fn.outside.link) (g.L.Link.faults l.fn.outside.link)))
+      (told_link (g.L.Link.told l.fn.outside.link) (g.L.Link.setup l.fn.outside.link) (g.L.Link.answers l.fn.outside.link) (g.L.Link.frames l.fn.outside.link) (g.L.Link.asked l.fn.outside.link) (g.L.Link.faults l.fn.outside.link)))
       (moment (g.S.SessionStore.told (store_of l.client))
-      (told_link (g.L.Link.told l.outside.link) (g.L.Link.setup l.outside.link) (g.L.Link.answers l.outside.link) (g.L.Link.faults l.outside.link)));
+      (told_link (g.L.Link.told l.outside.link) (g.L.Link.setup l.outside.link) (g.L.Link.answers l.outside.link) (g.L.Link.frames l.outside.link) (g.L.Link.asked l.outside.link) (g.L.Link.faults l.outside.link)));
   replayed : IsFresh (g.L.Link.told l.fn.outside.link) → IsReplayed (g.L.Link.told l.outside.link);
   making : KeepsMaking (g.L.Link.told l.fn.outside.link) (g.L.Link.told l.outside.link);
   drawn : Draws (g.S.SessionStore.told (store_of l.fn.client)) (g.S.SessionStore.told (store_of l.client));
   lent : LendsAsBefore (g.S.SessionStore.told (store_of l.fn.client)) (g.S.SessionStore.told (store_of l.client));
   causes : HaveCauses (options_of l.fn.client) (take l.run.made l.calls) l.run.outcomes
       (moment (g.S.SessionStore.told (store_of l.fn.client))
-      (told_link (g.L.Link.told l.fn.outside.link) (g.L.Link.setup l.fn.outside.link) (g.L.Link.answers l.fn.outside.link) (g.L.Link.faults l.fn.outside.link)))
+      (told_link (g.L.Link.told l.fn.outside.link) (g.L.Link.setup l.fn.outside.link) (g.L.Link.answers l.fn.outside.link) (g.L.Link.frames l.fn.outside.link) (g.L.Link.asked l.fn.outside.link) (g.L.Link.faults l.fn.outside.link)))
       (moment (g.S.SessionStore.told (store_of l.client))
-      (told_link (g.L.Link.told l.outside.link) (g.L.Link.setup l.outside.link) (g.L.Link.answers l.outside.link) (g.L.Link.faults l.outside.link)));
+      (told_link (g.L.Link.told l.outside.link) (g.L.Link.setup l.outside.link) (g.L.Link.answers l.outside.link) (g.L.Link.frames l.outside.link) (g.L.Link.asked l.outside.link) (g.L.Link.faults l.outside.link)));
 }
 
 abbrev pub decreases-calls : goal.decreases-calls
