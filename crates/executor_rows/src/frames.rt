@@ -1,12 +1,9 @@
 //! One insert over a fake link: what it sends, and the replies that it does not take.
-use crate::inserting::{Ended, SERVER, insert};
-use bson_lite::{Bytes, List};
+use crate::faking::{ALIKE, DONE, Given, NO_REPEATS, NO_SESSIONS, Servers, ends_at_once, inserted};
+use crate::inserting::{Ended, SERVER};
 use driver_error::IoKind;
-use driver_link::{Description, FakeLink, FakeStep, Frame, LinkFault};
-use std::alloc::{AllocError, Global};
-
-/// `{ok: 1, n: 1}`
-const DONE: &[u8] = b"\x14\0\0\0\x10ok\0\x01\0\0\0\x10n\0\x01\0\0\0\0";
+use driver_link::{FakeLink, Frame};
+use std::alloc::Global;
 
 /// `{ok: 0, code: 20, errmsg: "Transaction numbers .."}`
 const NO_NUMBERS: &[u8] =
@@ -15,59 +12,8 @@ const NO_NUMBERS: &[u8] =
 /// A reply that is no document.
 const BROKEN: &[u8] = b"\x05\0\0\0";
 
-/// A connection's server that takes sessions, and no retryable writes.
-const NO_REPEATS: Description = Description {
-    max_wire_version: Some(25),
-    max_bson_object_size: 16_777_216,
-    max_message_size_bytes: 48_000_000,
-    max_write_batch_size: 100_000,
-    supports_sessions: true,
-    supports_retryable_writes: false,
-    sharded: false,
-};
-
-/// What an exchange answers.
-#[derive(Clone, Copy)]
-enum Given {
-    Reply(&'static [u8]),
-    Reset,
-}
-
-fn step(alloc: Global, given: Given) -> Result<FakeStep, AllocError> {
-    Ok(match given {
-        Given::Reply(bytes) => FakeStep::Reply(Bytes::from_slice(alloc, bytes)?),
-        Given::Reset => FakeStep::Fault(LinkFault::Io(IoKind::ConnectionReset)),
-    })
-}
-
-/// A link whose first connection is to `SERVER`, and each further one so.
-fn link(alloc: Global, further: Description, given: &[Given]) -> Result<FakeLink, AllocError> {
-    let mut descriptions = List::new(alloc);
-    descriptions.push(SERVER)?;
-    descriptions.push(further)?;
-    let mut steps = List::new(alloc);
-    for one in given {
-        steps.push(step(alloc, *one)?)?;
-    }
-    Ok(FakeLink::new(alloc, descriptions, steps))
-}
-
-/// How an insert ends whose exchanges answer so, and the link afterwards, or none where there is no memory.
-fn inserted(alloc: Global, further: Description, given: &[Given]) -> Option<(Ended, FakeLink)> {
-    let Ok(link) = link(alloc, further, given) else {
-        return None;
-    };
-    let (seen, link) = insert(alloc, link)?;
-    Some((seen.ended, link))
-}
-
-/// Whether an insert ends so after one send.
-fn ends_at_once(alloc: Global, further: Description, given: &[Given], ended: Ended) -> bool {
-    match inserted(alloc, further, given) {
-        Some((found, link)) => found == ended && link.frames().len() == 1,
-        None => false,
-    }
-}
+/// A lost exchange, and one that would be done.
+const LOST_ONCE: &[Given] = &[Given::Reset, Given::Reply(DONE)];
 
 /// Whether two frames have the same bytes.
 fn is_same(first: &Frame, second: &Frame) -> bool {
@@ -97,7 +43,7 @@ fn has_equal_frames(link: &FakeLink) -> bool {
 
 /// Whether a lost command goes out again in the same bytes, and is done.
 fn resend_is_the_same(alloc: Global) -> bool {
-    match inserted(alloc, SERVER, &[Given::Reset, Given::Reply(DONE)]) {
+    match inserted(alloc, ALIKE, LOST_ONCE) {
         Some((ended, link)) => ended == Ended::Done && has_equal_frames(&link),
         None => false,
     }
@@ -108,7 +54,7 @@ fn a_deployment_without_numbers_is_told_in_words(rt: HostRuntime) {
     assert!(rt;
         ends_at_once(
             rt.alloc(),
-            SERVER,
+            ALIKE,
             &[Given::Reply(NO_NUMBERS)],
             Ended::NoNumbers
         )
@@ -120,7 +66,7 @@ fn a_reply_that_is_no_document_is_not_sent_again(rt: HostRuntime) {
     assert!(rt;
         ends_at_once(
             rt.alloc(),
-            SERVER,
+            ALIKE,
             &[Given::Reply(BROKEN), Given::Reply(DONE)],
             Ended::InvalidResponse
         )
@@ -129,14 +75,59 @@ fn a_reply_that_is_no_document_is_not_sent_again(rt: HostRuntime) {
 
 #[test]
 fn nothing_is_sent_again_where_nothing_may_be_repeated(rt: HostRuntime) {
+    let servers = Servers {
+        first: SERVER,
+        further: NO_REPEATS,
+    };
     assert!(rt;
         ends_at_once(
             rt.alloc(),
-            NO_REPEATS,
-            &[Given::Reset, Given::Reply(DONE)],
+            servers,
+            LOST_ONCE,
             Ended::Io(IoKind::ConnectionReset)
         )
     );
+}
+
+#[test]
+fn nothing_is_sent_again_to_a_server_without_retryable_writes(rt: HostRuntime) {
+    let servers = Servers {
+        first: NO_REPEATS,
+        further: SERVER,
+    };
+    assert!(rt;
+        ends_at_once(
+            rt.alloc(),
+            servers,
+            LOST_ONCE,
+            Ended::Io(IoKind::ConnectionReset)
+        )
+    );
+}
+
+#[test]
+fn nothing_is_sent_again_to_a_server_without_sessions(rt: HostRuntime) {
+    let servers = Servers {
+        first: NO_SESSIONS,
+        further: SERVER,
+    };
+    assert!(rt;
+        ends_at_once(
+            rt.alloc(),
+            servers,
+            LOST_ONCE,
+            Ended::Io(IoKind::ConnectionReset)
+        )
+    );
+}
+
+#[test]
+fn a_session_is_not_sent_to_a_server_without(rt: HostRuntime) {
+    let servers = Servers {
+        first: SERVER,
+        further: NO_SESSIONS,
+    };
+    assert!(rt; ends_at_once(rt.alloc(), servers, LOST_ONCE, Ended::NoSessions));
 }
 
 #[test]

@@ -36,6 +36,8 @@ pub(crate) enum Ended {
     /// A command error in the words for a deployment that takes no transaction numbers.
     NoNumbers,
     Selection,
+    /// The connection takes no sessions.
+    NoSessions,
     InvalidResponse,
     Other,
 }
@@ -57,6 +59,7 @@ fn how_ended(error: &Error) -> Ended {
         ErrorKind::Command(found) => Ended::Command(found.code),
         ErrorKind::ServerSelection { message }
             if message.as_str() == "scheduled selection failure" => { Ended::Selection }
+        ErrorKind::SessionsNotSupported => Ended::NoSessions,
         ErrorKind::InvalidResponse { .. } => Ended::InvalidResponse,
         _ => Ended::Other,
     }

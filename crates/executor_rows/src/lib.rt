@@ -4,6 +4,8 @@
 #![tactic(auto)]
 
 #[cfg(test)]
+mod faking;
+#[cfg(test)]
 mod frames;
 #[cfg(test)]
 mod inserting;
@@ -13,5 +15,7 @@ mod replies;
 mod rows;
 #[cfg(test)]
 mod schedules;
+#[cfg(test)]
+mod selections;
 #[cfg(test)]
 mod sessions;

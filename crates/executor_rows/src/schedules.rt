@@ -10,6 +10,7 @@ use driver_error::{Error, ErrorKind, IoKind, RETRYABLE_WRITE_ERROR};
 use driver_exec::{Client, Outside, PlainStore};
 use driver_link::{
     ClientOptions, CountingIds, Entry, Item, MemClock, Schedule, Scheduled, Server, Setup,
+    WriteKind, Written,
 };
 use model_server::ModelServer;
 use rand_core::SeedableRng;
@@ -140,18 +141,36 @@ fn times(log: &[Entry], entry: &Entry) -> u64 {
     count
 }
 
+/// The number in the caller's document with one id of an object put first, if it is such.
+fn number_in(document: &Document) -> Option<i32> {
+    match document.pairs() {
+        [id, own] if id.key.as_str() == "_id" && own.key.as_str() == "x" => {
+            match (&id.value, &own.value) {
+                (Bson::ObjectId(_), Bson::Int32(number)) => Some(*number),
+                _ => None,
+            }
+        }
+        _ => None,
+    }
+}
+
+/// Whether a write is an insert into the caller's collection.
+fn is_insert(written: &Written) -> bool {
+    matches!(written.kind, WriteKind::Insert)
+        && written.namespace.db.as_str() == "shop"
+        && written.namespace.coll.as_str() == "items"
+}
+
 /// Whether an entry is the insert that the caller gave as the call of its place.
 fn is_own(entry: &Entry, count: i32) -> bool {
-    let number = match entry.written.document.get("x") {
-        Some(Bson::Int32(number)) => *number,
-        _ => return false,
+    let Some(number) = number_in(&entry.written.document) else {
+        return false;
     };
     number >= 0
         && number < count
         && entry.place.call == number as u64
         && entry.place.index == 0
-        && entry.written.namespace.db.as_str() == "shop"
-        && entry.written.namespace.coll.as_str() == "items"
+        && is_insert(&entry.written)
 }
 
 /// Whether each entry is the caller's own, and stands at its place alone.

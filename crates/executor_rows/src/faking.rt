@@ -1,0 +1,101 @@
+//! One insert over a fake link, whose servers and answers a row names.
+use crate::inserting::{Ended, SERVER, insert};
+use bson_lite::{Bytes, List};
+use driver_error::IoKind;
+use driver_link::{Description, FakeLink, FakeStep, LinkFault};
+use std::alloc::{AllocError, Global};
+
+/// `{ok: 1, n: 1}`
+pub(crate) const DONE: &[u8] = b"\x14\0\0\0\x10ok\0\x01\0\0\0\x10n\0\x01\0\0\0\0";
+
+/// A connection's server that takes sessions, and no retryable writes.
+pub(crate) const NO_REPEATS: Description = Description {
+    max_wire_version: Some(25),
+    max_bson_object_size: 16_777_216,
+    max_message_size_bytes: 48_000_000,
+    max_write_batch_size: 100_000,
+    supports_sessions: true,
+    supports_retryable_writes: false,
+    sharded: false,
+};
+
+/// One that takes retryable writes, and no sessions.
+pub(crate) const NO_SESSIONS: Description = Description {
+    max_wire_version: Some(25),
+    max_bson_object_size: 16_777_216,
+    max_message_size_bytes: 48_000_000,
+    max_write_batch_size: 100_000,
+    supports_sessions: false,
+    supports_retryable_writes: true,
+    sharded: false,
+};
+
+/// A router of shards that takes both.
+pub(crate) const ROUTER: Description = Description {
+    max_wire_version: Some(25),
+    max_bson_object_size: 16_777_216,
+    max_message_size_bytes: 48_000_000,
+    max_write_batch_size: 100_000,
+    supports_sessions: true,
+    supports_retryable_writes: true,
+    sharded: true,
+};
+
+/// What an exchange answers.
+#[derive(Clone, Copy)]
+pub(crate) enum Given {
+    Reply(&'static [u8]),
+    Reset,
+}
+
+/// The servers behind the first connection and behind each further one.
+#[derive(Clone, Copy)]
+pub(crate) struct Servers {
+    pub(crate) first: Description,
+    pub(crate) further: Description,
+}
+
+/// The same server behind each connection.
+pub(crate) const ALIKE: Servers = Servers {
+    first: SERVER,
+    further: SERVER,
+};
+
+fn step(alloc: Global, given: Given) -> Result<FakeStep, AllocError> {
+    Ok(match given {
+        Given::Reply(bytes) => FakeStep::Reply(Bytes::from_slice(alloc, bytes)?),
+        Given::Reset => FakeStep::Fault(LinkFault::Io(IoKind::ConnectionReset)),
+    })
+}
+
+fn link(alloc: Global, servers: Servers, given: &[Given]) -> Result<FakeLink, AllocError> {
+    let mut descriptions = List::new(alloc);
+    descriptions.push(servers.first)?;
+    descriptions.push(servers.further)?;
+    let mut steps = List::new(alloc);
+    for one in given {
+        steps.push(step(alloc, *one)?)?;
+    }
+    Ok(FakeLink::new(alloc, descriptions, steps))
+}
+
+/// How an insert ends whose exchanges answer so, and the link afterwards, or none where there is no memory.
+pub(crate) fn inserted(
+    alloc: Global,
+    servers: Servers,
+    given: &[Given],
+) -> Option<(Ended, FakeLink)> {
+    let Ok(link) = link(alloc, servers, given) else {
+        return None;
+    };
+    let (seen, link) = insert(alloc, link)?;
+    Some((seen.ended, link))
+}
+
+/// Whether an insert ends so after one send.
+pub(crate) fn ends_at_once(alloc: Global, servers: Servers, given: &[Given], ended: Ended) -> bool {
+    match inserted(alloc, servers, given) {
+        Some((found, link)) => found == ended && link.frames().len() == 1,
+        None => false,
+    }
+}
