@@ -26,7 +26,7 @@ pub caused_input : {A : Type 0} (options : ClientOptions) (store store_now : Opt
     → WriteCaused {A = A} options (moment store link) (moment store_now link) (InsertOne namespace document) (Err error)
 caused_input options store store_now link namespace document error tells = record {
   caused = inl (record { unasked = refl; error = error; is = refl; why = tells });
-  refused = input_first namespace document (failure_of error) tells;
+  refused = input_first store store_now link namespace document (failure_of error) tells;
 }
 
 -- an operation's end in the form of its call's
@@ -61,7 +61,7 @@ module _ (options given : ClientOptions) (store mid : Option ToldStore) (link : 
       caused = rebased single.executed single.caused;
       becomes = becomes_ok A single.executed done answer single.becomes;
     });
-    refused = refuses_nothing namespace document None accepted;
+    refused = refuses_nothing (moment store link) now namespace document None accepted;
   }
 
   pub caused_err : (A : Type 0) (error : Error)
@@ -74,7 +74,7 @@ module _ (options given : ClientOptions) (store mid : Option ToldStore) (link : 
       caused = rebased single.executed single.caused;
       becomes = becomes_err A single.executed error single.becomes;
     });
-    refused = refuses_nothing namespace document (Some (failure_of error)) accepted;
+    refused = refuses_nothing (moment store link) now namespace document (Some (failure_of error)) accepted;
   }
 
 -- the answer of a write as that of its call

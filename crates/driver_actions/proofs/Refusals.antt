@@ -18,7 +18,9 @@ use Rattle.driver_error.specs.Conversions.{IsMade}
 use Rattle.driver_error.specs.Error.{ErrorKind, IsAlone, kind_of}
 use Rattle.driver_error.specs.LabelTexts.{no_labels}
 use Rattle.driver_exec.specs.Causes.{Failure}
-use Rattle.driver_actions.specs.Causes.{RefusesFirst, TellsOwnRefusal}
+use Rattle.driver_exec.specs.Links.{ToldLink}
+use Rattle.driver_exec.specs.Pool.{ToldStore}
+use Rattle.driver_actions.specs.Causes.{Moment, RefusesFirst, TellsOwnRefusal, moment}
 use Rattle.driver_actions.specs.Inputs.{has_dot, dotted_text, RefusesInsert, InputRefused, IsAccepted, TellsInput}
 
 -- the pair of an id
@@ -201,9 +203,12 @@ one_input namespace document (kind.BsonSerialization fault) _ one two = absurd t
 one_input namespace document _ second one two = absurd one
 
 -- the error that was answered is the input's
-pub input_first : (namespace : Namespace) (document : List (Pair Bson)) (why : Failure) → TellsInput namespace document why.kind
-    → RefusesFirst namespace document (Some why)
-input_first namespace document why tells = record { tells = λ other refused. first why.kind other tells refused }
+pub input_first : (store store_now : Option ToldStore) (link : ToldLink) (namespace : Namespace) (document : List (Pair Bson)) (why : Failure)
+    → TellsInput namespace document why.kind → RefusesFirst (moment store link) (moment store_now link) namespace document (Some why)
+input_first store store_now link namespace document why tells = record {
+  tells = λ other refused. first why.kind other tells refused;
+  unasked = λ other refused. refl;
+}
   where
     first : (found other : ErrorKind) → TellsInput namespace document found → InputRefused namespace document other → (found ≡ other) ⊎ (found ≡ kind.Memory)
     first (kind.InvalidArgument message) other tells refused = inl (one_input namespace document (kind.InvalidArgument message) other tells refused)
@@ -220,8 +225,9 @@ accepted_not_refused namespace document (kind.BsonSerialization fault) accepted 
 accepted_not_refused namespace document _ accepted refused = refused
 
 -- no input that is refused comes here
-pub refuses_nothing : (namespace : Namespace) (document : List (Pair Bson)) (ended : Option Failure) → IsAccepted namespace document
-    → RefusesFirst namespace document ended
-refuses_nothing namespace document ended accepted = record {
+pub refuses_nothing : (before now : Moment) (namespace : Namespace) (document : List (Pair Bson)) (ended : Option Failure) → IsAccepted namespace document
+    → RefusesFirst before now namespace document ended
+refuses_nothing before now namespace document ended accepted = record {
   tells = λ why refused. absurd (accepted_not_refused namespace document why accepted refused);
+  unasked = λ why refused. absurd (accepted_not_refused namespace document why accepted refused);
 }

@@ -27,14 +27,6 @@ abbrev pub TellsKind : ErrorKind → Option Failure → Type 0
 TellsKind why None = ⊥
 TellsKind why (Some found) = (found.kind ≡ why) ⊎ (found.kind ≡ kind.Memory)
 
--- an insert whose input is refused is answered so
-pub record RefusesFirst (namespace : Namespace) (document : List (Pair Bson)) (ended : Option Failure) : Type 0 where
-  pub tells : (why : ErrorKind) → InputRefused namespace document why → TellsKind why ended
-
--- so is a write of such input
-abbrev pub RefusesInput : SingleWrite → Option Failure → Type 0
-RefusesInput (InsertOne namespace document) ended = RefusesFirst namespace document ended
-
 -- what store and link tell at one moment
 pub record Moment : Type 0 where
   pub store : Option ToldStore
@@ -43,6 +35,15 @@ pub record Moment : Type 0 where
 -- the same from its parts
 abbrev pub moment : Option ToldStore → ToldLink → Moment
 moment store link = record { store = store; link = link }
+
+-- an insert whose input is refused is answered so, and nothing was asked of the link
+pub record RefusesFirst (before now : Moment) (namespace : Namespace) (document : List (Pair Bson)) (ended : Option Failure) : Type 0 where
+  pub tells : (why : ErrorKind) → InputRefused namespace document why → TellsKind why ended
+  pub unasked : (why : ErrorKind) → InputRefused namespace document why → now.link ≡ before.link
+
+-- so is a write of such input
+abbrev pub RefusesInput : Moment → Moment → SingleWrite → Option Failure → Type 0
+RefusesInput before now (InsertOne namespace document) ended = RefusesFirst before now namespace document ended
 
 -- an error that tells why a document with one of these ids has no spelling, or want of memory
 abbrev pub TellsOwnRefusal : List (Pair Bson) → ErrorKind → Type 0
@@ -79,10 +80,10 @@ pub record InsertCaused {A : Type 0} (options : ClientOptions) (before now : Mom
 abbrev pub OperationCaused : {A : Type 0} → ClientOptions → Moment → Moment → SingleWrite → Result A Error → Type 0
 OperationCaused options before now (InsertOne namespace document) result = InsertCaused options before now namespace result
 
--- a single write ended with its cause, and input that is refused was refused
+-- a single write ended with its cause, and input that is refused was refused before the link was asked
 pub record WriteCaused {A : Type 0} (options : ClientOptions) (before now : Moment) (write : SingleWrite) (result : Result A Error) : Type 0 where
   pub caused : EndsEarly before now write result ⊎ OperationCaused options before now write result
-  pub refused : RefusesInput write (end_of result)
+  pub refused : RefusesInput before now write (end_of result)
 
 -- so does a call
 abbrev pub HasCause : {A : Type 0} → ClientOptions → Moment → Moment → Call → Result A Error → Type 0

@@ -1,5 +1,5 @@
 //! One insert over a fake link, whose servers and answers a row names.
-use crate::inserting::{Ended, SERVER, insert};
+use crate::inserting::{Ended, SERVER, Seen, insert};
 use bson_lite::{Bytes, List};
 use driver_error::IoKind;
 use driver_link::{Description, FakeLink, FakeStep, LinkFault};
@@ -41,6 +41,17 @@ pub(crate) const ROUTER: Description = Description {
     sharded: true,
 };
 
+/// A server like [`SERVER`] of a later version.
+pub(crate) const LATER: Description = Description {
+    max_wire_version: Some(26),
+    max_bson_object_size: 16_777_216,
+    max_message_size_bytes: 48_000_000,
+    max_write_batch_size: 100_000,
+    supports_sessions: true,
+    supports_retryable_writes: true,
+    sharded: false,
+};
+
 /// What an exchange answers.
 #[derive(Clone, Copy)]
 pub(crate) enum Given {
@@ -68,7 +79,12 @@ fn step(alloc: Global, given: Given) -> Result<FakeStep, AllocError> {
     })
 }
 
-fn link(alloc: Global, servers: Servers, given: &[Given]) -> Result<FakeLink, AllocError> {
+/// A fake link with these servers, whose exchanges answer so.
+pub(crate) fn fake_link(
+    alloc: Global,
+    servers: Servers,
+    given: &[Given],
+) -> Result<FakeLink, AllocError> {
     let mut descriptions = List::new(alloc);
     descriptions.push(servers.first)?;
     descriptions.push(servers.further)?;
@@ -79,16 +95,21 @@ fn link(alloc: Global, servers: Servers, given: &[Given]) -> Result<FakeLink, Al
     Ok(FakeLink::new(alloc, descriptions, steps))
 }
 
-/// How an insert ends whose exchanges answer so, and the link afterwards, or none where there is no memory.
+/// The end of an insert whose exchanges answer so, and the link afterwards, or none where there is no memory.
+pub(crate) fn seen(alloc: Global, servers: Servers, given: &[Given]) -> Option<(Seen, FakeLink)> {
+    let Ok(link) = fake_link(alloc, servers, given) else {
+        return None;
+    };
+    insert(alloc, link)
+}
+
+/// How it ends, and the link.
 pub(crate) fn inserted(
     alloc: Global,
     servers: Servers,
     given: &[Given],
 ) -> Option<(Ended, FakeLink)> {
-    let Ok(link) = link(alloc, servers, given) else {
-        return None;
-    };
-    let (seen, link) = insert(alloc, link)?;
+    let (seen, link) = seen(alloc, servers, given)?;
     Some((seen.ended, link))
 }
 

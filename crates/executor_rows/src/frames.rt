@@ -1,5 +1,7 @@
 //! One insert over a fake link: what it sends, and the replies that it does not take.
-use crate::faking::{ALIKE, DONE, Given, NO_REPEATS, NO_SESSIONS, Servers, ends_at_once, inserted};
+use crate::faking::{
+    ALIKE, DONE, Given, LATER, NO_REPEATS, NO_SESSIONS, Servers, ends_at_once, inserted, seen,
+};
 use crate::inserting::{Ended, SERVER};
 use driver_error::IoKind;
 use driver_link::{FakeLink, Frame};
@@ -8,6 +10,10 @@ use std::alloc::Global;
 /// `{ok: 0, code: 20, errmsg: "Transaction numbers .."}`
 const NO_NUMBERS: &[u8] =
     b"j\0\0\0\x10ok\0\0\0\0\0\x10code\0\x14\0\0\0\x02errmsg\0G\0\0\0Transaction numbers are only allowed on a replica set member or mongos\0\0";
+
+/// `{ok: 0, code: 20, errmsg: "Transaction number 7 is too old"}`
+const OLD_NUMBER: &[u8] =
+    b"C\0\0\0\x10ok\0\0\0\0\0\x10code\0\x14\0\0\0\x02errmsg\0 \0\0\0Transaction number 7 is too old\0\0";
 
 /// A reply that is no document.
 const BROKEN: &[u8] = b"\x05\0\0\0";
@@ -47,6 +53,41 @@ fn resend_is_the_same(alloc: Global) -> bool {
         Some((ended, link)) => ended == Ended::Done && has_equal_frames(&link),
         None => false,
     }
+}
+
+/// Whether an insert that is lost twice ends with an error of this wire version.
+fn has_version(alloc: Global, servers: Servers, version: i32) -> bool {
+    match seen(alloc, servers, &[Given::Reset, Given::Reset]) {
+        Some((seen, _link)) => seen.ended == Ended::Io(IoKind::ConnectionReset)
+            && seen.version == Some(version),
+        None => false,
+    }
+}
+
+#[test]
+fn an_error_has_the_wire_version_of_its_own_connection(rt: HostRuntime) {
+    let rising = Servers {
+        first: SERVER,
+        further: LATER,
+    };
+    let falling = Servers {
+        first: LATER,
+        further: SERVER,
+    };
+    assert!(rt; has_version(rt.alloc(), rising, 26));
+    assert!(rt; has_version(rt.alloc(), falling, 25));
+}
+
+#[test]
+fn another_message_of_that_code_is_left_as_it_is(rt: HostRuntime) {
+    assert!(rt;
+        ends_at_once(
+            rt.alloc(),
+            ALIKE,
+            &[Given::Reply(OLD_NUMBER)],
+            Ended::Command(20)
+        )
+    );
 }
 
 #[test]

@@ -42,13 +42,14 @@ pub(crate) enum Ended {
     Other,
 }
 
-/// An insert's end: how it ended, how many labels its error has, and whether that of a retryable write is
-/// among them.
+/// An insert's end: how it ended, how many labels its error has, whether that of a retryable write is among
+/// them, and the wire version of its connection, where it has one.
 #[derive(Clone, Copy)]
 pub(crate) struct Seen {
     pub(crate) ended: Ended,
     pub(crate) labels: usize,
     pub(crate) retryable: bool,
+    pub(crate) version: Option<i32>,
 }
 
 /// What the kind of an error tells.
@@ -77,12 +78,14 @@ fn label_count(alloc: Global, error: &Error) -> Option<usize> {
 fn seen_error(alloc: Global, error: Error) -> Option<Seen> {
     let ended = how_ended(&error);
     let retryable = error.has_own_label(RETRYABLE_WRITE_ERROR);
+    let version = error.wire_version();
     let labels = label_count(alloc, &error);
     drop(error);
     Some(Seen {
         ended,
         labels: labels?,
         retryable,
+        version,
     })
 }
 
@@ -93,6 +96,7 @@ fn seen_end(alloc: Global, end: Result<()>) -> Option<Seen> {
             ended: Ended::Done,
             labels: 0,
             retryable: false,
+            version: None,
         }),
         Err(error) => seen_error(alloc, error),
     }

@@ -10,6 +10,8 @@ mod frames;
 #[cfg(test)]
 mod inserting;
 #[cfg(test)]
+mod ports;
+#[cfg(test)]
 mod replies;
 #[cfg(test)]
 mod rows;

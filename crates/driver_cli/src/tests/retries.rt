@@ -26,7 +26,7 @@ waiting: 0
 totals: calls=1 ok=1 sends=1 entries=1
 ";
 
-const ROWS: [Row; 12] = [
+const ROWS: [Row; 14] = [
     Row {
         script: "\"schedule\":[\"replyLost\"]",
         report: DONE_TWICE_SENT,
@@ -38,6 +38,21 @@ const ROWS: [Row; 12] = [
     Row {
         script: "\"schedule\":[\"late\"],\"late\":[7,0,0]",
         report: DONE_TWICE_SENT,
+    },
+    Row {
+        script: "\"schedule\":[\"late\",{\"deliver\":[0],\"item\":\"serve\"}]",
+        report: DONE_TWICE_SENT,
+    },
+    Row {
+        script: "\"schedule\":[\"late\",{\"deliver\":[0],\"item\":\"lost\"}]",
+        report: "call 0 insertOne: err Io ConnectionReset labels=RetryableWriteError source=-
+send 0: insert session=1 number=1 places=0.0
+send 1: insert session=1 number=1 places=0.0
+entry 0: 0.0 session=1 number=1 n=1
+ids: distinct
+waiting: 0
+totals: calls=1 ok=0 sends=2 entries=1
+",
     },
     Row {
         script: "\"schedule\":[{\"interrupted\":{\"after\":1,\"code\":11600,\"labels\":[\"RetryableWriteError\"]}}]",
