@@ -25,7 +25,7 @@ LOST_EVERY = 5
 
 
 def script(calls, lost_every):
-    """A script of so many inserts, which loses every exchange of that number, or none where it is None."""
+    """A script of so many inserts, which loses each exchange of that place, or none where it is None."""
     asked = {
         "calls": [
             {"insertOne": {"ns": "shop.items", "doc": [["x", at], ["name", f"item {at}"]]}}
@@ -33,8 +33,9 @@ def script(calls, lost_every):
         ]
     }
     if lost_every is not None:
+        sends = calls + calls // (lost_every - 1)
         asked["schedule"] = [
-            "lost" if at % lost_every == lost_every - 1 else "serve" for at in range(calls)
+            "lost" if at % lost_every == lost_every - 1 else "serve" for at in range(sends)
         ]
     return json.dumps(asked)
 
