@@ -3,14 +3,16 @@
 
 Builds `driver_cli` as the merge gate does, by `rt run` (LLVM, the default level of optimization), runs it
 several times on each script, and prints the median of the wall times and of the processor times, the latter
-over that of the smallest script, and the peak memory. A second table is of schedules that lose every fifth
-exchange.
+over that of the smallest script, the peak memory, and, where valgrind is installed, the instructions of one run,
+in millions and over those of the smallest script. A second table is of schedules that lose every fifth exchange.
 
 Usage: python3 bench/program.py [RUNS]      (Linux: it reads /proc)
 """
 
 import json
 import os
+import re
+import shutil
 import statistics
 import subprocess
 import sys
@@ -80,10 +82,30 @@ def peak_memory(path):
     return peak
 
 
+def instructions(path):
+    """How many instructions one run takes, as callgrind counts them, or none where valgrind is not installed."""
+    if shutil.which("valgrind") is None:
+        return None
+    counter = ["valgrind", "--tool=callgrind", "--callgrind-out-file=/dev/null", PROGRAM, "run"]
+    with open(path, "rb") as source:
+        told = subprocess.run(counter, stdin=source, stdout=subprocess.DEVNULL, stderr=subprocess.PIPE)
+    return int(re.search(rb"Collected : (\d+)", told.stderr)[1])
+
+
+def counted(count, smallest):
+    """The columns of a count of instructions."""
+    if count is None:
+        return f"{'-':>8} {'-':>6}"
+    return f"{count / 1e6:>8.1f} {count / smallest:>6.2f}"
+
+
 def table(title, folder, runs, lost_every=None):
     print(f"{title}: median of {runs} runs")
-    print(f"{'calls':>7} {'bytes':>8} {'wall ms':>8} {'cpu ms':>8} {'ratio':>6} {'MiB':>6}  last line")
-    smallest = None
+    print(
+        f"{'calls':>7} {'bytes':>8} {'wall ms':>8} {'cpu ms':>8} {'ratio':>6} {'MiB':>6} {'M instr':>8} {'ratio':>6}"
+        "  last line"
+    )
+    smallest = fewest = None
     for calls in COUNTS:
         path = os.path.join(folder, f"{calls}.json")
         with open(path, "w", encoding="utf-8") as out:
@@ -94,9 +116,11 @@ def table(title, folder, runs, lost_every=None):
         spent = statistics.median(spent for _, spent, _ in measured)
         smallest = smallest or spent
         peak = max(peak_memory(path) for _ in range(3))
+        count = instructions(path)
+        fewest = fewest or count
         print(
             f"{calls:>7} {os.path.getsize(path):>8} {wall * 1000:>8.1f} {spent * 1000:>8.1f}"
-            f" {spent / smallest:>6.1f} {peak / 1024:>6.1f}  {measured[0][2]}"
+            f" {spent / smallest:>6.1f} {peak / 1024:>6.1f} {counted(count, fewest)}  {measured[0][2]}"
         )
     print()
 
