@@ -15,6 +15,10 @@ pub mod Trying
 pub mod Sameness
 pub mod Executing
 pub mod Retelling
+pub mod Resends
+pub mod Borrowing
+pub mod Courses
+pub mod Attempted
 pub mod Resending
 pub mod InsertReading
 pub mod Singling

@@ -1,9 +1,8 @@
 -- What a lent session holds, and its next number.
-use Rattle.std.specs.Prelude.{◌≡◌, ◌≢◌, ℕ, ℤ, pos, ◌+ℤ◌, ◌≤ℤ◌, Bool, List, Result, Ok, Err}
+use Rattle.std.specs.Prelude.{◌≡◌, ◌≢◌, ℕ, ℤ, pos, ◌+ℤ◌, ◌≤ℤ◌, Bool, List, codes, Result, Ok, Err}
 use Rattle.driver_error.specs.declared.error.Error.{Error}
 use Rattle.driver_error.specs.declared.kind.ErrorKind.TheVariants.{Internal, Memory}
 use Rattle.driver_error.specs.Error.{ErrorKind, kind_of}
-use Rattle.driver_exec.specs.declared.session.TheConstants.{NUMBER_AT_ITS_END}
 
 -- an id, the last transaction number that was used, the moment of the last use in milliseconds, and
 -- whether the network failed under it
@@ -17,9 +16,13 @@ pub record Session : Type 0 where
 abbrev pub last_number : ℤ
 last_number = pos 9223372036854775807
 
+-- what the error of such a session says
+unfoldable pub number_at_its_end : List ℕ
+number_at_its_end = codes "transaction number is at its end"
+
 -- an error that tells that this session's numbers are at their end, or want of memory
 abbrev pub TellsEnd : Session → ErrorKind → Type 0
-TellsEnd session (Internal message) = (session.number ≡ last_number) × (message ≡ NUMBER_AT_ITS_END.now)
+TellsEnd session (Internal message) = (session.number ≡ last_number) × (message ≡ number_at_its_end)
 TellsEnd session Memory = Unit {0}
 TellsEnd session _ = ⊥
 

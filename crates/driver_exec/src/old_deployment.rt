@@ -1,6 +1,6 @@
 //! The failure of a numbered write at a deployment that takes no transaction numbers, in words for the caller.
 ghost use Rattle.std.specs.Prelude.{◌≡◌, IfOk};
-ghost use Rattle.driver_exec.specs.OldDeployment.{refuses_numbers, reworded, MayReword};
+ghost use Rattle.driver_exec.specs.OldDeployment.{no_retryable_writes, refuses_numbers, reworded, MayReword};
 
 use bson_lite::{Text, TryClone};
 use driver_error::{CommandError, Error, ErrorKind};
@@ -45,6 +45,7 @@ fn reworded_kind(alloc: Global, kind: &ErrorKind) -> Result<Option<ErrorKind>, A
 }
 
 /// Whether a command was refused since its deployment takes no transaction numbers.
+#[tactic(auto, unfolding(crate::specs::OldDeployment::numbers_refused))]
 fn refuses_numbers(error: &CommandError) -> bool
     ensures { result ≡ refuses_numbers error.now }
 {
@@ -57,8 +58,9 @@ fn refuses_numbers(error: &CommandError) -> bool
 }
 
 /// The same error of a command with the message for the caller.
+#[tactic(auto, unfolding(crate::specs::OldDeployment::no_retryable_writes))]
 fn told(alloc: Global, error: &CommandError) -> Result<CommandError, AllocError>
-    ensures { IfOk result (λ now. now ≡ record error.now { message = NO_RETRYABLE_WRITES.now }) }
+    ensures { IfOk result (λ now. now ≡ record error.now { message = no_retryable_writes }) }
 {
     Ok(CommandError {
         code: error.code,

@@ -77,6 +77,7 @@ impl ServerSession {
     }
 
     /// The next transaction number, which is the session's from then on.
+    #[tactic(auto, unfolding(crate::specs::Session::number_at_its_end))]
     pub fn next_number(&mut self, alloc: Global) -> Result<i64>
         ensures { Numbers self.old self.new result }
     {

@@ -1,0 +1,394 @@
+-- What an operation has done so far, attempt by attempt: its sends and its session.
+use Rattle.std.proofs.Common.{◌≡◌, ℕ, suc, ◌+◌, ◌≤◌, List, refl, sym, ap, subst, ◌∙◌, inl, inr, arith}
+use Rattle.std.specs.Prelude.{ℤ, pos, ◌+ℤ◌, Bool, true, false, ◌&&◌, Option, None, Some, is_none, Result, Ok, Err, if◌then◌else◌}
+use Rattle.std.specs.Option.{option_map}
+use Rattle.driver_error.specs.declared.error.Error.{Error}
+use Rattle.driver_link.specs.declared.fault.LinkError.{LinkError}
+use Rattle.driver_link.specs.declared.fault.LinkError.TheVariants.{Fault, Memory}
+use Rattle.driver_link.specs.declared.fault.LinkFault.{LinkFault}
+use Rattle.driver_link.specs.declared.machine.Place.{Place}
+use Rattle.driver_link.specs.declared.machine.Send.{Send}
+use Rattle.driver_link.specs.declared.machine.SendBody.{SendBody}
+use Rattle.driver_link.specs.Counting.{OnlyCounts}
+use Rattle.driver_link.specs.Told.{Steps, Told}
+use Rattle.driver_exec.specs.declared.retryability.Retryability.{Retryability}
+use Rattle.driver_exec.specs.declared.retryability.Retryability.TheVariants as may
+use Rattle.driver_exec.specs.Attempting.{Exchanges, held_after}
+use Rattle.driver_exec.specs.Causes.{is_network}
+use Rattle.driver_exec.specs.Holding.{DrawsNumber, DrawsSession, GivesNumber, Held, HoldsSession, dirty_session, held_id, needs_session}
+use Rattle.driver_exec.specs.Operations.{Meaning, plain_send}
+use Rattle.driver_exec.specs.Pool.{Lends, StaysTold, ToldStore}
+use Rattle.driver_exec.specs.Resending.{AnsweredLast, IsNumbered, SentTimes, SentWithin}
+use Rattle.driver_exec.specs.Session.{Numbers, Raises, Session}
+use Rattle.driver_exec.specs.Links.{ToldLink}
+use Rattle.driver_exec.proofs.Attempts.{raises, stays}
+use Rattle.driver_exec.proofs.Staying.{stays_then_lends, stays_twice}
+use Rattle.driver_exec.proofs.Trying.{both_true, stays_same}
+use Rattle.driver_exec.proofs.Resends.{answered_last, begins_unsent, none_sent, sent_answered, sent_counted, sent_lost, sent_maybe}
+use Rattle.driver_exec.proofs.Borrowing.{CountFits, HeldFrom, HoldsFrom, HoldsLast, MayGoOn, NumberFits, Unnumbered, id_of, lends_then_stays, number_of}
+
+module _ {A : Type 0} (meaning : Meaning A) (places : List Place) (store : Option ToldStore) (link : Option Told) where
+  -- what was done so far, in at most so many attempts
+  pub record Course (most : ℕ) (store_now : Option ToldStore) (link_now : Option Told) (session : Option Session) (sent : Option (Option ℤ)) : Type 0 where
+    pub count : ℕ
+    pub within : count ≤ most
+    pub sends : (body : SendBody) → meaning.asked places body → SentTimes link link_now (plain_send (id_of session) (number_of sent) body) count
+    pub holds : HoldsFrom store store_now sent session
+    pub fits : CountFits sent count
+
+  -- what was done once the operation is over
+  pub record Over (most : ℕ) (store_now : Option ToldStore) (link_now : Option Told) (session : Option Session) (sent : Option (Option ℤ)) : Type 0 where
+    pub sends : (body : SendBody) → meaning.asked places body → SentWithin most link link_now (plain_send (id_of session) (number_of sent) body)
+    pub holds : HoldsLast store store_now (number_of sent) session
+
+  pub starts : Course 0 store link None None
+  starts = record { count = 0; within = omega arith; sends = λ body asked. begins_unsent link (plain_send None None body); holds = (stays_same store, tt); fits = refl }
+
+  -- calls that were only counted, and one attempt more
+  pub counted : (most : ℕ) (store_now : Option ToldStore) (mid now : Option Told) (session : Option Session) (sent : Option (Option ℤ)) → OnlyCounts mid now
+      → Course most store_now mid session sent → Course most store_now now session sent
+  counted most store_now mid now session sent counts course = record {
+    count = course.count;
+    within = course.within;
+    sends = λ body asked. sent_counted link mid now (plain_send (id_of session) (number_of sent) body) course.count (course.sends body asked) counts;
+    holds = course.holds;
+    fits = course.fits;
+  }
+
+  pub one_more : (most : ℕ) (store_now : Option ToldStore) (link_now : Option Told) (session : Option Session) (sent : Option (Option ℤ))
+      → Course most store_now link_now session sent → Course (suc most) store_now link_now session sent
+  one_more most store_now link_now session sent course =
+      record { count = course.count; within = omega (arith, course.within); sends = course.sends; holds = course.holds; fits = course.fits }
+
+  -- a session was lent, before anything was sent
+  lent_now : (most : ℕ) (store_mid store_now : Option ToldStore) (link_now : Option Told) (caller moment : ℕ) (session : Session)
+      → Lends store_mid store_now caller moment session → Course most store_mid link_now None None → Course most store_now link_now (Some session) None
+  lent_now most store_mid store_now link_now caller moment session lends course = record {
+    count = 0;
+    within = omega arith;
+    sends = λ body asked. none_sent link link_now (plain_send None None body) (plain_send (Some session.id) None body) course.count course.fits (course.sends body asked);
+    holds = record {
+      caller = caller;
+      moment = moment;
+      lent = session;
+      lends = stays_then_lends store store_mid store_now caller moment session course.holds.0 lends;
+      id = refl;
+      number = refl;
+    };
+    fits = refl;
+  }
+
+  -- the store stays
+  pub store_stays : (most : ℕ) (store_mid store_now : Option ToldStore) (link_now : Option Told) (session : Option Session) (sent : Option (Option ℤ))
+      → StaysTold store_mid store_now → Course most store_mid link_now session sent → Course most store_now link_now session sent
+  store_stays most store_mid store_now link_now session sent stays course =
+      record { count = course.count; within = course.within; sends = course.sends; holds = by_session session course.holds; fits = course.fits }
+    where
+      by_session : (session : Option Session) → HoldsFrom store store_mid sent session → HoldsFrom store store_now sent session
+      by_session None holds = (stays_twice store store_mid store_now holds.0 stays, holds.1)
+      by_session (Some held) holds = record {
+        caller = holds.caller;
+        moment = holds.moment;
+        lent = holds.lent;
+        lends = lends_then_stays store store_mid store_now holds.caller holds.moment holds.lent holds.lends stays;
+        id = holds.id;
+        number = holds.number;
+      }
+
+  -- where a session is needed one was lent, and nothing had been sent
+  pub readied : (most : ℕ) (store_mid store_now : Option ToldStore) (link_now : Option Told) (asked : Bool) (held ready : Held)
+      → HoldsSession (needs_session asked held) store_mid store_now held ready (Ok tt)
+      → Course most store_mid link_now held.session held.sent → Course most store_now link_now ready.session ready.sent
+  readied most store_mid store_now link_now asked held ready holds course = by_need (needs_session asked held) refl holds
+    where
+      kept : (now : Held) → now ≡ held → Course most store_mid link_now held.session held.sent → Course most store_mid link_now now.session now.sent
+      kept now is course = subst (λ h. Course most store_mid link_now h.session h.sent) (sym is) course
+
+      none_of : {B : Type 0} (o : Option B) → is_none o ≡ true → o ≡ None
+      none_of None is = refl
+      none_of (Some b) is = absurd (let e : false ≡ true = is in cc)
+
+      by_need : (needed : Bool) → needs_session asked held ≡ needed → HoldsSession needed store_mid store_now held ready (Ok tt) → Course most store_now link_now ready.session ready.sent
+      by_need false is holds = subst (λ s. Course most s link_now ready.session ready.sent) (sym holds.0) (kept ready holds.1 course)
+      by_need true is holds =
+          let both = both_true (asked && is_none held.session) (is_none held.sent) is in
+          let first = both_true asked (is_none held.session) both.0 in
+          let none = none_of held.session first.1 in
+          let unsent = none_of held.sent both.1 in
+          let bare : Course most store_mid link_now None None
+          = subst (λ s. Course most store_mid link_now s None) none (subst (λ s. Course most store_mid link_now held.session s) unsent course) in
+          let lent = lent_now most store_mid store_now link_now holds.caller holds.moment holds.session holds.lends bare in
+          let is_ready : ready ≡ record { session = Some holds.session; sent = None } = holds.is ∙ ap (λ s. record { session = Some holds.session; sent = s }) unsent in
+          subst (λ h. Course most store_now link_now h.session h.sent) (sym is_ready) lent
+
+  -- what is held when the operation is over
+  last_holds : (store_now : Option ToldStore) (sent : Option (Option ℤ)) (session : Option Session) → HoldsFrom store store_now sent session
+      → HoldsLast store store_now (number_of sent) session
+  last_holds store_now sent None holds = (holds.0, no_number sent holds.1)
+    where
+      no_number : (sent : Option (Option ℤ)) → Unnumbered sent → number_of sent ≡ None
+      no_number (Some (Some number)) none = absurd none
+      no_number (Some None) none = refl
+      no_number None none = refl
+  last_holds store_now sent (Some session) holds = record {
+    caller = holds.caller;
+    moment = holds.moment;
+    lent = holds.lent;
+    lends = holds.lends;
+    id = holds.id;
+    number = by_sent sent holds.number;
+  }
+    where
+      by_sent : (sent : Option (Option ℤ)) → NumberFits sent holds.lent session → IsNumbered (number_of sent) holds.lent session
+      by_sent (Some (Some number)) fits = fits
+      by_sent (Some None) fits = stays holds.lent session fits
+      by_sent None fits = stays holds.lent session fits
+
+  -- without a number at most one send went out
+  one_at_most : (sent : Option (Option ℤ)) (count : ℕ) → CountFits sent count → number_of sent ≡ None → count ≤ 1
+  one_at_most None count fits none = omega (arith, fits)
+  one_at_most (Some None) count fits none = omega (arith, fits)
+  one_at_most (Some (Some number)) count fits none = absurd (let e : ◌≡◌ {A = Option ℤ} (Some number) None = none in cc)
+
+  pub course_over : (most : ℕ) (store_now : Option ToldStore) (link_now : Option Told) (session : Option Session) (sent : Option (Option ℤ))
+      → Course most store_now link_now session sent → Over most store_now link_now session sent
+  course_over most store_now link_now session sent course = record {
+    sends = λ body asked. record {
+      count = course.count;
+      within = course.within;
+      once = one_at_most sent course.count course.fits;
+      sends = course.sends body asked;
+    };
+    holds = last_holds store_now sent session course.holds;
+  }
+
+  -- what is held once a number was drawn, and what is then sent
+  pub record Drawn (held numbered : Held) (number : Option ℤ) (store_now : Option ToldStore) : Type 0 where
+    pub same_id : id_of numbered.session ≡ id_of held.session
+    pub same_sent : numbered.sent ≡ held.sent
+    pub holds : HoldsFrom store store_now (Some number) numbered.session
+    pub again : (before : Option ℤ) → held.sent ≡ Some before → number ≡ before
+
+  drawn_from : (store_now : Option ToldStore) (session : Session) (now : Option Session) (number : Option ℤ) (numbered : Session) (next : Result ℤ Error)
+      → HeldFrom (NumberFits None) store store_now session → Numbers session numbered next → now ≡ Some numbered → GivesNumber next (Ok number)
+      → (id_of now ≡ Some session.id) × HoldsFrom store store_now (Some number) now
+  drawn_from store_now session now number numbered (Err error) held numbers is gives = absurd (let e : ◌≡◌ {A = Result (Option ℤ) Error} (Ok number) (Err error) = gives in cc)
+  drawn_from store_now session now number numbered (Ok next) held numbers is gives =
+      let number_is : number ≡ Some next = cc gives in
+      let id_same : numbered.id ≡ session.id = ap (λ s. s.id) numbers.2 in
+      let number_same : numbered.number ≡ next = ap (λ s. s.number) numbers.2 in
+      let raised : Raises held.lent numbered = raises session numbered next numbers ∙ ap (λ n. n +ℤ pos 1) held.number in
+      let holds : HoldsFrom store store_now (Some (Some next)) (Some numbered) = record {
+        caller = held.caller;
+        moment = held.moment;
+        lent = held.lent;
+        lends = held.lends;
+        id = id_same ∙ held.id;
+        number = (number_same, raised);
+      } in (
+        ap id_of is ∙ ap (λ id. Some id) id_same,
+        subst (λ s. HoldsFrom store store_now (Some number) s) (sym is) (subst (λ n. HoldsFrom store store_now (Some n) (Some numbered)) (sym number_is) holds),
+      )
+
+  -- none was drawn
+  undrawn : (store_now : Option ToldStore) (session now : Option Session) (number : Option ℤ) → HoldsFrom store store_now None session
+      → now ≡ session → ◌≡◌ {A = Result (Option ℤ) Error} (Ok number) (Ok None) → (id_of now ≡ id_of session) × HoldsFrom store store_now (Some number) now
+  undrawn store_now session now number holds is none =
+      let number_is : number ≡ None = cc none in (
+        ap id_of is,
+        subst (λ s. HoldsFrom store store_now (Some number) s) (sym is) (subst (λ n. HoldsFrom store store_now (Some n) session) (sym number_is) (by_session session holds)),
+      )
+    where
+      by_session : (session : Option Session) → HoldsFrom store store_now None session → HoldsFrom store store_now (Some None) session
+      by_session None holds = (holds.0, tt)
+      by_session (Some held) holds = holds
+
+  first_drawn : (store_now : Option ToldStore) (turn : Retryability) (session now : Option Session) (number : Option ℤ) → HoldsFrom store store_now None session
+      → DrawsSession turn session now (Ok number) → (id_of now ≡ id_of session) × HoldsFrom store store_now (Some number) now
+  first_drawn store_now may.Write (Some session) now number holds draws =
+      drawn_from store_now session now number draws.numbered draws.next holds draws.numbers draws.is draws.gives
+  first_drawn store_now may.Write None now number holds draws = undrawn store_now None now number holds draws.0 draws.1
+  first_drawn store_now other session now number holds draws = undrawn store_now session now number holds draws.0 draws.1
+
+  pub drawn : (store_now : Option ToldStore) (turn : Retryability) (held numbered : Held) (number : Option ℤ) → HoldsFrom store store_now held.sent held.session
+      → DrawsNumber held.sent turn held numbered (Ok number) → Drawn held numbered number store_now
+  drawn store_now turn held numbered number holds draws = by_sent held.sent refl holds draws
+    where
+      by_sent : (sent : Option (Option ℤ)) → held.sent ≡ sent → HoldsFrom store store_now sent held.session → DrawsNumber sent turn held numbered (Ok number)
+          → Drawn held numbered number store_now
+      by_sent (Some before) is holds draws =
+          let number_is : number ≡ before = cc draws.1 in record {
+            same_id = ap (λ h. id_of h.session) draws.0;
+            same_sent = ap (λ h. h.sent) draws.0;
+            holds = subst (λ n. HoldsFrom store store_now (Some n) numbered.session) (sym number_is)
+                (subst (λ h. HoldsFrom store store_now (Some before) h.session) (sym draws.0) holds);
+            again = λ other found. let same : before ≡ other = cc (sym is ∙ found) in number_is ∙ same;
+          }
+      by_sent None is holds draws =
+          let first = first_drawn store_now turn held.session draws.session number holds draws.draws in record {
+            same_id = ap (λ h. id_of h.session) draws.is ∙ first.0;
+            same_sent = ap (λ h. h.sent) draws.is;
+            holds = subst (λ h. HoldsFrom store store_now (Some number) h.session) (sym draws.is) first.1;
+            again = λ other found. absurd (let e : ◌≡◌ {A = Option (Option ℤ)} None (Some other) = sym is ∙ found in cc);
+          }
+
+  -- a session under which the network failed
+  soiled : (store_now : Option ToldStore) (sent : Option (Option ℤ)) (session : Option Session) → HoldsFrom store store_now sent session
+      → HoldsFrom store store_now sent (option_map dirty_session session)
+  soiled store_now sent None holds = holds
+  soiled store_now sent (Some session) holds = record {
+    caller = holds.caller;
+    moment = holds.moment;
+    lent = holds.lent;
+    lends = holds.lends;
+    id = holds.id;
+    number = number_same sent holds.number;
+  }
+    where
+      number_same : (sent : Option (Option ℤ)) → NumberFits sent holds.lent session → NumberFits sent holds.lent (dirty_session session)
+      number_same (Some (Some number)) fits = fits
+      number_same (Some None) fits = fits
+      number_same None fits = fits
+
+  -- what is held after an exchange has the same id, and the same number
+  record HeldAfter (held now : Held) (store_now : Option ToldStore) : Type 0 where
+    id : id_of now.session ≡ id_of held.session
+    sent : now.sent ≡ held.sent
+    holds : HoldsFrom store store_now held.sent now.session
+
+  after_exchange : (store_now : Option ToldStore) (held : Held) (result : Result (List ℕ) LinkError) → HoldsFrom store store_now held.sent held.session
+      → HeldAfter held (held_after result held) store_now
+  after_exchange store_now held (Ok reply) holds = record { id = refl; sent = refl; holds = holds }
+  after_exchange store_now held (Err Memory) holds = record { id = refl; sent = refl; holds = holds }
+  after_exchange store_now held (Err (Fault fault own)) holds = by_network (is_network fault)
+    where
+      dirty_id : (session : Option Session) → id_of (option_map dirty_session session) ≡ id_of session
+      dirty_id None = refl
+      dirty_id (Some session) = refl
+
+      by_network : (network : Bool) → HeldAfter held (if network then record held { session = option_map dirty_session held.session } else held) store_now
+      by_network true = record { id = dirty_id held.session; sent = refl; holds = soiled store_now held.sent held.session holds }
+      by_network false = record { id = refl; sent = refl; holds = holds }
+
+  -- how many sends there are with one more
+  fits_more : (sent : Option (Option ℤ)) (number : Option ℤ) (count : ℕ) → MayGoOn sent → CountFits sent count → ((before : Option ℤ) → sent ≡ Some before → number ≡ before)
+      → CountFits (Some number) (suc count)
+  fits_more None None count goes fits again = omega (arith, fits)
+  fits_more None (Some number) count goes fits again = omega arith
+  fits_more (Some None) number count goes fits again = absurd goes
+  fits_more (Some (Some before)) None count goes fits again = absurd (let e : ◌≡◌ {A = Option ℤ} None (Some before) = again (Some before) refl in cc)
+  fits_more (Some (Some before)) (Some number) count goes fits again = omega arith
+
+  -- the send is the one before, where there was one
+  same_send : (mid : Option Told) (session : Option (List ℕ)) (sent : Option (Option ℤ)) (number : Option ℤ) (count : ℕ) (body : SendBody)
+      → ((before : Option ℤ) → sent ≡ Some before → number ≡ before) → CountFits sent count → SentTimes link mid (plain_send session (number_of sent) body) count
+      → SentTimes link mid (plain_send session number body) count
+  same_send mid session None number count body again fits sent =
+      subst (λ n. SentTimes link mid (plain_send session number body) n) (sym fits) (none_sent link mid (plain_send session None body) (plain_send session number body) count fits sent)
+  same_send mid session (Some before) number count body again fits sent =
+      subst (λ n. SentTimes link mid (plain_send session n body) count) (sym (again before refl)) sent
+
+  module _ (most : ℕ) (store_now : Option ToldStore) (mid : ToldLink) (now : ToldLink) (ready numbered : Held) (turn : Retryability) (number : Option ℤ)
+      (goes : MayGoOn ready.sent) (draws : DrawsNumber ready.sent turn ready numbered (Ok number)) (course : Course most store_now mid.server ready.session ready.sent) where
+    abbrev held : Held
+    held = record numbered { sent = Some number }
+
+    is_drawn : Drawn ready numbered number store_now
+    is_drawn = drawn store_now turn ready numbered number course.holds draws
+
+    -- the sends so far, as this one
+    so_far : (body : SendBody) → meaning.asked places body → SentTimes link mid.server (plain_send (id_of numbered.session) number body) course.count
+    so_far body asked = subst (λ id. SentTimes link mid.server (plain_send id number body) course.count) (sym is_drawn.same_id)
+        (same_send mid.server (id_of ready.session) ready.sent number course.count body is_drawn.again course.fits (course.sends body asked))
+
+    module _ (result : Result (List ℕ) LinkError) (exchanges : Exchanges meaning places mid now (held_id numbered) number result) where
+      kept : HeldAfter held (held_after result held) store_now
+      kept = after_exchange store_now held result is_drawn.holds
+
+      -- a send that was answered or lost
+      sent_course : ((body : SendBody) → meaning.asked places body → SentTimes link now.server (plain_send (id_of numbered.session) number body) (suc course.count))
+          → Course (suc most) store_now now.server (held_after result held).session (held_after result held).sent
+      sent_course sends = subst (λ s. Course (suc most) store_now now.server (held_after result held).session s) (sym kept.sent) (record {
+        count = suc course.count;
+        within = omega (arith, course.within);
+        sends = λ body asked. subst (λ id. SentTimes link now.server (plain_send id number body) (suc course.count)) (sym kept.id) (sends body asked);
+        holds = kept.holds;
+        fits = fits_more ready.sent number course.count goes course.fits is_drawn.again;
+      })
+
+      answered_sends : (bytes : List ℕ) → result ≡ Ok bytes → (body : SendBody) → meaning.asked places body
+          → SentTimes link now.server (plain_send (id_of numbered.session) number body) (suc course.count)
+      answered_sends bytes is body asked = sent_answered link (plain_send (id_of numbered.session) number body) course.count mid.server now.server bytes (so_far body asked)
+          (subst (λ r. Steps mid.server now.server (plain_send (id_of numbered.session) number body) r) is (exchanges.steps body asked))
+
+      lost_sends : (fault : LinkFault) (own : List (List ℕ)) → result ≡ Err (Fault fault own) → (body : SendBody) → meaning.asked places body
+          → SentTimes link now.server (plain_send (id_of numbered.session) number body) (suc course.count)
+      lost_sends fault own is body asked = sent_lost link (plain_send (id_of numbered.session) number body) course.count mid.server now.server fault own (so_far body asked)
+          (subst (λ r. Steps mid.server now.server (plain_send (id_of numbered.session) number body) r) is (exchanges.steps body asked))
+
+      pub answered_course : (bytes : List ℕ) → result ≡ Ok bytes → Course (suc most) store_now now.server (held_after result held).session (held_after result held).sent
+      answered_course bytes is = sent_course (answered_sends bytes is)
+
+      pub lost_course : (fault : LinkFault) (own : List (List ℕ)) → result ≡ Err (Fault fault own)
+          → Course (suc most) store_now now.server (held_after result held).session (held_after result held).sent
+      lost_course fault own is = sent_course (lost_sends fault own is)
+
+      -- want of memory in the exchange: the send went out or not
+      memory_over : result ≡ Err Memory → Over (suc most) store_now now.server numbered.session (Some number)
+      memory_over is = record {
+        sends = λ body asked.
+            let send = plain_send (id_of numbered.session) number body in
+            let fits = fits_more ready.sent number course.count goes course.fits is_drawn.again in
+            elim (sent_maybe link send course.count mid.server now.server (so_far body asked)
+            (subst (λ r. Steps mid.server now.server send r) is (exchanges.steps body asked))) [
+              | inl same ↦ record {
+                count = course.count;
+                within = omega (arith, course.within);
+                once = λ none. let most_one = one_at_most (Some number) (suc course.count) fits none in omega arith;
+                sends = same;
+              }
+              | inr more ↦ record {
+                count = suc course.count;
+                within = omega (arith, course.within);
+                once = one_at_most (Some number) (suc course.count) fits;
+                sends = more;
+              }
+            ];
+        holds = last_holds store_now (Some number) numbered.session is_drawn.holds;
+      }
+
+      abbrev OverAfter : Result (List ℕ) LinkError → Type 0
+      OverAfter found = Over (suc most) store_now now.server (held_after found held).session (held_after found held).sent
+
+      pub sent_over : OverAfter result
+      sent_over = by_result result refl
+        where
+          over_course : Course (suc most) store_now now.server (held_after result held).session (held_after result held).sent → OverAfter result
+          over_course course = course_over (suc most) store_now now.server (held_after result held).session (held_after result held).sent course
+
+          by_result : (found : Result (List ℕ) LinkError) → result ≡ found → OverAfter found
+          by_result (Ok bytes) is = subst OverAfter is (over_course (answered_course bytes is))
+          by_result (Err Memory) is = memory_over is
+          by_result (Err (Fault fault own)) is = subst OverAfter is (over_course (lost_course fault own is))
+
+      -- the reply answers the last send
+      abbrev send_now : SendBody → Send
+      send_now body = plain_send (id_of (held_after result held).session) (number_of (held_after result held).sent) body
+
+      pub answered_now : (bytes : List ℕ) → result ≡ Ok bytes → (body : SendBody) → meaning.asked places body → AnsweredLast link now.server (send_now body) course.count bytes
+      answered_now bytes is body asked =
+          let send = plain_send (id_of numbered.session) number body in
+          let last = answered_last link send course.count mid.server now.server bytes (so_far body asked)
+          (subst (λ r. Steps mid.server now.server send r) is (exchanges.steps body asked)) in
+          subst (λ id. AnsweredLast link now.server (plain_send id (number_of (held_after result held).sent) body) course.count bytes) (sym kept.id)
+          (subst (λ sent. AnsweredLast link now.server (plain_send (id_of numbered.session) (number_of sent) body) course.count bytes) (sym kept.sent) last)
+
+      -- without a number there was none before it
+      pub first_alone : number_of (held_after result held).sent ≡ None → course.count ≡ 0
+      first_alone none = by_sent ready.sent number goes course.fits is_drawn.again (ap number_of (sym kept.sent) ∙ none)
+        where
+          by_sent : (sent : Option (Option ℤ)) (number : Option ℤ) → MayGoOn sent → CountFits sent course.count → ((before : Option ℤ) → sent ≡ Some before → number ≡ before)
+              → number ≡ None → course.count ≡ 0
+          by_sent None number goes fits again none = fits
+          by_sent (Some None) number goes fits again none = absurd goes
+          by_sent (Some (Some before)) number goes fits again none = absurd (let e : ◌≡◌ {A = Option ℤ} (Some before) None = sym (again (Some before) refl) ∙ none in cc)
