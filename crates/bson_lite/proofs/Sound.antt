@@ -1,5 +1,5 @@
 -- What is read was spelled so: documents and arrays, by the levels that they nest.
-use Rattle.std.proofs.Common.{◌≡◌, ℕ, zero, suc, ◌+◌, ◌-◌, ◌≤◌, true, false, ◌||◌, ◌&&◌, ltb, eqb, cond, List, [], ◌∷◌, ◌++◌, length, map, Some, None, Result, Ok, refl, sym, ap, subst, ◌∙◌, append_assoc, arith, inl, inr}
+use Rattle.std.proofs.Common.{◌≡◌, ℕ, zero, suc, ◌+◌, ◌-◌, ◌≤◌, ◌<◌, true, false, ◌||◌, ◌&&◌, ltb, eqb, cond, List, [], ◌∷◌, ◌++◌, length, map, Some, None, Result, Ok, refl, sym, ap, subst, ◌∙◌, append_assoc, arith, inl, inr}
 use Rattle.std.specs.Prelude.{decimal}
 use Rattle.std.specs.Str.{is_utf8, bytes_eq}
 use Rattle.std.proofs.lemmas.Bool.{ltb-false, eqb-true, or_from, or_parts, or_cases, and_from, both_ways}
@@ -11,9 +11,10 @@ use Rattle.bson_lite.specs.declared.bson.Bson.TheVariants.{rolls-Document, rolls
 use Rattle.bson_lite.specs.declared.document.Pair.{Pair}
 use Rattle.bson_lite.specs.Parts.{number_at, some_at, byte_at, zero_ended, place_at, is_type, type_at, Frame, frame_at, whole_at, leaf_at}
 use Rattle.bson_lite.specs.Reading.{or_at, closed, value_with, pair_with, item_with, many_with, pairs_with, items_with, inside_with, framed_with, nested_at, read}
-use Rattle.bson_lite.specs.Spelling.{four, framed, on_value, numbered, spelled, body_of, depth, deepest, deepest_pair, zero_within, zero_in, zero_in_values, holds_zero, valid, valid_pairs, valid_values, spelling, Spells}
+use Rattle.bson_lite.specs.Spelling.{four, framed, on_value, numbered, spelled, body_of, depth_step, depth, deepest, deepest_pair, zero_within, zero_in, zero_in_values, holds_zero, valid, valid_pairs, valid_values, spelling, Spells}
 use Rattle.std.specs.Int.{w32}
 use Rattle.bson_lite.proofs.Numbers.{same-bytes_eq}
+use Rattle.bson_lite.proofs.Again.{laid, zero_laid, valid_laid}
 use Rattle.bson_lite.proofs.Nested.{folded, length-element}
 use Rattle.bson_lite.proofs.Steps.{some_is, ok_is, then_some, then_ok, by_some, by_ok, by_at, at_some, chosen, unless, when, by_closed}
 use Rattle.bson_lite.proofs.Takes.{some_took, byte_took, number_took, zero_took, regrouped, LeafTook, leaf_took}
@@ -97,29 +98,49 @@ pub record PairsTook (levels : ℕ) (bytes : List ℕ) (pairs : List (Pair Bson)
   pub zero_free : zero_in pairs ≡ false
   pub well_formed : valid_pairs pairs ≡ true
 
-pairs_none : (levels : ℕ) (pairs : List (Pair Bson)) → ◌≡◌ {A = Result (List (Pair Bson)) ℕ} (Ok []) (Ok pairs) → PairsTook levels [] pairs
-pairs_none levels pairs e = subst (PairsTook levels []) (ok_is [] pairs e) (record { parts = refl; nests = omega arith; zero_free = refl; well_formed = refl })
+-- no pairs take no bytes
+pairs_none : (levels : ℕ) → PairsTook levels [] []
+pairs_none levels = record { parts = refl; nests = omega arith; zero_free = refl; well_formed = refl }
 
-shorter : (byte kind : ℕ) (bytes key text rest : List ℕ) (turns : ℕ) → ◌≡◌ {A = List ℕ} (byte ∷ bytes) (kind ∷ ((key ++ 0 ∷ text) ++ rest)) → length (byte ∷ bytes) ≤ suc turns → length rest ≤ turns
-shorter byte kind bytes key text rest turns e h = omega (arith, ap length e, length-element key text rest)
+-- an element takes a byte at least
+shorter : (bytes key text rest : List ℕ) (kind : ℕ) → bytes ≡ kind ∷ ((key ++ 0 ∷ text) ++ rest) → length rest < length bytes
+shorter bytes key text rest kind e = omega (arith, ap length e, length-element key text rest)
+
+-- what holds of no bytes, and of a first element where it holds of those after it, holds of all elements
+many_took : {A : Type 0} (Holds : ℕ → List ℕ → List A → Type 0) (one : ℕ → List ℕ → Result (A × List ℕ) ℕ) → ((place : ℕ) → Holds place [] [])
+    → ((place : ℕ) (bytes : List ℕ) (first : A × List ℕ) → one place bytes ≡ Ok first
+    → (length first.1 < length bytes) × ((others : List A) → Holds (place + 1) first.1 others → Holds place bytes (first.0 ∷ others)))
+    → (turns place : ℕ) (bytes : List ℕ) (all : List A) → length bytes ≤ turns → many_with one turns place bytes ≡ Ok all → Holds place bytes all
+unfolding many_with
+many_took Holds one none more zero place [] all enough e = subst (Holds place []) (ok_is [] all e) (none place)
+many_took Holds one none more zero place (byte ∷ bytes) all enough e = absurd (omega arith)
+many_took Holds one none more (suc turns) place [] all enough e = subst (Holds place []) (ok_is [] all e) (none place)
+many_took Holds one none more (suc turns) place (byte ∷ bytes) all enough e =
+    by_ok (one place (byte ∷ bytes)) (λ first. then_ok (many_with one turns (place + 1) first.1) (λ others. Ok (first.0 ∷ others))) all e (λ first f rest.
+    by_ok (many_with one turns (place + 1) first.1) (λ others. Ok (first.0 ∷ others)) all rest (λ others o is.
+    let here = more place (byte ∷ bytes) first f in
+    let less : length first.1 < length (byte ∷ bytes) = here.0 in
+    let there = many_took Holds one none more turns (place + 1) first.1 others (omega arith) o in
+    subst (Holds place (byte ∷ bytes)) (ok_is (first.0 ∷ others) all is) (here.1 others there)))
+
+-- a pair in front of others
+pair_more : (levels end : ℕ) → Takes levels → (bytes : List ℕ) (first : Pair Bson × List ℕ) → pair_with (nested_at levels) end bytes ≡ Ok first
+    → (length first.1 < length bytes) × ((others : List (Pair Bson)) → PairsTook levels first.1 others → PairsTook levels bytes (first.0 ∷ others))
+pair_more levels end takes bytes first f =
+    let here = pair_took levels end takes bytes first f in (
+      shorter bytes first.0.key (spelled first.0.value).1 first.1 (spelled first.0.value).0 here.parts,
+      λ others there. record {
+        parts = here.parts ∙ ap (λ (t : List ℕ). (spelled first.0.value).0 ∷ ((first.0.key ++ 0 ∷ (spelled first.0.value).1) ++ t)) there.parts;
+        nests = omega (arith, here.nests, there.nests);
+        zero_free = or_from (holds_zero first.0.key || zero_within first.0.value) (zero_in others) here.zero_free there.zero_free;
+        well_formed = and_from (is_utf8 first.0.key && valid first.0.value) (valid_pairs others) here.well_formed there.well_formed;
+      },
+    )
 
 pub pairs_took : (levels end : ℕ) → Takes levels → (turns place : ℕ) (bytes : List ℕ) (pairs : List (Pair Bson)) → length bytes ≤ turns
     → many_with (λ place. pair_with (nested_at levels) end) turns place bytes ≡ Ok pairs → PairsTook levels bytes pairs
-unfolding many_with
-pairs_took levels end takes zero place [] pairs enough e = pairs_none levels pairs e
-pairs_took levels end takes zero place (byte ∷ bytes) pairs enough e = absurd (omega arith)
-pairs_took levels end takes (suc turns) place [] pairs enough e = pairs_none levels pairs e
-pairs_took levels end takes (suc turns) place (byte ∷ bytes) pairs enough e =
-    by_ok (pair_with (nested_at levels) end (byte ∷ bytes)) (λ first. then_ok (many_with (λ place. pair_with (nested_at levels) end) turns (place + 1) first.1) (λ others. Ok (first.0 ∷ others))) pairs e (λ first f rest.
-    by_ok (many_with (λ place. pair_with (nested_at levels) end) turns (place + 1) first.1) (λ others. Ok (first.0 ∷ others)) pairs rest (λ others o is.
-    let here = pair_took levels end takes (byte ∷ bytes) first f in
-    let there = pairs_took levels end takes turns (place + 1) first.1 others (shorter byte (spelled first.0.value).0 bytes first.0.key (spelled first.0.value).1 first.1 turns here.parts enough) o in
-    subst (PairsTook levels (byte ∷ bytes)) (ok_is (first.0 ∷ others) pairs is) (record {
-      parts = here.parts ∙ ap (λ (t : List ℕ). (spelled first.0.value).0 ∷ ((first.0.key ++ 0 ∷ (spelled first.0.value).1) ++ t)) there.parts;
-      nests = omega (arith, here.nests, there.nests);
-      zero_free = or_from (holds_zero first.0.key || zero_within first.0.value) (zero_in others) here.zero_free there.zero_free;
-      well_formed = and_from (is_utf8 first.0.key && valid first.0.value) (valid_pairs others) here.well_formed there.well_formed;
-    })))
+pairs_took levels end takes =
+    many_took (λ place. PairsTook levels) (λ place. pair_with (nested_at levels) end) (λ place. pairs_none levels) (λ place. pair_more levels end takes)
 
 pub record ItemsTook (levels place : ℕ) (bytes : List ℕ) (values : List Bson) : Type 0 where
   pub parts : bytes ≡ numbered place (map spelled values)
@@ -127,26 +148,28 @@ pub record ItemsTook (levels place : ℕ) (bytes : List ℕ) (values : List Bson
   pub zero_free : zero_in_values (map zero_within values) ≡ false
   pub well_formed : valid_values (map valid values) ≡ true
 
-items_none : (levels place : ℕ) (values : List Bson) → ◌≡◌ {A = Result (List Bson) ℕ} (Ok []) (Ok values) → ItemsTook levels place [] values
-items_none levels place values e = subst (ItemsTook levels place []) (ok_is [] values e) (record { parts = refl; nests = omega arith; zero_free = refl; well_formed = refl })
+-- no items take no bytes
+items_none : (levels place : ℕ) → ItemsTook levels place [] []
+items_none levels place = record { parts = refl; nests = omega arith; zero_free = refl; well_formed = refl }
+
+-- an item in front of others
+item_more : (levels end : ℕ) → Takes levels → (place : ℕ) (bytes : List ℕ) (first : Bson × List ℕ) → item_with (nested_at levels) end place bytes ≡ Ok first
+    → (length first.1 < length bytes) × ((others : List Bson) → ItemsTook levels (place + 1) first.1 others → ItemsTook levels place bytes (first.0 ∷ others))
+item_more levels end takes place bytes first f =
+    let here = item_took levels end place takes bytes first f in (
+      shorter bytes (decimal place) (spelled first.0).1 first.1 (spelled first.0).0 here.parts,
+      λ others there. record {
+        parts = here.parts ∙ ap (λ (t : List ℕ). (spelled first.0).0 ∷ ((decimal place ++ 0 ∷ (spelled first.0).1) ++ t)) there.parts;
+        nests = omega (arith, here.nests, there.nests);
+        zero_free = or_from (zero_within first.0) (zero_in_values (map zero_within others)) here.zero_free there.zero_free;
+        well_formed = and_from (valid first.0) (valid_values (map valid others)) here.well_formed there.well_formed;
+      },
+    )
 
 pub items_took : (levels end : ℕ) → Takes levels → (turns place : ℕ) (bytes : List ℕ) (values : List Bson) → length bytes ≤ turns
     → many_with (item_with (nested_at levels) end) turns place bytes ≡ Ok values → ItemsTook levels place bytes values
-unfolding many_with
-items_took levels end takes zero place [] values enough e = items_none levels place values e
-items_took levels end takes zero place (byte ∷ bytes) values enough e = absurd (omega arith)
-items_took levels end takes (suc turns) place [] values enough e = items_none levels place values e
-items_took levels end takes (suc turns) place (byte ∷ bytes) values enough e =
-    by_ok (item_with (nested_at levels) end place (byte ∷ bytes)) (λ first. then_ok (many_with (item_with (nested_at levels) end) turns (place + 1) first.1) (λ others. Ok (first.0 ∷ others))) values e (λ first f rest.
-    by_ok (many_with (item_with (nested_at levels) end) turns (place + 1) first.1) (λ others. Ok (first.0 ∷ others)) values rest (λ others o is.
-    let here = item_took levels end place takes (byte ∷ bytes) first f in
-    let there = items_took levels end takes turns (place + 1) first.1 others (shorter byte (spelled first.0).0 bytes (decimal place) (spelled first.0).1 first.1 turns here.parts enough) o in
-    subst (ItemsTook levels place (byte ∷ bytes)) (ok_is (first.0 ∷ others) values is) (record {
-      parts = here.parts ∙ ap (λ (t : List ℕ). (spelled first.0).0 ∷ ((decimal place ++ 0 ∷ (spelled first.0).1) ++ t)) there.parts;
-      nests = omega (arith, here.nests, there.nests);
-      zero_free = or_from (zero_within first.0) (zero_in_values (map zero_within others)) here.zero_free there.zero_free;
-      well_formed = and_from (valid first.0) (valid_values (map valid others)) here.well_formed there.well_formed;
-    })))
+items_took levels end takes =
+    many_took (ItemsTook levels) (item_with (nested_at levels) end) (items_none levels) (item_more levels end takes)
 
 -- ---- frames
 
@@ -196,51 +219,51 @@ framed_took {A} inside end bytes x e k =
 
 -- ---- values
 
+-- a value is taken where its layer's type and bytes are met, and the layer nests, holds and spells as it may
+layer_took : (levels kind : ℕ) (bytes rest : List ℕ) (layer : Bson-F Bson) (value : Bson) → roll-Bson layer ≡ value
+    → (laid layer).0 ≡ kind → bytes ≡ (laid layer).1 ++ rest → depth_step (map-Bson Bson ℕ depth layer) ≤ levels → zero_laid layer ≡ false → valid_laid layer ≡ true
+    → Took levels kind bytes (value, rest)
+layer_took levels kind bytes rest layer value is typed parts nests zero_free well_formed =
+    let f = folded layer in
+    subst (λ (v : Bson). Took levels kind bytes (v, rest)) is (record {
+      typed = ap (λ (s : ℕ × List ℕ). s.0) f.spells ∙ typed;
+      parts = parts ∙ ap (λ (s : ℕ × List ℕ). s.1 ++ rest) (sym f.spells);
+      nests = omega (arith, f.nests, nests);
+      zero_free = f.zeros ∙ zero_free;
+      well_formed = f.valids ∙ well_formed;
+    })
+
+-- the same of a leaf
 from_leaf : (levels kind : ℕ) (bytes : List ℕ) (x : Bson × List ℕ) → LeafTook kind bytes x → Took levels kind bytes x
 from_leaf levels kind bytes x t =
-    let f = folded t.layer in
-    let here : Took levels kind bytes (roll-Bson t.layer, x.1) = record {
-      typed = ap (λ (s : ℕ × List ℕ). s.0) f.spells ∙ t.typed;
-      parts = t.parts ∙ ap (λ (s : ℕ × List ℕ). s.1 ++ x.1) (sym f.spells);
-      nests = omega (arith, f.nests, t.flat);
-      zero_free = f.zeros ∙ t.zero_free;
-      well_formed = f.valids ∙ t.well_formed;
-    } in
-    subst (λ (v : Bson). Took levels kind bytes (v, x.1)) (sym t.made_of) here
+    layer_took levels kind bytes x.1 t.layer x.0 (sym t.made_of) t.typed t.parts (omega (arith, t.flat)) t.zero_free t.well_formed
+
+-- what is inside a frame, made into a value
+nest_took : {A : Type 0} (levels kind end : ℕ) (inside : ℕ → List ℕ → Result A ℕ) (make : A → Bson) (bytes : List ℕ) (x : Bson × List ℕ)
+    → then_ok (framed_with inside end bytes) (λ y. Ok (make y.0, y.1)) ≡ Ok x
+    → ((elements rest : List ℕ) (place : ℕ) (y : A) → inside place elements ≡ Ok y → bytes ≡ framed elements ++ rest → Took levels kind bytes (make y, rest)) → Took levels kind bytes x
+nest_took levels kind end inside make bytes x e took =
+    by_ok (framed_with inside end bytes) (λ y. Ok (make y.0, y.1)) x e (λ y f is.
+    framed_took inside end bytes y f (λ elements place got spelt.
+    subst (Took levels kind bytes) (ok_is (make y.0, y.1) x is) (took elements y.1 place y.0 got spelt)))
 
 document_took : (levels kind end : ℕ) → Takes levels → (bytes : List ℕ) (x : Bson × List ℕ) → kind ≡ 3
     → then_ok (framed_with (pairs_with (nested_at levels)) end bytes) (λ y. Ok (bson.Document y.0, y.1)) ≡ Ok x → Took (suc levels) kind bytes x
 unfolding pairs_with
 document_took levels kind end takes bytes x k e =
-    by_ok (framed_with (pairs_with (nested_at levels)) end bytes) (λ y. Ok (bson.Document y.0, y.1)) x e (λ y f is.
-    framed_took (pairs_with (nested_at levels)) end bytes y f (λ elements place got spelt.
-    let t = pairs_took levels place takes (length elements) 0 elements y.0 (omega arith) got in
-    let f = folded (Bson-F.Document y.0) in
-    let here : Took (suc levels) kind bytes (roll-Bson (Bson-F.Document y.0), y.1) = record {
-      typed = ap (λ (s : ℕ × List ℕ). s.0) f.spells ∙ sym k;
-      parts = spelt ∙ ap (λ (b : List ℕ). framed b ++ y.1) t.parts ∙ ap (λ (s : ℕ × List ℕ). s.1 ++ y.1) (sym f.spells);
-      nests = omega (arith, f.nests, t.nests);
-      zero_free = f.zeros ∙ t.zero_free;
-      well_formed = f.valids ∙ t.well_formed;
-    } in
-    subst (Took (suc levels) kind bytes) (ok_is (bson.Document y.0, y.1) x is) (subst (λ (v : Bson). Took (suc levels) kind bytes (v, y.1)) (rolls-Document y.0) here)))
+    nest_took (suc levels) kind end (pairs_with (nested_at levels)) (λ pairs. bson.Document pairs) bytes x e (λ elements rest place pairs got spelt.
+    let t = pairs_took levels place takes (length elements) 0 elements pairs (omega arith) got in
+    layer_took (suc levels) kind bytes rest (Bson-F.Document pairs) (bson.Document pairs) (rolls-Document pairs) (sym k)
+    (spelt ∙ ap (λ (b : List ℕ). framed b ++ rest) t.parts) (omega (arith, t.nests)) t.zero_free t.well_formed)
 
 array_took : (levels kind end : ℕ) → Takes levels → (bytes : List ℕ) (x : Bson × List ℕ) → kind ≡ 4
     → then_ok (framed_with (items_with (nested_at levels)) end bytes) (λ y. Ok (bson.Array y.0, y.1)) ≡ Ok x → Took (suc levels) kind bytes x
 unfolding items_with
 array_took levels kind end takes bytes x k e =
-    by_ok (framed_with (items_with (nested_at levels)) end bytes) (λ y. Ok (bson.Array y.0, y.1)) x e (λ y f is.
-    framed_took (items_with (nested_at levels)) end bytes y f (λ elements place got spelt.
-    let t = items_took levels place takes (length elements) 0 elements y.0 (omega arith) got in
-    let f = folded (Bson-F.Array y.0) in
-    let here : Took (suc levels) kind bytes (roll-Bson (Bson-F.Array y.0), y.1) = record {
-      typed = ap (λ (s : ℕ × List ℕ). s.0) f.spells ∙ sym k;
-      parts = spelt ∙ ap (λ (b : List ℕ). framed b ++ y.1) t.parts ∙ ap (λ (s : ℕ × List ℕ). s.1 ++ y.1) (sym f.spells);
-      nests = omega (arith, f.nests, t.nests);
-      zero_free = f.zeros ∙ t.zero_free;
-      well_formed = f.valids ∙ t.well_formed;
-    } in
-    subst (Took (suc levels) kind bytes) (ok_is (bson.Array y.0, y.1) x is) (subst (λ (v : Bson). Took (suc levels) kind bytes (v, y.1)) (rolls-Array y.0) here)))
+    nest_took (suc levels) kind end (items_with (nested_at levels)) (λ values. bson.Array values) bytes x e (λ elements rest place values got spelt.
+    let t = items_took levels place takes (length elements) 0 elements values (omega arith) got in
+    layer_took (suc levels) kind bytes rest (Bson-F.Array values) (bson.Array values) (rolls-Array values) (sym k)
+    (spelt ∙ ap (λ (b : List ℕ). framed b ++ rest) t.parts) (omega (arith, t.nests)) t.zero_free t.well_formed)
 
 -- what documents and arrays take
 abbrev NestedTakes : ℕ → Type 0

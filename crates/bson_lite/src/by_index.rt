@@ -83,7 +83,8 @@ impl<T: Drop> ByIndex<T> {
 /// Inserts entries for which there is room.
 fn insert_all<T: Drop>(entries: &mut HashMap<usize, T>, more: Vec<(usize, T)>)
     requires { length more.items ≤ spare entries.old }
-    ensures { map.from_entries entries.new.entries ≡ insert_each (map.from_entries entries.old.entries) more.items }
+    ensures { map.from_entries entries.new.entries ≡ insert_each (map.from_entries entries.old.entries)
+        more.items }
 {
     for (index, value) in more {
         let Ok(_) = entries.insert(index, value) else {

@@ -50,7 +50,8 @@ fn document_of(
     last: u8,
 ) -> Result<Document, DecodeFault>
     requires { length elements.now + 1 ≤ end }
-    ensures { Gives (λ document. document) result (inside_with (pairs_with (nested_at level)) end (record { elements = elements.now; last = last })) }
+    ensures { Gives (λ document. document) result
+        (inside_with (pairs_with (nested_at level)) end (record { elements = elements.now; last = last })) }
 {
     let document = pairs_of(alloc, level, end - 1, elements)?;
     if last != 0 {
@@ -69,7 +70,8 @@ fn array_of(
     last: u8,
 ) -> Result<List<Bson>, DecodeFault>
     requires { length elements.now + 1 ≤ end }
-    ensures { Gives (λ array. array) result (inside_with (items_with (nested_at level)) end (record { elements = elements.now; last = last })) }
+    ensures { Gives (λ array. array) result
+        (inside_with (items_with (nested_at level)) end (record { elements = elements.now; last = last })) }
 {
     let array = items_of(alloc, level, end - 1, elements)?;
     if last != 0 {

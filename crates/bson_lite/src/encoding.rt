@@ -156,7 +156,8 @@ fn put_text(out: &mut [u8], at: usize, text: &Text) -> usize
 
 fn put_binary(out: &mut [u8], at: usize, binary: &Binary) -> usize
     requires { HasRoom (four (length binary.now.bytes) ++ binary.now.subtype ∷ binary.now.bytes) at out.old }
-    ensures { Puts (four (length binary.now.bytes) ++ binary.now.subtype ∷ binary.now.bytes) at out.old out.new result }
+    ensures { Puts (four (length binary.now.bytes) ++ binary.now.subtype ∷ binary.now.bytes) at out.old
+        out.new result }
 {
     let end = put(out, at, &count_bytes(binary.bytes.len()));
     let end = put(out, end, &[binary.subtype]);

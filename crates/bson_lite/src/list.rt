@@ -88,7 +88,8 @@ impl<T> List<T> {
 
     /// Takes the last item off.
     pub fn pop(&mut self) -> Option<T>
-        ensures { MatchOption result ((self.old ≡ []) × (self.new ≡ [])) (λ last. self.old ≡ self.new ++ last ∷ []) }
+        ensures { MatchOption result ((self.old ≡ []) × (self.new ≡ []))
+            (λ last. self.old ≡ self.new ++ last ∷ []) }
     {
         self.items.pop()
     }

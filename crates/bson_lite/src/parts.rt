@@ -210,7 +210,8 @@ pub(crate) fn place_of(at: usize, place: usize, bytes: &[u8]) -> Result<&[u8], D
 
 #[tactic(auto, unfolding(crate::specs::Parts::frame_at))]
 pub(crate) fn frame_of(at: usize, bytes: &[u8]) -> Result<(&[u8], u8, &[u8]), DecodeFault>
-    ensures gives { Gives (λ x. (record { elements = x.0.now; last = x.1 }, x.2.now)) result (or_at at (frame_at bytes.now)) }
+    ensures gives { Gives (λ x. (record { elements = x.0.now; last = x.1 }, x.2.now)) result
+        (or_at at (frame_at bytes.now)) }
     ensures shorter { IfOk result (λ x. length x.0.now + length x.2.now + 5 ≤ length bytes.now) }
 {
     let (count, rest) = four_of(at, bytes)?;

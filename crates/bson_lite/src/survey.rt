@@ -87,7 +87,8 @@ pub fn refusal_within(document: &Document, levels: u32) -> Option<EncodeFault>
 /// The length of a document's elements, where so many levels may stand below the document.
 #[cycle(survey)]
 fn survey_pairs(pairs: &[Pair<Bson>], levels: u32, met: &mut Met) -> u64
-    ensures deep { met.new.deep ≡ (met.old.deep || nat_lt levels (deepest_pair (map (on_value depth) pairs.now))) }
+    ensures deep { met.new.deep ≡
+        (met.old.deep || nat_lt levels (deepest_pair (map (on_value depth) pairs.now))) }
     ensures zero { met.new.zero ≡ (met.old.zero || zero_in pairs.now) }
     ensures length { result ≡ min (length (body_of pairs.now)) (2 ^ 64 - 1) }
     ensures well_formed { valid_pairs pairs.now ≡ true }
@@ -154,7 +155,8 @@ fn survey_value(value: &Bson, levels: u32, met: &mut Met) -> u64
 
 /// The levels that may stand below a document or an array; where it must not stand itself, that is noted.
 fn levels_below(levels: u32, met: &mut Met) -> u32
-    ensures deep { (deepest : ℕ) → (met.new.deep || nat_lt result deepest) ≡ (met.old.deep || nat_lt levels (suc deepest)) }
+    ensures deep { (deepest : ℕ) →
+        (met.new.deep || nat_lt result deepest) ≡ (met.old.deep || nat_lt levels (suc deepest)) }
     ensures zero { met.new.zero ≡ met.old.zero }
 {
     match levels.checked_sub(1) {

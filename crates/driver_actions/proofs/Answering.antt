@@ -44,15 +44,18 @@ answer_last (outcome ∷ outcomes) last (suc call) given is = elim (answer_last 
 abbrev spelled : Option Entry → Option Answer
 spelled found = option_map (λ id. answer.Single (Inserted (record { inserted_id = id }))) (option_and_then entry_id found)
 
+-- what was spelled at a place is so in a longer log
 spelled_left : (place : Place) (log more : List Entry) (given : Answer) (found : Option Entry) → entry_at place log ≡ found
     → spelled found ≡ Some given → spelled (entry_at place (log ++ more)) ≡ Some given
 spelled_left place log more given None at is = absurd (let e : ◌≡◌ {A = Option Answer} None (Some given) = is in cc)
 spelled_left place log more given (Some entry) at is = ap spelled (entry_left place log more entry at) ∙ is
 
+-- a call's answer is so too
 of_left : (made : Call) (call : ℕ) (log more : List Entry) (given : Answer) → result_of made call log ≡ Some given → result_of made call (log ++ more) ≡ Some given
 of_left (Single (InsertOne namespace document)) call log more given is =
     spelled_left (first_place call) log more given (entry_at (first_place call) log) refl is
 
+-- so is that of the call at a number
 result_left : (calls : List Call) (call : ℕ) (log more : List Entry) (given : Answer) → call_result calls call log ≡ Some given
     → call_result calls call (log ++ more) ≡ Some given
 unfolding call_result
@@ -70,16 +73,19 @@ write_is : (calls : List Call) (call index : ℕ) (namespace : Namespace) (docum
 unfolding write_at
 write_is calls call index namespace document at = ap (λ made. option_and_then (λ m. write_in m index) made) at
 
+-- an insert that is the caller's own is so at its place
 pub own_at : (calls : List Call) (call : ℕ) (namespace : Namespace) (document : List (Pair Bson)) (sent : Written)
     → slice_get calls call ≡ Some (Single (InsertOne namespace document)) → IsOwn (inserted namespace document) sent
     → OwnAt (write_at calls (first_place call)) sent
 own_at calls call namespace document sent at own =
     subst (λ given. OwnAt given sent) (sym (write_is calls call 0 namespace document at)) own
 
+-- what stands under a condition says that it holds
 is_there : (b : Bool) (given : Written) → IsSome (if b then Some given else None) → b ≡ true
 is_there true given there = refl
 is_there false given there = there
 
+-- an insert whose entry stands is done
 done_now : (calls : List Call) (call : ℕ) (namespace : Namespace) (document : List (Pair Bson)) (log : List Entry) (entry : Entry)
     → slice_get calls call ≡ Some (Single (InsertOne namespace document)) → Has log entry → entry.place ≡ first_place call → Done calls call log
 done_now calls call namespace document log entry at has placed = λ index given.
@@ -87,6 +93,7 @@ done_now calls call namespace document log entry at has placed = λ index given.
     let first : index ≡ 0 = (Decides-eqb index 0).0 (is_there (index == 0) (inserted namespace document) there) in
     stands_has (record { call = call; index = index }) log entry has (placed ∙ ap (λ i. record { call = call; index = i }) (sym first))
 
+-- and the log spells its answer
 result_now : (calls : List Call) (call : ℕ) (namespace : Namespace) (document : List (Pair Bson)) (log : List Entry) (entry : Entry) (id : Bson)
     → slice_get calls call ≡ Some (Single (InsertOne namespace document)) → Once log → Has log entry → entry.place ≡ first_place call
     → value_of id_key entry.written.document ≡ Some id

@@ -10,35 +10,39 @@ use Rattle.bson_lite.specs.Spelling.{refusal}
 use Rattle.driver_error.specs.declared.error.Error.{Error}
 use Rattle.driver_error.specs.declared.kind.ErrorKind.TheVariants as kind
 use Rattle.driver_error.specs.Error.{ErrorKind, kind_of}
+use Rattle.driver_link.specs.Clock.{ClockTells}
 use Rattle.driver_link.specs.declared.machine.Scheduled.{Scheduled}
 use Rattle.driver_link.specs.declared.machine.Server.{Server}
-use Rattle.driver_link.specs.declared.options.ClientOptions.{ClientOptions}
 use Rattle.driver_link.specs.Retried.{IsGentleItem, one_inserted}
-use Rattle.driver_link.specs.Told.{Told}
+use Rattle.driver_link.specs.LinkState.{server_run, setup_of}
+use Rattle.driver_link.specs.ServerRun.{ServerRun}
 use Rattle.driver_exec.specs.BetweenCalls.{Between, NumbersWithin, Sound}
 use Rattle.driver_exec.specs.Causes.{BodyRefused}
 use Rattle.driver_exec.specs.Gentle.{IsGentlePart, IsGentleTold}
 use Rattle.driver_exec.specs.Inserts.{insert_body}
 use Rattle.driver_exec.specs.InsertMeaning.{own_of_insert}
+use Rattle.driver_exec.specs.Moment.{Moment}
 use Rattle.driver_exec.specs.OperationCauses.{DrawsNumbers}
-use Rattle.driver_exec.specs.Pool.{DrawnApart, Lends, StaysTold, ToldStore}
+use Rattle.driver_exec.specs.Pool.{Pool}
 use Rattle.driver_exec.specs.Session.{Session, last_number}
+use Rattle.driver_exec.specs.StoreTells.{DrawnApart, LendsSession, MayDrawObjectId, StoreTells}
 use Rattle.driver_exec.specs.Writing.{insert_send}
-use Rattle.driver_exec.proofs.Completing.{AnswersPlainly, EndsQuietly, gentle_ends}
+use Rattle.driver_exec.proofs.Completing.Course.{gentle_ends}
+use Rattle.driver_exec.proofs.Completing.Ends.{AnswersPlainly, EndsQuietly}
 use Rattle.driver_exec.proofs.InsertReading.{inserted_plain}
 use Rattle.driver_exec.proofs.Numbering.{lent_within}
 use Rattle.driver_exec.proofs.Readying.{MayGo, bare_goes, go_again, go_answered, lent_goes}
-use Rattle.driver_exec.proofs.Staying.{stays_then_lends}
 use Rattle.driver_actions.specs.declared.call.Answer.{Answer}
 use Rattle.driver_actions.specs.declared.call.Call.{Call}
 use Rattle.driver_actions.specs.declared.call.Call.TheVariants.{Single}
+use Rattle.driver_actions.specs.declared.call.Outcome.{Outcome}
 use Rattle.driver_actions.specs.declared.call.SingleAnswer.{SingleAnswer}
 use Rattle.driver_actions.specs.declared.call.SingleWrite.TheVariants.{InsertOne}
+use Rattle.driver_actions.specs.CallByCall.{CallCaused, with_clock, with_reading}
 use Rattle.driver_actions.specs.Calls.{inserted}
-use Rattle.driver_actions.specs.Causes.{HasCause, Moment}
 use Rattle.driver_actions.specs.Inputs.{IsAccepted, TellsInput}
 use Rattle.driver_actions.specs.MainTheorem.{CallCompletes, CallEnds, EndsWell, IsValidInsert}
-use Rattle.driver_actions.specs.Standing.{LeavesTold, RunState, Stands}
+use Rattle.driver_actions.specs.Standing.{LeavesTold, RunInvariant, RunState}
 use Rattle.driver_actions.specs.Turns.{Made, MakesCall, TellsAnswer}
 use Rattle.driver_actions.proofs.Logging.{first_place}
 use Rattle.driver_actions.proofs.Refusals.{accepted_not_refused}
@@ -54,30 +58,46 @@ accepted_memory namespace document (kind.BsonSerialization fault) accepted tells
 accepted_memory namespace document kind.Memory accepted tells = refl
 accepted_memory namespace document _ accepted tells = absurd tells
 
--- what holds before a call over a told store and a told server
-record Ready (made : ℕ) (store : ToldStore) (told : Told) : Type 0 where
-  between : Between store.pool told.server.trace
+-- what holds before a call over a told pool and a told server
+record Ready (made : ℕ) (pool : Pool) (told : ServerRun) : Type 0 where
+  between : Between pool told.server.trace
   sound : Sound made told.server
-  numbers : NumbersWithin (pos made) store.pool.idle
+  numbers : NumbersWithin (pos made) pool.idle
 
+-- a session that has no further number is past the calls that were made
 past_end : (made : ℕ) (number : ℤ) → number ≡ last_number → number ≤ℤ pos made → pos made <ℤ last_number → ⊥
 past_end made number is within below = omega (arith, ints)
 
-module _ (options : ClientOptions) (made : ℕ) (before now : Moment) (namespace : Namespace) (document : List (Pair Bson)) (valid : IsValidInsert made namespace document) where
-  -- the insert of a call's own write, over what is told
-  module _ (old : ToldStore) (told told_now : Told) (ready : Ready made old told) (store_is : before.store ≡ Some old) (link_is : before.link.server ≡ Some told)
-      (now_is : now.link.server ≡ Some told_now) (apart : DrawnApart now.store) (result : Result SingleAnswer Error)
-      (sent : Made options before now (inserted namespace document) (first_place made) result) where
-    stays : StaysTold (Some old) sent.inserts.store
-    stays = subst (λ s. StaysTold s sent.inserts.store) store_is sent.inserts.stays
+-- the pool stays where an object id was drawn or not
+pool_stays : (old now : StoreTells) → MayDrawObjectId old now → now.pool ≡ old.pool
+pool_stays old now draws = elim draws [
+  | inl same ↦ ap (λ store. store.pool) same
+  | inr drawn ↦ drawn.1.pool
+]
 
-    -- a session is lent as the store before the call lends it
-    lends_old : (caller moment : ℕ) (lent : Option ToldStore) (session : Session) → Lends sent.inserts.store lent caller moment session → Lends (Some old) lent caller moment session
-    lends_old caller moment lent session lends = stays_then_lends (Some old) sent.inserts.store lent caller moment session stays lends
+module _ (made : ℕ) (before now : Moment) (namespace : Namespace) (document : List (Pair Bson)) (valid : IsValidInsert made namespace document) where
+  -- the part of the schedule of the call is gentle
+  abbrev IsGentleCall : ServerRun → ServerRun → Type 0
+  IsGentleCall told told_now = IsGentlePart (DrawsNumbers true (own_of_insert before.client.options) (setup_of before.link)) told told_now
+
+  -- the insert of a call's own write, over what is told
+  module _ (pool : Pool) (told told_now : ServerRun) (ready : Ready made pool told) (pool_is : before.store.pool ≡ Some pool) (link_is : server_run before.link ≡ Some told)
+      (now_is : server_run now.link ≡ Some told_now) (apart : DrawnApart now.store) (result : Result SingleAnswer Error)
+      (sent : Made before now (inserted namespace document) (first_place made) result) where
+    -- the moment of the insert, once an id was drawn, if any
+    abbrev mid : Moment
+    mid = sent.inserts.mid
+
+    mid_pool : mid.store.pool ≡ Some pool
+    mid_pool = pool_stays before.store mid.store sent.inserts.draws.draws ∙ pool_is
+
+    mid_link : server_run mid.link ≡ Some told
+    mid_link = ap (λ moment. server_run moment.link) sent.inserts.draws.rest ∙ link_is
 
     placed : sent.write.place.call ≡ made
     placed = ap (λ place. place.call) sent.placed
 
+    -- each send is answered that the insert was done
     answers : (session : Option (List ℕ)) (number : Option ℤ) (server : Server) (step : Scheduled) → MayGo sent.write (insert_send session number sent.write) server
         → IsGentleItem step.item → AnswersPlainly server (insert_send session number sent.write) step
     answers session number server step may gentle = record {
@@ -86,29 +106,38 @@ module _ (options : ClientOptions) (made : ℕ) (before now : Moment) (namespace
       plain = inserted_plain;
     }
 
-    first : (caller moment : ℕ) (lent : Option ToldStore) (session : Session) (number : ℤ) → Lends sent.inserts.store lent caller moment session → DrawnApart lent
+    -- the first may go out
+    first : (at : ℕ) (lent : StoreTells) (session : Session) (number : ℤ) → LendsSession mid.store lent at session → DrawnApart lent
         → number ≡ (session.number +ℤ pos 1) → MayGo sent.write (insert_send (Some session.id) (Some number) sent.write) told.server
-    first caller moment lent session number lends drawn is =
-        lent_goes sent.write made old told.server placed ready.sound ready.between caller moment lent session number (lends_old caller moment lent session lends) drawn is
+    first at lent session number lends drawn is =
+        lent_goes sent.write made mid.store lent pool told.server mid_pool placed ready.sound ready.between at session number lends drawn is
 
+    -- its command has a spelling
     unspelled : (session : Option (List ℕ)) (number : Option ℤ) (fault : EncodeFault) → BodyRefused sent.write.written.namespace session number fault → ⊥
     unspelled session number fault refused =
         let spelled : refusal (insert_body sent.write.written.namespace session number) ≡ None
         = ap (λ n. refusal (insert_body n session number)) sent.own.namespace ∙ valid.command session number refused.sixteen in
         let e : ◌≡◌ {A = Option EncodeFault} None (Some fault) = sym spelled ∙ refused.is in cc
 
-    not_last : (caller moment : ℕ) (lent : Option ToldStore) (session : Session) → Lends sent.inserts.store lent caller moment session → session.number ≡ last_number → ⊥
-    not_last caller moment lent session lends is =
-        past_end made session.number is (lent_within made old lent caller moment session (lends_old caller moment lent session lends) ready.numbers) valid.number
+    -- its session has a further number
+    not_last : (at : ℕ) (lent : StoreTells) (session : Session) → LendsSession mid.store lent at session → session.number ≡ last_number → ⊥
+    not_last at lent session lends is =
+        past_end made session.number is (lent_within made mid.store lent pool mid_pool at session lends ready.numbers) valid.number
 
-    sent_quiet : IsGentlePart (DrawsNumbers true (own_of_insert options) before.link.setup) told told_now → EndsQuietly sent.ended
+    -- the part is gentle from the moment of the insert on
+    gentle_mid : IsGentleCall told told_now → IsGentlePart (DrawsNumbers true (own_of_insert mid.client.options) (setup_of mid.link)) told told_now
+    gentle_mid gentle =
+        subst (λ moment. IsGentlePart (DrawsNumbers true (own_of_insert moment.client.options) (setup_of moment.link)) told told_now) (sym sent.inserts.draws.rest) gentle
+
+    -- so the insert ends well
+    sent_quiet : IsGentleCall told told_now → EndsQuietly sent.ended
     sent_quiet gentle =
-        gentle_ends sent.write sent.inserts.bytes sent.inserts.spelled (own_of_insert options) sent.inserts.store told before.link link_is (MayGo sent.write)
-        answers (λ id number server step may lossy. go_again sent.write id number server step may lossy) first
-        (λ session. bare_goes sent.write session told.server) unspelled not_last now.store now.link told_now 0 sent.inserts.count sent.ended now_is apart gentle sent.inserts.executes
+        gentle_ends sent.write sent.inserts.bytes sent.inserts.spelled mid now told told_now mid_link now_is (MayGo sent.write) answers
+        (λ id number server step may lossy. go_again sent.write id number server step may lossy) first (λ session. bare_goes sent.write session told.server) unspelled not_last
+        0 sent.inserts.count sent.ended apart (gentle_mid gentle) sent.inserts.executes
 
     -- so does its call
-    sent_well : (error : Error) → result ≡ Err error → IsGentlePart (DrawsNumbers true (own_of_insert options) before.link.setup) told told_now → kind_of error ≡ kind.Memory
+    sent_well : (error : Error) → result ≡ Err error → IsGentleCall told told_now → kind_of error ≡ kind.Memory
     sent_well error is gentle = by_ended sent.ended (sent_quiet gentle) (subst (TellsAnswer sent.write.written.document sent.ended) is sent.tells)
       where
         by_ended : (ended : Result (Unit {0}) Error) → EndsQuietly ended → TellsAnswer sent.write.written.document ended (Err error) → kind_of error ≡ kind.Memory
@@ -116,41 +145,54 @@ module _ (options : ClientOptions) (made : ℕ) (before now : Moment) (namespace
         by_ended (Err failed) quiet tells = let same : error ≡ failed = cc tells in ap kind_of same ∙ quiet
 
   -- over what is told
-  module _ (old : ToldStore) (told told_now : Told) (ready : Ready made old told) (store_is : before.store ≡ Some old) (link_is : before.link.server ≡ Some told)
-      (now_is : now.link.server ≡ Some told_now) (apart : DrawnApart now.store) (gentle : IsGentlePart (DrawsNumbers true (own_of_insert options) before.link.setup) told told_now) where
-    insert_well : (result : Result Answer Error) → MakesCall options before now (Single (InsertOne namespace document)) made result → EndsWell result
+  module _ (pool : Pool) (told told_now : ServerRun) (ready : Ready made pool told) (pool_is : before.store.pool ≡ Some pool) (link_is : server_run before.link ≡ Some told)
+      (now_is : server_run now.link ≡ Some told_now) (apart : DrawnApart now.store) (gentle : IsGentleCall told told_now) where
+    -- each end of the call is well
+    insert_well : (result : Result Answer Error) → MakesCall before now (Single (InsertOne namespace document)) made result → EndsWell result
     insert_well (Ok given) makes = tt
     insert_well (Err error) makes = elim makes [
       | inl unmade ↦ accepted_memory namespace document (kind_of error) valid.accepted unmade.why
-      | inr sent ↦ sent_well old told told_now ready store_is link_is now_is apart (Err error) sent error refl gentle
+      | inr sent ↦ sent_well pool told told_now ready pool_is link_is now_is apart (Err error) sent error refl gentle
     ]
 
 -- the same of a run that stands
-module _ (options : ClientOptions) (run : RunState) (calls : List Call) (before now : Moment) (stands : Stands run calls before.store before.link.server) (apart : DrawnApart now.store) where
-  by_told : (store : Option ToldStore) (link link_now : Option Told) → before.store ≡ store → before.link.server ≡ link → now.link.server ≡ link_now
-      → LeavesTold (take run.made calls) run.outcomes store link → length run.outcomes ≡ run.made
-      → (namespace : Namespace) (document : List (Pair Bson)) (result : Result Answer Error) → MakesCall options before now (Single (InsertOne namespace document)) run.made result
-      → IsValidInsert run.made namespace document → IsGentleTold (DrawsNumbers true (own_of_insert options) before.link.setup) link link_now → EndsWell result
-  by_told None link link_now store_is link_is now_is left count namespace document result makes valid gentle = absurd left
-  by_told (Some old) None link_now store_is link_is now_is left count namespace document result makes valid gentle = absurd left
-  by_told (Some old) (Some told) None store_is link_is now_is left count namespace document result makes valid gentle = absurd gentle
-  by_told (Some old) (Some told) (Some told_now) store_is link_is now_is left count namespace document result makes valid gentle =
-      let ready : Ready run.made old told = record {
-        between = left.between;
-        sound = subst (λ n. Sound n told.server) count left.sound;
-        numbers = subst (λ n. NumbersWithin (pos n) old.pool.idle) count left.numbers;
+module _ (run : RunState) (calls : List Call) (before now : Moment) (left : LeavesTold (take run.made calls) run.outcomes before.store.pool (server_run before.link))
+    (count : length run.outcomes ≡ run.made) (apart : DrawnApart now.store) where
+  -- by what is told
+  by_told : (store : Option Pool) (link link_now : Option ServerRun) → before.store.pool ≡ store → server_run before.link ≡ link → server_run now.link ≡ link_now
+      → LeavesTold (take run.made calls) run.outcomes store link → (namespace : Namespace) (document : List (Pair Bson)) (result : Result Answer Error)
+      → MakesCall before now (Single (InsertOne namespace document)) run.made result → IsValidInsert run.made namespace document
+      → IsGentleTold (DrawsNumbers true (own_of_insert before.client.options) (setup_of before.link)) link link_now → EndsWell result
+  by_told None link link_now pool_is link_is now_is leaves namespace document result makes valid gentle = absurd leaves
+  by_told (Some pool) None link_now pool_is link_is now_is leaves namespace document result makes valid gentle = absurd leaves
+  by_told (Some pool) (Some told) None pool_is link_is now_is leaves namespace document result makes valid gentle = absurd gentle
+  by_told (Some pool) (Some told) (Some told_now) pool_is link_is now_is leaves namespace document result makes valid gentle =
+      let ready : Ready run.made pool told = record {
+        between = leaves.between;
+        sound = subst (λ n. Sound n told.server) count leaves.sound;
+        numbers = subst (λ n. NumbersWithin (pos n) pool.idle) count leaves.numbers;
       } in
-      insert_well options run.made before now namespace document valid old told told_now ready store_is link_is now_is apart gentle result makes
+      insert_well run.made before now namespace document valid pool told told_now ready pool_is link_is now_is apart gentle result makes
 
-  completes : (call : Call) (result : Result Answer Error) → MakesCall options before now call run.made result → CallCompletes options run.made before now call result
+  -- a call that is made ends well where it is valid and its part is gentle
+  completes : (call : Call) (result : Result Answer Error) → MakesCall before now call run.made result → CallCompletes run.made before now call result
   completes (Single (InsertOne namespace document)) result makes valid gentle =
-      by_told before.store before.link.server now.link.server refl refl refl stands.left (stands_count run calls before.store before.link.server stands) namespace document result makes valid gentle
+      by_told before.store.pool (server_run before.link) (server_run now.link) refl refl refl left namespace document result makes valid gentle
 
-  -- a call of a run that stands
-  pub call_ends : (call : Call) (result : Result Answer Error) → MakesCall options before now call run.made result → HasCause options before now call result
-      → CallEnds options run.made before now call result
-  call_ends call result makes cause = record {
-    caused = record { makes = makes; cause = cause };
-    complete = completes call result makes;
-    own = sends_own before.store now.store before.link.server now.link.server call run.made result (call_sends options before now call run.made result makes);
-  }
+-- its end does not depend on the readings of the clock
+completes_read : (number reading : ℕ) (clock : ClockTells) (before now : Moment) (call : Call) (result : Result Answer Error)
+    → CallCompletes number (with_reading before reading) (with_clock now clock) call result → CallCompletes number before now call result
+completes_read number reading clock before now (Single (InsertOne namespace document)) result completes = completes
+
+-- a call of a run that stands
+pub call_ends : (run : RunState) (calls : List Call) (before now : Moment) → RunInvariant run calls before → DrawnApart now.store → (call : Call) (outcome : Outcome)
+    → CallCaused run.made before now call outcome → CallEnds run.made before now call outcome
+call_ends run calls before now stands apart call outcome caused =
+    let read = with_reading before outcome.started_ms in
+    let last = with_clock now caused.clock in
+    record {
+      caused = caused;
+      complete = completes_read run.made outcome.started_ms caused.clock before now call outcome.result
+          (completes run calls read last stands.left (stands_count run calls before stands) apart call outcome.result caused.makes);
+      own = sends_own read last call run.made outcome.result (call_sends read last call run.made outcome.result caused.makes);
+    }

@@ -1,26 +1,28 @@
--- The insert of a write keeps the invariant of one client's writes, and where it is done its entry stands.
-use Rattle.std.proofs.Common.{◌≡◌, ℕ, ◌+◌, refl}
+-- The insert of a write keeps the invariant of one client's writes, whatever the link answered.
+use Rattle.std.proofs.Common.{◌≡◌, refl}
 use Rattle.std.specs.Prelude.{Option, None, Some}
 use Rattle.driver_link.specs.declared.machine.PlacedWrite.{PlacedWrite}
-use Rattle.driver_link.specs.Statements.{entry_of}
-use Rattle.driver_link.specs.Told.{Told}
-use Rattle.driver_exec.specs.BetweenCalls.{Between, Sound}
+use Rattle.driver_link.specs.LinkState.{server_run}
+use Rattle.driver_link.specs.ServerRun.{ServerRun}
 use Rattle.driver_exec.specs.Causes.{Failure}
-use Rattle.driver_exec.specs.Pool.{AllApart, ToldStore}
-use Rattle.driver_exec.specs.Writing.{Wrote, placed_write}
-use Rattle.driver_exec.proofs.Written.{wrote_leaves, wrote_stands}
-use Rattle.driver_actions.specs.Calls.{HasPlace}
-use Rattle.driver_actions.proofs.Logging.{stands_has}
+use Rattle.driver_exec.specs.Keeping.{KeepsInvariant, KeepsTold}
+use Rattle.driver_exec.specs.Moment.{Moment}
+use Rattle.driver_exec.specs.Pool.{Pool}
+use Rattle.driver_exec.specs.Writing.{Wrote}
+use Rattle.driver_exec.proofs.Written.{wrote_leaves}
 
-pub insert_keeps : (made : ℕ) (old now : ToldStore) (told told_now : Told) (write : PlacedWrite) (ended : Option Failure) → write.place.call ≡ made → AllApart now.pool.drawn
-    → Between old.pool told.server.trace → Sound made told.server → Wrote (Some old) (Some now) (Some told) (Some told_now) write ended
-    → Between now.pool told_now.server.trace × Sound (made + 1) told_now.server
-insert_keeps made old now told told_now write ended placed apart between sound wrote =
-    let left = wrote_leaves made old now told told_now write placed apart between sound ended wrote in (left.between, left.sound)
-
-pub insert_stands : (made : ℕ) (old now : ToldStore) (told told_now : Told) (write : PlacedWrite) → write.place.call ≡ made → AllApart now.pool.drawn
-    → Between old.pool told.server.trace → Sound made told.server → Wrote (Some old) (Some now) (Some told) (Some told_now) write None
-    → HasPlace write.place told_now.server.log
-insert_stands made old now told told_now write placed apart between sound wrote =
-    let stands = wrote_stands made old now told told_now write placed apart between sound None wrote refl in
-    stands_has write.place told_now.server.log (entry_of wrote.session wrote.number (placed_write write) stands.result) stands.has refl
+-- where pool and server are told it keeps it
+pub insert_keeps : (before now : Moment) (write : PlacedWrite) (ended : Option Failure) → Wrote before now write ended → KeepsInvariant before now write
+insert_keeps before now write ended wrote =
+    of_told before.store.pool now.store.pool (server_run before.link) (server_run now.link) refl refl refl refl
+  where
+    -- by what is told
+    of_told : (pool pool_now : Option Pool) (run run_now : Option ServerRun) → before.store.pool ≡ pool → now.store.pool ≡ pool_now → server_run before.link ≡ run
+        → server_run now.link ≡ run_now → KeepsTold pool pool_now run run_now write
+    of_told (Some pool) (Some pool_now) (Some run) (Some run_now) is now_is run_is run_now_is = λ made stands.
+        let left = wrote_leaves made before now pool pool_now run run_now is now_is run_is run_now_is write stands.placed stands.apart stands.between stands.sound ended wrote in
+        record { between = left.between; sound = left.sound }
+    of_told None pool_now run run_now is now_is run_is run_now_is = tt
+    of_told (Some pool) None run run_now is now_is run_is run_now_is = tt
+    of_told (Some pool) (Some pool_now) None run_now is now_is run_is run_now_is = tt
+    of_told (Some pool) (Some pool_now) (Some run) None is now_is run_is run_now_is = tt

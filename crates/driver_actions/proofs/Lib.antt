@@ -1,4 +1,4 @@
-pub mod Making
+pub mod Parts
 pub mod Moving
 pub mod Logging
 pub mod Answering

@@ -14,30 +14,37 @@ use Rattle.driver_actions.specs.Calls.{OwnAt, Mine, HasPlace, Done, write_at, sa
 abbrev pub first_place : ℕ → Place
 first_place call = record { call = call; index = 0 }
 
+-- what has a place in a log has it in a longer one
 stands_left : (place : Place) (log more : List Entry) → HasPlace place log → HasPlace place (log ++ more)
 stands_left place [] more stands = absurd stands
 stands_left place (entry ∷ log) more stands = elim stands [ inl at ↦ inl at | inr rest ↦ inr (stands_left place log more rest) ]
 
+-- what is done stays done as the log grows
 pub done_left : (calls : List Call) (call : ℕ) (log more : List Entry) → Done calls call log → Done calls call (log ++ more)
 done_left calls call log more done = λ index given. stands_left (record { call = call; index = index }) log more (done index given)
 
+-- of two that are true the first is
 left_true : (a b : Bool) → (a && b) ≡ true → a ≡ true
 left_true true b both = refl
 left_true false b both = both
 
+-- and the second
 right_true : (a b : Bool) → (a && b) ≡ true → b ≡ true
 right_true true b both = both
 right_true false b both = absurd (let e : ◌≡◌ {A = Bool} false true = both in cc)
 
+-- equal places are found to be the same
 is_same : (a b : Place) → a ≡ b → same_place a b ≡ true
 is_same a b at =
     let call = (Decides-eqb a.call b.call).1 (ap (λ place. place.call) at) in
     let index = (Decides-eqb a.index b.index).1 (ap (λ place. place.index) at) in
     ap (λ t. t && (a.index == b.index)) call ∙ index
 
+-- places that differ are not
 not_same : (a b : Place) → (a ≢ b) → same_place a b ≡ false
 not_same a b differs = false_from_ne_true (same_place a b) (λ same. differs (places_equal a b same))
   where
+    -- places that are found to be the same are equal
     places_equal : (a b : Place) → same_place a b ≡ true → a ≡ b
     places_equal a b same =
         let call : a.call ≡ b.call = (Decides-eqb a.call b.call).0 (left_true (a.call == b.call) (a.index == b.index) same) in
@@ -55,6 +62,7 @@ entry_left place (first ∷ log) more entry found =
       | false ↦ λ is. entry_left place log more entry is
     ] found
 
+-- no entry has a place that no entry has
 none_has : (place : Place) (log : List Entry) (entry : Entry) → NoneAt place log → Has log entry → entry.place ≡ place → ⊥
 none_has place [] entry none has at = has
 none_has place (first ∷ log) entry none has at = elim has [
@@ -76,6 +84,7 @@ entry_found place (first ∷ log) entry once has at = elim has [
       ∙ entry_found place log entry once.1 rest at
 ]
 
+-- an entry that stands has its place
 pub stands_has : (place : Place) (log : List Entry) (entry : Entry) → Has log entry → entry.place ≡ place → HasPlace place log
 stands_has place [] entry has at = absurd has
 stands_has place (first ∷ log) entry has at = elim has [

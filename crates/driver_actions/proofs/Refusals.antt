@@ -18,9 +18,8 @@ use Rattle.driver_error.specs.Conversions.{IsMade}
 use Rattle.driver_error.specs.Error.{ErrorKind, IsAlone, kind_of}
 use Rattle.driver_error.specs.LabelTexts.{no_labels}
 use Rattle.driver_exec.specs.Causes.{Failure}
-use Rattle.driver_exec.specs.Links.{ToldLink}
-use Rattle.driver_exec.specs.Pool.{ToldStore}
-use Rattle.driver_actions.specs.Causes.{Moment, RefusesFirst, TellsOwnRefusal, moment}
+use Rattle.driver_exec.specs.Moment.{Moment}
+use Rattle.driver_actions.specs.Causes.{RefusesFirst, TellsOwnRefusal}
 use Rattle.driver_actions.specs.Inputs.{has_dot, dotted_text, RefusesInsert, InputRefused, IsAccepted, TellsInput}
 
 -- the pair of an id
@@ -203,11 +202,11 @@ one_input namespace document (kind.BsonSerialization fault) _ one two = absurd t
 one_input namespace document _ second one two = absurd one
 
 -- the error that was answered is the input's
-pub input_first : (store store_now : Option ToldStore) (link : ToldLink) (namespace : Namespace) (document : List (Pair Bson)) (why : Failure)
-    → TellsInput namespace document why.kind → RefusesFirst (moment store link) (moment store_now link) namespace document (Some why)
-input_first store store_now link namespace document why tells = record {
+pub input_first : (before now : Moment) → now.link ≡ before.link → (namespace : Namespace) (document : List (Pair Bson)) (why : Failure)
+    → TellsInput namespace document why.kind → RefusesFirst before now namespace document (Some why)
+input_first before now unasked namespace document why tells = record {
   tells = λ other refused. first why.kind other tells refused;
-  unasked = λ other refused. refl;
+  unasked = λ other refused. unasked;
 }
   where
     first : (found other : ErrorKind) → TellsInput namespace document found → InputRefused namespace document other → (found ≡ other) ⊎ (found ≡ kind.Memory)

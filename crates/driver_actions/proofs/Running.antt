@@ -1,4 +1,4 @@
--- A run of calls over a told store and a told server: each call keeps what holds of the calls before it.
+-- A run of calls over a told pool and a told server: each call keeps what holds of the calls before it.
 use Rattle.std.proofs.Common.{◌≡◌, ℕ, ◌+◌, List, [], ◌∷◌, ◌++◌, length, refl, sym, ap, subst, ◌∙◌, inl, inr, length-append}
 use Rattle.std.specs.Prelude.{Option, None, Some, Result, Ok, Err, slice_get}
 use Rattle.std.specs.Result.{result_ok}
@@ -17,12 +17,15 @@ use Rattle.driver_link.specs.Exchange.{after_picks, empty_server}
 use Rattle.driver_link.specs.Once.{Once}
 use Rattle.driver_link.specs.Settled.{Has, IsFrom, IsSettled}
 use Rattle.driver_link.specs.Statements.{entry_of}
-use Rattle.driver_link.specs.Told.{Told}
+use Rattle.driver_link.specs.LinkState.{server_run}
+use Rattle.driver_link.specs.ServerRun.{ServerRun}
 use Rattle.driver_link.proofs.Exchanged.{after_settled, empty_orderly, empty_settled, entry_is_from}
 use Rattle.driver_exec.specs.BetweenCalls.{Between, Sound}
 use Rattle.driver_exec.specs.Causes.{end_of}
-use Rattle.driver_exec.specs.Pool.{Pool, ToldStore, AllApart, StaysTold, empty_pool}
-use Rattle.driver_exec.specs.Writing.{Wrote, placed_write}
+use Rattle.driver_exec.specs.Moment.{Moment}
+use Rattle.driver_exec.specs.Pool.{AllApart, Pool, empty_pool}
+use Rattle.driver_exec.specs.Writing.{placed_write}
+use Rattle.driver_exec.proofs.PoolTells.{same_told}
 use Rattle.driver_exec.proofs.Written.{Left, Stands, only_write, sound_later, wrote_leaves, wrote_stands}
 use Rattle.driver_actions.specs.declared.call.Answer.{Answer}
 use Rattle.driver_actions.specs.declared.call.Answer.TheVariants as answer
@@ -33,12 +36,12 @@ use Rattle.driver_actions.specs.declared.call.SingleAnswer.{SingleAnswer}
 use Rattle.driver_actions.specs.declared.call.SingleAnswer.TheVariants.{Inserted}
 use Rattle.driver_actions.specs.declared.call.SingleWrite.TheVariants.{InsertOne}
 use Rattle.driver_actions.specs.Calls.{IsOwn, OwnAt, inserted, write_at}
-use Rattle.driver_actions.specs.MainTheorem.{Holds}
+use Rattle.driver_actions.specs.MainTheorem.{MainTheorem}
 use Rattle.driver_actions.specs.Standing.{AllOwn}
 use Rattle.driver_actions.specs.Turns.{TellsAnswer}
 use Rattle.driver_actions.proofs.Answering.{Answered, answered_none, answered_more, own_at}
 use Rattle.driver_actions.proofs.Logging.{first_place, mine_all}
-use Rattle.driver_actions.proofs.Sending.{Sends, SendsCall, Sent}
+use Rattle.driver_actions.proofs.Sending.{Sends, SendsCall, Sent, mid_pool, mid_run}
 
 -- what holds after a number of calls
 pub record Ran (calls : List Call) (outcomes : List Outcome) (pool : Pool) (server : Server) : Type 0 where
@@ -58,122 +61,119 @@ one_more outcomes last server sound =
     let count : length outcomes + 1 ≡ length (outcomes ++ last ∷ []) = sym (length-append outcomes (last ∷ [])) in
     subst (λ n. Sound n server) count sound
 
--- where the store lends from is the pool that there was
-record FromPool (old : ToldStore) (store : Option ToldStore) : Type 0 where
-  mid : ToldStore
-  is : store ≡ Some mid
-  pool : mid.pool ≡ old.pool
-
-from_pool : (old : ToldStore) (store : Option ToldStore) → StaysTold (Some old) store → FromPool old store
-from_pool old None stays = absurd stays
-from_pool old (Some mid) stays = record { mid = mid; is = refl; pool = stays.0 }
-
-module _ (calls : List Call) (outcomes : List Outcome) (old now : ToldStore) (told told_now : Told) (last : Outcome) (apart : AllApart now.pool.drawn)
-    (ran : Ran calls outcomes old.pool told.server) where
+-- one call between two moments of a told pool and a told server
+module _ (calls : List Call) (outcomes : List Outcome) (before now : Moment) (pool pool_now : Pool) (run run_now : ServerRun) (pool_is : before.store.pool ≡ Some pool)
+    (pool_now_is : now.store.pool ≡ Some pool_now) (run_is : server_run before.link ≡ Some run) (run_now_is : server_run now.link ≡ Some run_now) (last : Outcome)
+    (apart : AllApart pool_now.drawn) (ran : Ran calls outcomes pool run.server) where
   -- a call that did not answer and sent nothing
-  ran_same : result_ok last.result ≡ None → now.pool ≡ old.pool → told_now.server ≡ told.server → Ran calls (outcomes ++ last ∷ []) now.pool told_now.server
+  ran_same : result_ok last.result ≡ None → pool_now ≡ pool → run_now.server ≡ run.server → Ran calls (outcomes ++ last ∷ []) pool_now run_now.server
   ran_same none same_pool same =
-      let P : Server → Type 0 = λ s. Ran calls (outcomes ++ last ∷ []) now.pool s in
+      let P : Server → Type 0 = λ s. Ran calls (outcomes ++ last ∷ []) pool_now s in
       subst P (sym same) (record {
-        between = subst (λ pool. Between pool told.server.trace) (sym same_pool) ran.between;
-        sound = one_more outcomes last told.server (sound_later (length outcomes) told.server ran.sound);
+        between = subst (λ p. Between p run.server.trace) (sym same_pool) ran.between;
+        sound = one_more outcomes last run.server (sound_later (length outcomes) run.server ran.sound);
         own = ran.own;
         answered =
-            subst (λ log. Answered calls (outcomes ++ last ∷ []) log) (append-nil told.server.log)
-            (answered_none calls outcomes told.server.log [] last none ran.answered);
+            subst (λ log. Answered calls (outcomes ++ last ∷ []) log) (append-nil run.server.log)
+            (answered_none calls outcomes run.server.log [] last none ran.answered);
       })
 
   module _ (namespace : Namespace) (document : List (Pair Bson)) (at : slice_get calls (length outcomes) ≡ Some (Single (InsertOne namespace document)))
-      (result : Result SingleAnswer Error)
-      (sent : Sent (Some old) (Some now) (Some told) (Some told_now) (inserted namespace document) (first_place (length outcomes)) result) where
-    from : FromPool old sent.mid
-    from = from_pool old sent.mid sent.stays
+      (result : Result SingleAnswer Error) (sent : Sent before now (inserted namespace document) (first_place (length outcomes)) result) where
+    -- the told pool before the write
+    pool_here : sent.mid.store.pool ≡ Some pool
+    pool_here = mid_pool before sent.mid pool sent.draws pool_is
 
-    wrote : Wrote (Some from.mid) (Some now) (Some told) (Some told_now) sent.write (end_of sent.ended)
-    wrote = subst (λ store. Wrote store (Some now) (Some told) (Some told_now) sent.write (end_of sent.ended)) from.is sent.wrote
+    -- the told server before it
+    run_here : server_run sent.mid.link ≡ Some run
+    run_here = mid_run before sent.mid sent.draws ∙ run_is
 
-    between_here : Between from.mid.pool told.server.trace
-    between_here = subst (λ pool. Between pool told.server.trace) (sym from.pool) ran.between
-
+    -- the write is the caller's own
     own_here : OwnAt (write_at calls sent.write.place) (placed_write sent.write).written
     own_here =
         subst (λ place. OwnAt (write_at calls place) (placed_write sent.write).written) (sym sent.placed)
         (own_at calls (length outcomes) namespace document (placed_write sent.write).written at (own_sent namespace document sent.write.written sent.own))
 
+    -- its place is of the call that is made
     placed_call : sent.write.place.call ≡ length outcomes
     placed_call = ap (λ place. place.call) sent.placed
 
-    left : Left (length outcomes) wrote.session wrote.number sent.write now told.server told_now.server
-    left = wrote_leaves (length outcomes) from.mid now told told_now sent.write placed_call apart between_here ran.sound (end_of sent.ended) wrote
+    -- what its insert left
+    left : Left (length outcomes) sent.wrote.session sent.wrote.number sent.write pool_now run.server run_now.server
+    left = wrote_leaves (length outcomes) sent.mid now pool pool_now run run_now pool_here pool_now_is run_here run_now_is sent.write placed_call apart ran.between ran.sound
+        (end_of sent.ended) sent.wrote
 
-    own_now : AllOwn calls told_now.server.trace
+    -- all that was sent is the caller's own
+    own_now : AllOwn calls run_now.server.trace
     own_now = λ send at found has stands. elim (left.which send has) [
       | inl earlier ↦ ran.own send at found earlier stands
       | inr same ↦
-          let only = only_write wrote.session wrote.number sent.write at found (ap (λ s. slice_get (writes_of s) at) same ∙ stands) in
+          let only = only_write sent.wrote.session sent.wrote.number sent.write at found (ap (λ s. slice_get (writes_of s) at) same ∙ stands) in
           subst (λ w. OwnAt (write_at calls w.place) w.written) (sym only.1) own_here
     ]
 
     -- a call that did not answer
-    ran_unanswered : result_ok last.result ≡ None → Ran calls (outcomes ++ last ∷ []) now.pool told_now.server
+    ran_unanswered : result_ok last.result ≡ None → Ran calls (outcomes ++ last ∷ []) pool_now run_now.server
     ran_unanswered none = record {
       between = left.between;
-      sound = one_more outcomes last told_now.server left.sound;
+      sound = one_more outcomes last run_now.server left.sound;
       own = own_now;
       answered =
           subst (λ log. Answered calls (outcomes ++ last ∷ []) log) (sym left.log)
-          (answered_none calls outcomes told.server.log left.more last none ran.answered);
+          (answered_none calls outcomes run.server.log left.more last none ran.answered);
     }
 
     -- a call that answered, whose entry stands
     ran_answered : (id : Bson) → value_of id_key sent.write.written.document ≡ Some id
         → result_ok last.result ≡ Some (answer.Single (Inserted (record { inserted_id = id })))
-        → Stands wrote.session wrote.number sent.write told_now.server.log → Ran calls (outcomes ++ last ∷ []) now.pool told_now.server
+        → Stands sent.wrote.session sent.wrote.number sent.write run_now.server.log → Ran calls (outcomes ++ last ∷ []) pool_now run_now.server
     ran_answered id found is stands =
-        let entry = entry_of wrote.session wrote.number (placed_write sent.write) stands.result in
+        let entry = entry_of sent.wrote.session sent.wrote.number (placed_write sent.write) stands.result in
         record {
           between = left.between;
-          sound = one_more outcomes last told_now.server left.sound;
+          sound = one_more outcomes last run_now.server left.sound;
           own = own_now;
           answered =
               subst (λ log. Answered calls (outcomes ++ last ∷ []) log) (sym left.log)
-              (answered_more calls outcomes namespace document told.server.log left.more entry id last at
+              (answered_more calls outcomes namespace document run.server.log left.more entry id last at
               (subst (λ log. Once log) left.log left.sound.settled.once) (subst (λ log. Has log entry) left.log stands.has) sent.placed found is ran.answered);
         }
 
   -- a call that failed
   ran_failed : (namespace : Namespace) (document : List (Pair Bson)) (error : Error)
       → slice_get calls (length outcomes) ≡ Some (Single (InsertOne namespace document))
-      → Sends (Some old) (Some now) (Some told) (Some told_now) (inserted namespace document) (first_place (length outcomes)) (Err error)
-      → result_ok last.result ≡ None → Ran calls (outcomes ++ last ∷ []) now.pool told_now.server
+      → Sends before now (inserted namespace document) (first_place (length outcomes)) (Err error)
+      → result_ok last.result ≡ None → Ran calls (outcomes ++ last ∷ []) pool_now run_now.server
   ran_failed namespace document error at sends none = elim sends [
-    | inl stays ↦ let same : told_now ≡ told = cc stays.same in ran_same none stays.stays.0 (ap (λ t. t.server) same)
+    | inl unsent ↦
+        let same_pool = same_told pool_now pool (sym pool_now_is ∙ mid_pool before now pool unsent pool_is) in
+        let same = same_told run_now run (sym run_now_is ∙ mid_run before now unsent ∙ run_is) in
+        ran_same none same_pool (ap (λ r. r.server) same)
     | inr sent ↦ ran_unanswered namespace document at (Err error) sent none
   ]
 
   -- a call that was done: its insert was, and its entry stands
   ran_done : (namespace : Namespace) (document : List (Pair Bson)) (given : SingleAnswer)
       → slice_get calls (length outcomes) ≡ Some (Single (InsertOne namespace document))
-      → (sent : Sent (Some old) (Some now) (Some told) (Some told_now) (inserted namespace document) (first_place (length outcomes)) (Ok given))
-      → result_ok last.result ≡ Some (answer.Single given) → Ran calls (outcomes ++ last ∷ []) now.pool told_now.server
+      → (sent : Sent before now (inserted namespace document) (first_place (length outcomes)) (Ok given))
+      → result_ok last.result ≡ Some (answer.Single given) → Ran calls (outcomes ++ last ∷ []) pool_now run_now.server
   ran_done namespace document given at sent is = by_ended sent.ended refl sent.tells
     where
+      -- by how its insert ended
       by_ended : (ended : Result (Unit {0}) Error) → sent.ended ≡ ended → TellsAnswer sent.write.written.document ended (Ok given)
-          → Ran calls (outcomes ++ last ∷ []) now.pool told_now.server
+          → Ran calls (outcomes ++ last ∷ []) pool_now run_now.server
       by_ended (Err error) ended tells = absurd (let e : ◌≡◌ {A = Result SingleAnswer Error} (Ok given) (Err error) = tells in cc)
       by_ended (Ok done) ended tells =
           let answer_is : result_ok last.result ≡ Some (answer.Single (Inserted (record { inserted_id = tells.id })))
           = is ∙ ap (λ a. Some (answer.Single a)) tells.answer_is in
-          let wrote_here = wrote namespace document at (Ok given) sent in
-          let from_here = from namespace document at (Ok given) sent in
-          let stands = wrote_stands (length outcomes) from_here.mid now told told_now sent.write (placed_call namespace document at (Ok given) sent) apart
-          (between_here namespace document at (Ok given) sent) ran.sound (end_of sent.ended) wrote_here (ap (λ e. end_of e) ended) in
+          let stands = wrote_stands (length outcomes) sent.mid now pool pool_now run run_now (pool_here namespace document at (Ok given) sent) pool_now_is
+          (run_here namespace document at (Ok given) sent) run_now_is sent.write (placed_call namespace document at (Ok given) sent) apart ran.between ran.sound
+          (end_of sent.ended) sent.wrote (ap (λ e. end_of e) ended) in
           ran_answered namespace document at (Ok given) sent tells.id tells.found answer_is stands
 
   -- one call more
   pub ran_more : (call : Call) (result : Result Answer Error) → last.result ≡ result → slice_get calls (length outcomes) ≡ Some call
-      → SendsCall (Some old) (Some now) (Some told) (Some told_now) call (length outcomes) result
-      → Ran calls (outcomes ++ last ∷ []) now.pool told_now.server
+      → SendsCall before now call (length outcomes) result → Ran calls (outcomes ++ last ∷ []) pool_now run_now.server
   ran_more (Single (InsertOne namespace document)) (Ok (answer.Single given)) is at sends =
       ran_done namespace document given at sends (ap result_ok is)
   ran_more (Single (InsertOne namespace document)) (Err error) is at sends = ran_failed namespace document error at sends (ap result_ok is)
@@ -203,7 +203,7 @@ own_origin calls trace entry own from =
 
 -- after the last call
 pub ran_holds : (calls : List Call) (outcomes : List Outcome) (pool : Pool) (server : Server) → length outcomes ≡ length calls
-    → Ran calls outcomes pool server → Holds calls outcomes server
+    → Ran calls outcomes pool server → MainTheorem calls outcomes server
 ran_holds calls outcomes pool server count ran =
     let settled : (picks : List ℕ) → IsSettled server.trace (after_picks server picks)
     = λ picks. after_settled server.trace server picks ran.sound.orderly ran.sound.settled in

@@ -10,12 +10,11 @@ use Rattle.driver_error.specs.declared.error.Error.{Error}
 use Rattle.driver_error.specs.declared.kind.ErrorKind.TheVariants as kind
 use Rattle.driver_error.specs.Conversions.{Converts}
 use Rattle.driver_error.specs.Error.{ErrorKind, kind_of}
-use Rattle.driver_link.specs.declared.options.ClientOptions.{ClientOptions}
 use Rattle.driver_exec.specs.Causes.{Failure, end_of}
-use Rattle.driver_exec.specs.InsertMeaning.{insert_meaning, own_of_insert}
-use Rattle.driver_exec.specs.Links.{ToldLink}
-use Rattle.driver_exec.specs.OperationCauses.{Caused, grounds}
-use Rattle.driver_exec.specs.Pool.{ToldStore}
+use Rattle.driver_exec.specs.InsertMeaning.{insert_meaning}
+use Rattle.driver_exec.specs.Moment.{Moment}
+use Rattle.driver_exec.specs.OperationCauses.{Caused}
+use Rattle.driver_exec.specs.StoreTells.{MayDrawObjectId}
 use Rattle.driver_actions.specs.declared.call.Call.{Call}
 use Rattle.driver_actions.specs.declared.call.Call.TheVariants.{Single}
 use Rattle.driver_actions.specs.declared.call.SingleWrite.{SingleWrite}
@@ -27,14 +26,10 @@ abbrev pub TellsKind : ErrorKind → Option Failure → Type 0
 TellsKind why None = ⊥
 TellsKind why (Some found) = (found.kind ≡ why) ⊎ (found.kind ≡ kind.Memory)
 
--- what store and link tell at one moment
-pub record Moment : Type 0 where
-  pub store : Option ToldStore
-  pub link : ToldLink
-
--- the same from its parts
-abbrev pub moment : Option ToldStore → ToldLink → Moment
-moment store link = record { store = store; link = link }
+-- an object id was drawn or not, and nothing else changed
+pub record MayDrawId (before now : Moment) : Type 0 where
+  pub draws : MayDrawObjectId before.store now.store
+  pub rest : now ≡ record before { store = now.store }
 
 -- an insert whose input is refused is answered so, and nothing was asked of the link
 pub record RefusesFirst (before now : Moment) (namespace : Namespace) (document : List (Pair Bson)) (ended : Option Failure) : Type 0 where
@@ -69,22 +64,23 @@ BecomesEnd (Err error) (Err now) = Converts error now
 BecomesEnd executed result = ⊥
 
 -- the operation of an insert ended with its cause, and so did its call
-pub record InsertCaused {A : Type 0} (options : ClientOptions) (before now : Moment) (namespace : Namespace) (result : Result A Error) : Type 0 where
+pub record InsertCaused {A : Type 0} (before now : Moment) (namespace : Namespace) (result : Result A Error) : Type 0 where
   pub bytes : List ℕ
   pub executed : Result (Unit {0}) Error
-  pub caused : Caused (grounds {A = Unit {0}} (insert_meaning namespace bytes) (own_of_insert options) before.link.setup before.store) before.link.faults now.link.faults
-      before.link.answers now.link.answers (end_of executed)
+  pub mid : Moment
+  pub draws : MayDrawId before mid
+  pub caused : Caused {A = Unit {0}} (insert_meaning namespace bytes) mid now (end_of executed)
   pub becomes : BecomesEnd executed result
 
 -- the operation of a write ended with its cause
-abbrev pub OperationCaused : {A : Type 0} → ClientOptions → Moment → Moment → SingleWrite → Result A Error → Type 0
-OperationCaused options before now (InsertOne namespace document) result = InsertCaused options before now namespace result
+abbrev pub OperationCaused : {A : Type 0} → Moment → Moment → SingleWrite → Result A Error → Type 0
+OperationCaused before now (InsertOne namespace document) result = InsertCaused before now namespace result
 
 -- a single write ended with its cause, and input that is refused was refused before the link was asked
-pub record WriteCaused {A : Type 0} (options : ClientOptions) (before now : Moment) (write : SingleWrite) (result : Result A Error) : Type 0 where
-  pub caused : EndsEarly before now write result ⊎ OperationCaused options before now write result
+pub record WriteCaused {A : Type 0} (before now : Moment) (write : SingleWrite) (result : Result A Error) : Type 0 where
+  pub caused : EndsEarly before now write result ⊎ OperationCaused before now write result
   pub refused : RefusesInput before now write (end_of result)
 
 -- so does a call
-abbrev pub HasCause : {A : Type 0} → ClientOptions → Moment → Moment → Call → Result A Error → Type 0
-HasCause options before now (Single write) result = WriteCaused options before now write result
+abbrev pub HasCause : {A : Type 0} → Moment → Moment → Call → Result A Error → Type 0
+HasCause before now (Single write) result = WriteCaused before now write result

@@ -14,12 +14,11 @@ use Rattle.driver_error.specs.Error.{kind_of}
 use Rattle.driver_link.specs.declared.machine.PlacedWrite.{PlacedWrite}
 use Rattle.driver_link.specs.declared.machine.Send.{Send}
 use Rattle.driver_link.specs.declared.machine.Server.{Server}
-use Rattle.driver_link.specs.declared.machine.Setup.{Setup}
-use Rattle.driver_link.specs.declared.options.ClientOptions.{ClientOptions}
 use Rattle.driver_link.specs.Cases.{writes_of}
 use Rattle.driver_link.specs.Exchange.{after_picks, replayed, empty_server}
 use Rattle.driver_link.specs.Once.{Once}
-use Rattle.driver_link.specs.Told.{Told, IsFresh}
+use Rattle.driver_link.specs.LinkState.{server_run, setup_of}
+use Rattle.driver_link.specs.ServerRun.{IsFresh, ServerRun}
 use Rattle.driver_actions.specs.declared.call.Answer.{Answer}
 use Rattle.driver_actions.specs.declared.call.Call.{Call}
 use Rattle.driver_actions.specs.declared.call.Outcome.{Outcome}
@@ -27,22 +26,22 @@ use Rattle.driver_actions.specs.declared.call.Call.TheVariants.{Single}
 use Rattle.driver_actions.specs.declared.call.SingleWrite.TheVariants.{InsertOne}
 use Rattle.driver_actions.specs.Calls.{Mine, Done, call_result}
 use Rattle.driver_actions.specs.CallByCall.{CallByCall, CallCaused}
-use Rattle.driver_actions.specs.Causes.{Moment}
 use Rattle.driver_actions.specs.Inputs.{IsAccepted}
 use Rattle.driver_exec.specs.Fields.{IsSixteen}
 use Rattle.driver_exec.specs.Gentle.{IsGentleTold}
 use Rattle.driver_exec.specs.InsertMeaning.{own_of_insert}
+use Rattle.driver_exec.specs.Moment.{Moment}
 use Rattle.driver_exec.specs.Inserts.{insert_body}
 use Rattle.driver_exec.specs.OperationCauses.{DrawsNumbers}
 use Rattle.driver_exec.specs.Session.{last_number}
-use Rattle.driver_exec.specs.Pool.{ToldStore, IsNewStore, DrawnApart}
+use Rattle.driver_exec.specs.StoreTells.{DrawnApart, IsNewStore}
 
 -- the answer of the call at a number, where it is Ok
 abbrev pub answer_at : List Outcome → ℕ → Option Answer
 answer_at outcomes call = option_and_then (λ outcome. result_ok outcome.result) (slice_get outcomes call)
 
 -- what a run of calls leaves on the server
-pub record Holds (calls : List Call) (outcomes : List Outcome) (server : Server) : Type 0 where
+pub record MainTheorem (calls : List Call) (outcomes : List Outcome) (server : Server) : Type 0 where
   pub one_each : length outcomes ≡ length calls
   pub once : (picks : List ℕ) → Once (after_picks server picks).log
   pub mine : (picks : List ℕ) → Mine calls (after_picks server picks).log
@@ -72,20 +71,20 @@ HasWriteOf call (write ∷ writes) = (write.place.call ≡ call) ⊎ HasWriteOf 
 
 -- the sends of a call's command have numbers: the link tells that its connections take sessions and retryable writes,
 -- and the client's options do not forbid them
-abbrev pub MayRepeat : ClientOptions → Option Setup → Call → Type 0
-MayRepeat options setup (Single (InsertOne namespace document)) = DrawsNumbers true (own_of_insert options) setup
+abbrev pub MayRepeat : Moment → Call → Type 0
+MayRepeat before (Single (InsertOne namespace document)) = DrawsNumbers true (own_of_insert before.client.options) (setup_of before.link)
 
 -- the part of a schedule that a call takes is gentle: none of its selections and check-outs fails, and each of its sends is
 -- served as usual; where its sends have numbers one of them may get no reply instead
-abbrev pub IsGentle : ClientOptions → Moment → Moment → Call → Type 0
-IsGentle options before now call = IsGentleTold (MayRepeat options before.link.setup call) before.link.server now.link.server
+abbrev pub IsGentle : Moment → Moment → Call → Type 0
+IsGentle before now call = IsGentleTold (MayRepeat before call) (server_run before.link) (server_run now.link)
 
 -- completeness of a call: a valid one whose part of the schedule is gentle ends well, whatever came before it
-abbrev pub CallCompletes : ClientOptions → ℕ → Moment → Moment → Call → Result Answer Error → Type 0
-CallCompletes options number before now call result = IsValid number call → IsGentle options before now call → EndsWell result
+abbrev pub CallCompletes : ℕ → Moment → Moment → Call → Result Answer Error → Type 0
+CallCompletes number before now call result = IsValid number call → IsGentle before now call → EndsWell result
 
 -- each send that a told server got between two moments is of this call
-abbrev pub SendsOwn : ℕ → Option Told → Option Told → Type 0
+abbrev pub SendsOwn : ℕ → Option ServerRun → Option ServerRun → Type 0
 SendsOwn call None now = Unit {0}
 SendsOwn call (Some told) None = ⊥
 SendsOwn call (Some told) (Some now) =
@@ -93,34 +92,43 @@ SendsOwn call (Some told) (Some now) =
 
 -- a call between two moments: it was made and ended with its cause, and well where it is valid and its part is gentle; all
 -- that was sent is its own
-pub record CallEnds (options : ClientOptions) (number : ℕ) (before now : Moment) (call : Call) (result : Result Answer Error) : Type 0 where
-  pub caused : CallCaused options number before now call result
-  pub complete : CallCompletes options number before now call result
-  pub own : SendsOwn number before.link.server now.link.server
+pub record CallEnds (number : ℕ) (before now : Moment) (call : Call) (outcome : Outcome) : Type 0 where
+  pub caused : CallCaused number before now call outcome
+  pub complete : CallCompletes number before now call outcome.result
+  pub own : SendsOwn number (server_run before.link) (server_run now.link)
 
 -- each call of a list ended so
-abbrev pub HaveEnded : ClientOptions → List Call → List Outcome → Moment → Moment → Type 0
-HaveEnded options calls outcomes before now = CallByCall (λ number from to call result. CallEnds options number from to call result) 0 calls outcomes before now
+abbrev pub HaveEnded : List Call → List Outcome → Moment → Moment → Type 0
+HaveEnded calls outcomes before now = CallByCall CallEnds 0 calls outcomes before now
 
 -- the main theorem of a link that tells its server
-abbrev pub HoldsTold : List Call → List Outcome → Option Told → Type 0
-HoldsTold calls outcomes None = ⊥
-HoldsTold calls outcomes (Some told) = Holds calls outcomes told.server
+abbrev pub MainTheoremTold : List Call → List Outcome → Option ServerRun → Type 0
+MainTheoremTold calls outcomes None = ⊥
+MainTheoremTold calls outcomes (Some run) = MainTheorem calls outcomes run.server
+
+abbrev pub MeetsMainTheorem : List Call → List Outcome → Moment → Type 0
+MeetsMainTheorem calls outcomes now = MainTheoremTold calls outcomes (server_run now.link)
 
 -- the premises: a client over a store that was not used, a link to a server that has seen nothing,
 -- and ids that were drawn apart
-pub record Begins (store : Option ToldStore) (link : Option Told) (store_now : Option ToldStore) : Type 0 where
-  pub new : IsNewStore store
-  pub fresh : IsFresh link
-  pub apart : DrawnApart store_now
+pub record Begins (before now : Moment) : Type 0 where
+  pub new : IsNewStore before.store
+  pub fresh : IsFresh (server_run before.link)
+  pub apart : DrawnApart now.store
 
 -- a told server keeps the setup and the schedule of its making
-abbrev pub KeepsMaking : Option Told → Option Told → Type 0
-KeepsMaking None now = now ≡ None
-KeepsMaking (Some told) None = ⊥
-KeepsMaking (Some told) (Some now) = (now.setup ≡ told.setup) × (now.schedule ≡ told.schedule)
+abbrev pub KeepsMakingTold : Option ServerRun → Option ServerRun → Type 0
+KeepsMakingTold None now = now ≡ None
+KeepsMakingTold (Some run) None = ⊥
+KeepsMakingTold (Some run) (Some now) = (now.setup ≡ run.setup) × (now.schedule ≡ run.schedule)
+
+abbrev pub KeepsMaking : Moment → Moment → Type 0
+KeepsMaking before now = KeepsMakingTold (server_run before.link) (server_run now.link)
 
 -- a told server is the fold of the exchange over its trace
-abbrev pub IsReplayed : Option Told → Type 0
-IsReplayed None = Unit {0}
-IsReplayed (Some told) = told.server ≡ replayed told.schedule empty_server told.server.trace
+abbrev pub IsReplayedTold : Option ServerRun → Type 0
+IsReplayedTold None = Unit {0}
+IsReplayedTold (Some run) = run.server ≡ replayed run.schedule empty_server run.server.trace
+
+abbrev pub IsReplayed : Moment → Type 0
+IsReplayed now = IsReplayedTold (server_run now.link)

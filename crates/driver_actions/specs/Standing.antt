@@ -5,18 +5,19 @@ use Rattle.driver_link.specs.declared.machine.PlacedWrite.{PlacedWrite}
 use Rattle.driver_link.specs.declared.machine.Send.{Send}
 use Rattle.driver_link.specs.Cases.{writes_of}
 use Rattle.driver_link.specs.Settled.{Has}
-use Rattle.driver_link.specs.declared.options.ClientOptions.{ClientOptions}
-use Rattle.driver_link.specs.Told.{Told}
+use Rattle.driver_link.specs.LinkState.{server_run}
+use Rattle.driver_link.specs.ServerRun.{ServerRun}
 use Rattle.driver_exec.specs.BetweenCalls.{Between, NumbersWithin, Sound}
-use Rattle.driver_exec.specs.Pool.{ToldStore}
+use Rattle.driver_exec.specs.Moment.{Moment}
+use Rattle.driver_exec.specs.Pool.{Pool}
 use Rattle.driver_actions.specs.declared.call.Call.{Call}
 use Rattle.driver_actions.specs.declared.call.Outcome.{Outcome}
 use Rattle.driver_actions.specs.Calls.{OwnAt, write_at}
 use Rattle.driver_actions.specs.CallByCall.{CallCaused}
-use Rattle.driver_actions.specs.Causes.{Moment}
-use Rattle.driver_actions.specs.MainTheorem.{CallEnds, Holds}
+use Rattle.driver_actions.specs.MainTheorem.{CallEnds, MainTheorem}
 
--- a run of calls: how many were made, for how many there is room, their outcomes, and the slots of open sessions
+-- a run of calls: how many were made, for how many there is room, their outcomes, and the slots of open sessions, of which
+-- there are none until calls open sessions
 pub record RunState : Type 0 where
   pub made : ℕ
   pub room : ℕ
@@ -41,12 +42,12 @@ pub record MakesNext (run now : RunState) (calls : List Call) (P : Call → Outc
   pub holds : P call outcome
 
 -- between two moments it was made, and ended with its cause
-abbrev pub MakesCaused : ClientOptions → RunState → RunState → List Call → Moment → Moment → Type 0
-MakesCaused options run now calls before after = MakesNext run now calls (λ call outcome. CallCaused options run.made before after call outcome.result)
+abbrev pub MakesCaused : RunState → RunState → List Call → Moment → Moment → Type 0
+MakesCaused run now calls before after = MakesNext run now calls (λ call outcome. CallCaused run.made before after call outcome)
 
 -- and well, where it is valid and its part of the schedule is gentle
-abbrev pub MakesEnded : ClientOptions → RunState → RunState → List Call → Moment → Moment → Type 0
-MakesEnded options run now calls before after = MakesNext run now calls (λ call outcome. CallEnds options run.made before after call outcome.result)
+abbrev pub MakesEnded : RunState → RunState → List Call → Moment → Moment → Type 0
+MakesEnded run now calls before after = MakesNext run now calls (λ call outcome. CallEnds run.made before after call outcome)
 
 -- each write of a trace is the caller's own
 abbrev pub AllOwn : List Call → List Send → Type 0
@@ -55,22 +56,22 @@ AllOwn calls trace = (send : Send) (at : ℕ) (write : PlacedWrite) → Has trac
 -- what these calls with these outcomes left: the main theorem holds of them; nothing is lent, and no
 -- number that was sent is above its session's; the trace is orderly, the server settled, and each write that was
 -- sent is of one of the calls; and no idle session's number is above the count of the calls
-pub record Leaves (calls : List Call) (outcomes : List Outcome) (store : ToldStore) (link : Told) : Type 0 where
-  pub holds : Holds calls outcomes link.server
-  pub between : Between store.pool link.server.trace
-  pub sound : Sound (length outcomes) link.server
-  pub own : AllOwn calls link.server.trace
-  pub numbers : NumbersWithin (pos (length outcomes)) store.pool.idle
+pub record Leaves (calls : List Call) (outcomes : List Outcome) (pool : Pool) (run : ServerRun) : Type 0 where
+  pub holds : MainTheorem calls outcomes run.server
+  pub between : Between pool run.server.trace
+  pub sound : Sound (length outcomes) run.server
+  pub own : AllOwn calls run.server.trace
+  pub numbers : NumbersWithin (pos (length outcomes)) pool.idle
 
 -- a store and a link tell what these calls left
-abbrev pub LeavesTold : List Call → List Outcome → Option ToldStore → Option Told → Type 0
+abbrev pub LeavesTold : List Call → List Outcome → Option Pool → Option ServerRun → Type 0
 LeavesTold calls outcomes None link = ⊥
-LeavesTold calls outcomes (Some store) None = ⊥
-LeavesTold calls outcomes (Some store) (Some told) = Leaves calls outcomes store told
+LeavesTold calls outcomes (Some pool) None = ⊥
+LeavesTold calls outcomes (Some pool) (Some run) = Leaves calls outcomes pool run
 
--- a run stands: store and link tell what the first calls of the list left, as many as were made, and no session is
--- open. It says nothing of the calls behind them
-pub record Stands (run : RunState) (calls : List Call) (store : Option ToldStore) (link : Option Told) : Type 0 where
+-- a run stands at a moment: store and link tell what the first calls of the list left, as many as were made, and no session
+-- is open, since no call opens one yet. It says nothing of the calls behind them
+pub record RunInvariant (run : RunState) (calls : List Call) (now : Moment) : Type 0 where
   pub within : run.made ≤ length calls
-  pub left : LeavesTold (take run.made calls) run.outcomes store link
+  pub left : LeavesTold (take run.made calls) run.outcomes now.store.pool (server_run now.link)
   pub closed : run.slots ≡ []

@@ -1,5 +1,5 @@
 -- One call of a single write: the document as it is sent, its operation, and the answer that it tells.
-use Rattle.std.specs.Prelude.{◌≡◌, ℕ, ◌≤◌, List, [], ◌∷◌, length, Option, Some, ◌⊎◌, Result, Ok, Err}
+use Rattle.std.specs.Prelude.{◌≡◌, ℕ, ◌≤◌, List, [], ◌∷◌, length, Some, ◌⊎◌, Result, Ok, Err}
 use Rattle.bson_lite.specs.declared.bson.Bson.{Bson}
 use Rattle.bson_lite.specs.declared.bson.ObjectId.{ObjectId}
 use Rattle.bson_lite.specs.declared.document.Pair.{Pair}
@@ -13,12 +13,11 @@ use Rattle.driver_link.specs.declared.machine.Place.{Place}
 use Rattle.driver_link.specs.declared.machine.PlacedWrite.{PlacedWrite}
 use Rattle.driver_link.specs.declared.machine.WriteKind.TheVariants as write_kind
 use Rattle.driver_link.specs.declared.machine.Written.{Written}
-use Rattle.driver_link.specs.declared.options.ClientOptions.{ClientOptions}
-use Rattle.driver_exec.specs.Attempting.{trial_of}
 use Rattle.driver_exec.specs.Causes.{end_of}
-use Rattle.driver_exec.specs.InsertMeaning.{insert_meaning, own_of_insert}
-use Rattle.driver_exec.specs.Pool.{Draws, LendsAsBefore, StaysTold, ToldStore}
+use Rattle.driver_exec.specs.InsertMeaning.{insert_meaning}
+use Rattle.driver_exec.specs.Moment.{Moment}
 use Rattle.driver_exec.specs.Singles.{ExecutesSingle}
+use Rattle.driver_exec.specs.StoreTells.{Draws, LendsAsBefore}
 use Rattle.driver_exec.specs.Writing.{Wrote}
 use Rattle.driver_actions.specs.declared.call.Answer.{Answer}
 use Rattle.driver_actions.specs.declared.call.Answer.TheVariants as answer
@@ -27,7 +26,7 @@ use Rattle.driver_actions.specs.declared.call.Call.TheVariants.{Single}
 use Rattle.driver_actions.specs.declared.call.SingleAnswer.{SingleAnswer}
 use Rattle.driver_actions.specs.declared.call.SingleAnswer.TheVariants.{Inserted}
 use Rattle.driver_actions.specs.Calls.{IsOwn, written}
-use Rattle.driver_actions.specs.Causes.{Moment}
+use Rattle.driver_actions.specs.Causes.{MayDrawId}
 use Rattle.driver_actions.specs.Inputs.{TellsInput}
 
 -- a document has an id, at its front where it had none
@@ -62,41 +61,39 @@ TellsAnswer document (Ok done) (Ok given) = TellsId document given
 TellsAnswer document (Ok done) (Err error) = ⊥
 TellsAnswer document (Err error) result = result ≡ Err error
 
--- the insert of a write was executed, with two sends at most: once an id was drawn, if any, the store stays until a session
--- is borrowed
-pub record Inserts (options : ClientOptions) (before now : Moment) (write : PlacedWrite) (ended : Result (Unit {0}) Error) : Type 0 where
-  pub store : Option ToldStore
-  pub stays : StaysTold before.store store
+-- the insert of a write was executed, with two sends at most, once an id was drawn, if any
+pub record Inserts (before now : Moment) (write : PlacedWrite) (ended : Result (Unit {0}) Error) : Type 0 where
+  pub mid : Moment
+  pub draws : MayDrawId before mid
   pub bytes : List ℕ
   pub spelled : Spells write.written.document bytes
   pub count : ℕ
-  pub executes : ExecutesSingle (trial_of (insert_meaning write.written.namespace bytes) (write.place ∷ []) (own_of_insert options)) store now.store before.link now.link 0 count ended
+  pub executes : ExecutesSingle (insert_meaning write.written.namespace bytes) (write.place ∷ []) mid now 0 count ended
   pub twice : count ≤ 2
-  pub wrote : Wrote store now.store before.link.server now.link.server write (end_of ended)
-  pub lent : LendsAsBefore store now.store
-  pub drawn : Draws store now.store
+  pub wrote : Wrote mid now write (end_of ended)
+  pub lent : LendsAsBefore mid.store now.store
+  pub drawn : Draws mid.store now.store
 
 -- a call's own write was inserted, or its insert failed
-pub record Made (options : ClientOptions) (before now : Moment) (given : Written) (place : Place) (result : Result SingleAnswer Error) : Type 0 where
+pub record Made (before now : Moment) (given : Written) (place : Place) (result : Result SingleAnswer Error) : Type 0 where
   pub write : PlacedWrite
   pub placed : write.place ≡ place
   pub own : IsOwn given write.written
   pub ended : Result (Unit {0}) Error
-  pub inserts : Inserts options before now write ended
+  pub inserts : Inserts before now write ended
   pub tells : TellsAnswer write.written.document ended result
 
--- nothing was asked or sent: the input is refused, or there was no memory
+-- nothing was asked or sent, though an id may have been drawn: the input is refused, or there was no memory
 pub record Unmade (before now : Moment) (given : Written) (error : Error) : Type 0 where
-  pub store : StaysTold before.store now.store
-  pub link : now.link ≡ before.link
+  pub draws : MayDrawId before now
   pub why : TellsInput given.namespace given.document (kind_of error)
 
 -- one call of a single write
-abbrev pub Makes : ClientOptions → Moment → Moment → Written → Place → Result SingleAnswer Error → Type 0
-Makes options before now given place (Ok answer) = Made options before now given place (Ok answer)
-Makes options before now given place (Err error) = Unmade before now given error ⊎ Made options before now given place (Err error)
+abbrev pub Makes : Moment → Moment → Written → Place → Result SingleAnswer Error → Type 0
+Makes before now given place (Ok answer) = Made before now given place (Ok answer)
+Makes before now given place (Err error) = Unmade before now given error ⊎ Made before now given place (Err error)
 
 -- one call of a list, by its number
-abbrev pub MakesCall : ClientOptions → Moment → Moment → Call → ℕ → Result Answer Error → Type 0
-MakesCall options before now (Single write) call (Ok (answer.Single given)) = Made options before now (written write) (record { call = call; index = 0 }) (Ok given)
-MakesCall options before now (Single write) call (Err error) = Makes options before now (written write) (record { call = call; index = 0 }) (Err error)
+abbrev pub MakesCall : Moment → Moment → Call → ℕ → Result Answer Error → Type 0
+MakesCall before now (Single write) call (Ok (answer.Single given)) = Made before now (written write) (record { call = call; index = 0 }) (Ok given)
+MakesCall before now (Single write) call (Err error) = Makes before now (written write) (record { call = call; index = 0 }) (Err error)

@@ -1,16 +1,16 @@
 //! A run of calls, which a program feeds call by call.
-ghost use Rattle.std.specs.Prelude.{◌≡◌, ◌<◌, ◌≤◌, List as Listed, length, slice_get, take, IfOk, Option as Maybe, Some};
-ghost use Rattle.driver_actions.specs.Causes.{moment};
-ghost use Rattle.driver_actions.specs.MainTheorem.{HoldsTold, IsReplayed, KeepsMaking};
-ghost use Rattle.driver_actions.specs.Standing.{MakesCaused, MakesEnded, Stands, new_run, run_more};
+ghost use Rattle.std.specs.Prelude.{◌≡◌, ◌<◌, ◌≤◌, List as Listed, length, slice_get, take, IfOk, Some};
+ghost use Rattle.driver_actions.specs.MainTheorem.{IsReplayed, KeepsMaking, MeetsMainTheorem};
+ghost use Rattle.driver_actions.specs.Standing.{MakesCaused, MakesEnded, RunInvariant, new_run, run_more};
 ghost use Rattle.driver_actions.specs.declared.call.Call.{Call as Asked};
 ghost use Rattle.driver_exec.specs.Client.{options_of, store_of};
-ghost use Rattle.driver_exec.specs.Links.{told_link};
-ghost use Rattle.driver_exec.specs.Pool.{DrawnApart, Draws, IsNewStore, LendsAsBefore, ToldStore};
-ghost use Rattle.driver_link.specs.Told.{IsFresh, Told};
+ghost use Rattle.driver_exec.specs.Moment.{Moment, moment_of};
+ghost use Rattle.driver_exec.specs.StoreTells.{DrawnApart, Draws, IsNewStore, LendsAsBefore};
+ghost use Rattle.driver_link.specs.LinkState.{server_run};
+ghost use Rattle.driver_link.specs.ServerRun.{IsFresh};
 
 use crate::call::{Call, Outcome};
-use crate::run::make_call;
+use crate::making::make_call;
 use bson_lite::List;
 use driver_exec::{Client, Outside, SessionStore};
 use driver_link::{Clock, Link};
@@ -34,7 +34,12 @@ impl Model for CallRun {
 
     ghost coded = { Prim.hlevel (codes, outcome_contract.the_row.coded) };
 
-    ghost view = { λ run. record { made = vec_len run.outcomes; room = vec_capacity run.outcomes; outcomes = run.outcomes.items; slots = [] } };
+    ghost view = { λ run. record {
+      made = vec_len run.outcomes;
+      room = vec_capacity run.outcomes;
+      outcomes = run.outcomes.items;
+      slots = [];
+    } };
 }
 
 impl CallRun {
@@ -42,7 +47,8 @@ impl CallRun {
     /// answers want of memory alone.
     pub fn begin(alloc: Global, room: usize) -> Result<CallRun, AllocError>
         ensures new { IfOk result (λ run. run ≡ new_run room) }
-        ensures stands { IfOk result (λ run. (calls : Listed Asked) (store : Maybe ToldStore) (link : Maybe Told) → IsNewStore store → IsFresh link → Stands run calls store link) }
+        ensures stands { IfOk result (λ run. (calls : Listed Asked) (now : Moment) → IsNewStore now.store →
+            IsFresh (server_run now.link) → RunInvariant run calls now) }
     {
         Ok(CallRun {
             outcomes: Vec::with_capacity(alloc, room)?,
@@ -74,22 +80,37 @@ impl CallRun {
     )
         requires room { self.old.made < self.old.room }
         requires next { self.old.made < length calls.now }
-        ensures makes { MakesCaused (options_of client.old) self.old self.new calls.now (moment (S.told (store_of client.old)) (told_link (L.told outside.old.link) (L.setup outside.old.link) (L.answers outside.old.link) (L.frames outside.old.link) (L.asked outside.old.link) (L.faults outside.old.link))) (moment (S.told (store_of client.new)) (told_link (L.told outside.new.link) (L.setup outside.new.link) (L.answers outside.new.link) (L.frames outside.new.link) (L.asked outside.new.link) (L.faults outside.new.link))) }
-        ensures complete { Stands self.old calls.now (S.told (store_of client.old)) (L.told outside.old.link) → DrawnApart (S.told (store_of client.new)) → MakesEnded (options_of client.old) self.old self.new calls.now (moment (S.told (store_of client.old)) (told_link (L.told outside.old.link) (L.setup outside.old.link) (L.answers outside.old.link) (L.frames outside.old.link) (L.asked outside.old.link) (L.faults outside.old.link))) (moment (S.told (store_of client.new)) (told_link (L.told outside.new.link) (L.setup outside.new.link) (L.answers outside.new.link) (L.frames outside.new.link) (L.asked outside.new.link) (L.faults outside.new.link))) }
-        ensures stands { Stands self.old calls.now (S.told (store_of client.old)) (L.told outside.old.link) → DrawnApart (S.told (store_of client.new)) → Stands self.new calls.now (S.told (store_of client.new)) (L.told outside.new.link) }
-        ensures replayed { IsReplayed (L.told outside.old.link) → IsReplayed (L.told outside.new.link) }
-        ensures making { KeepsMaking (L.told outside.old.link) (L.told outside.new.link) }
-        ensures drawn { Draws (S.told (store_of client.old)) (S.told (store_of client.new)) }
-        ensures lent { LendsAsBefore (S.told (store_of client.old)) (S.told (store_of client.new)) }
+        ensures makes { MakesCaused self.old self.new calls.now
+            (moment_of S.tells L.tells K.tells R.stream client.old outside.old)
+            (moment_of S.tells L.tells K.tells R.stream client.new outside.new) }
+        ensures complete { RunInvariant self.old calls.now
+            (moment_of S.tells L.tells K.tells R.stream client.old outside.old) →
+            DrawnApart (S.tells (store_of client.new)) → MakesEnded self.old self.new calls.now
+            (moment_of S.tells L.tells K.tells R.stream client.old outside.old)
+            (moment_of S.tells L.tells K.tells R.stream client.new outside.new) }
+        ensures stands { RunInvariant self.old calls.now
+            (moment_of S.tells L.tells K.tells R.stream client.old outside.old) →
+            DrawnApart (S.tells (store_of client.new)) → RunInvariant self.new calls.now
+            (moment_of S.tells L.tells K.tells R.stream client.new outside.new) }
+        ensures replayed { IsReplayed (moment_of S.tells L.tells K.tells R.stream client.old outside.old) →
+            IsReplayed (moment_of S.tells L.tells K.tells R.stream client.new outside.new) }
+        ensures making { KeepsMaking
+            (moment_of S.tells L.tells K.tells R.stream client.old outside.old)
+            (moment_of S.tells L.tells K.tells R.stream client.new outside.new) }
+        ensures drawn { Draws (S.tells (store_of client.old)) (S.tells (store_of client.new)) }
+        ensures lent { LendsAsBefore (S.tells (store_of client.old)) (S.tells (store_of client.new)) }
         ensures options { options_of client.new ≡ options_of client.old }
+        ensures call { outside.new.call ≡ self.old.made }
     {
-        outside.call = self.made() as u64;
+        let number = self.made() as u64;
+        outside.call = number;
         let call = self.next(calls);
-        let outcome = make_call(alloc, client, outside, call);
+        let outcome = make_call(alloc, client, outside, call, number);
         self.add(outcome);
     }
 
-    /// Ends the run, and answers the outcomes of its calls in order. It takes no memory.
+    /// Ends the run, and answers the outcomes of its calls in order. It takes no memory. Client and outside are
+    /// handed in for the sessions that are open at the end, which no call opens yet.
     pub fn finish<S: SessionStore, L: Link, K: Clock, R: Rng>(
         self,
         _client: &mut Client<S>,
@@ -98,7 +119,10 @@ impl CallRun {
     ) -> List<Outcome>
         requires { self.made ≤ length calls.now }
         ensures outcomes { result ≡ self.outcomes }
-        ensures main { Stands self calls.now (S.told (store_of _client.old)) (L.told _outside.old.link) → HoldsTold (take self.made calls.now) result (L.told _outside.new.link) }
+        ensures main { RunInvariant self calls.now
+            (moment_of S.tells L.tells K.tells R.stream _client.old _outside.old) →
+            MeetsMainTheorem (take self.made calls.now) result
+            (moment_of S.tells L.tells K.tells R.stream _client.new _outside.new) }
         ensures unchanged { (_client.new ≡ _client.old) × (_outside.new ≡ _outside.old) }
     {
         self.into_outcomes()

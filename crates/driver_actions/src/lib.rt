@@ -7,6 +7,7 @@
 pub mod call;
 pub mod call_run;
 pub mod laws;
+mod making;
 mod refusal;
 pub mod run;
 mod single;

@@ -1,15 +1,13 @@
 //! One write of one document, from its caller to its answer.
-ghost use Rattle.std.specs.Prelude.{◌≡◌, ◌<◌, IfErr, IfOk};
+ghost use Rattle.std.specs.Prelude.{◌≡◌, ◌<◌, ◌∷◌, [], IfErr, IfOk};
 ghost use Rattle.bson_lite.specs.Spelling.{Spells};
 ghost use Rattle.driver_error.specs.Error.{kind_of};
-ghost use Rattle.driver_exec.specs.Causes.{end_of};
 ghost use Rattle.driver_exec.specs.Client.{options_of, store_of};
-ghost use Rattle.driver_exec.specs.InsertMeaning.{insert_meaning, own_of_insert};
-ghost use Rattle.driver_exec.specs.Links.{told_link};
-ghost use Rattle.driver_exec.specs.OperationCauses.{grounds};
-ghost use Rattle.driver_exec.specs.Pool.{StaysTold};
+ghost use Rattle.driver_exec.specs.InsertMeaning.{insert_meaning};
+ghost use Rattle.driver_exec.specs.Moment.{Moment, moment_of};
 ghost use Rattle.driver_exec.specs.Singles.{CausedSingle};
-ghost use Rattle.driver_actions.specs.Causes.{RefusesInput, RefusesFirst, TellsOwnRefusal, WriteCaused, moment};
+ghost use Rattle.driver_exec.specs.StoreTells.{MayDrawObjectId};
+ghost use Rattle.driver_actions.specs.Causes.{MayDrawId, TellsOwnRefusal, WriteCaused};
 ghost use Rattle.driver_actions.specs.declared.call.SingleWrite.TheVariants.{InsertOne};
 ghost use Rattle.driver_actions.specs.Calls.{inserted, written};
 ghost use Rattle.driver_actions.specs.Turns.{Inserts, Makes, PutsId, Owns};
@@ -21,20 +19,27 @@ use driver_error::{InsertOneResult, Result};
 use driver_exec::encoded::encoded;
 use driver_exec::{Client, Outside, SessionStore, Steps, insert_single};
 use driver_link::{Clock, Link, Place, PlacedWrite, WriteKind, Written};
+use rand_core::Rng;
 use std::alloc::Global;
 use std::marker::Brand;
 use std::sync::ledger::{Blank, Ledger};
 
 /// Makes a single write, whose one place is given.
-pub(crate) fn single<S: SessionStore, L: Link, K: Clock, R>(
+pub(crate) fn single<S: SessionStore, L: Link, K: Clock, R: Rng>(
     alloc: Global,
     client: &mut Client<S>,
     outside: &mut Outside<L, K, R>,
     write: &SingleWrite,
     place: Place,
 ) -> Result<SingleAnswer>
-    ensures makes { Makes (options_of client.old) (moment (S.told (store_of client.old)) (told_link (L.told outside.old.link) (L.setup outside.old.link) (L.answers outside.old.link) (L.frames outside.old.link) (L.asked outside.old.link) (L.faults outside.old.link))) (moment (S.told (store_of client.new)) (told_link (L.told outside.new.link) (L.setup outside.new.link) (L.answers outside.new.link) (L.frames outside.new.link) (L.asked outside.new.link) (L.faults outside.new.link))) (written write.now) place result }
-    ensures cause { WriteCaused (options_of client.old) (moment (S.told (store_of client.old)) (told_link (L.told outside.old.link) (L.setup outside.old.link) (L.answers outside.old.link) (L.frames outside.old.link) (L.asked outside.old.link) (L.faults outside.old.link))) (moment (S.told (store_of client.new)) (told_link (L.told outside.new.link) (L.setup outside.new.link) (L.answers outside.new.link) (L.frames outside.new.link) (L.asked outside.new.link) (L.faults outside.new.link))) write.now result }
+    ensures makes { Makes
+        (moment_of S.tells L.tells K.tells R.stream client.old outside.old)
+        (moment_of S.tells L.tells K.tells R.stream client.new outside.new)
+        (written write.now) place result }
+    ensures cause { WriteCaused
+        (moment_of S.tells L.tells K.tells R.stream client.old outside.old)
+        (moment_of S.tells L.tells K.tells R.stream client.new outside.new)
+        write.now result }
     ensures options { options_of client.new ≡ options_of client.old }
     ensures call { outside.new.call ≡ outside.old.call }
 {
@@ -47,7 +52,7 @@ pub(crate) fn single<S: SessionStore, L: Link, K: Clock, R>(
 }
 
 /// Inserts one document, whose place is given.
-fn insert_one<S: SessionStore, L: Link, K: Clock, R>(
+fn insert_one<S: SessionStore, L: Link, K: Clock, R: Rng>(
     alloc: Global,
     client: &mut Client<S>,
     outside: &mut Outside<L, K, R>,
@@ -55,8 +60,14 @@ fn insert_one<S: SessionStore, L: Link, K: Clock, R>(
     document: &Document,
     place: Place,
 ) -> Result<SingleAnswer>
-    ensures makes { Makes (options_of client.old) (moment (S.told (store_of client.old)) (told_link (L.told outside.old.link) (L.setup outside.old.link) (L.answers outside.old.link) (L.frames outside.old.link) (L.asked outside.old.link) (L.faults outside.old.link))) (moment (S.told (store_of client.new)) (told_link (L.told outside.new.link) (L.setup outside.new.link) (L.answers outside.new.link) (L.frames outside.new.link) (L.asked outside.new.link) (L.faults outside.new.link))) (inserted namespace.now document.now) place result }
-    ensures cause { WriteCaused (options_of client.old) (moment (S.told (store_of client.old)) (told_link (L.told outside.old.link) (L.setup outside.old.link) (L.answers outside.old.link) (L.frames outside.old.link) (L.asked outside.old.link) (L.faults outside.old.link))) (moment (S.told (store_of client.new)) (told_link (L.told outside.new.link) (L.setup outside.new.link) (L.answers outside.new.link) (L.frames outside.new.link) (L.asked outside.new.link) (L.faults outside.new.link))) (InsertOne namespace.now document.now) result }
+    ensures makes { Makes
+        (moment_of S.tells L.tells K.tells R.stream client.old outside.old)
+        (moment_of S.tells L.tells K.tells R.stream client.new outside.new)
+        (inserted namespace.now document.now) place result }
+    ensures cause { WriteCaused
+        (moment_of S.tells L.tells K.tells R.stream client.old outside.old)
+        (moment_of S.tells L.tells K.tells R.stream client.new outside.new)
+        (InsertOne namespace.now document.now) result }
     ensures options { options_of client.new ≡ options_of client.old }
     ensures call { outside.new.call ≡ outside.old.call }
 {
@@ -65,30 +76,14 @@ fn insert_one<S: SessionStore, L: Link, K: Clock, R>(
     }
     let own = own_write(alloc, client, namespace, document, place)?;
     let OwnWrite { write, bytes, id } = own;
-    insert(alloc, client, outside, &write, bytes)?;
+    let blank = Blank::new(1);
+    insert_counted::<S, L, K, R, Brand>(alloc, client, outside, &write, bytes, blank)?;
     Ok(SingleAnswer::Inserted(InsertOneResult { inserted_id: id }))
 }
 
-/// Inserts a write. Its sends are not counted.
-fn insert<S: SessionStore, L: Link, K: Clock, R>(
-    alloc: Global,
-    client: &mut Client<S>,
-    outside: &mut Outside<L, K, R>,
-    write: &PlacedWrite,
-    bytes: Bytes,
-) -> Result<()>
-    requires { Spells write.now.written.document bytes }
-    ensures inserts { Inserts (options_of client.old) (moment (S.told (store_of client.old)) (told_link (L.told outside.old.link) (L.setup outside.old.link) (L.answers outside.old.link) (L.frames outside.old.link) (L.asked outside.old.link) (L.faults outside.old.link))) (moment (S.told (store_of client.new)) (told_link (L.told outside.new.link) (L.setup outside.new.link) (L.answers outside.new.link) (L.frames outside.new.link) (L.asked outside.new.link) (L.faults outside.new.link))) write.now result }
-    ensures caused { CausedSingle (grounds (insert_meaning write.now.written.namespace bytes) (own_of_insert (options_of client.old)) (L.setup outside.old.link) (S.told (store_of client.old))) (L.faults outside.old.link) (L.faults outside.new.link) (L.answers outside.old.link) (L.answers outside.new.link) result }
-    ensures options { options_of client.new ≡ options_of client.old }
-    ensures call { outside.new.call ≡ outside.old.call }
-{
-    let blank = Blank::new(1);
-    insert_counted::<S, L, K, R, Brand>(alloc, client, outside, write, bytes, blank)
-}
-
-/// Inserts a write, with a count of its sends over a ledger.
-fn insert_counted<S: SessionStore, L: Link, K: Clock, R, Q: Ledger>(
+/// Inserts a write, with a count of its sends over a ledger. An id may have been drawn for it since an earlier
+/// moment.
+fn insert_counted<S: SessionStore, L: Link, K: Clock, R: Rng, Q: Ledger>(
     alloc: Global,
     client: &mut Client<S>,
     outside: &mut Outside<L, K, R>,
@@ -100,8 +95,14 @@ fn insert_counted<S: SessionStore, L: Link, K: Clock, R, Q: Ledger>(
     requires parts { blank.parts ≡ Q.parts }
     requires some { 0 < blank.parts }
     requires spelled { Spells write.now.written.document bytes }
-    ensures inserts { Inserts (options_of client.old) (moment (S.told (store_of client.old)) (told_link (L.told outside.old.link) (L.setup outside.old.link) (L.answers outside.old.link) (L.frames outside.old.link) (L.asked outside.old.link) (L.faults outside.old.link))) (moment (S.told (store_of client.new)) (told_link (L.told outside.new.link) (L.setup outside.new.link) (L.answers outside.new.link) (L.frames outside.new.link) (L.asked outside.new.link) (L.faults outside.new.link))) write.now result }
-    ensures caused { CausedSingle (grounds (insert_meaning write.now.written.namespace bytes) (own_of_insert (options_of client.old)) (L.setup outside.old.link) (S.told (store_of client.old))) (L.faults outside.old.link) (L.faults outside.new.link) (L.answers outside.old.link) (L.answers outside.new.link) result }
+    ensures inserts { (before : Moment) →
+        MayDrawId before (moment_of S.tells L.tells K.tells R.stream client.old outside.old) → Inserts before
+        (moment_of S.tells L.tells K.tells R.stream client.new outside.new)
+        write.now result }
+    ensures caused { CausedSingle (insert_meaning write.now.written.namespace bytes)
+        (moment_of S.tells L.tells K.tells R.stream client.old outside.old)
+        (moment_of S.tells L.tells K.tells R.stream client.new outside.new)
+        result }
     ensures options { options_of client.new ≡ options_of client.old }
     ensures call { outside.new.call ≡ outside.old.call }
 {
@@ -127,7 +128,7 @@ fn own_write<S: SessionStore>(
 ) -> Result<OwnWrite>
     ensures refusal { IfErr result (λ error. TellsOwnRefusal document.now (kind_of error)) }
     ensures owns { IfOk result (λ own. Owns namespace.now document.now place own.write own.bytes own.id) }
-    ensures stays { StaysTold (S.told (store_of client.old)) (S.told (store_of client.new)) }
+    ensures draws { MayDrawObjectId (S.tells (store_of client.old)) (S.tells (store_of client.new)) }
     ensures options { options_of client.new ≡ options_of client.old }
 {
     let mut document = document.try_clone(alloc)?;
@@ -153,7 +154,7 @@ fn put_id<S: SessionStore>(
     document: &mut Document,
 ) -> Result<Bson>
     ensures id { PutsId document.old document.new result }
-    ensures stays { StaysTold (S.told (store_of client.old)) (S.told (store_of client.new)) }
+    ensures draws { MayDrawObjectId (S.tells (store_of client.old)) (S.tells (store_of client.new)) }
     ensures options { options_of client.new ≡ options_of client.old }
 {
     if let Some(id) = document.get(ID_KEY) {

@@ -23,18 +23,19 @@ struct OneReply {
 
 impl Link for OneReply {
     ghost use Rattle.std.specs.Prelude.{None, Some};
+    ghost use Rattle.driver_link.specs.LinkState.{Untold};
 
-    ghost told = { λ link. None };
-
-    ghost setup = { λ link. None };
-
-    ghost answers = { λ link. Some link.answered };
-
-    ghost frames = { λ link. None };
-
-    ghost asked = { λ link. None };
-
-    ghost faults = { λ link. 0 };
+    ghost tells = { λ link. record {
+      making = Untold;
+      answers = Some link.answered;
+      frames = None;
+      over = None;
+      asked = None;
+      addresses = None;
+      connections = None;
+      out = None;
+      faults = 0;
+    } };
 
     fn select(
         &mut self,
@@ -87,7 +88,14 @@ impl Link for OneReply {
         Ok(())
     }
 
-    fn check_in(&mut self, _conn: Conn) {}
+    fn check_in(&mut self, conn: Conn) {
+        let Conn {
+            address,
+            description: _,
+            number: _,
+        } = conn;
+        drop(address);
+    }
 
     fn report(&mut self, _address: &Address, _error: &Error) {}
 }

@@ -1,14 +1,14 @@
 -- How a run of the program ends: for each status what was read, what was written and what was made.
 use Rattle.std.specs.Prelude.{◌≡◌, ℕ, ◌<◌, ◌≤◌, List, [], ◌∷◌, ◌++◌, length, ◌⊎◌, codes, Option, None, Some, Ok, Err, bytes_eq, if◌then◌else◌}
-use Rattle.driver_link.specs.CountingIds.{IdsDrawn, none_drawn, session_at}
+use Rattle.driver_link.specs.CountingIds.{IdsDrawn, counted_ids, none_drawn}
 use Rattle.driver_link.specs.Exchange.{after_picks, replayed, empty_server}
 use Rattle.driver_link.specs.Faults.{Rose}
 use Rattle.driver_link.specs.Streams.{Appends}
-use Rattle.driver_actions.specs.Causes.{Moment, moment}
 use Rattle.driver_exec.specs.Client.{options_of, store_of}
-use Rattle.driver_actions.specs.MainTheorem.{HaveEnded, Holds}
-use Rattle.driver_exec.specs.Links.{ToldLink, told_link}
-use Rattle.driver_exec.specs.Pool.{Stock, empty_pool}
+use Rattle.driver_exec.specs.Moment.{Moment}
+use Rattle.driver_exec.specs.Pool.{StorePool, empty_pool}
+use Rattle.driver_exec.specs.StoreTells.{StoreTells}
+use Rattle.driver_actions.specs.MainTheorem.{HaveEnded, MainTheorem}
 use Rattle.driver_actions.specs.declared.call.Outcome.{Outcome}
 use Rattle.driver_exec.specs.declared.client.Client.{Client}
 use Rattle.driver_cli.specs.declared.program.Command.{Command}
@@ -19,7 +19,7 @@ use Rattle.driver_cli.specs.declared.script.Script.{Script}
 use Rattle.driver_cli.specs.declared.status.Status.{Status}
 use Rattle.driver_cli.specs.declared.status.Status.TheVariants as status
 use Rattle.driver_cli.specs.declared.streams.TheConstants.{LIMIT}
-use Rattle.model_server.specs.ModelState.{ModelState, no_calls, told_of}
+use Rattle.model_server.specs.ModelState.{ModelState, model_tells, no_calls}
 use Rattle.driver_cli.specs.Lines.{newline}
 use Rattle.driver_cli.specs.Report.{report}
 use Rattle.driver_cli.specs.Script.{script}
@@ -29,17 +29,27 @@ use Rattle.driver_cli.specs.Streamed.{ReadToEnd, ReadMore, ReadFailed, TookFront
 abbrev pub new_model : Script → ModelState
 new_model asked = record { server = empty_server; setup = asked.setup; schedule = asked.schedule; counts = no_calls; answers = []; faults = 0 }
 
--- what a server tells
-abbrev pub link_of : ModelState → ToldLink
-link_of model = told_link (Some (told_of model)) (Some model.setup) (Some model.answers) None None model.faults
+-- what a store over ids that count tells
+abbrev pub store_tells : StorePool IdsDrawn → StoreTells
+store_tells store = record { pool = Some store.pool; to_come = Some (counted_ids store.ids); caller = 0 }
 
--- what a new client and a new server tell before the first call
-abbrev pub begun_moment : Script → Moment
-begun_moment asked = moment (Some (record { pool = empty_pool; to_come = λ k. session_at none_drawn k })) (link_of (new_model asked))
+-- a store over such ids that has not been used
+abbrev pub new_store : StorePool IdsDrawn
+new_store = record { ids = none_drawn; pool = empty_pool }
 
--- what a client and a server tell
-abbrev pub moment_of : Client (Stock IdsDrawn) → ModelState → Moment
-moment_of client model = moment (Some (record { pool = (store_of client).pool; to_come = λ k. session_at (store_of client).ids k })) (link_of model)
+-- the moment before the first call of a script, but for the words to come: a store that has not been used, a server that
+-- has seen nothing, a clock that was not read, and the script's options
+pub record IsFirstMoment (asked : Script) (first : Moment) : Type 0 where
+  pub store : first.store ≡ store_tells new_store
+  pub link : first.link ≡ model_tells (new_model asked)
+  pub clock : first.clock ≡ record { last = 0; slept = 0 }
+  pub client : first.client ≡ record { options = asked.options }
+
+-- a moment that has the store and the options of a client, and a model server for its link
+pub record IsMomentOf (client : Client (StorePool IdsDrawn)) (model : ModelState) (last : Moment) : Type 0 where
+  pub store : last.store ≡ store_tells (store_of client)
+  pub link : last.link ≡ model_tells model
+  pub options : last.client ≡ record { options = options_of client }
 
 -- a run of a script: its client and server are made by the script; before the late deliveries the server was
 -- the fold of the exchanges over its trace, the main theorem held of the outcomes and the server, and every call
@@ -47,7 +57,7 @@ moment_of client model = moment (Some (record { pool = (store_of client).pool; t
 -- that the script names were served in order, and nothing else changed
 pub record IsRunOf (asked : Script) (run : Run) : Type 0 where
   pub outcomes : List Outcome
-  pub client : Client (Stock IdsDrawn)
+  pub client : Client (StorePool IdsDrawn)
   pub before : ModelState
   pub model : ModelState
   pub script_kept : run.script ≡ Some asked
@@ -58,8 +68,12 @@ pub record IsRunOf (asked : Script) (run : Run) : Type 0 where
   pub setup : model.setup ≡ asked.setup
   pub schedule : model.schedule ≡ asked.schedule
   pub replayed : before.server ≡ replayed asked.schedule empty_server before.server.trace
-  pub holds : Holds asked.calls outcomes before.server
-  pub ended : HaveEnded asked.options asked.calls outcomes (begun_moment asked) (moment_of client before)
+  pub holds : MainTheorem asked.calls outcomes before.server
+  pub first : Moment
+  pub last : Moment
+  pub begins : IsFirstMoment asked first
+  pub comes : IsMomentOf client before last
+  pub ended : HaveEnded asked.calls outcomes first last
   pub late : model ≡ record before { server = after_picks before.server asked.late }
 
 -- the input and the output before and now: what is left to read, what was written, how many calls failed
@@ -72,6 +86,19 @@ pub record Ends : Type 0 where
   pub contents_now : Option (List ℕ)
   pub writes_failed : ℕ
   pub writes_failed_now : ℕ
+
+-- the same by its parts
+abbrev pub ends_of : Option (List ℕ) → Option (List ℕ) → ℕ → ℕ → Option (List ℕ) → Option (List ℕ) → ℕ → ℕ → Ends
+ends_of left left_now reads_failed reads_failed_now contents contents_now writes_failed writes_failed_now = record {
+  left = left;
+  left_now = left_now;
+  reads_failed = reads_failed;
+  reads_failed_now = reads_failed_now;
+  contents = contents;
+  contents_now = contents_now;
+  writes_failed = writes_failed;
+  writes_failed_now = writes_failed_now;
+}
 
 -- a line was written, or a front of it and the count of failed writes rose
 abbrev pub SaysTo : Option (List ℕ) → Option (List ℕ) → ℕ → ℕ → List ℕ → Type 0

@@ -8,7 +8,7 @@ use Rattle.driver_actions.specs.declared.call.Call.{Call}
 use Rattle.driver_actions.specs.declared.call.Outcome.{Outcome}
 use Rattle.driver_exec.specs.declared.client.Client.{Client}
 use Rattle.driver_exec.specs.Client.{store_of}
-use Rattle.driver_exec.specs.Pool.{Stock}
+use Rattle.driver_exec.specs.Pool.{StorePool}
 use Rattle.driver_cli.specs.declared.running.Run.{Run}
 use Rattle.driver_cli.specs.declared.script.Script.{Script}
 use Rattle.driver_cli.specs.Distinct.{distinct}
@@ -26,7 +26,7 @@ outcomes_of None = []
 outcomes_of (Some outcomes) = outcomes
 
 -- the session ids that a client's store drew, or none
-abbrev pub drawn_of : Option (Client (Stock IdsDrawn)) → List (List ℕ)
+abbrev pub drawn_of : Option (Client (StorePool IdsDrawn)) → List (List ℕ)
 drawn_of None = []
 drawn_of (Some client) = (store_of client).pool.drawn
 

@@ -71,7 +71,8 @@ pub(crate) fn push_calls(
     calls: &[Call],
     outcomes: &[Outcome],
 ) -> Result<(), AllocError>
-    ensures { OnOk result (string_bytes out.new ≡ string_bytes out.old ++ call_lines 0 calls.now outcomes.now) }
+    ensures { OnOk result
+        (string_bytes out.new ≡ string_bytes out.old ++ call_lines 0 calls.now outcomes.now) }
 {
     for (at, outcome) in outcomes.iter().enumerate() {
         if at >= calls.len() {
@@ -109,7 +110,9 @@ fn name_of_writes(command: SendCommand) -> &'static str
 }
 
 fn push_placed(out: &mut String, body: &SendBody) -> Result<(), AllocError>
-    ensures { OnOk result (string_bytes out.new ≡ string_bytes out.old ++ listed (map (λ write. place_text write.place) (body_writes body.now))) }
+    ensures { OnOk result
+        (string_bytes out.new ≡
+        string_bytes out.old ++ listed (map (λ write. place_text write.place) (body_writes body.now))) }
 {
     match body {
         SendBody::Write { writes, .. } => push_places(out, writes.as_slice()),

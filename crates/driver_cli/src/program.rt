@@ -3,7 +3,7 @@ ghost use Rattle.std.specs.Prelude.{◌≡◌, ◌≢◌, ◌≤◌, ◌↔◌, 
 ghost use Rattle.driver_link.specs.Exchange.{after_picks, delivered};
 ghost use Rattle.driver_link.specs.Faults.{Rose};
 ghost use Rattle.driver_link.specs.WellFormed.{IsWellFormed};
-ghost use Rattle.driver_cli.specs.Ended.{Completes, Ended, EndsWith, HasRun, IsRefused, IsRunOf, IsTooLarge, SaysTo, Refusal, Reported, command_of, refused_line, usage_line};
+ghost use Rattle.driver_cli.specs.Ended.{Completes, Ended, EndsWith, ends_of, HasRun, IsRefused, IsRunOf, IsTooLarge, SaysTo, Refusal, Reported, command_of, refused_line, usage_line};
 ghost use Rattle.driver_cli.specs.Report.{drawn_of};
 
 use crate::report::report_text;
@@ -50,7 +50,8 @@ fn command_in(words: &[Text]) -> Option<Command>
 /// Writes a line of a status. A sink that fails leaves the status.
 fn say<O: Sink>(sink: &mut O, line: &[u8])
     ensures later { O.faults sink.old ≤ O.faults sink.new }
-    ensures said { SaysTo (O.contents sink.old) (O.contents sink.new) (O.faults sink.old) (O.faults sink.new) line.now }
+    ensures said { SaysTo (O.contents sink.old) (O.contents sink.new) (O.faults sink.old) (O.faults sink.new)
+        line.now }
 {
     let _ = write_all(sink, line);
 }
@@ -95,7 +96,8 @@ fn run_of(alloc: Global, asked: Script) -> Result<Run, AllocError>
 /// Serves the waiting sends of a list of picks in turn; a pick that is not waiting is passed over.
 #[tactic(auto, unfolding(driver_link::specs::Exchange::after_picks))]
 fn deliver_each(server: &mut ModelServer, alloc: Global, picks: &[u64]) -> Result<(), AllocError>
-    ensures { OnOk result (server.new ≡ record server.old { server = after_picks server.old.server picks.now }) }
+    ensures { OnOk result
+        (server.new ≡ record server.old { server = after_picks server.old.server picks.now }) }
 {
     for pick in picks {
         deliver(server, alloc, *pick)?;
@@ -131,14 +133,18 @@ pub fn run_script<I: Source, O: Sink>(
     sink: &mut O,
     run: &mut Run,
 ) -> u8
-    ensures ends { EndsWith result (record { left = I.left source.old; left_now = I.left source.new; reads_failed = I.faults source.old; reads_failed_now = I.faults source.new; contents = O.contents sink.old; contents_now = O.contents sink.new; writes_failed = O.faults sink.old; writes_failed_now = O.faults sink.new }) run.old run.new }
+    ensures ends { EndsWith result
+        (ends_of (I.left source.old) (I.left source.new) (I.faults source.old) (I.faults source.new)
+        (O.contents sink.old) (O.contents sink.new) (O.faults sink.old) (O.faults sink.new))
+        run.old run.new }
     ensures no_usage { result ≢ 2 }
     ensures done { result ≡ 0 → HasRun (I.left source.old) (I.left source.new) run.new }
     ensures refused { result ≡ 3 → IsRefused (I.left source.old) (I.left source.new) }
     ensures read_failed { result ≡ 4 → Rose (I.faults source.old) (I.faults source.new) }
     ensures write_failed { result ≡ 5 → Rose (O.faults sink.old) (O.faults sink.new) }
     ensures too_large { result ≡ 7 → IsTooLarge (I.left source.old) (I.left source.new) }
-    ensures complete { Completes result (I.left source.old) (I.faults source.old) (I.faults source.new) (O.faults sink.old) (O.faults sink.new) }
+    ensures complete { Completes result (I.left source.old) (I.faults source.old) (I.faults source.new)
+        (O.faults sink.old) (O.faults sink.new) }
     ensures reads_later { I.faults source.old ≤ I.faults source.new }
     ensures writes_later { O.faults sink.old ≤ O.faults sink.new }
 {
@@ -152,7 +158,10 @@ fn script_status<I: Source, O: Sink>(
     sink: &mut O,
     run: &mut Run,
 ) -> Status
-    ensures ended { Ended result (record { left = I.left source.old; left_now = I.left source.new; reads_failed = I.faults source.old; reads_failed_now = I.faults source.new; contents = O.contents sink.old; contents_now = O.contents sink.new; writes_failed = O.faults sink.old; writes_failed_now = O.faults sink.new }) run.old run.new }
+    ensures ended { Ended result
+        (ends_of (I.left source.old) (I.left source.new) (I.faults source.old) (I.faults source.new)
+        (O.contents sink.old) (O.contents sink.new) (O.faults sink.old) (O.faults sink.new))
+        run.old run.new }
     ensures no_usage { result ≢ Status.Usage }
     ensures reads_later { I.faults source.old ≤ I.faults source.new }
     ensures writes_later { O.faults sink.old ≤ O.faults sink.new }
@@ -188,7 +197,8 @@ fn script_status<I: Source, O: Sink>(
 
 /// Writes the line of a refused script.
 fn refuse<O: Sink>(alloc: Global, sink: &mut O, path: &Text) -> Status
-    ensures ended { Refusal (O.contents sink.old) (O.contents sink.new) (O.faults sink.old) (O.faults sink.new) path.now result }
+    ensures ended { Refusal (O.contents sink.old) (O.contents sink.new) (O.faults sink.old)
+        (O.faults sink.new) path.now result }
     ensures later { O.faults sink.old ≤ O.faults sink.new }
 {
     let Ok(line) = refusal_line(alloc, path) else {
@@ -211,7 +221,8 @@ fn refusal_line(alloc: Global, path: &Text) -> Result<Bytes, AllocError>
 
 /// Writes the report of a run.
 fn report_status<O: Sink>(alloc: Global, sink: &mut O, run: &Run) -> Status
-    ensures ended { Reported (O.contents sink.old) (O.contents sink.new) (O.faults sink.old) (O.faults sink.new) run.now result }
+    ensures ended { Reported (O.contents sink.old) (O.contents sink.new) (O.faults sink.old)
+        (O.faults sink.new) run.now result }
     ensures later { O.faults sink.old ≤ O.faults sink.new }
 {
     let Ok(text) = report_text(alloc, run) else {
@@ -227,7 +238,8 @@ fn report_status<O: Sink>(alloc: Global, sink: &mut O, run: &Run) -> Status
 #[tactic(auto, unfolding(crate::specs::Ended::usage_line))]
 fn say_usage<O: Sink>(sink: &mut O)
     ensures later { O.faults sink.old ≤ O.faults sink.new }
-    ensures said { SaysTo (O.contents sink.old) (O.contents sink.new) (O.faults sink.old) (O.faults sink.new) usage_line }
+    ensures said { SaysTo (O.contents sink.old) (O.contents sink.new) (O.faults sink.old) (O.faults sink.new)
+        usage_line }
 {
     say(sink, b"usage: run | race N | generate SEED N\n");
 }
@@ -241,14 +253,19 @@ pub fn top<T: Wait + Threads, I: Source, O: Sink>(
     sink: &mut O,
     run: &mut Run,
 ) -> u8
-    ensures ends { EndsWith result (record { left = I.left source.old; left_now = I.left source.new; reads_failed = I.faults source.old; reads_failed_now = I.faults source.new; contents = O.contents sink.old; contents_now = O.contents sink.new; writes_failed = O.faults sink.old; writes_failed_now = O.faults sink.new }) run.old run.new }
+    ensures ends { EndsWith result
+        (ends_of (I.left source.old) (I.left source.new) (I.faults source.old) (I.faults source.new)
+        (O.contents sink.old) (O.contents sink.new) (O.faults sink.old) (O.faults sink.new))
+        run.old run.new }
     ensures usage { (result ≡ 2) ↔ (command_of words.now ≡ None) }
     ensures done { result ≡ 0 → HasRun (I.left source.old) (I.left source.new) run.new }
     ensures refused { result ≡ 3 → IsRefused (I.left source.old) (I.left source.new) }
     ensures read_failed { result ≡ 4 → Rose (I.faults source.old) (I.faults source.new) }
     ensures write_failed { result ≡ 5 → Rose (O.faults sink.old) (O.faults sink.new) }
     ensures too_large { result ≡ 7 → IsTooLarge (I.left source.old) (I.left source.new) }
-    ensures complete { command_of words.now ≡ Some Command.Run → Completes result (I.left source.old) (I.faults source.old) (I.faults source.new) (O.faults sink.old) (O.faults sink.new) }
+    ensures complete { command_of words.now ≡ Some Command.Run →
+        Completes result (I.left source.old) (I.faults source.old) (I.faults source.new) (O.faults sink.old)
+        (O.faults sink.new) }
     ensures reads_later { I.faults source.old ≤ I.faults source.new }
     ensures writes_later { O.faults sink.old ≤ O.faults sink.new }
 {

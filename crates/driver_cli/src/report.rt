@@ -1,14 +1,14 @@
 //! The report of a run: a line for each call, each send and each entry of the log, then the totals.
 ghost use Rattle.std.specs.Prelude.{◌≡◌, ◌++◌, string_bytes, IfOk, OnOk, count_by, is_some};
 ghost use Rattle.driver_cli.specs.Report.{calls_of, outcomes_of, drawn_of, ids_line, waiting_line, totals_line, server_lines, report};
-ghost use Rattle.driver_link.specs.Exchange.{empty_server};
 
 use crate::distinct::are_distinct;
 use crate::lines::{push_calls, push_entries, push_sends};
 use crate::running::Run;
-use bson_lite::{Bytes, List};
+use bson_lite::Bytes;
 use driver_actions::{Call, Outcome};
-use driver_link::{ById, Send, Server};
+use driver_link::{Send, Server};
+use model_server::new_server;
 use std::alloc::{AllocError, Global};
 
 /// The report of a run. A part that the run lacks has no lines and counts nothing.
@@ -29,22 +29,9 @@ fn push_report(alloc: Global, out: &mut String, run: &Run) -> Result<(), AllocEr
     match &run.server {
         Some(server) => push_server(alloc, out, outcomes, server.server(), drawn_in(run)),
         None => {
-            let server = untouched(alloc);
+            let server = new_server(alloc);
             push_server(alloc, out, outcomes, &server, drawn_in(run))
         }
-    }
-}
-
-/// A server that has seen nothing.
-fn untouched(alloc: Global) -> Server
-    ensures { result ≡ empty_server }
-{
-    Server {
-        sessions: ById::new(alloc),
-        log: List::new(alloc),
-        waiting: List::new(alloc),
-        cursors: List::new(alloc),
-        trace: List::new(alloc),
     }
 }
 
@@ -56,7 +43,8 @@ fn push_server(
     server: &Server,
     drawn: &[[u8; 16]],
 ) -> Result<(), AllocError>
-    ensures { OnOk result (string_bytes out.new ≡ string_bytes out.old ++ server_lines outcomes.now server.now drawn.now) }
+    ensures { OnOk result
+        (string_bytes out.new ≡ string_bytes out.old ++ server_lines outcomes.now server.now drawn.now) }
 {
     push_sends(out, server.trace.as_slice())?;
     push_entries(out, server.log.as_slice())?;
@@ -114,7 +102,8 @@ fn push_waiting(out: &mut String, waiting: &[Option<Send>]) -> Result<(), AllocE
 
 #[tactic(auto, unfolding(crate::specs::Report::totals_line))]
 fn push_totals(out: &mut String, outcomes: &[Outcome], server: &Server) -> Result<(), AllocError>
-    ensures { OnOk result (string_bytes out.new ≡ string_bytes out.old ++ totals_line outcomes.now server.now) }
+    ensures { OnOk result
+        (string_bytes out.new ≡ string_bytes out.old ++ totals_line outcomes.now server.now) }
 {
     let calls = outcomes.len();
     let done = outcomes

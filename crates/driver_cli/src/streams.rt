@@ -38,7 +38,8 @@ pub(crate) fn read_all<I: Source>(
     source: &mut I,
     limit: usize,
 ) -> Result<Bytes, ReadFault>
-    ensures ends { EndsReading limit (I.left source.old) (I.left source.new) (I.faults source.old) (I.faults source.new) result }
+    ensures ends { EndsReading limit (I.left source.old) (I.left source.new) (I.faults source.old)
+        (I.faults source.new) result }
     ensures later { I.faults source.old ≤ I.faults source.new }
 {
     let mut bytes = Bytes::new(alloc);

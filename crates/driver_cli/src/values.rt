@@ -62,7 +62,8 @@ fn read_value(alloc: Global, value: &Value) -> Result<Bson, Unread>
 #[cycle(value)]
 #[tactic(auto, unfolding(crate::specs::Values::tagged))]
 fn read_tagged(alloc: Global, key: &str, value: &Value) -> Result<Bson, Unread>
-    ensures { Gives result (tagged key.now (view value.now) (document_of (view value.now)) (array_of (view value.now))) }
+    ensures { Gives result
+        (tagged key.now (view value.now) (document_of (view value.now)) (array_of (view value.now))) }
 {
     if key == DOC {
         return Ok(Bson::Document(read_document(alloc, value)?));

@@ -72,7 +72,9 @@ pub(crate) fn push_place(out: &mut String, place: &Place) -> Result<(), AllocErr
 
 #[tactic(auto, unfolding(crate::specs::Words::listed, crate::specs::Words::more_texts))]
 pub(crate) fn push_places(out: &mut String, writes: &[PlacedWrite]) -> Result<(), AllocError>
-    ensures { OnOk result (string_bytes out.new ≡ string_bytes out.old ++ listed (map (λ write. place_text write.place) writes.now)) }
+    ensures { OnOk result
+        (string_bytes out.new ≡
+        string_bytes out.old ++ listed (map (λ write. place_text write.place) writes.now)) }
 {
     let Some((first, rest)) = writes.split_first() else {
         return out.push_str("-");
@@ -104,7 +106,9 @@ pub(crate) fn push_value(alloc: Global, out: &mut String, value: &Bson) -> Resul
 }
 
 fn push_spelling(alloc: Global, out: &mut String, value: &Bson) -> Result<(), AllocError>
-    ensures { OnOk result (string_bytes out.new ≡ string_bytes out.old ++ codes "bson:" ++ hex (spelled_or_nothing (lone value.now))) }
+    ensures { OnOk result
+        (string_bytes out.new ≡
+        string_bytes out.old ++ codes "bson:" ++ hex (spelled_or_nothing (lone value.now))) }
 {
     let mut document = Document::new(alloc);
     document.push("v", value.try_clone(alloc)?)?;
@@ -189,7 +193,8 @@ fn push_labels(out: &mut String, labels: &[Text]) -> Result<(), AllocError>
 }
 
 fn push_source(out: &mut String, source: Option<&Error>) -> Result<(), AllocError>
-    ensures { OnOk result (string_bytes out.new ≡ string_bytes out.old ++ source_text (option_copied source.entry)) }
+    ensures { OnOk result
+        (string_bytes out.new ≡ string_bytes out.old ++ source_text (option_copied source.entry)) }
 {
     match source {
         Some(source) => out.push_str(name_of_kind(source.kind())),

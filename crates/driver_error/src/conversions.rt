@@ -75,7 +75,8 @@ impl From<CommandErrorBody> for Error {
     ghost use Rattle.driver_error.specs.LabelTexts.{label_set};
     ghost use Rattle.driver_error.specs.declared.kind.ErrorKind.TheVariants.{Command};
 
-    ghost from_gives = { λ body error. IsMade (Command body.command_error) (label_set body.error_labels) error };
+    ghost from_gives = { λ body error. IsMade (Command body.command_error) (label_set body.error_labels)
+        error };
 
     fn from(body: CommandErrorBody) -> Error {
         let CommandErrorBody {

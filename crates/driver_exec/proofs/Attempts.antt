@@ -11,7 +11,7 @@ use Rattle.bson_lite.proofs.Nested.{read_again}
 use Rattle.driver_link.specs.declared.fault.LinkError.{LinkError}
 use Rattle.driver_link.specs.declared.fault.LinkError.TheVariants.{Fault, Memory}
 use Rattle.driver_link.specs.Counting.{Counts, KeepsServer, Listed, OnlyCounts, check_out_fault, checked_out, select_fault, selected}
-use Rattle.driver_link.specs.Told.{Told}
+use Rattle.driver_link.specs.ServerRun.{ServerRun}
 use Rattle.driver_exec.specs.Session.{MayRaise, Numbers, Raises, Session}
 
 -- a next number is the last one and one more
@@ -37,22 +37,22 @@ pub spells_one : (a b : List (Pair Bson)) (bytes : List ℕ) → Spells a bytes 
 spells_one a b bytes first second = cc (sym (read_again a first.has) ∙ ap read (sym first.is ∙ second.is) ∙ read_again b second.has)
 
 -- calls that are only counted
-pub counts_refl : (link : Option Told) → OnlyCounts link link
+pub counts_refl : (link : Option ServerRun) → OnlyCounts link link
 counts_refl None = refl
 counts_refl (Some told) = record { server = refl; setup = refl; schedule = refl }
 
-pub counts_twice : (a b c : Option Told) → OnlyCounts a b → OnlyCounts b c → OnlyCounts a c
+pub counts_twice : (a b c : Option ServerRun) → OnlyCounts a b → OnlyCounts b c → OnlyCounts a c
 counts_twice None b c first second = subst (λ link. OnlyCounts link c) first second
 counts_twice (Some old) None c first second = absurd first
 counts_twice (Some old) (Some mid) None first second = absurd second
 counts_twice (Some old) (Some mid) (Some now) first second =
     record { server = second.server ∙ first.server; setup = second.setup ∙ first.setup; schedule = second.schedule ∙ first.schedule }
 
-module _ (A : Type 0) (next : Told → Told) (fault : Told → Option Listed) (keeps : (told : Told) → KeepsServer told (next told)) where
-  counted : (told : Told) (now : Option Told) → now ≡ Some (next told) → OnlyCounts (Some told) now
+module _ (A : Type 0) (next : ServerRun → ServerRun) (fault : ServerRun → Option Listed) (keeps : (told : ServerRun) → KeepsServer told (next told)) where
+  counted : (told : ServerRun) (now : Option ServerRun) → now ≡ Some (next told) → OnlyCounts (Some told) now
   counted told now is = subst (OnlyCounts (Some told)) (sym is) (keeps told)
 
-  only_counts : (link now : Option Told) (result : Result A LinkError) → Counts {A = A} next fault link now result → OnlyCounts link now
+  only_counts : (link now : Option ServerRun) (result : Result A LinkError) → Counts {A = A} next fault link now result → OnlyCounts link now
   only_counts None now result counts = counts
   only_counts (Some told) now (Ok given) counts = counted told now counts.0
   only_counts (Some told) now (Err (Fault found own)) counts = counted told now counts.0
@@ -61,15 +61,15 @@ module _ (A : Type 0) (next : Told → Told) (fault : Told → Option Listed) (k
     | inr is ↦ counted told now is
   ]
 
-keeps_selected : (told : Told) → KeepsServer told (selected told)
+keeps_selected : (told : ServerRun) → KeepsServer told (selected told)
 keeps_selected told = record { server = refl; setup = refl; schedule = refl }
 
-keeps_checked : (told : Told) → KeepsServer told (checked_out told)
+keeps_checked : (told : ServerRun) → KeepsServer told (checked_out told)
 keeps_checked told = record { server = refl; setup = refl; schedule = refl }
 
 -- a selection and a check-out leave the server that is told
-pub select_counts : (A : Type 0) (link now : Option Told) (result : Result A LinkError) → Counts {A = A} selected select_fault link now result → OnlyCounts link now
+pub select_counts : (A : Type 0) (link now : Option ServerRun) (result : Result A LinkError) → Counts {A = A} selected select_fault link now result → OnlyCounts link now
 select_counts A link now result counts = only_counts A selected select_fault keeps_selected link now result counts
 
-pub check_out_counts : (A : Type 0) (link now : Option Told) (result : Result A LinkError) → Counts {A = A} checked_out check_out_fault link now result → OnlyCounts link now
+pub check_out_counts : (A : Type 0) (link now : Option ServerRun) (result : Result A LinkError) → Counts {A = A} checked_out check_out_fault link now result → OnlyCounts link now
 check_out_counts A link now result counts = only_counts A checked_out check_out_fault keeps_checked link now result counts

@@ -1,5 +1,5 @@
 -- What an operation has done so far, attempt by attempt: its sends and its session.
-use Rattle.std.proofs.Common.{◌≡◌, ℕ, suc, ◌+◌, ◌≤◌, List, refl, sym, ap, subst, ◌∙◌, inl, inr, arith}
+use Rattle.std.proofs.Common.{◌≡◌, ℕ, suc, ◌≤◌, List, refl, sym, ap, subst, ◌∙◌, inl, inr, arith}
 use Rattle.std.specs.Prelude.{ℤ, pos, ◌+ℤ◌, Bool, true, false, ◌&&◌, Option, None, Some, is_none, Result, Ok, Err, if◌then◌else◌}
 use Rattle.std.specs.Option.{option_map}
 use Rattle.driver_error.specs.declared.error.Error.{Error}
@@ -9,27 +9,28 @@ use Rattle.driver_link.specs.declared.fault.LinkFault.{LinkFault}
 use Rattle.driver_link.specs.declared.machine.Place.{Place}
 use Rattle.driver_link.specs.declared.machine.Send.{Send}
 use Rattle.driver_link.specs.declared.machine.SendBody.{SendBody}
+use Rattle.driver_link.specs.declared.options.Conn.{Conn}
 use Rattle.driver_link.specs.Counting.{OnlyCounts}
-use Rattle.driver_link.specs.Told.{Steps, Told}
+use Rattle.driver_link.specs.ServerRun.{ServerRun, TakesStep}
 use Rattle.driver_exec.specs.declared.retryability.Retryability.{Retryability}
 use Rattle.driver_exec.specs.declared.retryability.Retryability.TheVariants as may
 use Rattle.driver_exec.specs.Attempting.{Exchanges, held_after}
 use Rattle.driver_exec.specs.Causes.{is_network}
 use Rattle.driver_exec.specs.Holding.{DrawsNumber, DrawsSession, GivesNumber, Held, HoldsSession, dirty_session, held_id, needs_session}
 use Rattle.driver_exec.specs.Operations.{Meaning, plain_send}
-use Rattle.driver_exec.specs.Pool.{Lends, StaysTold, ToldStore}
+use Rattle.driver_exec.specs.StoreTells.{LendsSession, StoreTells}
 use Rattle.driver_exec.specs.Resending.{AnsweredLast, IsNumbered, SentTimes, SentWithin}
 use Rattle.driver_exec.specs.Session.{Numbers, Raises, Session}
-use Rattle.driver_exec.specs.Links.{ToldLink}
+use Rattle.driver_link.specs.LinkState.{LinkState, server_run}
 use Rattle.driver_exec.proofs.Attempts.{raises, stays}
 use Rattle.driver_exec.proofs.Staying.{stays_then_lends, stays_twice}
-use Rattle.driver_exec.proofs.Trying.{both_true, stays_same}
+use Rattle.driver_exec.proofs.Trying.{both_true}
 use Rattle.driver_exec.proofs.Resends.{answered_last, begins_unsent, none_sent, sent_answered, sent_counted, sent_lost, sent_maybe}
 use Rattle.driver_exec.proofs.Borrowing.{CountFits, HeldFrom, HoldsFrom, HoldsLast, MayGoOn, NumberFits, Unnumbered, id_of, lends_then_stays, number_of}
 
-module _ {A : Type 0} (meaning : Meaning A) (places : List Place) (store : Option ToldStore) (link : Option Told) where
+module _ {A : Type 0} (meaning : Meaning A) (places : List Place) (store : StoreTells) (link : Option ServerRun) where
   -- what was done so far, in at most so many attempts
-  pub record Course (most : ℕ) (store_now : Option ToldStore) (link_now : Option Told) (session : Option Session) (sent : Option (Option ℤ)) : Type 0 where
+  pub record Course (most : ℕ) (store_now : StoreTells) (link_now : Option ServerRun) (session : Option Session) (sent : Option (Option ℤ)) : Type 0 where
     pub count : ℕ
     pub within : count ≤ most
     pub sends : (body : SendBody) → meaning.asked places body → SentTimes link link_now (plain_send (id_of session) (number_of sent) body) count
@@ -37,15 +38,15 @@ module _ {A : Type 0} (meaning : Meaning A) (places : List Place) (store : Optio
     pub fits : CountFits sent count
 
   -- what was done once the operation is over
-  pub record Over (most : ℕ) (store_now : Option ToldStore) (link_now : Option Told) (session : Option Session) (sent : Option (Option ℤ)) : Type 0 where
+  pub record Over (most : ℕ) (store_now : StoreTells) (link_now : Option ServerRun) (session : Option Session) (sent : Option (Option ℤ)) : Type 0 where
     pub sends : (body : SendBody) → meaning.asked places body → SentWithin most link link_now (plain_send (id_of session) (number_of sent) body)
     pub holds : HoldsLast store store_now (number_of sent) session
 
   pub starts : Course 0 store link None None
-  starts = record { count = 0; within = omega arith; sends = λ body asked. begins_unsent link (plain_send None None body); holds = (stays_same store, tt); fits = refl }
+  starts = record { count = 0; within = omega arith; sends = λ body asked. begins_unsent link (plain_send None None body); holds = (refl, tt); fits = refl }
 
   -- calls that were only counted, and one attempt more
-  pub counted : (most : ℕ) (store_now : Option ToldStore) (mid now : Option Told) (session : Option Session) (sent : Option (Option ℤ)) → OnlyCounts mid now
+  pub counted : (most : ℕ) (store_now : StoreTells) (mid now : Option ServerRun) (session : Option Session) (sent : Option (Option ℤ)) → OnlyCounts mid now
       → Course most store_now mid session sent → Course most store_now now session sent
   counted most store_now mid now session sent counts course = record {
     count = course.count;
@@ -55,23 +56,22 @@ module _ {A : Type 0} (meaning : Meaning A) (places : List Place) (store : Optio
     fits = course.fits;
   }
 
-  pub one_more : (most : ℕ) (store_now : Option ToldStore) (link_now : Option Told) (session : Option Session) (sent : Option (Option ℤ))
+  pub one_more : (most : ℕ) (store_now : StoreTells) (link_now : Option ServerRun) (session : Option Session) (sent : Option (Option ℤ))
       → Course most store_now link_now session sent → Course (suc most) store_now link_now session sent
   one_more most store_now link_now session sent course =
       record { count = course.count; within = omega (arith, course.within); sends = course.sends; holds = course.holds; fits = course.fits }
 
   -- a session was lent, before anything was sent
-  lent_now : (most : ℕ) (store_mid store_now : Option ToldStore) (link_now : Option Told) (caller moment : ℕ) (session : Session)
-      → Lends store_mid store_now caller moment session → Course most store_mid link_now None None → Course most store_now link_now (Some session) None
-  lent_now most store_mid store_now link_now caller moment session lends course = record {
+  lent_now : (most : ℕ) (store_mid store_now : StoreTells) (link_now : Option ServerRun) (at : ℕ) (session : Session)
+      → LendsSession store_mid store_now at session → Course most store_mid link_now None None → Course most store_now link_now (Some session) None
+  lent_now most store_mid store_now link_now at session lends course = record {
     count = 0;
     within = omega arith;
     sends = λ body asked. none_sent link link_now (plain_send None None body) (plain_send (Some session.id) None body) course.count course.fits (course.sends body asked);
     holds = record {
-      caller = caller;
-      moment = moment;
+      at = at;
       lent = session;
-      lends = stays_then_lends store store_mid store_now caller moment session course.holds.0 lends;
+      lends = stays_then_lends store store_mid store_now at session course.holds.0 lends;
       id = refl;
       number = refl;
     };
@@ -79,24 +79,23 @@ module _ {A : Type 0} (meaning : Meaning A) (places : List Place) (store : Optio
   }
 
   -- the store stays
-  pub store_stays : (most : ℕ) (store_mid store_now : Option ToldStore) (link_now : Option Told) (session : Option Session) (sent : Option (Option ℤ))
-      → StaysTold store_mid store_now → Course most store_mid link_now session sent → Course most store_now link_now session sent
+  pub store_stays : (most : ℕ) (store_mid store_now : StoreTells) (link_now : Option ServerRun) (session : Option Session) (sent : Option (Option ℤ))
+      → store_now ≡ store_mid → Course most store_mid link_now session sent → Course most store_now link_now session sent
   store_stays most store_mid store_now link_now session sent stays course =
       record { count = course.count; within = course.within; sends = course.sends; holds = by_session session course.holds; fits = course.fits }
     where
       by_session : (session : Option Session) → HoldsFrom store store_mid sent session → HoldsFrom store store_now sent session
       by_session None holds = (stays_twice store store_mid store_now holds.0 stays, holds.1)
       by_session (Some held) holds = record {
-        caller = holds.caller;
-        moment = holds.moment;
+        at = holds.at;
         lent = holds.lent;
-        lends = lends_then_stays store store_mid store_now holds.caller holds.moment holds.lent holds.lends stays;
+        lends = lends_then_stays store store_mid store_now holds.at holds.lent holds.lends stays;
         id = holds.id;
         number = holds.number;
       }
 
   -- where a session is needed one was lent, and nothing had been sent
-  pub readied : (most : ℕ) (store_mid store_now : Option ToldStore) (link_now : Option Told) (asked : Bool) (held ready : Held)
+  pub readied : (most : ℕ) (store_mid store_now : StoreTells) (link_now : Option ServerRun) (asked : Bool) (held ready : Held)
       → HoldsSession (needs_session asked held) store_mid store_now held ready (Ok tt)
       → Course most store_mid link_now held.session held.sent → Course most store_now link_now ready.session ready.sent
   readied most store_mid store_now link_now asked held ready holds course = by_need (needs_session asked held) refl holds
@@ -117,12 +116,12 @@ module _ {A : Type 0} (meaning : Meaning A) (places : List Place) (store : Optio
           let unsent = none_of held.sent both.1 in
           let bare : Course most store_mid link_now None None
           = subst (λ s. Course most store_mid link_now s None) none (subst (λ s. Course most store_mid link_now held.session s) unsent course) in
-          let lent = lent_now most store_mid store_now link_now holds.caller holds.moment holds.session holds.lends bare in
+          let lent = lent_now most store_mid store_now link_now holds.at holds.session holds.lends bare in
           let is_ready : ready ≡ record { session = Some holds.session; sent = None } = holds.is ∙ ap (λ s. record { session = Some holds.session; sent = s }) unsent in
           subst (λ h. Course most store_now link_now h.session h.sent) (sym is_ready) lent
 
   -- what is held when the operation is over
-  last_holds : (store_now : Option ToldStore) (sent : Option (Option ℤ)) (session : Option Session) → HoldsFrom store store_now sent session
+  last_holds : (store_now : StoreTells) (sent : Option (Option ℤ)) (session : Option Session) → HoldsFrom store store_now sent session
       → HoldsLast store store_now (number_of sent) session
   last_holds store_now sent None holds = (holds.0, no_number sent holds.1)
     where
@@ -131,8 +130,7 @@ module _ {A : Type 0} (meaning : Meaning A) (places : List Place) (store : Optio
       no_number (Some None) none = refl
       no_number None none = refl
   last_holds store_now sent (Some session) holds = record {
-    caller = holds.caller;
-    moment = holds.moment;
+    at = holds.at;
     lent = holds.lent;
     lends = holds.lends;
     id = holds.id;
@@ -150,7 +148,7 @@ module _ {A : Type 0} (meaning : Meaning A) (places : List Place) (store : Optio
   one_at_most (Some None) count fits none = omega (arith, fits)
   one_at_most (Some (Some number)) count fits none = absurd (let e : ◌≡◌ {A = Option ℤ} (Some number) None = none in cc)
 
-  pub course_over : (most : ℕ) (store_now : Option ToldStore) (link_now : Option Told) (session : Option Session) (sent : Option (Option ℤ))
+  pub course_over : (most : ℕ) (store_now : StoreTells) (link_now : Option ServerRun) (session : Option Session) (sent : Option (Option ℤ))
       → Course most store_now link_now session sent → Over most store_now link_now session sent
   course_over most store_now link_now session sent course = record {
     sends = λ body asked. record {
@@ -163,13 +161,13 @@ module _ {A : Type 0} (meaning : Meaning A) (places : List Place) (store : Optio
   }
 
   -- what is held once a number was drawn, and what is then sent
-  pub record Drawn (held numbered : Held) (number : Option ℤ) (store_now : Option ToldStore) : Type 0 where
+  pub record Drawn (held numbered : Held) (number : Option ℤ) (store_now : StoreTells) : Type 0 where
     pub same_id : id_of numbered.session ≡ id_of held.session
     pub same_sent : numbered.sent ≡ held.sent
     pub holds : HoldsFrom store store_now (Some number) numbered.session
     pub again : (before : Option ℤ) → held.sent ≡ Some before → number ≡ before
 
-  drawn_from : (store_now : Option ToldStore) (session : Session) (now : Option Session) (number : Option ℤ) (numbered : Session) (next : Result ℤ Error)
+  drawn_from : (store_now : StoreTells) (session : Session) (now : Option Session) (number : Option ℤ) (numbered : Session) (next : Result ℤ Error)
       → HeldFrom (NumberFits None) store store_now session → Numbers session numbered next → now ≡ Some numbered → GivesNumber next (Ok number)
       → (id_of now ≡ Some session.id) × HoldsFrom store store_now (Some number) now
   drawn_from store_now session now number numbered (Err error) held numbers is gives = absurd (let e : ◌≡◌ {A = Result (Option ℤ) Error} (Ok number) (Err error) = gives in cc)
@@ -179,8 +177,7 @@ module _ {A : Type 0} (meaning : Meaning A) (places : List Place) (store : Optio
       let number_same : numbered.number ≡ next = ap (λ s. s.number) numbers.2 in
       let raised : Raises held.lent numbered = raises session numbered next numbers ∙ ap (λ n. n +ℤ pos 1) held.number in
       let holds : HoldsFrom store store_now (Some (Some next)) (Some numbered) = record {
-        caller = held.caller;
-        moment = held.moment;
+        at = held.at;
         lent = held.lent;
         lends = held.lends;
         id = id_same ∙ held.id;
@@ -191,7 +188,7 @@ module _ {A : Type 0} (meaning : Meaning A) (places : List Place) (store : Optio
       )
 
   -- none was drawn
-  undrawn : (store_now : Option ToldStore) (session now : Option Session) (number : Option ℤ) → HoldsFrom store store_now None session
+  undrawn : (store_now : StoreTells) (session now : Option Session) (number : Option ℤ) → HoldsFrom store store_now None session
       → now ≡ session → ◌≡◌ {A = Result (Option ℤ) Error} (Ok number) (Ok None) → (id_of now ≡ id_of session) × HoldsFrom store store_now (Some number) now
   undrawn store_now session now number holds is none =
       let number_is : number ≡ None = cc none in (
@@ -203,14 +200,14 @@ module _ {A : Type 0} (meaning : Meaning A) (places : List Place) (store : Optio
       by_session None holds = (holds.0, tt)
       by_session (Some held) holds = holds
 
-  first_drawn : (store_now : Option ToldStore) (turn : Retryability) (session now : Option Session) (number : Option ℤ) → HoldsFrom store store_now None session
+  first_drawn : (store_now : StoreTells) (turn : Retryability) (session now : Option Session) (number : Option ℤ) → HoldsFrom store store_now None session
       → DrawsSession turn session now (Ok number) → (id_of now ≡ id_of session) × HoldsFrom store store_now (Some number) now
   first_drawn store_now may.Write (Some session) now number holds draws =
       drawn_from store_now session now number draws.numbered draws.next holds draws.numbers draws.is draws.gives
   first_drawn store_now may.Write None now number holds draws = undrawn store_now None now number holds draws.0 draws.1
   first_drawn store_now other session now number holds draws = undrawn store_now session now number holds draws.0 draws.1
 
-  pub drawn : (store_now : Option ToldStore) (turn : Retryability) (held numbered : Held) (number : Option ℤ) → HoldsFrom store store_now held.sent held.session
+  pub drawn : (store_now : StoreTells) (turn : Retryability) (held numbered : Held) (number : Option ℤ) → HoldsFrom store store_now held.sent held.session
       → DrawsNumber held.sent turn held numbered (Ok number) → Drawn held numbered number store_now
   drawn store_now turn held numbered number holds draws = by_sent held.sent refl holds draws
     where
@@ -233,12 +230,11 @@ module _ {A : Type 0} (meaning : Meaning A) (places : List Place) (store : Optio
           }
 
   -- a session under which the network failed
-  soiled : (store_now : Option ToldStore) (sent : Option (Option ℤ)) (session : Option Session) → HoldsFrom store store_now sent session
+  soiled : (store_now : StoreTells) (sent : Option (Option ℤ)) (session : Option Session) → HoldsFrom store store_now sent session
       → HoldsFrom store store_now sent (option_map dirty_session session)
   soiled store_now sent None holds = holds
   soiled store_now sent (Some session) holds = record {
-    caller = holds.caller;
-    moment = holds.moment;
+    at = holds.at;
     lent = holds.lent;
     lends = holds.lends;
     id = holds.id;
@@ -251,12 +247,12 @@ module _ {A : Type 0} (meaning : Meaning A) (places : List Place) (store : Optio
       number_same None fits = fits
 
   -- what is held after an exchange has the same id, and the same number
-  record HeldAfter (held now : Held) (store_now : Option ToldStore) : Type 0 where
+  record HeldAfter (held now : Held) (store_now : StoreTells) : Type 0 where
     id : id_of now.session ≡ id_of held.session
     sent : now.sent ≡ held.sent
     holds : HoldsFrom store store_now held.sent now.session
 
-  after_exchange : (store_now : Option ToldStore) (held : Held) (result : Result (List ℕ) LinkError) → HoldsFrom store store_now held.sent held.session
+  after_exchange : (store_now : StoreTells) (held : Held) (result : Result (List ℕ) LinkError) → HoldsFrom store store_now held.sent held.session
       → HeldAfter held (held_after result held) store_now
   after_exchange store_now held (Ok reply) holds = record { id = refl; sent = refl; holds = holds }
   after_exchange store_now held (Err Memory) holds = record { id = refl; sent = refl; holds = holds }
@@ -280,7 +276,7 @@ module _ {A : Type 0} (meaning : Meaning A) (places : List Place) (store : Optio
   fits_more (Some (Some before)) (Some number) count goes fits again = omega arith
 
   -- the send is the one before, where there was one
-  same_send : (mid : Option Told) (session : Option (List ℕ)) (sent : Option (Option ℤ)) (number : Option ℤ) (count : ℕ) (body : SendBody)
+  same_send : (mid : Option ServerRun) (session : Option (List ℕ)) (sent : Option (Option ℤ)) (number : Option ℤ) (count : ℕ) (body : SendBody)
       → ((before : Option ℤ) → sent ≡ Some before → number ≡ before) → CountFits sent count → SentTimes link mid (plain_send session (number_of sent) body) count
       → SentTimes link mid (plain_send session number body) count
   same_send mid session None number count body again fits sent =
@@ -288,8 +284,8 @@ module _ {A : Type 0} (meaning : Meaning A) (places : List Place) (store : Optio
   same_send mid session (Some before) number count body again fits sent =
       subst (λ n. SentTimes link mid (plain_send session n body) count) (sym (again before refl)) sent
 
-  module _ (most : ℕ) (store_now : Option ToldStore) (mid : ToldLink) (now : ToldLink) (ready numbered : Held) (turn : Retryability) (number : Option ℤ)
-      (goes : MayGoOn ready.sent) (draws : DrawsNumber ready.sent turn ready numbered (Ok number)) (course : Course most store_now mid.server ready.session ready.sent) where
+  module _ (most : ℕ) (store_now : StoreTells) (mid : LinkState) (now : LinkState) (ready numbered : Held) (turn : Retryability) (number : Option ℤ)
+      (goes : MayGoOn ready.sent) (draws : DrawsNumber ready.sent turn ready numbered (Ok number)) (course : Course most store_now (server_run mid) ready.session ready.sent) where
     abbrev held : Held
     held = record numbered { sent = Some number }
 
@@ -297,50 +293,50 @@ module _ {A : Type 0} (meaning : Meaning A) (places : List Place) (store : Optio
     is_drawn = drawn store_now turn ready numbered number course.holds draws
 
     -- the sends so far, as this one
-    so_far : (body : SendBody) → meaning.asked places body → SentTimes link mid.server (plain_send (id_of numbered.session) number body) course.count
-    so_far body asked = subst (λ id. SentTimes link mid.server (plain_send id number body) course.count) (sym is_drawn.same_id)
-        (same_send mid.server (id_of ready.session) ready.sent number course.count body is_drawn.again course.fits (course.sends body asked))
+    so_far : (body : SendBody) → meaning.asked places body → SentTimes link (server_run mid) (plain_send (id_of numbered.session) number body) course.count
+    so_far body asked = subst (λ id. SentTimes link (server_run mid) (plain_send id number body) course.count) (sym is_drawn.same_id)
+        (same_send (server_run mid) (id_of ready.session) ready.sent number course.count body is_drawn.again course.fits (course.sends body asked))
 
-    module _ (result : Result (List ℕ) LinkError) (exchanges : Exchanges meaning places mid now (held_id numbered) number result) where
+    module _ (conn : Conn) (result : Result (List ℕ) LinkError) (exchanges : Exchanges meaning places mid now conn (held_id numbered) number result) where
       kept : HeldAfter held (held_after result held) store_now
       kept = after_exchange store_now held result is_drawn.holds
 
       -- a send that was answered or lost
-      sent_course : ((body : SendBody) → meaning.asked places body → SentTimes link now.server (plain_send (id_of numbered.session) number body) (suc course.count))
-          → Course (suc most) store_now now.server (held_after result held).session (held_after result held).sent
-      sent_course sends = subst (λ s. Course (suc most) store_now now.server (held_after result held).session s) (sym kept.sent) (record {
+      sent_course : ((body : SendBody) → meaning.asked places body → SentTimes link (server_run now) (plain_send (id_of numbered.session) number body) (suc course.count))
+          → Course (suc most) store_now (server_run now) (held_after result held).session (held_after result held).sent
+      sent_course sends = subst (λ s. Course (suc most) store_now (server_run now) (held_after result held).session s) (sym kept.sent) (record {
         count = suc course.count;
         within = omega (arith, course.within);
-        sends = λ body asked. subst (λ id. SentTimes link now.server (plain_send id number body) (suc course.count)) (sym kept.id) (sends body asked);
+        sends = λ body asked. subst (λ id. SentTimes link (server_run now) (plain_send id number body) (suc course.count)) (sym kept.id) (sends body asked);
         holds = kept.holds;
         fits = fits_more ready.sent number course.count goes course.fits is_drawn.again;
       })
 
       answered_sends : (bytes : List ℕ) → result ≡ Ok bytes → (body : SendBody) → meaning.asked places body
-          → SentTimes link now.server (plain_send (id_of numbered.session) number body) (suc course.count)
-      answered_sends bytes is body asked = sent_answered link (plain_send (id_of numbered.session) number body) course.count mid.server now.server bytes (so_far body asked)
-          (subst (λ r. Steps mid.server now.server (plain_send (id_of numbered.session) number body) r) is (exchanges.steps body asked))
+          → SentTimes link (server_run now) (plain_send (id_of numbered.session) number body) (suc course.count)
+      answered_sends bytes is body asked = sent_answered link (plain_send (id_of numbered.session) number body) course.count (server_run mid) (server_run now) bytes (so_far body asked)
+          (subst (λ r. TakesStep (server_run mid) (server_run now) (plain_send (id_of numbered.session) number body) r) is (exchanges.exchanges.steps _ (exchanges.reads body asked)))
 
       lost_sends : (fault : LinkFault) (own : List (List ℕ)) → result ≡ Err (Fault fault own) → (body : SendBody) → meaning.asked places body
-          → SentTimes link now.server (plain_send (id_of numbered.session) number body) (suc course.count)
-      lost_sends fault own is body asked = sent_lost link (plain_send (id_of numbered.session) number body) course.count mid.server now.server fault own (so_far body asked)
-          (subst (λ r. Steps mid.server now.server (plain_send (id_of numbered.session) number body) r) is (exchanges.steps body asked))
+          → SentTimes link (server_run now) (plain_send (id_of numbered.session) number body) (suc course.count)
+      lost_sends fault own is body asked = sent_lost link (plain_send (id_of numbered.session) number body) course.count (server_run mid) (server_run now) fault own (so_far body asked)
+          (subst (λ r. TakesStep (server_run mid) (server_run now) (plain_send (id_of numbered.session) number body) r) is (exchanges.exchanges.steps _ (exchanges.reads body asked)))
 
-      pub answered_course : (bytes : List ℕ) → result ≡ Ok bytes → Course (suc most) store_now now.server (held_after result held).session (held_after result held).sent
+      pub answered_course : (bytes : List ℕ) → result ≡ Ok bytes → Course (suc most) store_now (server_run now) (held_after result held).session (held_after result held).sent
       answered_course bytes is = sent_course (answered_sends bytes is)
 
       pub lost_course : (fault : LinkFault) (own : List (List ℕ)) → result ≡ Err (Fault fault own)
-          → Course (suc most) store_now now.server (held_after result held).session (held_after result held).sent
+          → Course (suc most) store_now (server_run now) (held_after result held).session (held_after result held).sent
       lost_course fault own is = sent_course (lost_sends fault own is)
 
       -- want of memory in the exchange: the send went out or not
-      memory_over : result ≡ Err Memory → Over (suc most) store_now now.server numbered.session (Some number)
+      memory_over : result ≡ Err Memory → Over (suc most) store_now (server_run now) numbered.session (Some number)
       memory_over is = record {
         sends = λ body asked.
             let send = plain_send (id_of numbered.session) number body in
             let fits = fits_more ready.sent number course.count goes course.fits is_drawn.again in
-            elim (sent_maybe link send course.count mid.server now.server (so_far body asked)
-            (subst (λ r. Steps mid.server now.server send r) is (exchanges.steps body asked))) [
+            elim (sent_maybe link send course.count (server_run mid) (server_run now) (so_far body asked)
+            (subst (λ r. TakesStep (server_run mid) (server_run now) send r) is (exchanges.exchanges.steps _ (exchanges.reads body asked)))) [
               | inl same ↦ record {
                 count = course.count;
                 within = omega (arith, course.within);
@@ -358,13 +354,13 @@ module _ {A : Type 0} (meaning : Meaning A) (places : List Place) (store : Optio
       }
 
       abbrev OverAfter : Result (List ℕ) LinkError → Type 0
-      OverAfter found = Over (suc most) store_now now.server (held_after found held).session (held_after found held).sent
+      OverAfter found = Over (suc most) store_now (server_run now) (held_after found held).session (held_after found held).sent
 
       pub sent_over : OverAfter result
       sent_over = by_result result refl
         where
-          over_course : Course (suc most) store_now now.server (held_after result held).session (held_after result held).sent → OverAfter result
-          over_course course = course_over (suc most) store_now now.server (held_after result held).session (held_after result held).sent course
+          over_course : Course (suc most) store_now (server_run now) (held_after result held).session (held_after result held).sent → OverAfter result
+          over_course course = course_over (suc most) store_now (server_run now) (held_after result held).session (held_after result held).sent course
 
           by_result : (found : Result (List ℕ) LinkError) → result ≡ found → OverAfter found
           by_result (Ok bytes) is = subst OverAfter is (over_course (answered_course bytes is))
@@ -375,13 +371,13 @@ module _ {A : Type 0} (meaning : Meaning A) (places : List Place) (store : Optio
       abbrev send_now : SendBody → Send
       send_now body = plain_send (id_of (held_after result held).session) (number_of (held_after result held).sent) body
 
-      pub answered_now : (bytes : List ℕ) → result ≡ Ok bytes → (body : SendBody) → meaning.asked places body → AnsweredLast link now.server (send_now body) course.count bytes
+      pub answered_now : (bytes : List ℕ) → result ≡ Ok bytes → (body : SendBody) → meaning.asked places body → AnsweredLast link (server_run now) (send_now body) course.count bytes
       answered_now bytes is body asked =
           let send = plain_send (id_of numbered.session) number body in
-          let last = answered_last link send course.count mid.server now.server bytes (so_far body asked)
-          (subst (λ r. Steps mid.server now.server send r) is (exchanges.steps body asked)) in
-          subst (λ id. AnsweredLast link now.server (plain_send id (number_of (held_after result held).sent) body) course.count bytes) (sym kept.id)
-          (subst (λ sent. AnsweredLast link now.server (plain_send (id_of numbered.session) (number_of sent) body) course.count bytes) (sym kept.sent) last)
+          let last = answered_last link send course.count (server_run mid) (server_run now) bytes (so_far body asked)
+          (subst (λ r. TakesStep (server_run mid) (server_run now) send r) is (exchanges.exchanges.steps _ (exchanges.reads body asked))) in
+          subst (λ id. AnsweredLast link (server_run now) (plain_send id (number_of (held_after result held).sent) body) course.count bytes) (sym kept.id)
+          (subst (λ sent. AnsweredLast link (server_run now) (plain_send (id_of numbered.session) (number_of sent) body) course.count bytes) (sym kept.sent) last)
 
       -- without a number there was none before it
       pub first_alone : number_of (held_after result held).sent ≡ None → course.count ≡ 0

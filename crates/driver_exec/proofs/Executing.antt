@@ -9,23 +9,23 @@ use Rattle.driver_link.specs.declared.machine.Place.{Place}
 use Rattle.driver_link.specs.declared.options.Address.{Address}
 use Rattle.driver_exec.specs.declared.retry.Failure.{Failure}
 use Rattle.driver_exec.specs.declared.retryability.Retryability.{Retryability}
-use Rattle.driver_exec.specs.Attempting.{Scene, Trial, Tries, trial_of}
+use Rattle.driver_exec.specs.Attempting.{AttemptState, Trial, Tries, trial_of}
 use Rattle.driver_exec.specs.Operations.{Meaning, MeansTheSame}
 use Rattle.driver_exec.proofs.Sameness.{tries_same}
 use borrow.Author.Tests.{ltb-false}
 use Rattle.driver_exec.specs.Executing.{EndsWith, IsLastError, Reaches, Turns, decided, kept_or, limit_reached}
 use Rattle.driver_exec.specs.Retry.{Decides, Kept, after, after_first, after_further, avoiding, decide, decide_told, may_be_retried, one_more, told}
 
-module _ {A : Type 0} (trial : Trial A) (sharded : Bool) (before : Scene) where
+module _ {A : Type 0} (trial : Trial A) (sharded : Bool) (before : AttemptState) where
   -- an operation has come so far, and keeps this
-  pub record SoFar (kept : Option Kept) (now : Scene) : Type 0 where
+  pub record SoFar (kept : Option Kept) (now : AttemptState) : Type 0 where
     pub failures : List Failing
     pub reaches : Reaches trial sharded before failures kept now
 
   pub begins : SoFar None before
   begins = record { failures = []; reaches = (refl, refl) }
 
-  module _ (kept : Option Kept) (mid : Scene) (far : SoFar kept mid) where
+  module _ (kept : Option Kept) (mid : AttemptState) (far : SoFar kept mid) where
     -- the limit is reached
     pub ends_at_limit : (error : Error) → limit_reached kept ≡ true → IsLastError kept error → Turns trial sharded before mid (Err error)
     ends_at_limit error reached last = by_kept kept far reached last
@@ -40,7 +40,7 @@ module _ {A : Type 0} (trial : Trial A) (sharded : Bool) (before : Scene) where
           ends = inr (inl (record { retry = retry; is = refl; reached = reached; same = refl; answers = ap (λ e. Err e) last }));
         }
 
-    module _ (now : Scene) (goes_on : limit_reached kept ≡ false) where
+    module _ (now : AttemptState) (goes_on : limit_reached kept ≡ false) where
       last_of : (attempt : Attempt A) (result : Result A Error) → Tries trial kept mid now attempt → EndsWith kept attempt result
           → Turns trial sharded before now result
       last_of attempt result tries ends = record {
@@ -92,7 +92,7 @@ module _ {A : Type 0} (trial : Trial A) (sharded : Bool) (before : Scene) where
       }
 
 -- one attempt of a turn, of the operation as it was
-pub tried : {A : Type 0} (old now : Meaning A) (same : MeansTheSame old now) (places : List Place) (found own : Retryability) (seen past : Option Kept) (before after : Scene) (given attempt : Attempt A)
+pub tried : {A : Type 0} (old now : Meaning A) (same : MeansTheSame old now) (places : List Place) (found own : Retryability) (seen past : Option Kept) (before after : AttemptState) (given attempt : Attempt A)
     → found ≡ own → seen ≡ past → given ≡ attempt → Tries (trial_of now places found) seen before after given → Tries (trial_of old places own) past before after attempt
 tried old now same places found own seen past before after given attempt is_own is_again is_attempt tries =
     tries_same old now same places own past before after attempt

@@ -12,24 +12,29 @@ use Rattle.driver_link.specs.declared.machine.Setup.{Setup}
 use Rattle.driver_link.specs.declared.options.Address.{Address}
 use Rattle.driver_link.specs.declared.options.Conn.{Conn}
 use Rattle.driver_link.specs.declared.options.Description.{Description}
-use Rattle.driver_link.specs.Told.{IsTo}
+use Rattle.driver_link.specs.LinkCalls.{IsTo}
 use Rattle.driver_exec.specs.declared.pool.IdleSession.{IdleSession}
 use Rattle.driver_exec.specs.declared.retryability.Retryability.{Retryability}
 use Rattle.driver_exec.specs.declared.retryability.Retryability.TheVariants as may
 use Rattle.driver_exec.specs.Attempting.{asks_session, held_after, on_connection}
-use Rattle.driver_exec.specs.Causes.{IsLast, MayBeLast, is_network, lent_number, next_number}
+use Rattle.driver_exec.specs.Causes.{IsLast, MayBeLast, is_network, lent_number, next_number, number_in}
 use Rattle.driver_exec.specs.Holding.{DrawsNumber, DrawsSession, GivesNumber, Held, HoldsSession, dirty_session, needs_session}
 use Rattle.driver_exec.specs.OperationCauses.{DrawsNumbers}
-use Rattle.driver_exec.specs.Pool.{Lends, ToldStore, session_out}
+use Rattle.driver_exec.specs.Pool.{Pool, session_out}
+use Rattle.driver_exec.specs.StoreTells.{LendsFrom, LendsSession, StoreTells}
 use Rattle.driver_exec.specs.Session.{Numbers, Session, TellsEnd, last_number}
-use Rattle.driver_exec.proofs.Trying.{both_true}
 
 -- what is true is not false
 pub not_both : true ≡ false → ⊥
 not_both same = cc
 
+-- where two things hold together each does
+both_true : (a b : Bool) → (a && b) ≡ true → (a ≡ true) × (b ≡ true)
+both_true true b is = (refl, is)
+both_true false b is = absurd (not_both (sym is))
+
 -- without a session the store is as it was
-abbrev pub IsUntouched : Option Session → Option ToldStore → Option ToldStore → Type 0
+abbrev pub IsUntouched : Option Session → StoreTells → StoreTells → Type 0
 IsUntouched None store now = now ≡ store
 IsUntouched (Some session) store now = Unit {0}
 
@@ -49,7 +54,7 @@ TakesSessions (Some session) (Some setup) = setup.description.supports_sessions 
 TakesSessions session setup = Unit {0}
 
 -- what is held at one moment of an operation, by the store and the setup at its start
-pub record Stands (store : Option ToldStore) (setup : Option Setup) (now : Option ToldStore) (session : Option Session) (sent : Option (Option ℤ)) : Type 0 where
+pub record Stands (store : StoreTells) (setup : Option Setup) (now : StoreTells) (session : Option Session) (sent : Option (Option ℤ)) : Type 0 where
   pub untouched : IsUntouched session store now
   pub first : IsFirst session sent (next_number store)
   pub takes : TakesSessions session setup
@@ -68,14 +73,16 @@ is_of setup told address conn same to = subst (λ s. IsOf s conn.description) sa
     by_told (Some setup) to = to.1
 
 -- a session that is lent has the number that was next
-lent_fits : (store lent : Option ToldStore) (caller moment : ℕ) (session : Session) → Lends store lent caller moment session → FitsNumber (next_number store) session.number
-lent_fits None lent caller moment session lends = tt
-lent_fits (Some told) None caller moment session lends = absurd lends
-lent_fits (Some told) (Some mid) caller moment session lends = ap (λ held. held.number) lends.session_is ∙ number_is told.pool.idle (told.to_come 0)
+lent_fits : (store lent : StoreTells) (at : ℕ) (session : Session) → LendsSession store lent at session → FitsNumber (next_number store) session.number
+lent_fits store lent at session lends = by_pool store.pool lends.pool
   where
-    number_is : (idle : List IdleSession) (next : List ℕ) → (session_out idle next moment).number ≡ lent_number idle
+    number_is : (idle : List IdleSession) (next : List ℕ) → (session_out idle next at).number ≡ lent_number idle
     number_is [] next = refl
     number_is (front ∷ idle) next = refl
+
+    by_pool : (pool : Option Pool) → LendsFrom pool lent.pool store.caller at session → FitsNumber (number_in pool) session.number
+    by_pool None lends = tt
+    by_pool (Some pool) lends = ap (λ held. held.number) lends.0 ∙ number_is pool.idle session.id
 
 -- what is the last number
 pub last_of : (next : Option ℤ) (number : ℤ) → IsLast next → FitsNumber next number → number ≡ last_number
@@ -97,13 +104,13 @@ some_of : {B : Type 0} (o : Option B) → is_none o ≡ false → is_some o ≡ 
 some_of None is = absurd (not_both is)
 some_of (Some b) is = refl
 
-module _ (store : Option ToldStore) (setup : Option Setup) where
+module _ (store : StoreTells) (setup : Option Setup) where
   -- an operation that has not begun
   pub stands_at_first : Stands store setup store None None
   stands_at_first = record { untouched = refl; first = tt; takes = tt }
 
   -- a session was lent where one is needed
-  module _ (sessions : Bool) (description : Description) (is : IsOf setup description) (mid now : Option ToldStore) (held ready : Held) where
+  module _ (sessions : Bool) (description : Description) (is : IsOf setup description) (mid now : StoreTells) (held ready : Held) where
     -- a session that is asked for is one that the link's connections take
     takes_asked : (session : Session) (setup : Option Setup) → IsOf setup description → description.supports_sessions ≡ true → TakesSessions (Some session) setup
     takes_asked session None is supports = tt
@@ -127,7 +134,7 @@ module _ (store : Option ToldStore) (setup : Option Setup) where
             let first = both_true (asks_session sessions description) (is_none held.session) both.0 in
             let supports = (both_true sessions description.supports_sessions first.0).1 in
             let same : mid ≡ store = subst (λ s. IsUntouched s store mid) (none_of held.session first.1) stands.untouched in
-            let fits = subst (λ s. FitsNumber (next_number s) holds.session.number) same (lent_fits mid now holds.caller holds.moment holds.session holds.lends) in
+            let fits = subst (λ s. FitsNumber (next_number s) holds.session.number) same (lent_fits mid now holds.at holds.session holds.lends) in
             subst (λ h. Stands store setup now h.session h.sent) (sym holds.is)
             (record { untouched = tt; first = first_lent holds.session held.sent fits; takes = takes_asked holds.session setup is supports })
 
@@ -183,7 +190,7 @@ module _ (store : Option ToldStore) (setup : Option Setup) where
       by_network false = (refl, refl)
 
   -- so it stands after a send
-  pub sent_stands : (now : Option ToldStore) (session after : Option Session) (sent : Option (Option ℤ)) (number : Option ℤ) → is_some after ≡ is_some session
+  pub sent_stands : (now : StoreTells) (session after : Option Session) (sent : Option (Option ℤ)) (number : Option ℤ) → is_some after ≡ is_some session
       → Stands store setup now session sent → Stands store setup now after (Some number)
   sent_stands now None None sent number same stands = record { untouched = stands.untouched; first = tt; takes = tt }
   sent_stands now (Some session) (Some after) sent number same stands = record { untouched = tt; first = tt; takes = by_setup setup stands.takes }

@@ -12,9 +12,10 @@ use Rattle.driver_link.proofs.Lists.{has_either}
 use Rattle.driver_exec.specs.declared.pool.IdleSession.{IdleSession}
 use Rattle.driver_exec.specs.declared.pool.StoreEvent.{StoreEvent}
 use Rattle.driver_exec.specs.BetweenCalls.{Among, Between, FitsIdle, Knows, NoneOf, SentUpTo, ids_of}
-use Rattle.driver_exec.specs.Pool.{Pool, ToldStore, LendsFrom, NotAmong, AllApart, lent_out, taken_back, session_out, idle_back, is_lent, without_first}
+use Rattle.driver_exec.specs.Pool.{Pool, NotAmong, AllApart, lent_out, taken_back, session_out, idle_back, is_lent, without_first}
 use Rattle.driver_exec.specs.Session.{Session}
 use Rattle.driver_exec.proofs.Ids.{among_left, among_last, not_among_left, apart_last, among_differs, equal_bytes}
+use Rattle.driver_exec.proofs.PoolTells.{LendsPool}
 
 -- one session is lent
 pub record Holding (pool : Pool) (trace : List Send) (session : Session) : Type 0 where
@@ -56,14 +57,12 @@ lent_holds caller next moment (front ∷ idle) lent drawn history trace none kno
 }
 
 -- a check-out
-pub lends_holds : (old now : ToldStore) (caller moment : ℕ) (session : Session) (trace : List Send) → LendsFrom old now caller moment session
-    → AllApart now.pool.drawn → Between old.pool trace → Holding now.pool trace session
-lends_holds old now caller moment session trace lends apart between =
-    let pool = old.pool in
-    let next = old.to_come 0 in
-    let out = lent_out caller next moment pool in
+pub lends_holds : (pool mid : Pool) (caller at : ℕ) (session : Session) (trace : List Send) → LendsPool pool mid caller at session
+    → AllApart mid.drawn → Between pool trace → Holding mid trace session
+lends_holds pool mid caller at session trace lends apart between =
+    let out = lent_out caller session.id at pool in
     let apart_out : AllApart out.drawn = subst (λ made. AllApart made.drawn) lends.pool_is apart in
-    let holds = lent_holds caller next moment pool.idle pool.lent pool.drawn pool.history trace between.lent between.knows apart_out in
+    let holds = lent_holds caller session.id at pool.idle pool.lent pool.drawn pool.history trace between.lent between.knows apart_out in
     subst (λ made. Holding made trace session) (sym lends.pool_is)
     (subst (λ held. Holding out trace held) (sym lends.session_is) holds)
 

@@ -33,3 +33,4 @@ pub mod OperationCausing
 pub mod Moments
 pub mod Storing
 pub mod Completing
+pub mod PoolTells

@@ -13,23 +13,23 @@ use Rattle.driver_link.specs.declared.keys.TheConstants.{SELECTION_FAILURE}
 use Rattle.driver_link.specs.declared.machine.Send.{Send}
 use Rattle.driver_link.specs.declared.machine.SendBody.{SendBody}
 use Rattle.driver_link.specs.declared.options.Address.{Address}
-use Rattle.driver_link.specs.declared.options.Asked.{Asked}
 use Rattle.driver_link.specs.declared.options.Conn.{Conn}
 use Rattle.driver_link.specs.Counting.{Counts, Listed, check_out_fault, checked_out, fault_where, is_listed, one_more, overload_labels, select_fault, selected}
 use Rattle.driver_link.specs.Exchange.{next_step}
-use Rattle.driver_link.specs.Told.{Steps, Told, told_after}
+use Rattle.driver_link.specs.LinkCalls.{CallsLink}
+use Rattle.driver_link.specs.LinkState.{LinkState, server_run, setup_of}
+use Rattle.driver_link.specs.ServerRun.{ServerRun, TakesStep, run_after}
 use Rattle.driver_link.proofs.Replaying.{exchanged_trace}
 use Rattle.driver_exec.specs.declared.retry.FailurePhase.{FailurePhase}
 use Rattle.driver_exec.specs.declared.retry.FailurePhase.TheVariants.{Establishment, Execution}
-use Rattle.driver_exec.specs.Attempting.{CallsLink, Connects, FailsIn, NotConnected, Scene, Sends, Trial}
+use Rattle.driver_exec.specs.Attempting.{AttemptState, Connects, FailsIn, NotConnected, Sends, Trial}
 use Rattle.driver_exec.specs.Gentle.{IsCounted, IsGentlePart}
 use Rattle.driver_exec.specs.Holding.{held_id}
 use Rattle.driver_exec.specs.Operations.{plain_send}
 use Rattle.driver_exec.specs.Retry.{Kept}
-use Rattle.driver_exec.specs.Links.{ToldLink}
 
 -- a moment is not after another: the schedule is the same, and neither the trace nor a count became less
-pub record IsBefore (a b : Told) : Type 0 where
+pub record IsBefore (a b : ServerRun) : Type 0 where
   pub schedule : b.schedule ≡ a.schedule
   pub trace : length a.server.trace ≤ length b.server.trace
   pub selects : min a.counts.selects (2 ^ 64 - 1) ≤ b.counts.selects
@@ -39,16 +39,20 @@ pub record IsBefore (a b : Told) : Type 0 where
 capped_self : (most a : ℕ) → min a most ≤ a
 capped_self most a = omega arith
 
+-- a count does not fall by one more
 capped_more : (most a : ℕ) → min a most ≤ min (a + 1) most
 capped_more most a = omega arith
 
+-- a count that did not fall twice did not fall
 capped_twice : (most a b c : ℕ) → min a most ≤ b → min b most ≤ c → min a most ≤ c
 capped_twice most a b c first second = omega (arith, first, second)
 
+-- the last count of a part bounds one more
 capped_last : (most a to : ℕ) → min (min (a + 1) most) most ≤ to → min (a + 1) most ≤ to
 capped_last most a to within = omega (arith, within)
 
-pub before_refl : (a : Told) → IsBefore a a
+-- a moment is not after itself
+pub before_refl : (a : ServerRun) → IsBefore a a
 before_refl a = record {
   schedule = refl;
   trace = omega arith;
@@ -56,7 +60,8 @@ before_refl a = record {
   check_outs = capped_self (2 ^ 64 - 1) a.counts.check_outs;
 }
 
-pub before_twice : (a b c : Told) → IsBefore a b → IsBefore b c → IsBefore a c
+-- a moment before one before a third is before that
+pub before_twice : (a b c : ServerRun) → IsBefore a b → IsBefore b c → IsBefore a c
 before_twice a b c first second = record {
   schedule = second.schedule ∙ first.schedule;
   trace = omega (arith, first.trace, second.trace);
@@ -64,7 +69,8 @@ before_twice a b c first second = record {
   check_outs = capped_twice (2 ^ 64 - 1) a.counts.check_outs b.counts.check_outs c.counts.check_outs first.check_outs second.check_outs;
 }
 
-selected_before : (a : Told) → IsBefore a (selected a)
+-- a selection comes after
+selected_before : (a : ServerRun) → IsBefore a (selected a)
 selected_before a = record {
   schedule = refl;
   trace = omega arith;
@@ -72,7 +78,8 @@ selected_before a = record {
   check_outs = capped_self (2 ^ 64 - 1) a.counts.check_outs;
 }
 
-checked_before : (a : Told) → IsBefore a (checked_out a)
+-- so does a check-out
+checked_before : (a : ServerRun) → IsBefore a (checked_out a)
 checked_before a = record {
   schedule = refl;
   trace = omega arith;
@@ -81,10 +88,11 @@ checked_before a = record {
 }
 
 -- an exchange adds one send
-pub longer_after : (a : Told) (send : Send) → length (told_after a send).server.trace ≡ length a.server.trace + 1
+pub longer_after : (a : ServerRun) (send : Send) → length (run_after a send).server.trace ≡ length a.server.trace + 1
 longer_after a send = ap length (exchanged_trace a.server send (next_step a.schedule a.server)) ∙ length-append a.server.trace (send ∷ [])
 
-pub after_before : (a : Told) (send : Send) → IsBefore a (told_after a send)
+-- so does an exchange
+pub after_before : (a : ServerRun) (send : Send) → IsBefore a (run_after a send)
 after_before a send = record {
   schedule = refl;
   trace = omega (arith, longer_after a send);
@@ -93,98 +101,106 @@ after_before a send = record {
 }
 
 -- a link tells a moment, and is of the setup that it was
-pub record Leads (a : Told) (before now : ToldLink) : Type 0 where
-  pub moment : Told
-  pub is : now.server ≡ Some moment
+pub record Leads (a : ServerRun) (before now : LinkState) : Type 0 where
+  pub moment : ServerRun
+  pub is : server_run now ≡ Some moment
   pub later : IsBefore a moment
-  pub setup : now.setup ≡ before.setup
+  pub setup : setup_of now ≡ setup_of before
 
 -- the same, and the server is as it was
-pub record LeadsCalling (a : Told) (before now : ToldLink) : Type 0 where
+pub record LeadsCalling (a : ServerRun) (before now : LinkState) : Type 0 where
   pub leads : Leads a before now
   pub server : leads.moment.server ≡ a.server
 
-pub leads_same : (a : Told) (link : ToldLink) → link.server ≡ Some a → Leads a link link
+-- a link leads to itself
+pub leads_same : (a : ServerRun) (link : LinkState) → server_run link ≡ Some a → Leads a link link
 leads_same a link is = record { moment = a; is = is; later = before_refl a; setup = refl }
 
-pub leads_twice : (a : Told) (before mid now : ToldLink) (first : Leads a before mid) → Leads first.moment mid now → Leads a before now
+-- what leads on leads from the first
+pub leads_twice : (a : ServerRun) (before mid now : LinkState) (first : Leads a before mid) → Leads first.moment mid now → Leads a before now
 leads_twice a before mid now first second =
     record { moment = second.moment; is = second.is; later = before_twice a first.moment second.moment first.later second.later; setup = second.setup ∙ first.setup }
 
 -- a link tells one moment
-pub one_moment : (link : ToldLink) (a b : Told) → link.server ≡ Some a → link.server ≡ Some b → a ≡ b
+pub one_moment : (link : LinkState) (a b : ServerRun) → server_run link ≡ Some a → server_run link ≡ Some b → a ≡ b
 one_moment link a b first second = cc (sym first ∙ second)
 
 -- calls that are counted
-module _ {B : Type 0} (which : LinkCall) (next : Told → Told) (fault : Told → Option Listed) (ahead : (t : Told) → IsBefore t (next t)) (keeps : (t : Told) → (next t).server ≡ t.server) where
-  counts_lead : (a : Told) (before now : ToldLink) (result : Result B LinkError) → now.setup ≡ before.setup → Counts next fault (Some a) now.server result → LeadsCalling a before now
+module _ {B : Type 0} (which : LinkCall) (next : ServerRun → ServerRun) (fault : ServerRun → Option Listed) (ahead : (t : ServerRun) → IsBefore t (next t)) (keeps : (t : ServerRun) → (next t).server ≡ t.server) where
+  -- what is behind a link moves by its count alone
+  counts_lead : (a : ServerRun) (before now : LinkState) (result : Result B LinkError) → setup_of now ≡ setup_of before → Counts next fault (Some a) (server_run now) result → LeadsCalling a before now
   counts_lead a before now result setup counts = by_result result counts
     where
-      moved : now.server ≡ Some (next a) → LeadsCalling a before now
+      moved : server_run now ≡ Some (next a) → LeadsCalling a before now
       moved is = record { leads = record { moment = next a; is = is; later = ahead a; setup = setup }; server = keeps a }
 
-      stayed : now.server ≡ Some a → LeadsCalling a before now
+      stayed : server_run now ≡ Some a → LeadsCalling a before now
       stayed is = record { leads = record { moment = a; is = is; later = before_refl a; setup = setup }; server = refl }
 
-      by_result : (result : Result B LinkError) → Counts next fault (Some a) now.server result → LeadsCalling a before now
+      by_result : (result : Result B LinkError) → Counts next fault (Some a) (server_run now) result → LeadsCalling a before now
       by_result (Ok given) counts = moved counts.0
       by_result (Err (Fault found labels)) counts = moved counts.0
       by_result (Err Memory) counts = elim counts [ inl same ↦ stayed same | inr more ↦ moved more ]
 
-  calls_lead : {asks : Option Asked} (a : Told) (before now : ToldLink) (result : Result B LinkError) → before.server ≡ Some a → CallsLink which asks next fault before now result → LeadsCalling a before now
-  calls_lead a before now result is calls = counts_lead a before now result calls.setup (subst (λ s. Counts next fault s now.server result) is calls.counts)
+  -- the same of a call
+  calls_lead : (a : ServerRun) (before now : LinkState) (result : Result B LinkError) → server_run before ≡ Some a → CallsLink which next fault before now result → LeadsCalling a before now
+  calls_lead a before now result is calls = counts_lead a before now result calls.setup (subst (λ s. Counts next fault s (server_run now) result) is calls.counts)
 
 -- a selection
-pub selects_lead : {B : Type 0} {asks : Option Asked} (a : Told) (before now : ToldLink) (result : Result B LinkError) → before.server ≡ Some a → CallsLink Select asks selected select_fault before now result
+pub selects_lead : {B : Type 0} (a : ServerRun) (before now : LinkState) (result : Result B LinkError) → server_run before ≡ Some a → CallsLink Select selected select_fault before now result
     → LeadsCalling a before now
 selects_lead a before now result is calls = calls_lead Select selected select_fault selected_before (λ t. refl) a before now result is calls
 
 -- a check-out
-pub checks_lead : {B : Type 0} {asks : Option Asked} (a : Told) (before now : ToldLink) (result : Result B LinkError) → before.server ≡ Some a → CallsLink CheckOut asks checked_out check_out_fault before now result
+pub checks_lead : {B : Type 0} (a : ServerRun) (before now : LinkState) (result : Result B LinkError) → server_run before ≡ Some a → CallsLink CheckOut checked_out check_out_fault before now result
     → LeadsCalling a before now
 checks_lead a before now result is calls = calls_lead CheckOut checked_out check_out_fault checked_before (λ t. refl) a before now result is calls
 
-pub calling_twice : (a : Told) (before mid now : ToldLink) (first : LeadsCalling a before mid) → LeadsCalling first.leads.moment mid now → LeadsCalling a before now
+-- what leads on by calls leads from the first
+pub calling_twice : (a : ServerRun) (before mid now : LinkState) (first : LeadsCalling a before mid) → LeadsCalling first.leads.moment mid now → LeadsCalling a before now
 unfolding leads_twice
 calling_twice a before mid now first second = record { leads = leads_twice a before mid now first.leads second.leads; server = second.server ∙ first.server }
 
 -- a connection that was had
-pub connects_lead : {avoid : List Address} (a : Told) (before now : ToldLink) (address : Address) (conn : Conn) → before.server ≡ Some a → Connects avoid before now address conn → LeadsCalling a before now
+pub connects_lead : {avoid : List Address} (a : ServerRun) (before now : LinkState) (address : Address) (conn : Conn) → server_run before ≡ Some a → Connects avoid before now address conn → LeadsCalling a before now
 connects_lead a before now address conn is connects =
-    let first = selects_lead a before connects.mid (Ok address) is connects.selects in
-    calling_twice a before connects.mid now first (checks_lead first.leads.moment connects.mid now (Ok conn) first.leads.is connects.checks_out)
+    let first = selects_lead a before connects.mid (Ok address) is connects.selects.calls in
+    calling_twice a before connects.mid now first (checks_lead first.leads.moment connects.mid now (Ok conn) first.leads.is connects.checks_out.calls)
 
 -- an exchange
-steps_lead : (a : Told) (before now : ToldLink) (send : Send) (result : Result (List ℕ) LinkError) → now.setup ≡ before.setup → Steps (Some a) now.server send result → Leads a before now
+steps_lead : (a : ServerRun) (before now : LinkState) (send : Send) (result : Result (List ℕ) LinkError) → setup_of now ≡ setup_of before → TakesStep (Some a) (server_run now) send result → Leads a before now
 steps_lead a before now send result setup steps = by_result result steps
   where
-    moved : now.server ≡ Some (told_after a send) → Leads a before now
-    moved is = record { moment = told_after a send; is = is; later = after_before a send; setup = setup }
+    moved : server_run now ≡ Some (run_after a send) → Leads a before now
+    moved is = record { moment = run_after a send; is = is; later = after_before a send; setup = setup }
 
-    stayed : now.server ≡ Some a → Leads a before now
+    stayed : server_run now ≡ Some a → Leads a before now
     stayed is = record { moment = a; is = is; later = before_refl a; setup = setup }
 
-    by_result : (result : Result (List ℕ) LinkError) → Steps (Some a) now.server send result → Leads a before now
+    by_result : (result : Result (List ℕ) LinkError) → TakesStep (Some a) (server_run now) send result → Leads a before now
     by_result (Ok bytes) steps = moved steps.0
     by_result (Err (Fault found labels)) steps = moved steps.0
     by_result (Err Memory) steps = elim steps [ inl same ↦ stayed same | inr more ↦ moved more ]
 
 -- an attempt that failed
-module _ {A : Type 0} (trial : Trial A) (past : Option Kept) (body : SendBody) (asked : trial.meaning.asked trial.places body) (a : Told) (mid now : Scene) (is : mid.link.server ≡ Some a) where
+module _ {A : Type 0} (trial : Trial A) (past : Option Kept) (body : SendBody) (asked : trial.meaning.asked trial.places body) (a : ServerRun) (mid now : AttemptState) (is : server_run mid.link ≡ Some a) where
+  -- its command went out
   pub sends_lead : (address : Address) (conn : Conn) (result : Result (List ℕ) LinkError) → Sends trial past mid now address conn result → Leads a mid.link now.link
   sends_lead address conn result sends =
       let ready = sends.ready in
       let first = (connects_lead a mid.link ready.link address conn is sends.readies.connects).leads in
       let send = plain_send (held_id sends.numbered) sends.number body in
-      let steps = subst (λ s. Steps s now.link.server send result) first.is (sends.exchanges.steps body asked) in
-      leads_twice a mid.link ready.link now.link first (steps_lead first.moment ready.link now.link send result sends.exchanges.setup steps)
+      let steps = subst (λ s. TakesStep s (server_run now.link) send result) first.is (sends.exchanges.exchanges.steps send (sends.exchanges.reads body asked)) in
+      leads_twice a mid.link ready.link now.link first (steps_lead first.moment ready.link now.link send result sends.exchanges.exchanges.setup steps)
 
+  -- it had no connection
   pub unconnected_leads : (address : Address) (error : Error) → NotConnected trial past mid now address error → Leads a mid.link now.link
   unconnected_leads address error fails =
-      let first = selects_lead a mid.link fails.mid (Ok address) is fails.selects in
+      let first = selects_lead a mid.link fails.mid (Ok address) is fails.selects.calls in
       (calling_twice a mid.link fails.mid now.link first
-      (checks_lead first.leads.moment fails.mid now.link (Err (Fault fails.fault fails.own)) first.leads.is fails.checks_out)).leads
+      (checks_lead first.leads.moment fails.mid now.link (Err (Fault fails.fault fails.own)) first.leads.is fails.checks_out.calls)).leads
 
+  -- it failed either way
   pub fails_lead : (address : Address) (phase : FailurePhase) (error : Error) → FailsIn trial past mid now address phase error → Leads a mid.link now.link
   fails_lead address Establishment error fails = unconnected_leads address error fails
   fails_lead address Execution error fails = elim fails [
@@ -193,7 +209,8 @@ module _ {A : Type 0} (trial : Trial A) (past : Option Kept) (body : SendBody) (
   ]
 
 -- in a gentle part no call fails that is counted
-module _ (repeats : Type 0) (told told_now : Told) (gentle : IsGentlePart repeats told told_now) where
+module _ (repeats : Type 0) (told told_now : ServerRun) (gentle : IsGentlePart repeats told told_now) where
+  -- a fault is not none
   none_some : (listed : Listed) → ◌≡◌ {A = Option Listed} None (Some listed) → ⊥
   none_some listed is = cc
 
@@ -206,14 +223,16 @@ module _ (repeats : Type 0) (told told_now : Told) (gentle : IsGentlePart repeat
       → fault_where (is_listed numbers at) fault labels other ≡ other
   unlisted numbers at fault labels other none = ap (λ listed. fault_where listed fault labels other) none
 
-  pub no_select_fault : (a : Told) (listed : Listed) → IsBefore told a → IsBefore (selected a) told_now → select_fault a ≡ Some listed → ⊥
+  -- no selection of the part has a fault
+  pub no_select_fault : (a : ServerRun) (listed : Listed) → IsBefore told a → IsBefore (selected a) told_now → select_fault a ≡ Some listed → ⊥
   no_select_fault a listed after before is =
       let of_part = counted told.counts.selects a.counts.selects told_now.counts.selects after.selects before.selects in
       let none = gentle.selects a.counts.selects of_part in
       let here : is_listed a.schedule.selects a.counts.selects ≡ false = ap (λ s. is_listed s.selects a.counts.selects) after.schedule ∙ none in
       none_some listed (sym (unlisted a.schedule.selects a.counts.selects (Selection SELECTION_FAILURE.now) [] None here) ∙ is)
 
-  pub no_check_out_fault : (a : Told) (listed : Listed) → IsBefore told a → IsBefore (checked_out a) told_now → check_out_fault a ≡ Some listed → ⊥
+  -- nor has a check-out
+  pub no_check_out_fault : (a : ServerRun) (listed : Listed) → IsBefore told a → IsBefore (checked_out a) told_now → check_out_fault a ≡ Some listed → ⊥
   no_check_out_fault a listed after before is =
       let of_part = counted told.counts.check_outs a.counts.check_outs told_now.counts.check_outs after.check_outs before.check_outs in
       let none = gentle.check_outs a.counts.check_outs of_part in
@@ -227,19 +246,19 @@ module _ (repeats : Type 0) (told told_now : Told) (gentle : IsGentlePart repeat
       ∙ unlisted a.schedule.check_outs a.counts.check_outs (Io ConnectionRefused) [] None here) ∙ is
       )
 
-  module _ (a : Told) (after : IsBefore told a) (before now : ToldLink) (m : Told) (is : before.server ≡ Some a) (is_now : now.server ≡ Some m) (later : IsBefore m told_now) where
+  module _ (a : ServerRun) (after : IsBefore told a) (before now : LinkState) (m : ServerRun) (is : server_run before ≡ Some a) (is_now : server_run now ≡ Some m) (later : IsBefore m told_now) where
     -- a moment that is the one told now
-    at_now : (next : Told) → now.server ≡ Some next → IsBefore next told_now
+    at_now : (next : ServerRun) → server_run now ≡ Some next → IsBefore next told_now
     at_now next found = subst (λ t. IsBefore t told_now) (one_moment now m next is_now found) later
 
     -- a selection of the part does not fail
-    pub selects_well : {B : Type 0} {asks : Option Asked} (found : LinkFault) (labels : List (List ℕ)) → CallsLink {B = B} Select asks selected select_fault before now (Err (Fault found labels)) → ⊥
+    pub selects_well : {B : Type 0} (found : LinkFault) (labels : List (List ℕ)) → CallsLink {A = B} Select selected select_fault before now (Err (Fault found labels)) → ⊥
     selects_well {B = B} found labels calls =
-        let counts = subst (λ s. Counts {A = B} selected select_fault s now.server (Err (Fault found labels))) is calls.counts in
+        let counts = subst (λ s. Counts {A = B} selected select_fault s (server_run now) (Err (Fault found labels))) is calls.counts in
         no_select_fault a (record { fault = found; labels = labels }) after (at_now (selected a) counts.0) counts.1
 
     -- nor does a check-out
-    pub checks_well : {B : Type 0} {asks : Option Asked} (found : LinkFault) (labels : List (List ℕ)) → CallsLink {B = B} CheckOut asks checked_out check_out_fault before now (Err (Fault found labels)) → ⊥
+    pub checks_well : {B : Type 0} (found : LinkFault) (labels : List (List ℕ)) → CallsLink {A = B} CheckOut checked_out check_out_fault before now (Err (Fault found labels)) → ⊥
     checks_well {B = B} found labels calls =
-        let counts = subst (λ s. Counts {A = B} checked_out check_out_fault s now.server (Err (Fault found labels))) is calls.counts in
+        let counts = subst (λ s. Counts {A = B} checked_out check_out_fault s (server_run now) (Err (Fault found labels))) is calls.counts in
         no_check_out_fault a (record { fault = found; labels = labels }) after (at_now (checked_out a) counts.0) counts.1

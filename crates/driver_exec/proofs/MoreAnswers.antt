@@ -11,15 +11,16 @@ use Rattle.driver_link.specs.declared.fault.LinkCall.TheVariants as call
 use Rattle.driver_link.specs.declared.fault.LinkFault.{LinkFault}
 use Rattle.driver_link.specs.declared.fault.LinkFault.TheVariants as fault
 use Rattle.driver_link.specs.declared.machine.Setup.{Setup}
-use Rattle.driver_link.specs.Told.{Notes}
+use Rattle.driver_link.specs.Faults.{Rose}
+use Rattle.driver_link.specs.LinkState.{GainsAll}
 use Rattle.driver_exec.specs.declared.retryability.Retryability.{Retryability}
 use Rattle.driver_exec.specs.Causes.{AllEarly, Failure, HasReply}
-use Rattle.driver_exec.specs.OperationCauses.{EndAtLast, EndNeeds, Grounds, HasFault, KindNeeds}
+use Rattle.driver_exec.specs.OperationCauses.{EndAtLast, EndNeeds, Grounds, HasFault, IsRead, KindNeeds, SpellsEnd}
 
 -- answers noted twice
-pub notes_twice : (a b c : Option (List Answered)) (items more : List Answered) → Notes a b items → Notes b c more → Notes a c (items ++ more)
-notes_twice None b c items more first second = subst (λ told. Notes told c more) first second
-notes_twice (Some told) b c items more first second = subst (λ all. c ≡ Some all) (append_assoc told items more) (subst (λ told. Notes told c more) first second)
+pub notes_twice : (a b c : Option (List Answered)) (items more : List Answered) → GainsAll a b items → GainsAll b c more → GainsAll a c (items ++ more)
+notes_twice None b c items more first second = subst (λ told. GainsAll told c more) first second
+notes_twice (Some told) b c items more first second = subst (λ all. c ≡ Some all) (append_assoc told items more) (subst (λ told. GainsAll told c more) first second)
 
 module _ (P : List ℕ → Type 0) (more : List Answered) where
   -- a reply that was there
@@ -60,55 +61,43 @@ module _ (own : Retryability) (setup : Option Setup) (found : LinkFault) (labels
   fault_after (answer.Reply bytes ∷ items) has = fault_after items has
   fault_after (answer.Fault which other given ∷ items) has = inr (fault_after items has)
 
-module _ {A : Type 0} (on : Grounds A) (items more : List Answered) (labels : LabelSet) where
-  -- the link answered more
-  kind_before : (before mid now : ℕ) (why : ErrorKind) → mid ≤ now → KindNeeds on before mid items labels why → KindNeeds on before now (items ++ more) labels why
-  kind_before before mid now (kind.Io io) later needs = (omega (arith, needs.0), fault_before on.own on.setup (fault.Io io) labels more items needs.1)
-  kind_before before mid now (kind.ConnectionPoolCleared message) later needs =
-      (omega (arith, needs.0), fault_before on.own on.setup (fault.PoolCleared message) labels more items needs.1)
-  kind_before before mid now (kind.ServerSelection message) later needs =
-      (omega (arith, needs.0), fault_before on.own on.setup (fault.Selection message) labels more items needs.1)
-  kind_before before mid now (kind.Authentication message) later needs =
-      (omega (arith, needs.0), fault_before on.own on.setup (fault.Authentication message) labels more items needs.1)
-  kind_before before mid now (kind.InvalidArgument message) later needs = needs
-  kind_before before mid now (kind.BsonSerialization refusal) later needs = needs
-  kind_before before mid now (kind.Internal message) later needs = needs
-  kind_before before mid now kind.SessionsNotSupported later needs = needs
-  kind_before before mid now kind.Memory later needs = tt
-  kind_before before mid now _ later needs = absurd needs
+-- what an end needs stands elsewhere too, where the count of faults rose there, and where its faults and replies are there
+module _ {A : Type 0} (on : Grounds A) (before now from to : ℕ) (items all : List Answered) (rises : Rose before now → Rose from to)
+    (faults : (found : LinkFault) (labels : LabelSet) → HasFault on.own on.setup found labels items → HasFault on.own on.setup found labels all)
+    (replies : (P : List ℕ → Type 0) → HasReply P items → HasReply P all) where
+  -- by the kind of its error
+  kind_elsewhere : (labels : LabelSet) (why : ErrorKind) → KindNeeds on before now items labels why → KindNeeds on from to all labels why
+  kind_elsewhere labels (kind.Io io) needs = (rises needs.0, faults (fault.Io io) labels needs.1)
+  kind_elsewhere labels (kind.ConnectionPoolCleared message) needs = (rises needs.0, faults (fault.PoolCleared message) labels needs.1)
+  kind_elsewhere labels (kind.ServerSelection message) needs = (rises needs.0, faults (fault.Selection message) labels needs.1)
+  kind_elsewhere labels (kind.Authentication message) needs = (rises needs.0, faults (fault.Authentication message) labels needs.1)
+  kind_elsewhere labels (kind.InvalidArgument message) needs = needs
+  kind_elsewhere labels (kind.BsonSerialization refusal) needs = needs
+  kind_elsewhere labels (kind.Internal message) needs = needs
+  kind_elsewhere labels kind.SessionsNotSupported needs = needs
+  kind_elsewhere labels kind.Memory needs = tt
+  kind_elsewhere labels _ needs = absurd needs
 
-  -- the link had answered before
-  kind_after : (before mid now : ℕ) (why : ErrorKind) → before ≤ mid → KindNeeds on mid now more labels why → KindNeeds on before now (items ++ more) labels why
-  kind_after before mid now (kind.Io io) later needs = (omega (arith, needs.0), fault_after on.own on.setup (fault.Io io) labels more items needs.1)
-  kind_after before mid now (kind.ConnectionPoolCleared message) later needs =
-      (omega (arith, needs.0), fault_after on.own on.setup (fault.PoolCleared message) labels more items needs.1)
-  kind_after before mid now (kind.ServerSelection message) later needs =
-      (omega (arith, needs.0), fault_after on.own on.setup (fault.Selection message) labels more items needs.1)
-  kind_after before mid now (kind.Authentication message) later needs =
-      (omega (arith, needs.0), fault_after on.own on.setup (fault.Authentication message) labels more items needs.1)
-  kind_after before mid now (kind.InvalidArgument message) later needs = needs
-  kind_after before mid now (kind.BsonSerialization refusal) later needs = needs
-  kind_after before mid now (kind.Internal message) later needs = needs
-  kind_after before mid now kind.SessionsNotSupported later needs = needs
-  kind_after before mid now kind.Memory later needs = tt
-  kind_after before mid now _ later needs = absurd needs
+  -- the same of each end
+  end_elsewhere : (ended : Option Failure) → EndNeeds on before now items ended → EndNeeds on from to all ended
+  end_elsewhere None needs = replies (IsRead on.meaning) needs
+  end_elsewhere (Some why) needs = elim needs [
+    | inl needs ↦ inl (kind_elsewhere why.labels why.kind needs)
+    | inr spelled ↦ inr (replies (SpellsEnd on.meaning why) spelled)
+  ]
 
 module _ {A : Type 0} (on : Grounds A) (items more : List Answered) where
   -- what an end needs stands where the link answers more
   pub end_before : (before mid now : ℕ) (ended : Option Failure) → mid ≤ now → EndNeeds on before mid items ended → EndNeeds on before now (items ++ more) ended
-  end_before before mid now None later needs = reply_before _ more items needs
-  end_before before mid now (Some why) later needs = elim needs [
-    | inl needs ↦ inl (kind_before on items more why.labels before mid now why.kind later needs)
-    | inr spelled ↦ inr (reply_before _ more items spelled)
-  ]
+  end_before before mid now ended later =
+      end_elsewhere on before mid before now items (items ++ more) (λ rose. omega (arith, rose)) (λ found labels. fault_before on.own on.setup found labels more items)
+      (λ P. reply_before P more items) ended
 
   -- and where it had answered before
   pub end_after : (before mid now : ℕ) (ended : Option Failure) → before ≤ mid → EndNeeds on mid now more ended → EndNeeds on before now (items ++ more) ended
-  end_after before mid now None later needs = reply_after _ more items needs
-  end_after before mid now (Some why) later needs = elim needs [
-    | inl needs ↦ inl (kind_after on items more why.labels before mid now why.kind later needs)
-    | inr spelled ↦ inr (reply_after _ more items spelled)
-  ]
+  end_after before mid now ended later =
+      end_elsewhere on mid now before now more (items ++ more) (λ rose. omega (arith, rose)) (λ found labels. fault_after on.own on.setup found labels more items)
+      (λ P. reply_after P more items) ended
 
   -- so does what an end needs where the numbers are at their end
   pub last_after : (ended : Option Failure) → AllEarly items → EndAtLast on more ended → EndAtLast on (items ++ more) ended

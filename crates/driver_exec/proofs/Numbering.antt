@@ -5,9 +5,11 @@ use Rattle.std.proofs.lemmas.Int.{ints}
 use Rattle.driver_exec.specs.declared.pool.IdleSession.{IdleSession}
 use Rattle.driver_exec.specs.declared.pool.StoreEvent.TheVariants.{Back}
 use Rattle.driver_exec.specs.BetweenCalls.{NumbersWithin}
-use Rattle.driver_exec.specs.Pool.{Pool, ToldStore, Lends, LendsFrom, TakesBack, lent_out, taken_back, session_out, idle_out, idle_back, is_lent, without_first}
+use Rattle.driver_exec.specs.Pool.{Pool, lent_out, taken_back, session_out, idle_out, idle_back, is_lent, without_first}
+use Rattle.driver_exec.specs.StoreTells.{StoreTells, LendsSession}
 use Rattle.driver_exec.specs.Resending.{Borrowed, Borrows, IsNumbered}
 use Rattle.driver_exec.specs.Session.{Session}
+use Rattle.driver_exec.proofs.PoolTells.{LendsPool, TurnsPool, lends_told, same_told, turns_told}
 
 within_more : (made : ℕ) (idle : List IdleSession) → NumbersWithin (pos made) idle → NumbersWithin (pos (made + 1)) idle
 within_more made [] within = tt
@@ -58,25 +60,22 @@ within_taken made caller session moment pool number within =
       | false ↦ within_more made pool.idle within
     ]
 
--- the number of a session that is lent, and what is idle once it came back
-record Turned (made : ℕ) (session : Session) (idle : List IdleSession) : Type 0 where
-  number : session.number ≤ℤ pos made
-  within : NumbersWithin (pos (made + 1)) idle
+-- the number of a session that a pool lends
+lends_within : (made : ℕ) (pool mid : Pool) (caller at : ℕ) (session : Session) → LendsPool pool mid caller at session → NumbersWithin (pos made) pool.idle
+    → session.number ≤ℤ pos made
+lends_within made pool mid caller at session lends within =
+    subst (λ held. held.number ≤ℤ pos made) (sym lends.session_is) (number_out made pool.idle session.id at within)
 
-turned : (made : ℕ) (old mid now : ToldStore) (out_by out_at back_by back_at : ℕ) (session back : Session) → LendsFrom old mid out_by out_at session
-    → now.pool ≡ taken_back back_by back back_at mid.pool → back.number ≤ℤ (session.number +ℤ pos 1) → NumbersWithin (pos made) old.pool.idle
-    → Turned made session now.pool.idle
-turned made old mid now out_by out_at back_by back_at session back lends takes raised within =
-    let number : session.number ≤ℤ pos made
-    = subst (λ held. held.number ≤ℤ pos made) (sym lends.session_is) (number_out made old.pool.idle (old.to_come 0) out_at within) in
-    let mid_is : mid.pool.idle ≡ idle_out old.pool.idle = ap (λ pool. pool.idle) lends.pool_is ∙ idle_lent out_by (old.to_come 0) out_at old.pool in
-    let mid_within : NumbersWithin (pos made) mid.pool.idle = subst (NumbersWithin (pos made)) (sym mid_is) (within_out made old.pool.idle within) in
+-- what is idle once a session that was lent came back
+turned : (made : ℕ) (pool now : Pool) (out_at back_at : ℕ) (session back : Session) → TurnsPool pool now out_at back_at session back
+    → back.number ≤ℤ (session.number +ℤ pos 1) → NumbersWithin (pos made) pool.idle → NumbersWithin (pos (made + 1)) now.idle
+turned made pool now out_at back_at session back turns raised within =
+    let mid = turns.mid in
+    let number = lends_within made pool mid turns.out_by out_at session turns.lends within in
+    let mid_is : mid.idle ≡ idle_out pool.idle = ap (λ p. p.idle) turns.lends.pool_is ∙ idle_lent turns.out_by session.id out_at pool in
+    let mid_within : NumbersWithin (pos made) mid.idle = subst (NumbersWithin (pos made)) (sym mid_is) (within_out made pool.idle within) in
     let back_number : back.number ≤ℤ pos (made + 1) = at_most session.number back.number made number raised in
-    record {
-      number = number;
-      within =
-          subst (λ pool. NumbersWithin (pos (made + 1)) pool.idle) (sym takes) (within_taken made back_by back back_at mid.pool back_number mid_within);
-    }
+    subst (λ p. NumbersWithin (pos (made + 1)) p.idle) (sym turns.takes) (within_taken made turns.back_by back back_at mid back_number mid_within)
   where
     at_most : (number more : ℤ) (made : ℕ) → number ≤ℤ pos made → more ≤ℤ (number +ℤ pos 1) → more ≤ℤ pos (made + 1)
     at_most number more made first raised = omega (arith, ints)
@@ -89,30 +88,27 @@ most_raised (Some number) session back numbered = at_most session.number back.nu
     at_most : (number more : ℤ) → more ≡ (number +ℤ pos 1) → more ≤ℤ (number +ℤ pos 1)
     at_most number more is = omega (arith, ints)
 
-pub borrowed_within : (made : ℕ) (old now : ToldStore) (id : List ℕ) (number : Option ℤ) (borrowed : Borrowed (Some old) (Some now) id number)
-    → NumbersWithin (pos made) old.pool.idle → NumbersWithin (pos (made + 1)) now.pool.idle
-borrowed_within made old now id number borrowed within = of_lent borrowed.lent borrowed.lends borrowed.takes
-  where
-    of_lent : (lent : Option ToldStore) → Lends (Some old) lent borrowed.out_by borrowed.out_at borrowed.session
-        → TakesBack lent (Some now) borrowed.back_by borrowed.back borrowed.back_at → NumbersWithin (pos (made + 1)) now.pool.idle
-    of_lent None lends takes = absurd lends
-    of_lent (Some mid) lends takes =
-        (turned made old mid now borrowed.out_by borrowed.out_at borrowed.back_by borrowed.back_at borrowed.session borrowed.back lends takes.0
-        (most_raised number borrowed.session borrowed.back borrowed.numbered) within).within
+-- a store that lent a session, which came back
+pub borrowed_within : (made : ℕ) (old now : StoreTells) (pool pool_now : Pool) → old.pool ≡ Some pool → now.pool ≡ Some pool_now
+    → (id : List ℕ) (number : Option ℤ) → Borrowed old now id number → NumbersWithin (pos made) pool.idle → NumbersWithin (pos (made + 1)) pool_now.idle
+borrowed_within made old now pool pool_now is now_is id number borrowed within =
+    turned made pool pool_now borrowed.out_at borrowed.back_at borrowed.session borrowed.back
+    (turns_told old borrowed.lent now pool pool_now borrowed.out_at borrowed.back_at borrowed.session borrowed.back is now_is borrowed.lends borrowed.takes)
+    (most_raised number borrowed.session borrowed.back borrowed.numbered) within
 
--- the number of a session that is lent
-pub lent_within : (made : ℕ) (old : ToldStore) (lent : Option ToldStore) (caller moment : ℕ) (session : Session) → Lends (Some old) lent caller moment session
-    → NumbersWithin (pos made) old.pool.idle → session.number ≤ℤ pos made
-lent_within made old None caller moment session lends within = absurd lends
-lent_within made old (Some mid) caller moment session lends within =
-    subst (λ held. held.number ≤ℤ pos made) (sym lends.session_is) (number_out made old.pool.idle (old.to_come 0) moment within)
+-- the number of a session that a store lends
+pub lent_within : (made : ℕ) (old lent : StoreTells) (pool : Pool) → old.pool ≡ Some pool → (at : ℕ) (session : Session) → LendsSession old lent at session
+    → NumbersWithin (pos made) pool.idle → session.number ≤ℤ pos made
+lent_within made old lent pool is at session lends within =
+    let out = lends_told old lent pool at session is lends in lends_within made pool out.0 old.caller at session out.1.1 within
 
--- a store that stays
-pub within_staying : (made : ℕ) (old now : ToldStore) → now.pool ≡ old.pool → NumbersWithin (pos made) old.pool.idle → NumbersWithin (pos (made + 1)) now.pool.idle
-within_staying made old now same within = subst (λ pool. NumbersWithin (pos (made + 1)) pool.idle) (sym same) (within_more made old.pool.idle within)
+-- a pool that stays
+pub within_staying : (made : ℕ) (pool pool_now : Pool) → pool_now ≡ pool → NumbersWithin (pos made) pool.idle → NumbersWithin (pos (made + 1)) pool_now.idle
+within_staying made pool pool_now same within = subst (λ p. NumbersWithin (pos (made + 1)) p.idle) (sym same) (within_more made pool.idle within)
 
 -- a store that may have lent a session
-pub borrows_within : (made : ℕ) (old now : ToldStore) (session : Option (List ℕ)) (number : Option ℤ) → Borrows (Some old) (Some now) session number
-    → NumbersWithin (pos made) old.pool.idle → NumbersWithin (pos (made + 1)) now.pool.idle
-borrows_within made old now None number borrows within = within_staying made old now borrows.0.0 within
-borrows_within made old now (Some id) number borrows within = borrowed_within made old now id number borrows within
+pub borrows_within : (made : ℕ) (old now : StoreTells) (pool pool_now : Pool) → old.pool ≡ Some pool → now.pool ≡ Some pool_now
+    → (session : Option (List ℕ)) (number : Option ℤ) → Borrows old now session number → NumbersWithin (pos made) pool.idle → NumbersWithin (pos (made + 1)) pool_now.idle
+borrows_within made old now pool pool_now is now_is None number borrows within =
+    within_staying made pool pool_now (same_told pool_now pool (sym now_is ∙ ap (λ store. store.pool) borrows.0 ∙ is)) within
+borrows_within made old now pool pool_now is now_is (Some id) number borrows within = borrowed_within made old now pool pool_now is now_is id number borrows within

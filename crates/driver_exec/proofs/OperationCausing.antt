@@ -18,13 +18,15 @@ use Rattle.driver_link.specs.declared.fault.LinkFault.TheVariants as fault
 use Rattle.driver_link.specs.declared.machine.Place.{Place}
 use Rattle.driver_link.specs.declared.machine.Setup.{Setup}
 use Rattle.driver_link.specs.declared.options.Address.{Address}
-use Rattle.driver_link.specs.declared.options.Asked.{Asked}
 use Rattle.driver_link.specs.declared.options.Conn.{Conn}
 use Rattle.driver_link.specs.declared.options.Description.{Description}
 use Rattle.driver_link.specs.Counting.{Listed}
 use Rattle.driver_link.specs.Failures.{fault_kind}
 use Rattle.driver_link.specs.Faults.{Rose}
-use Rattle.driver_link.specs.Told.{Notes, Told, noted, nothing_noted, reply_noted}
+use Rattle.driver_link.specs.Framed.{Framed}
+use Rattle.driver_link.specs.LinkCalls.{CallsLink, ExchangesFrame}
+use Rattle.driver_link.specs.LinkState.{GainsAll, LinkState, noted, nothing_noted, reply_noted, setup_of}
+use Rattle.driver_link.specs.ServerRun.{ServerRun}
 use Rattle.driver_exec.specs.declared.attempt_end.Attempt.{Attempt}
 use Rattle.driver_exec.specs.declared.attempt_end.Attempt.TheVariants.{Done, Ended, Failed, Stopped, Unselected}
 use Rattle.driver_exec.specs.declared.attempt_end.Failing.{Failing}
@@ -33,36 +35,36 @@ use Rattle.driver_exec.specs.declared.retry.FailurePhase.{FailurePhase}
 use Rattle.driver_exec.specs.declared.retry.FailurePhase.TheVariants.{Establishment, Execution}
 use Rattle.driver_exec.specs.declared.retryability.Retryability.{Retryability}
 use Rattle.driver_exec.specs.declared.retryability.Retryability.TheVariants as may
-use Rattle.driver_exec.specs.Attempting.{CallsLink, Connects, EndsAtOnce, EndsRefused, EndsSent, EndsUnready, Exchanges, FailsIn, IsAnswered, LosesExchange, NoFrame, NoNumber, NoSessions, NotConnected, NotSelected, Readies, Scene, Sends, SpellsFailure, Trial, Tries, on_connection, trial_of}
+use Rattle.driver_exec.specs.Attempting.{Connects, EndsAtOnce, EndsRefused, EndsSent, EndsUnready, FailsIn, IsAnswered, LosesExchange, NoFrame, NoNumber, NoSessions, NotConnected, NotSelected, Readies, AttemptState, Sends, SpellsFailure, Trial, Tries, besides_out, on_connection, trial_of}
 use Rattle.driver_exec.specs.Causes as causes
 use Rattle.driver_exec.specs.Causes.{AllEarly, IsLast, KindAtLast, end_of, failure_of, is_network, next_number}
-use Rattle.driver_exec.specs.Executing.{Ends, EndsWith, Executes, Reaches, decided, first_scene}
+use Rattle.driver_exec.specs.Executing.{Ends, EndsWith, Executes, Reaches, decided, first_state}
 use Rattle.driver_exec.specs.Failing.{IsFaultOf}
 use Rattle.driver_exec.specs.Holding.{DrawsNumber, Held, held_id, number_before}
 use Rattle.driver_exec.specs.LabelTable.{labels_outside_transactions}
+use Rattle.driver_exec.specs.Moment.{Moment}
 use Rattle.driver_exec.specs.OldDeployment.{reworded, reworded_kind}
-use Rattle.driver_exec.specs.OperationCauses.{Caused, DrawsNumbers, EndAtLast, EndNeeds, FaultLabels, Grounds, KindNeeds, SpellsEnd, grounds, labels_after}
+use Rattle.driver_exec.specs.OperationCauses.{Caused, DrawsNumbers, EndAtLast, EndNeeds, EndsCaused, FaultLabels, Grounds, KindNeeds, SpellsEnd, grounds, labels_after}
 use Rattle.driver_exec.specs.Operations.{Meaning, TellsUnframed}
-use Rattle.driver_exec.specs.Pool.{ToldStore}
+use Rattle.driver_exec.specs.StoreTells.{StoreTells}
 use Rattle.driver_exec.specs.Retry.{Kept, after, after_further, avoiding, decide, may_be_retried, stays, told}
-use Rattle.driver_exec.specs.Links.{ToldLink}
 use Rattle.driver_exec.proofs.Causes.{notes_nothing}
 use Rattle.driver_exec.proofs.HeldSessions.{AtEnd, IsOf, Stands, draw_holds, draws_on, exchange_holds, is_of, last_draws_none, none_draws, ready_holds, ready_stands, sent_stands, sessionless, stands_at_first, unnumbered_at_end}
 use Rattle.driver_exec.proofs.MoreAnswers.{early_twice, end_after, end_before, last_after, notes_twice}
 use Rattle.driver_exec.proofs.Trying.{early_counted, later_of}
 
 -- a link noted these; its count of faults did not fall, and its setup stays
-record Adds (link now : ToldLink) (items : List Answered) : Type 0 where
-  noted : Notes link.answers now.answers items
+record Adds (link now : LinkState) (items : List Answered) : Type 0 where
+  noted : GainsAll link.answers now.answers items
   later : link.faults ≤ now.faults
-  setup : now.setup ≡ link.setup
+  setup : setup_of now ≡ setup_of link
 
 -- a link that was not called noted nothing
-adds_nothing : (link : ToldLink) → Adds link link []
+adds_nothing : (link : LinkState) → Adds link link []
 adds_nothing link = record { noted = notes_nothing link.answers; later = omega arith; setup = refl }
 
 -- what was noted by calls one after another
-adds_twice : (link mid now : ToldLink) (items more : List Answered) → Adds link mid items → Adds mid now more → Adds link now (items ++ more)
+adds_twice : (link mid now : LinkState) (items more : List Answered) → Adds link mid items → Adds mid now more → Adds link now (items ++ more)
 adds_twice link mid now items more first second = record {
   noted = notes_twice link.answers mid.answers now.answers items more first.noted second.noted;
   later = omega (arith, first.later, second.later);
@@ -70,20 +72,20 @@ adds_twice link mid now items more first second = record {
 }
 
 -- what a call noted that is no exchange
-calls_add : {B : Type 0} {asks : Option Asked} (which : LinkCall) (next : Told → Told) (found : Told → Option Listed) (link now : ToldLink) (result : Result B LinkError)
-    → CallsLink which asks next found link now result → Adds link now (noted which nothing_noted result)
-calls_add which next found link now result calls = record { noted = calls.notes; later = later_of link.faults now.faults result calls.cause; setup = calls.setup }
+calls_add : {B : Type 0} (which : LinkCall) (next : ServerRun → ServerRun) (found : ServerRun → Option Listed) (link now : LinkState) (result : Result B LinkError)
+    → CallsLink which next found link now result → Adds link now (noted which nothing_noted result)
+calls_add which next found link now result calls = record { noted = calls.answers; later = later_of link.faults now.faults result calls.cause; setup = calls.setup }
 
 -- a connection that was had noted nothing
-connects_add : {avoid : List Address} (link now : ToldLink) (address : Address) (conn : Conn) → Connects avoid link now address conn → Adds link now []
+connects_add : {avoid : List Address} (link now : LinkState) (address : Address) (conn : Conn) → Connects avoid link now address conn → Adds link now []
 connects_add link now address conn connects = adds_twice link connects.mid now [] []
-    (calls_add Select _ _ link connects.mid (Ok address) connects.selects) (calls_add CheckOut _ _ connects.mid now (Ok conn) connects.checks_out)
+    (calls_add Select _ _ link connects.mid (Ok address) connects.selects.calls) (calls_add CheckOut _ _ connects.mid now (Ok conn) connects.checks_out.calls)
 
 -- what an exchange noted
-exchange_adds : {A : Type 0} (meaning : Meaning A) (places : List Place) (link now : ToldLink) (session : Option (List ℕ)) (number : Option ℤ) (result : Result (List ℕ) LinkError)
-    → Exchanges meaning places link now session number result → Adds link now (noted Exchange reply_noted result)
-exchange_adds meaning places link now session number result exchanges =
-    record { noted = exchanges.notes; later = later_of link.faults now.faults result exchanges.cause; setup = exchanges.setup }
+exchange_adds : (link now : LinkState) (conn : Conn) (frame : Framed) (places : List Place) (result : Result (List ℕ) LinkError) → ExchangesFrame link now conn frame places result
+    → Adds link now (noted Exchange reply_noted result)
+exchange_adds link now conn frame places result exchanges =
+    record { noted = exchanges.answers; later = later_of link.faults now.faults result exchanges.cause; setup = exchanges.setup }
 
 -- the labels of a fault's error
 table_labels : (turn : Retryability) (found : LinkFault) (own : List (List ℕ)) (bare : Error) → kind_of bare ≡ fault_kind found → labels_of bare ≡ label_set own
@@ -214,7 +216,7 @@ module _ (P : Error → Type 0) where
       by_test false = holds
 
   -- and after what is decided in an operation
-  decided_has : {A : Type 0} (trial : Trial A) (sharded : Bool) (kept : Option Kept) (failing : Failing) (now : Scene) (result : Result Kept Error) → KeptHas P kept
+  decided_has : {A : Type 0} (trial : Trial A) (sharded : Bool) (kept : Option Kept) (failing : Failing) (now : AttemptState) (result : Result Kept Error) → KeptHas P kept
       → P (reworded failing.failure.error) → decided trial sharded kept failing now ≡ result → ResultHas P result
   decided_has trial sharded kept failing now result has new is =
       subst (ResultHas P) is (decide_has kept failing.failure (number_before now.held) failing.address trial.own sharded has new)
@@ -264,22 +266,22 @@ module _ {A : Type 0} (on : Grounds A) (before now : ℕ) (items : List Answered
       by_kind kind.Memory tells = tt
       by_kind _ tells = absurd tells
 
-module _ {A : Type 0} (meaning : Meaning A) (places : List Place) (own : Retryability) (store : Option ToldStore) (link : ToldLink) where
+module _ {A : Type 0} (meaning : Meaning A) (places : List Place) (own : Retryability) (store : StoreTells) (link : LinkState) where
   -- the operation as its attempts see it
   abbrev trial : Trial A
   trial = trial_of meaning places own
 
   -- what its end is judged by
   abbrev on : Grounds A
-  on = grounds meaning own link.setup store
+  on = record { meaning = meaning; own = own; setup = setup_of link; number = next_number store }
 
   -- what it holds at a moment
-  abbrev StandsAt : Scene → Type 0
-  StandsAt now = Stands store link.setup now.store now.held.session now.held.sent
+  abbrev StandsAt : AttemptState → Type 0
+  StandsAt now = Stands store (setup_of link) now.store now.held.session now.held.sent
 
   -- the next session's number is at its end, and each send would have one
   record AtLast : Type 0 where
-    draws : DrawsNumbers meaning.sessions own link.setup
+    draws : DrawsNumbers meaning.sessions own (setup_of link)
     last : IsLast (next_number store)
 
   -- what an end by an error needs
@@ -291,18 +293,18 @@ module _ {A : Type 0} (meaning : Meaning A) (places : List Place) (own : Retryab
   Lasts error = KindAtLast meaning.refused (kind_of error)
 
   -- one attempt
-  module _ (past : Option Kept) (mid : Scene) (setup_is : mid.link.setup ≡ link.setup) (stands : StandsAt mid) where
+  module _ (past : Option Kept) (mid : AttemptState) (setup_is : (setup_of mid.link) ≡ (setup_of link)) (stands : StandsAt mid) where
     -- each connection has the description of the setup
-    conn_is : {avoid : List Address} (now : ToldLink) (address : Address) (conn : Conn) → Connects avoid mid.link now address conn → IsOf link.setup conn.description
-    conn_is now address conn connects = is_of link.setup connects.mid.setup address conn (connects.selects.setup ∙ setup_is) connects.to
+    conn_is : {avoid : List Address} (now : LinkState) (address : Address) (conn : Conn) → Connects avoid mid.link now address conn → IsOf (setup_of link) conn.description
+    conn_is now address conn connects = is_of (setup_of link) (setup_of connects.mid) address conn (connects.selects.calls.setup ∙ setup_is) connects.checks_out.to
 
-    module _ (ready : Scene) (address : Address) (conn : Conn) (readies : Readies trial past mid ready address conn) where
+    module _ (ready : AttemptState) (address : Address) (conn : Conn) (readies : Readies trial past mid ready address conn) where
       -- what may be repeated on the connection
       abbrev turn : Retryability
       turn = on_connection own conn.description
 
       -- its description is that of the setup
-      is_conn : IsOf link.setup conn.description
+      is_conn : IsOf (setup_of link) conn.description
       is_conn = conn_is ready.link address conn readies.connects
 
       -- the link noted nothing until then
@@ -311,20 +313,20 @@ module _ {A : Type 0} (meaning : Meaning A) (places : List Place) (own : Retryab
 
       -- what is held then
       stands_ready : StandsAt ready
-      stands_ready = ready_stands store link.setup meaning.sessions conn.description is_conn mid.store ready.store mid.held ready.held readies.holds stands
+      stands_ready = ready_stands store (setup_of link) meaning.sessions conn.description is_conn mid.store ready.store mid.held ready.held readies.holds stands
 
       -- no number is drawn after the last one
       draws_none : AtLast → mid.held.sent ≡ None → (numbered : Held) (number : Option ℤ) → DrawsNumber ready.held.sent turn ready.held numbered (Ok number) → ⊥
       draws_none at unsent numbered number draws =
-          let takes = draws_on meaning.sessions own link.setup conn.description at.draws is_conn in
-          let holds = ready_holds store link.setup meaning.sessions conn.description is_conn mid.store ready.store mid.held ready.held takes.0 unsent readies.holds in
+          let takes = draws_on meaning.sessions own (setup_of link) conn.description at.draws is_conn in
+          let holds = ready_holds store (setup_of link) meaning.sessions conn.description is_conn mid.store ready.store mid.held ready.held takes.0 unsent readies.holds in
           last_draws_none (next_number store) turn ready.held numbered number at.last takes.1 holds.0 holds.1 stands_ready.first draws
 
-    module _ (now : Scene) (address : Address) (conn : Conn) (result : Result (List ℕ) LinkError) (sends : Sends trial past mid now address conn result) where
+    module _ (now : AttemptState) (address : Address) (conn : Conn) (result : Result (List ℕ) LinkError) (sends : Sends trial past mid now address conn result) where
       -- what a command that went out noted
       sends_add : Adds mid.link now.link (noted Exchange reply_noted result)
       sends_add = adds_twice mid.link sends.ready.link now.link [] (noted Exchange reply_noted result) (ready_adds sends.ready address conn sends.readies)
-          (exchange_adds meaning places sends.ready.link now.link _ sends.number result sends.exchanges)
+          (exchange_adds sends.ready.link now.link conn sends.exchanges.frame places result sends.exchanges.exchanges)
 
       -- no command goes out where the numbers are at their end
       sends_not_at_last : AtLast → mid.held.sent ≡ None → ⊥
@@ -335,16 +337,16 @@ module _ {A : Type 0} (meaning : Meaning A) (places : List Place) (own : Retryab
       stands_sent =
           let ready = sends.ready in
           let held = record sends.numbered { sent = Some sends.number } in
-          let kept = exchange_holds store link.setup result held in
-          let drawn = draw_holds store link.setup (on_connection own conn.description) ready.held sends.numbered (Ok sends.number) sends.draws in
+          let kept = exchange_holds store (setup_of link) result held in
+          let drawn = draw_holds store (setup_of link) (on_connection own conn.description) ready.held sends.numbered (Ok sends.number) sends.draws in
           let same : is_some now.held.session ≡ is_some ready.held.session = ap (λ h. is_some h.session) sends.held_is ∙ kept.0 ∙ drawn in
           let sent : now.held.sent ≡ Some sends.number = ap (λ h. h.sent) sends.held_is ∙ kept.1 in
-          let stood = sent_stands store link.setup ready.store ready.held.session now.held.session ready.held.sent sends.number same (stands_ready ready address conn sends.readies) in
-          subst (λ s. Stands store link.setup now.store now.held.session s) (sym sent)
-          (subst (λ s. Stands store link.setup s now.held.session (Some sends.number)) (sym sends.store_is) stood)
+          let stood = sent_stands store (setup_of link) ready.store ready.held.session now.held.session ready.held.sent sends.number same (stands_ready ready address conn sends.readies) in
+          subst (λ s. Stands store (setup_of link) now.store now.held.session s) (sym sent)
+          (subst (λ s. Stands store (setup_of link) s now.held.session (Some sends.number)) (sym sends.store_is) stood)
 
     -- the attempt failed, and an error has its needs
-    record Fails (now : Scene) (error : Error) : Type 0 where
+    record Fails (now : AttemptState) (error : Error) : Type 0 where
       more : List Answered
       adds : Adds mid.link now.link more
       stands_now : StandsAt now
@@ -352,18 +354,18 @@ module _ {A : Type 0} (meaning : Meaning A) (places : List Place) (own : Retryab
       early : AtLast → mid.held.sent ≡ None → AllEarly more × (now.held.sent ≡ None) × Lasts error
 
     -- there was no connection
-    not_connected : (now : Scene) (address : Address) (error : Error) → NotConnected trial past mid now address error → Fails now (reworded error)
+    not_connected : (now : AttemptState) (address : Address) (error : Error) → NotConnected trial past mid now address error → Fails now (reworded error)
     not_connected now address error fails =
         let is = fault_error fails.fault fails.own own error fails.is in
         let kind_is = reworded_same fails.fault error is.0 in
         let labels = (reworded_is error).1 ∙ is.1 in
-        let first = calls_add Select _ _ mid.link fails.mid (Ok address) fails.selects in
-        let second = calls_add CheckOut _ _ fails.mid now.link (Err (Fault fails.fault fails.own)) fails.checks_out in record {
+        let first = calls_add Select _ _ mid.link fails.mid (Ok address) fails.selects.calls in
+        let second = calls_add CheckOut _ _ fails.mid now.link (Err (Fault fails.fault fails.own)) fails.checks_out.calls in record {
           more = answer.Fault CheckOut fails.fault fails.own ∷ [];
           adds = adds_twice mid.link fails.mid now.link [] (answer.Fault CheckOut fails.fault fails.own ∷ []) first second;
-          stands_now = subst (λ s. Stands store link.setup s now.held.session now.held.sent) (sym fails.rest.store)
-              (subst (λ h. Stands store link.setup mid.store h.session h.sent) (sym fails.rest.held) stands);
-          needs = fault_end on mid.link.faults now.link.faults CheckOut fails.own (let cause = fails.checks_out.cause in let later = first.later in omega (arith, cause.0, later)) fails.fault
+          stands_now = subst (λ s. Stands store (setup_of link) s now.held.session now.held.sent) (sym fails.rest.store)
+              (subst (λ h. Stands store (setup_of link) mid.store h.session h.sent) (sym fails.rest.held) stands);
+          needs = fault_end on mid.link.faults now.link.faults CheckOut fails.own (let cause = fails.checks_out.calls.cause in let later = first.later in omega (arith, cause.0, later)) fails.fault
               (reworded error) kind_is labels;
           early = λ at unsent. (
             tt,
@@ -373,7 +375,7 @@ module _ {A : Type 0} (meaning : Meaning A) (places : List Place) (own : Retryab
         }
 
     -- the exchange failed
-    loses_exchange : (now : Scene) (address : Address) (error : Error) → LosesExchange trial past mid now address error → Fails now (reworded error)
+    loses_exchange : (now : AttemptState) (address : Address) (error : Error) → LosesExchange trial past mid now address error → Fails now (reworded error)
     loses_exchange now address error fails =
         let conn = fails.conn in
         let sends = fails.sends in
@@ -387,13 +389,13 @@ module _ {A : Type 0} (meaning : Meaning A) (places : List Place) (own : Retryab
           more = answer.Fault Exchange fails.fault fails.own ∷ [];
           adds = sends_add now address conn result sends;
           stands_now = stands_sent now address conn result sends;
-          needs = fault_end on mid.link.faults now.link.faults Exchange fails.own (let cause = sends.exchanges.cause in let later = first.later in omega (arith, cause.0, later)) fails.fault
-              (reworded error) kind_is (exchange_labels own link.setup conn.description fails.fault fails.own (labels_of (reworded error)) description labels);
+          needs = fault_end on mid.link.faults now.link.faults Exchange fails.own (let cause = sends.exchanges.exchanges.cause in let later = first.later in omega (arith, cause.0, later)) fails.fault
+              (reworded error) kind_is (exchange_labels own (setup_of link) conn.description fails.fault fails.own (labels_of (reworded error)) description labels);
           early = λ at unsent. absurd (sends_not_at_last now address conn result sends at unsent);
         }
 
     -- the reply spelled an error
-    spells_failure : (now : Scene) (address : Address) (error : Error) → SpellsFailure trial past mid now address error → Fails now (reworded error)
+    spells_failure : (now : AttemptState) (address : Address) (error : Error) → SpellsFailure trial past mid now address error → Fails now (reworded error)
     spells_failure now address error fails =
         let conn = fails.conn in
         let sends = fails.sends in
@@ -413,7 +415,7 @@ module _ {A : Type 0} (meaning : Meaning A) (places : List Place) (own : Retryab
         }
 
     -- an attempt that failed in a phase
-    fails_in : (now : Scene) (address : Address) (phase : FailurePhase) (error : Error) → FailsIn trial past mid now address phase error → Fails now (reworded error)
+    fails_in : (now : AttemptState) (address : Address) (phase : FailurePhase) (error : Error) → FailsIn trial past mid now address phase error → Fails now (reworded error)
     fails_in now address Establishment error fails = not_connected now address error fails
     fails_in now address Execution error fails = elim fails [
       | inl lost ↦ loses_exchange now address error lost
@@ -421,13 +423,13 @@ module _ {A : Type 0} (meaning : Meaning A) (places : List Place) (own : Retryab
     ]
 
     -- the attempt ended the operation
-    record Finishes (now : Scene) (ended : Option causes.Failure) : Type 0 where
+    record Finishes (now : AttemptState) (ended : Option causes.Failure) : Type 0 where
       more : List Answered
       adds : Adds mid.link now.link more
       needs : EndNeeds on mid.link.faults now.link.faults more ended
       early : AtLast → mid.held.sent ≡ None → EndAtLast on more ended
 
-    finishes_error : (now : Scene) (error : Error) → Fails now error → Finishes now (Some (failure_of error))
+    finishes_error : (now : AttemptState) (error : Error) → Fails now error → Finishes now (Some (failure_of error))
     finishes_error now error fails = record {
       more = fails.more;
       adds = fails.adds;
@@ -436,7 +438,7 @@ module _ {A : Type 0} (meaning : Meaning A) (places : List Place) (own : Retryab
     }
 
     -- the reply was read
-    finishes_done : (now : Scene) (output : A) → IsAnswered trial past mid now output → Finishes now None
+    finishes_done : (now : AttemptState) (output : A) → IsAnswered trial past mid now output → Finishes now None
     finishes_done now output answered = record {
       more = answer.Reply answered.reply ∷ [];
       adds = sends_add now answered.address answered.conn (Ok answered.reply) answered.sends;
@@ -445,21 +447,21 @@ module _ {A : Type 0} (meaning : Meaning A) (places : List Place) (own : Retryab
     }
 
     -- what a selection that failed noted
-    selection_adds : (now : Scene) (error : Error) (selected : NotSelected past mid now error) → Adds mid.link now.link (answer.Fault Select selected.fault selected.own ∷ [])
-    selection_adds now error selected = calls_add Select _ _ mid.link now.link (Err (Fault selected.fault selected.own)) selected.selects
+    selection_adds : (now : AttemptState) (error : Error) (selected : NotSelected past mid now error) → Adds mid.link now.link (answer.Fault Select selected.fault selected.own ∷ [])
+    selection_adds now error selected = calls_add Select _ _ mid.link now.link (Err (Fault selected.fault selected.own)) selected.selects.calls
 
     -- no server was selected
-    finishes_unselected : (now : Scene) (error : Error) → NotSelected past mid now error → Finishes now (Some (failure_of error))
+    finishes_unselected : (now : AttemptState) (error : Error) → NotSelected past mid now error → Finishes now (Some (failure_of error))
     finishes_unselected now error selected =
         let is = fault_error selected.fault selected.own may.None error selected.is in record {
           more = answer.Fault Select selected.fault selected.own ∷ [];
           adds = selection_adds now error selected;
-          needs = fault_end on mid.link.faults now.link.faults Select selected.own selected.selects.cause.0 selected.fault error is.0 is.1;
+          needs = fault_end on mid.link.faults now.link.faults Select selected.own selected.selects.calls.cause.0 selected.fault error is.0 is.1;
           early = λ at unsent. (tt, subst (KindAtLast meaning.refused) (sym is.0) (fault_at_last meaning.refused selected.fault));
         }
 
     -- there was no memory before a session was lent
-    finishes_unready : (now : Scene) (error : Error) → EndsUnready past mid now error → Finishes now (Some (failure_of error))
+    finishes_unready : (now : AttemptState) (error : Error) → EndsUnready past mid now error → Finishes now (Some (failure_of error))
     finishes_unready now error ends =
         let counted = early_counted mid.link now.link ends.asks in record {
           more = counted.items;
@@ -469,7 +471,7 @@ module _ {A : Type 0} (meaning : Meaning A) (places : List Place) (own : Retryab
         }
 
     -- there was no memory after the command went out
-    finishes_sent : (now : Scene) (error : Error) → EndsSent trial past mid now error → Finishes now (Some (failure_of error))
+    finishes_sent : (now : AttemptState) (error : Error) → EndsSent trial past mid now error → Finishes now (Some (failure_of error))
     finishes_sent now error ends = record {
       more = noted Exchange reply_noted ends.result;
       adds = sends_add now ends.address ends.conn ends.result ends.sends;
@@ -477,7 +479,7 @@ module _ {A : Type 0} (meaning : Meaning A) (places : List Place) (own : Retryab
       early = λ at unsent. absurd (sends_not_at_last now ends.address ends.conn ends.result ends.sends at unsent);
     }
 
-    module _ (now ready : Scene) (address : Address) (conn : Conn) (readies : Readies trial past mid ready address conn) (same : now.link ≡ ready.link) (error : Error) where
+    module _ (now ready : AttemptState) (address : Address) (conn : Conn) (readies : Readies trial past mid ready address conn) (same : now.link ≡ ready.link) (error : Error) where
       -- the link noted nothing until a command was refused
       refused_adds : Adds mid.link now.link []
       refused_adds = subst (λ l. Adds mid.link l []) (sym same) (ready_adds ready address conn readies)
@@ -485,7 +487,7 @@ module _ {A : Type 0} (meaning : Meaning A) (places : List Place) (own : Retryab
       -- a session is held, and the connection takes none
       finishes_sessionless : NoSessions conn.description ready.held now.held error → Finishes now (Some (failure_of error))
       finishes_sessionless refused =
-          let none = sessionless link.setup conn.description ready.held.session (is_conn ready address conn readies) (stands_ready ready address conn readies).takes refused.none in record {
+          let none = sessionless (setup_of link) conn.description ready.held.session (is_conn ready address conn readies) (stands_ready ready address conn readies).takes refused.none in record {
             more = [];
             adds = refused_adds;
             needs = sessions_needs on mid.link.faults now.link.faults [] error none refused.is.kind_is;
@@ -512,7 +514,7 @@ module _ {A : Type 0} (meaning : Meaning A) (places : List Place) (own : Retryab
       }
 
     -- the command was refused before it went out
-    finishes_refused : (now : Scene) (error : Error) → EndsRefused trial past mid now error → Finishes now (Some (failure_of error))
+    finishes_refused : (now : AttemptState) (error : Error) → EndsRefused trial past mid now error → Finishes now (Some (failure_of error))
     finishes_refused now error ends = elim ends.refused [
       | inl none ↦ finishes_sessionless now ends.ready ends.address ends.conn ends.readies ends.link error none
       | inr other ↦ elim other [
@@ -522,7 +524,7 @@ module _ {A : Type 0} (meaning : Meaning A) (places : List Place) (own : Retryab
     ]
 
     -- the attempt ended the operation at once
-    finishes_ended : (now : Scene) (error : Error) → EndsAtOnce trial past mid now error → Finishes now (Some (failure_of error))
+    finishes_ended : (now : AttemptState) (error : Error) → EndsAtOnce trial past mid now error → Finishes now (Some (failure_of error))
     finishes_ended now error ends = elim ends [
       | inl unready ↦ finishes_unready now error unready
       | inr other ↦ elim other [
@@ -532,7 +534,7 @@ module _ {A : Type 0} (meaning : Meaning A) (places : List Place) (own : Retryab
     ]
 
   -- an operation has come so far
-  record SoFar (kept : Option Kept) (now : Scene) : Type 0 where
+  record SoFar (kept : Option Kept) (now : AttemptState) : Type 0 where
     items : List Answered
     adds : Adds link now.link items
     stands : StandsAt now
@@ -540,11 +542,11 @@ module _ {A : Type 0} (meaning : Meaning A) (places : List Place) (own : Retryab
     early : AtLast → AllEarly items × (now.held.sent ≡ None) × KeptHas Lasts kept
 
   -- an operation that has not begun
-  begins : (count : ℕ) → SoFar None (first_scene store link count)
-  begins count = record { items = []; adds = adds_nothing link; stands = stands_at_first store link.setup; needs = tt; early = λ at. (tt, refl, tt) }
+  begins : (count : ℕ) → SoFar None (first_state store link count)
+  begins count = record { items = []; adds = adds_nothing link; stands = stands_at_first store (setup_of link); needs = tt; early = λ at. (tt, refl, tt) }
 
   -- one more failure, and what is decided after it
-  module _ (sharded : Bool) (kept : Option Kept) (mid now : Scene) (far : SoFar kept mid) (failing : Failing) (past : Option Kept) (tries : Tries trial past mid now (Failed failing)) where
+  module _ (sharded : Bool) (kept : Option Kept) (mid now : AttemptState) (far : SoFar kept mid) (failing : Failing) (past : Option Kept) (tries : Tries trial past mid now (Failed failing)) where
     -- what the failure needs
     failed : Fails past mid far.adds.setup far.stands now (reworded failing.failure.error)
     failed = fails_in past mid far.adds.setup far.stands now failing.address failing.failure.phase failing.failure.error tries
@@ -597,7 +599,7 @@ module _ {A : Type 0} (meaning : Meaning A) (places : List Place) (own : Retryab
     }
 
   -- each moment that an operation reaches
-  reaches_far : (count : ℕ) (sharded : Bool) (failures : List Failing) (kept : Option Kept) (now : Scene) → Reaches trial sharded (first_scene store link count) failures kept now → SoFar kept now
+  reaches_far : (count : ℕ) (sharded : Bool) (failures : List Failing) (kept : Option Kept) (now : AttemptState) → Reaches trial sharded (first_state store link count) failures kept now → SoFar kept now
   reaches_far count sharded [] kept now reaches = subst (λ k. SoFar k now) (sym reaches.0) (subst (SoFar None) (sym reaches.1) (begins count))
   reaches_far count sharded (failing ∷ failures) kept now reaches =
       let mid = reaches.1.1.0 in
@@ -608,14 +610,14 @@ module _ {A : Type 0} (meaning : Meaning A) (places : List Place) (own : Retryab
       subst (λ k. SoFar k now) (sym reaches.1.0) (goes_further sharded earlier mid now far failing earlier fails.tries reaches.0 fails.decides)
 
   -- an end at a moment has its cause
-  abbrev CausedAt : Scene → Option causes.Failure → Type 0
-  CausedAt now ended = Caused on link.faults now.link.faults link.answers now.link.answers ended
+  abbrev CausedAt : AttemptState → Option causes.Failure → Type 0
+  CausedAt now ended = EndsCaused on link now.link ended
 
   -- the numbers are at their end
-  at_last : (draws : DrawsNumbers meaning.sessions own link.setup) → IsLast (next_number store) → AtLast
+  at_last : (draws : DrawsNumbers meaning.sessions own (setup_of link)) → IsLast (next_number store) → AtLast
   at_last draws last = record { draws = draws; last = last }
 
-  module _ (sharded : Bool) (kept : Option Kept) (mid now : Scene) (far : SoFar kept mid) where
+  module _ (sharded : Bool) (kept : Option Kept) (mid now : AttemptState) (far : SoFar kept mid) where
     -- the last attempt ended the operation so
     abbrev FinishesAt : Option causes.Failure → Type 0
     FinishesAt ended = Finishes kept mid far.adds.setup far.stands now ended
@@ -718,11 +720,13 @@ module _ {A : Type 0} (meaning : Meaning A) (places : List Place) (own : Retryab
     ]
 
 -- an operation has its cause
-pub executes_caused : {A : Type 0} (meaning : Meaning A) (places : List Place) (own : Retryability) (store store_now : Option ToldStore) (link link_now : ToldLink) (count count_now : ℕ) (result : Result A Error)
-    → Executes (trial_of meaning places own) store store_now link link_now count count_now result
-    → Caused (grounds meaning own link.setup store) link.faults link_now.faults link.answers link_now.answers (end_of result)
-executes_caused meaning places own store store_now link link_now count count_now result executes =
+pub executes_caused : {A : Type 0} (meaning : Meaning A) (places : List Place) (before now : Moment) (count count_now : ℕ) (result : Result A Error)
+    → Executes meaning places before now count count_now result → Caused meaning before now (end_of result)
+executes_caused meaning places before now count count_now result executes =
+    let own = meaning.own before.client.options in
+    let link = besides_out before.link in
     let turns = executes.turns in
-    let far = reaches_far meaning places own store link count executes.sharded turns.failures turns.kept turns.mid turns.reaches in
-    let caused = caused_ends meaning places own store link executes.sharded turns.kept turns.mid executes.last far result turns.ends in
-    subst (λ l. Caused (grounds meaning own link.setup store) link.faults l.faults link.answers l.answers (end_of result)) (sym executes.link_is) caused
+    let far = reaches_far meaning places own before.store link count executes.sharded turns.failures turns.kept turns.mid turns.reaches in
+    let caused = caused_ends meaning places own before.store link executes.sharded turns.kept turns.mid executes.last far result turns.ends in
+    let ends = subst (λ l. EndsCaused (grounds meaning before) link l (end_of result)) (sym executes.link_is) caused in
+    record { items = ends.items; noted = ends.noted; never_falls = ends.never_falls; needs = ends.needs; at_last = ends.at_last }

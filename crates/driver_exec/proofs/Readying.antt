@@ -1,5 +1,5 @@
 -- When the insert of a call may go out: under a new number of a session, again under the same one, or without a number.
-use Rattle.std.proofs.Common.{◌≡◌, ℕ, List, refl, inl, inr}
+use Rattle.std.proofs.Common.{◌≡◌, ℕ, List, refl, subst, inl, inr}
 use Rattle.std.specs.Prelude.{ℤ, pos, ◌+ℤ◌, ◌<ℤ◌, ◌≤ℤ◌, true, Option, None, Some, ◌⊎◌}
 use Rattle.std.proofs.Common.{arith}
 use Rattle.std.proofs.lemmas.Int.{ints}
@@ -16,10 +16,12 @@ use Rattle.driver_link.proofs.ReplyingUnnumbered.{IsOneUnnumbered}
 use Rattle.driver_link.proofs.Retrying.{MayBeSent, may_again, may_answered, may_first, only_inserted}
 use Rattle.driver_exec.specs.BetweenCalls.{Between, SentUpTo, Sound}
 use Rattle.driver_exec.specs.Gentle.{IsLossy}
-use Rattle.driver_exec.specs.Pool.{DrawnApart, Lends, ToldStore}
+use Rattle.driver_exec.specs.Pool.{Pool}
+use Rattle.driver_exec.specs.StoreTells.{DrawnApart, DrawnApartIn, LendsSession, StoreTells}
 use Rattle.driver_exec.specs.Session.{Session}
 use Rattle.driver_exec.specs.Writing.{insert_send, placed_write}
 use Rattle.driver_exec.proofs.Knowing.{lends_holds}
+use Rattle.driver_exec.proofs.PoolTells.{lends_told}
 use Rattle.driver_exec.proofs.Written.{numbered_new, unnumbered_insert}
 
 -- a send of a write may go out
@@ -73,12 +75,13 @@ module _ (write : PlacedWrite) where
       below last number sent within raised = omega (arith, ints)
 
   -- so it may under the next number of a session that is lent
-  pub lent_goes : (made : ℕ) (old : ToldStore) (server : Server) → write.place.call ≡ made → Sound made server → Between old.pool server.trace
-      → (caller moment : ℕ) (lent : Option ToldStore) (session : Session) (number : ℤ) → Lends (Some old) lent caller moment session → DrawnApart lent
+  pub lent_goes : (made : ℕ) (old lent : StoreTells) (pool : Pool) (server : Server) → old.pool ≡ Some pool → write.place.call ≡ made → Sound made server
+      → Between pool server.trace → (at : ℕ) (session : Session) (number : ℤ) → LendsSession old lent at session → DrawnApart lent
       → number ≡ (session.number +ℤ pos 1) → MayGo write (insert_send (Some session.id) (Some number) write) server
-  lent_goes made old server placed sound between caller moment None session number lends apart is = absurd lends
-  lent_goes made old server placed sound between caller moment (Some mid) session number lends apart is =
-      let holds = lends_holds old mid caller moment session server.trace lends apart between in
+  lent_goes made old lent pool server pool_is placed sound between at session number lends apart is =
+      let out = lends_told old lent pool at session pool_is lends in
+      let apart_out = subst DrawnApartIn out.1.0 apart in
+      let holds = lends_holds pool out.0 old.caller at session server.trace out.1.1 apart_out between in
       new_goes made server session.id number session.number placed sound holds.up_to (raised session.number number is)
     where
       raised : (last number : ℤ) → number ≡ (last +ℤ pos 1) → last <ℤ number

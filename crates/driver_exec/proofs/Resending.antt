@@ -6,6 +6,7 @@ use Rattle.driver_error.specs.declared.labels.TheConstants.{RETRYABLE_WRITE_ERRO
 use Rattle.driver_error.specs.Error.{labels_of}
 use Rattle.driver_error.specs.LabelTexts.{has_label}
 use Rattle.driver_link.specs.declared.fault.LinkError.TheVariants.{Fault}
+use Rattle.driver_link.specs.declared.machine.Place.{Place}
 use Rattle.driver_link.specs.declared.options.Address.{Address}
 use Rattle.driver_exec.specs.declared.attempt_end.Attempt.{Attempt}
 use Rattle.driver_exec.specs.declared.attempt_end.Attempt.TheVariants.{Done, Ended, Failed, Stopped, Unselected}
@@ -13,15 +14,16 @@ use Rattle.driver_exec.specs.declared.attempt_end.Failing.{Failing}
 use Rattle.driver_exec.specs.declared.retry.Failure.{Failure}
 use Rattle.driver_exec.specs.declared.retryability.Retryability.{Retryability}
 use Rattle.driver_exec.specs.declared.retryability.Retryability.TheVariants as may
-use Rattle.driver_exec.specs.Attempting.{EndsAtOnce, EndsRefused, Scene, Trial, Tries, on_connection}
-use Rattle.driver_exec.specs.Executing.{Ends, EndsWith, Executes, Reaches, first_scene}
+use Rattle.driver_exec.specs.Attempting.{AttemptState, EndsAtOnce, EndsRefused, Trial, Tries, besides_out, on_connection, trial_of}
+use Rattle.driver_exec.specs.Executing.{Ends, EndsWith, Executes, Reaches, first_state}
 use Rattle.driver_exec.specs.Holding.{DrawsNumber, DrawsSession, GivesBack, GivesNumber, Held, number_before}
-use Rattle.driver_exec.specs.Operations.{plain_send}
-use Rattle.driver_exec.specs.Pool.{Draws, LendsAsBefore, StaysTold, ToldStore}
-use Rattle.driver_exec.specs.Resending.{Borrows, EndsWithReading, Works}
+use Rattle.driver_exec.specs.Moment.{Moment}
+use Rattle.driver_exec.specs.Operations.{Meaning, plain_send}
+use Rattle.driver_exec.specs.StoreTells.{Draws, LendsAsBefore, StoreTells}
+use Rattle.driver_exec.specs.Resending.{Borrows, EndsWithReading, SendsOneCommand, SentWithin}
 use Rattle.driver_exec.specs.Retry.{Kept, after, avoiding, decide, may_be_retried, may_be_sent, told}
 use Rattle.driver_exec.specs.Session.{MayRaise, Numbers, Session}
-use Rattle.driver_exec.specs.Links.{ToldLink}
+use Rattle.driver_link.specs.LinkState.{LinkState, server_run}
 use Rattle.driver_exec.proofs.Attempts.{may_raise, stays}
 use Rattle.driver_exec.proofs.Drawing.{draws_lending, draws_staying, draws_taking, draws_twice}
 use Rattle.driver_exec.proofs.Lending.{lends_staying, lends_turning}
@@ -49,12 +51,12 @@ decided_sent kept failure number address own sharded retry is = by_test (may_be_
     by_test true test is = retried_sent (told failure) number own test
     by_test false test is = absurd (let e : ◌≡◌ {A = Result Kept Error} (Err (after kept (told failure) number).failure.error) (Ok retry) = is in cc)
 
-module _ {A : Type 0} (trial : Trial A) (sharded : Bool) (store : Option ToldStore) (link : ToldLink) where
+module _ {A : Type 0} (trial : Trial A) (sharded : Bool) (store : StoreTells) (link : LinkState) where
   -- where an operation has come so far
-  reaches_course : (count : ℕ) (failures : List Failing) (kept : Option Kept) (now : Scene) → Reaches trial sharded (first_scene store link count) failures kept now
+  reaches_course : (count : ℕ) (failures : List Failing) (kept : Option Kept) (now : AttemptState) → Reaches trial sharded (first_state store link count) failures kept now
       → CourseAt trial store link (length failures) now × MayGoOn now.held.sent
   reaches_course count [] kept now reaches =
-      subst (λ s. CourseAt trial store link 0 s × MayGoOn s.held.sent) (sym reaches.1) (starts trial.meaning trial.places store link.server, tt)
+      subst (λ s. CourseAt trial store link 0 s × MayGoOn s.held.sent) (sym reaches.1) (starts trial.meaning trial.places store (server_run link), tt)
   reaches_course count (failing ∷ failures) kept now reaches =
       let mid = reaches.1.1.0 in
       let rest = reaches.1.1.1 in
@@ -71,7 +73,7 @@ module _ {A : Type 0} (trial : Trial A) (sharded : Bool) (store : Option ToldSto
     once : AtMostOne kept
     left : length failures + attempts_left kept ≤ 2
 
-  reaches_few : (count : ℕ) (failures : List Failing) (kept : Option Kept) (now : Scene) → Reaches trial sharded (first_scene store link count) failures kept now → Few failures kept
+  reaches_few : (count : ℕ) (failures : List Failing) (kept : Option Kept) (now : AttemptState) → Reaches trial sharded (first_state store link count) failures kept now → Few failures kept
   reaches_few count [] kept now reaches = subst (Few []) (sym reaches.0) (record { once = tt; left = omega arith })
   reaches_few count (failing ∷ failures) kept now reaches =
       let mid = reaches.1.1.0 in
@@ -83,12 +85,12 @@ module _ {A : Type 0} (trial : Trial A) (sharded : Bool) (store : Option ToldSto
       subst (Few (failing ∷ failures)) (sym reaches.1.0) (record { once = fewer.once; left = omega (arith, few.left, fewer.fewer) })
 
   -- the last attempt
-  module _ (most : ℕ) (few : most ≤ 1) (kept : Option Kept) (mid now : Scene) (goes : MayGoOn mid.held.sent) (course : CourseAt trial store link most mid) where
+  module _ (most : ℕ) (few : most ≤ 1) (kept : Option Kept) (mid now : AttemptState) (goes : MayGoOn mid.held.sent) (course : CourseAt trial store link most mid) where
     over_course : CourseAt trial store link (suc most) now → OverAt trial store link (suc most) now
-    over_course done = course_over trial.meaning trial.places store link.server (suc most) now.store now.link.server now.held.session now.held.sent done
+    over_course done = course_over trial.meaning trial.places store (server_run link) (suc most) now.store (server_run now.link) now.held.session now.held.sent done
 
     more_course : CourseAt trial store link most now → OverAt trial store link (suc most) now
-    more_course done = over_course (one_more trial.meaning trial.places store link.server most now.store now.link.server now.held.session now.held.sent done)
+    more_course done = over_course (one_more trial.meaning trial.places store (server_run link) most now.store (server_run now.link) now.held.session now.held.sent done)
 
     -- there was no number, and what is held is as before
     undrawn_same : (ready now : Held) (turn : Retryability) (error : Error) → DrawsNumber ready.sent turn ready now (Err error) → now ≡ ready
@@ -112,12 +114,12 @@ module _ {A : Type 0} (trial : Trial A) (sharded : Bool) (store : Option ToldSto
         by_sent None is draws = draws.is ∙ ap (λ s. record ready { session = s }) (by_turn turn ready.session draws.session draws.draws)
 
     -- the command was refused before it went out
-    at_ready : (ready : Scene) → now.link ≡ ready.link → now.store ≡ ready.store → (held : Held) → now.held ≡ held
-        → Over trial.meaning trial.places store link.server most ready.store ready.link.server held.session held.sent → OverAt trial store link most now
+    at_ready : (ready : AttemptState) → now.link ≡ ready.link → now.store ≡ ready.store → (held : Held) → now.held ≡ held
+        → Over trial.meaning trial.places store (server_run link) most ready.store (server_run ready.link) held.session held.sent → OverAt trial store link most now
     at_ready ready link_is store_is held held_is over =
-        subst (λ l. Over trial.meaning trial.places store link.server most now.store l.server now.held.session now.held.sent) (sym link_is)
-        (subst (λ s. Over trial.meaning trial.places store link.server most s ready.link.server now.held.session now.held.sent) (sym store_is)
-        (subst (λ h. Over trial.meaning trial.places store link.server most ready.store ready.link.server h.session h.sent) (sym held_is) over))
+        subst (λ l. Over trial.meaning trial.places store (server_run link) most now.store (server_run l) now.held.session now.held.sent) (sym link_is)
+        (subst (λ s. Over trial.meaning trial.places store (server_run link) most s (server_run ready.link) now.held.session now.held.sent) (sym store_is)
+        (subst (λ h. Over trial.meaning trial.places store (server_run link) most ready.store (server_run ready.link) h.session h.sent) (sym held_is) over))
 
     more_over : OverAt trial store link most now → OverAt trial store link (suc most) now
     more_over over = record {
@@ -125,16 +127,15 @@ module _ {A : Type 0} (trial : Trial A) (sharded : Bool) (store : Option ToldSto
       holds = over.holds;
     }
 
-    ready_over : (ready : Scene) → CourseAt trial store link most ready
-        → Over trial.meaning trial.places store link.server most ready.store ready.link.server ready.held.session ready.held.sent
-    ready_over ready done = course_over trial.meaning trial.places store link.server most ready.store ready.link.server ready.held.session ready.held.sent done
+    ready_over : (ready : AttemptState) → CourseAt trial store link most ready
+        → Over trial.meaning trial.places store (server_run link) most ready.store (server_run ready.link) ready.held.session ready.held.sent
+    ready_over ready done = course_over trial.meaning trial.places store (server_run link) most ready.store (server_run ready.link) ready.held.session ready.held.sent done
 
     -- a number was drawn, and nothing went out under it
-    any_number : (store_now : Option ToldStore) (number : Option ℤ) (session : Option Session) → HoldsFrom store store_now (Some number) session → HoldsLast store store_now None session
+    any_number : (store_now : StoreTells) (number : Option ℤ) (session : Option Session) → HoldsFrom store store_now (Some number) session → HoldsLast store store_now None session
     any_number store_now number None holds = (holds.0, refl)
     any_number store_now number (Some session) holds = record {
-      caller = holds.caller;
-      moment = holds.moment;
+      at = holds.at;
       lent = holds.lent;
       lends = holds.lends;
       id = holds.id;
@@ -145,15 +146,15 @@ module _ {A : Type 0} (trial : Trial A) (sharded : Bool) (store : Option ToldSto
         by_number None fits = stays holds.lent session fits
         by_number (Some number) fits = may_raise holds.lent session fits.1
 
-    abbrev OverReady : Scene → Option Session → Option (Option ℤ) → Type 0
-    OverReady ready session sent = Over trial.meaning trial.places store link.server most ready.store ready.link.server session sent
+    abbrev OverReady : AttemptState → Option Session → Option (Option ℤ) → Type 0
+    OverReady ready session sent = Over trial.meaning trial.places store (server_run link) most ready.store (server_run ready.link) session sent
 
-    unframed_ready : (ready : Scene) (turn : Retryability) (number : Option ℤ) (numbered : Held) → DrawsNumber ready.held.sent turn ready.held numbered (Ok number)
+    unframed_ready : (ready : AttemptState) (turn : Retryability) (number : Option ℤ) (numbered : Held) → DrawsNumber ready.held.sent turn ready.held numbered (Ok number)
         → CourseAt trial store link most ready → OverReady ready numbered.session numbered.sent
     unframed_ready ready turn number numbered draws done = by_sent ready.held.sent refl
       where
-        is_drawn : Drawn trial.meaning trial.places store link.server ready.held numbered number ready.store
-        is_drawn = drawn trial.meaning trial.places store link.server ready.store turn ready.held numbered number done.holds draws
+        is_drawn : Drawn trial.meaning trial.places store (server_run link) ready.held numbered number ready.store
+        is_drawn = drawn trial.meaning trial.places store (server_run link) ready.store turn ready.held numbered number done.holds draws
 
         by_sent : (sent : Option (Option ℤ)) → ready.held.sent ≡ sent → OverReady ready numbered.session numbered.sent
         by_sent None is = subst (OverReady ready numbered.session) (sym (is_drawn.same_sent ∙ is)) (record {
@@ -161,7 +162,7 @@ module _ {A : Type 0} (trial : Trial A) (sharded : Bool) (store : Option ToldSto
             count = 0;
             within = omega arith;
             once = λ none. omega arith;
-            sends = none_sent link.server ready.link.server (plain_send (id_of ready.held.session) (number_of ready.held.sent) body) (plain_send (id_of numbered.session) None body)
+            sends = none_sent (server_run link) (server_run ready.link) (plain_send (id_of ready.held.session) (number_of ready.held.sent) body) (plain_send (id_of numbered.session) None body)
                 done.count (subst (λ s. CountFits s done.count) is done.fits) (done.sends body asked);
           };
           holds = any_number ready.store number numbered.session is_drawn.holds;
@@ -187,9 +188,9 @@ module _ {A : Type 0} (trial : Trial A) (sharded : Bool) (store : Option ToldSto
     ended_over : (past : Option Kept) (error : Error) → EndsAtOnce trial past mid now error → OverAt trial store link (suc most) now
     ended_over past error ends = elim ends [
       | inl unready ↦ more_course
-          (subst (λ h. Course trial.meaning trial.places store link.server most now.store now.link.server h.session h.sent) (sym unready.held)
-          (store_stays trial.meaning trial.places store link.server most mid.store now.store now.link.server mid.held.session mid.held.sent unready.store
-          (counted trial.meaning trial.places store link.server most mid.store mid.link.server now.link.server mid.held.session mid.held.sent (early_counted mid.link now.link unready.asks).server course)))
+          (subst (λ h. Course trial.meaning trial.places store (server_run link) most now.store (server_run now.link) h.session h.sent) (sym unready.held)
+          (store_stays trial.meaning trial.places store (server_run link) most mid.store now.store (server_run now.link) mid.held.session mid.held.sent unready.store
+          (counted trial.meaning trial.places store (server_run link) most mid.store (server_run mid.link) (server_run now.link) mid.held.session mid.held.sent (early_counted mid.link now.link unready.asks).server course)))
       | inr other ↦ elim other [
         | inl refused ↦ more_over (refused_over past error refused)
         | inr sent ↦ over_at trial store link past most mid goes course now sent.address sent.conn sent.result sent.sends
@@ -198,7 +199,7 @@ module _ {A : Type 0} (trial : Trial A) (sharded : Bool) (store : Option ToldSto
 
     abbrev LastAt : Result A Error → Type 0
     LastAt result = OverAt trial store link (suc most) now
-        × EndsWithReading trial.meaning trial.places link.server now.link.server (id_of now.held.session) (number_of now.held.sent) result
+        × EndsWithReading trial.meaning trial.places (server_run link) (server_run now.link) (id_of now.held.session) (number_of now.held.sent) result
 
     err_last : (error : Error) (result : Result A Error) → result ≡ Err error → OverAt trial store link (suc most) now → LastAt result
     err_last error result is over = subst LastAt (sym is) (over, tt)
@@ -229,13 +230,13 @@ module _ {A : Type 0} (trial : Trial A) (sharded : Bool) (store : Option ToldSto
     tried_last past (Ended error) result tries ends = err_last error result ends (ended_over past error tries)
 
   -- the operation is over
-  record Finished (now : Scene) (result : Result A Error) : Type 0 where
+  record Finished (now : AttemptState) (result : Result A Error) : Type 0 where
     most : ℕ
     few : most ≤ 2
     over : OverAt trial store link most now
-    ends : EndsWithReading trial.meaning trial.places link.server now.link.server (id_of now.held.session) (number_of now.held.sent) result
+    ends : EndsWithReading trial.meaning trial.places (server_run link) (server_run now.link) (id_of now.held.session) (number_of now.held.sent) result
 
-  finishes : (count : ℕ) (failures : List Failing) (kept : Option Kept) (mid now : Scene) (result : Result A Error) → Reaches trial sharded (first_scene store link count) failures kept mid
+  finishes : (count : ℕ) (failures : List Failing) (kept : Option Kept) (mid now : AttemptState) (result : Result A Error) → Reaches trial sharded (first_state store link count) failures kept mid
       → Ends trial sharded kept mid now result → Finished now result
   finishes count failures kept mid now result reaches ends =
       let came = reaches_course count failures kept mid reaches in
@@ -251,8 +252,8 @@ module _ {A : Type 0} (trial : Trial A) (sharded : Bool) (store : Option ToldSto
             most = length failures;
             few = omega (arith, few.left);
             over = subst (OverAt trial store link (length failures)) (sym limit.same)
-                (course_over trial.meaning trial.places store link.server (length failures) mid.store mid.link.server mid.held.session mid.held.sent came.0);
-            ends = subst (λ r. EndsWithReading trial.meaning trial.places link.server now.link.server (id_of now.held.session) (number_of now.held.sent) r) (sym limit.answers) tt;
+                (course_over trial.meaning trial.places store (server_run link) (length failures) mid.store (server_run mid.link) mid.held.session mid.held.sent came.0);
+            ends = subst (λ r. EndsWithReading trial.meaning trial.places (server_run link) (server_run now.link) (id_of now.held.session) (number_of now.held.sent) r) (sym limit.answers) tt;
           }
           | inr refused ↦
               let left = one_left kept few.once refused.goes_on in
@@ -261,22 +262,20 @@ module _ {A : Type 0} (trial : Trial A) (sharded : Bool) (store : Option ToldSto
               record {
                 most = suc (length failures);
                 few = omega arith;
-                over = course_over trial.meaning trial.places store link.server (suc (length failures)) now.store now.link.server now.held.session now.held.sent done;
-                ends = subst (λ r. EndsWithReading trial.meaning trial.places link.server now.link.server (id_of now.held.session) (number_of now.held.sent) r) (sym refused.answers) tt;
+                over = course_over trial.meaning trial.places store (server_run link) (suc (length failures)) now.store (server_run now.link) now.held.session now.held.sent done;
+                ends = subst (λ r. EndsWithReading trial.meaning trial.places (server_run link) (server_run now.link) (id_of now.held.session) (number_of now.held.sent) r) (sym refused.answers) tt;
               }
         ]
       ]
 
   -- the session comes back
-  borrows : (store_mid store_now : Option ToldStore) (number : Option ℤ) (session : Option Session) → HoldsLast store store_mid number session
+  borrows : (store_mid store_now : StoreTells) (number : Option ℤ) (session : Option Session) → HoldsLast store store_mid number session
       → GivesBack store_mid store_now session → Borrows store store_now (id_of session) number
-  borrows store_mid store_now number None holds gives = (subst (StaysTold store) (sym gives) holds.0, holds.1)
+  borrows store_mid store_now number None holds gives = (gives ∙ holds.0, holds.1)
   borrows store_mid store_now number (Some session) holds gives = record {
     lent = store_mid;
-    out_by = holds.caller;
-    out_at = holds.moment;
-    back_by = gives.caller;
-    back_at = gives.moment;
+    out_at = holds.at;
+    back_at = gives.at;
     session = holds.lent;
     back = session;
     lends = holds.lends;
@@ -287,38 +286,45 @@ module _ {A : Type 0} (trial : Trial A) (sharded : Bool) (store : Option ToldSto
   }
 
 -- each id is lent as often as before
-pub borrows_lends : (store now : Option ToldStore) (session : Option (List ℕ)) (number : Option ℤ) → Borrows store now session number → LendsAsBefore store now
+pub borrows_lends : (store now : StoreTells) (session : Option (List ℕ)) (number : Option ℤ) → Borrows store now session number → LendsAsBefore store now
 borrows_lends store now None number borrows = lends_staying store now borrows.0
 borrows_lends store now (Some id) number borrows =
-    lends_turning store borrows.lent now borrows.out_by borrows.out_at borrows.back_by borrows.back_at borrows.session borrows.back borrows.lends borrows.same borrows.takes
+    lends_turning store borrows.lent now borrows.out_at borrows.back_at borrows.session borrows.back borrows.lends borrows.same borrows.takes
 
 -- and the ids that were drawn are the next ones
-pub borrows_draws : (store now : Option ToldStore) (session : Option (List ℕ)) (number : Option ℤ) → Borrows store now session number → Draws store now
+pub borrows_draws : (store now : StoreTells) (session : Option (List ℕ)) (number : Option ℤ) → Borrows store now session number → Draws store now
 borrows_draws store now None number borrows = draws_staying store now borrows.0
 borrows_draws store now (Some id) number borrows =
-    draws_twice store borrows.lent now (draws_lending store borrows.lent borrows.out_by borrows.out_at borrows.session borrows.lends)
-    (draws_taking borrows.lent now borrows.back_by borrows.back borrows.back_at borrows.takes)
+    draws_twice store borrows.lent now (draws_lending store borrows.lent borrows.out_at borrows.session borrows.lends)
+    (draws_taking borrows.lent now borrows.back borrows.back_at borrows.takes)
 
 -- an operation as a whole
-module _ {A : Type 0} (trial : Trial A) (store store_now : Option ToldStore) (link link_now : ToldLink) (count count_now : ℕ) (result : Result A Error)
-    (executes : Executes trial store store_now link link_now count count_now result) where
-  done : Finished trial executes.sharded store link executes.last result
-  done = finishes trial executes.sharded store link count executes.turns.failures executes.turns.kept executes.turns.mid executes.last result executes.turns.reaches executes.turns.ends
+module _ {A : Type 0} (meaning : Meaning A) (places : List Place) (before now : Moment) (count count_now : ℕ) (result : Result A Error)
+    (executes : Executes meaning places before now count count_now result) where
+  abbrev trial : Trial A
+  trial = trial_of meaning places (meaning.own before.client.options)
 
-  works_last : Works trial.meaning trial.places store store_now link.server executes.last.link.server result
-  works_last = record {
+  done : Finished trial executes.sharded before.store (besides_out before.link) executes.last result
+  done = finishes trial executes.sharded before.store (besides_out before.link) count executes.turns.failures executes.turns.kept executes.turns.mid executes.last result executes.turns.reaches executes.turns.ends
+
+  -- the server is that of the last attempt
+  server_is : server_run now.link ≡ server_run executes.last.link
+  server_is = ap server_run executes.link_is
+
+  pub executes_works : SendsOneCommand meaning places before now result
+  executes_works = record {
     session = id_of executes.last.held.session;
     number = number_of executes.last.held.sent;
-    borrows = borrows trial executes.sharded store link executes.last.store store_now (number_of executes.last.held.sent) executes.last.held.session done.over.holds executes.comes_back;
-    sends = λ body asked. let sent = done.over.sends body asked in record { count = sent.count; within = omega (arith, sent.within, done.few); once = sent.once; sends = sent.sends };
-    ends = done.ends;
+    borrows = borrows trial executes.sharded before.store (besides_out before.link) executes.last.store now.store (number_of executes.last.held.sent) executes.last.held.session done.over.holds executes.comes_back;
+    sends = λ body asked.
+        let sent = done.over.sends body asked in
+        subst (λ server. SentWithin 2 (server_run before.link) server (plain_send (id_of executes.last.held.session) (number_of executes.last.held.sent) body)) (sym server_is)
+        (record { count = sent.count; within = omega (arith, sent.within, done.few); once = sent.once; sends = sent.sends });
+    ends = subst (λ server. EndsWithReading meaning places (server_run before.link) server (id_of executes.last.held.session) (number_of executes.last.held.sent) result) (sym server_is) done.ends;
   }
 
-  pub executes_works : Works trial.meaning trial.places store store_now link.server link_now.server result
-  executes_works = subst (λ l. Works trial.meaning trial.places store store_now link.server l.server result) (sym executes.link_is) works_last
+  pub executes_lends : LendsAsBefore before.store now.store
+  executes_lends = borrows_lends before.store now.store executes_works.session executes_works.number executes_works.borrows
 
-  pub executes_lends : LendsAsBefore store store_now
-  executes_lends = borrows_lends store store_now works_last.session works_last.number works_last.borrows
-
-  pub executes_draws : Draws store store_now
-  executes_draws = borrows_draws store store_now works_last.session works_last.number works_last.borrows
+  pub executes_draws : Draws before.store now.store
+  executes_draws = borrows_draws before.store now.store executes_works.session executes_works.number executes_works.borrows

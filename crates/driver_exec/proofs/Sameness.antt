@@ -13,11 +13,11 @@ use Rattle.driver_exec.specs.declared.attempt_end.Attempt.TheVariants.{Done, End
 use Rattle.driver_exec.specs.declared.retry.FailurePhase.{FailurePhase}
 use Rattle.driver_exec.specs.declared.retry.FailurePhase.TheVariants.{Establishment, Execution}
 use Rattle.driver_exec.specs.declared.retryability.Retryability.{Retryability}
-use Rattle.driver_exec.specs.Attempting.{EndsAtOnce, Exchanges, FailsIn, Readies, Scene, Sends, Trial, Tries, asks_session, trial_of}
+use Rattle.driver_exec.specs.Attempting.{EndsAtOnce, Exchanges, FailsIn, Readies, AttemptState, Sends, Trial, Tries, asks_session, trial_of}
 use Rattle.driver_exec.specs.Holding.{HoldsSession, needs_session}
 use Rattle.driver_exec.specs.Operations.{Meaning, MeansTheSame, TellsUnframed}
 use Rattle.driver_exec.specs.Retry.{Kept}
-use Rattle.driver_exec.specs.Links.{ToldLink}
+use Rattle.driver_link.specs.LinkState.{LinkState}
 use Rattle.driver_exec.proofs.Trying.{answers_same, framed_same, same_back}
 
 module _ {A : Type 0} (old now : Meaning A) (same : MeansTheSame old now) (places : List Place) (own : Retryability) where
@@ -36,7 +36,7 @@ module _ {A : Type 0} (old now : Meaning A) (same : MeansTheSame old now) (place
   abbrev was : Trial A
   was = trial_of old places own
 
-  readies_same : {past : Option Kept} (before after : Scene) (address : Address) (conn : Conn) → Readies told past before after address conn → Readies was past before after address conn
+  readies_same : {past : Option Kept} (before after : AttemptState) (address : Address) (conn : Conn) → Readies told past before after address conn → Readies was past before after address conn
   readies_same before after address conn readies = record {
     connects = readies.connects;
     holds = subst (λ sessions. HoldsSession (needs_session (asks_session sessions conn.description) before.held) before.store after.store before.held after.held (Ok tt)) same.sessions
@@ -44,20 +44,16 @@ module _ {A : Type 0} (old now : Meaning A) (same : MeansTheSame old now) (place
     count = readies.count;
   }
 
-  exchanges_same : (link link_now : ToldLink) (session : Option (List ℕ)) (number : Option ℤ) (result : Result (List ℕ) LinkError)
-      → Exchanges now places link link_now session number result → Exchanges old places link link_now session number result
-  exchanges_same link link_now session number result exchanges = record {
-    steps = λ body asked. exchanges.steps body ((same.asked places body).0 asked);
-    setup = exchanges.setup;
-    notes = exchanges.notes;
+  exchanges_same : (link link_now : LinkState) (conn : Conn) (session : Option (List ℕ)) (number : Option ℤ) (result : Result (List ℕ) LinkError)
+      → Exchanges now places link link_now conn session number result → Exchanges old places link link_now conn session number result
+  exchanges_same link link_now conn session number result exchanges = record {
     frame = exchanges.frame;
     framed = framed_same now old (same_back old now same) session number exchanges.frame exchanges.framed;
-    frames = exchanges.frames;
-    asked = exchanges.asked;
-    cause = exchanges.cause;
+    reads = λ body asked. exchanges.reads body ((same.asked places body).0 asked);
+    exchanges = exchanges.exchanges;
   }
 
-  sends_same : (past : Option Kept) (before after : Scene) (address : Address) (conn : Conn) (result : Result (List ℕ) LinkError) → Sends told past before after address conn result
+  sends_same : (past : Option Kept) (before after : AttemptState) (address : Address) (conn : Conn) (result : Result (List ℕ) LinkError) → Sends told past before after address conn result
       → Sends was past before after address conn result
   sends_same past before after address conn result sends = record {
     ready = sends.ready;
@@ -67,13 +63,13 @@ module _ {A : Type 0} (old now : Meaning A) (same : MeansTheSame old now) (place
     numbered = sends.numbered;
     number = sends.number;
     draws = sends.draws;
-    exchanges = exchanges_same _ _ _ _ result sends.exchanges;
+    exchanges = exchanges_same _ _ _ _ _ result sends.exchanges;
     store_is = sends.store_is;
     held_is = sends.held_is;
     counted = sends.counted;
   }
 
-  fails_same : (past : Option Kept) (before after : Scene) (address : Address) (phase : FailurePhase) (error : Error) → FailsIn told past before after address phase error
+  fails_same : (past : Option Kept) (before after : AttemptState) (address : Address) (phase : FailurePhase) (error : Error) → FailsIn told past before after address phase error
       → FailsIn was past before after address phase error
   fails_same past before after address Establishment error fails = record {
     mid = fails.mid;
@@ -108,7 +104,7 @@ module _ {A : Type 0} (old now : Meaning A) (same : MeansTheSame old now) (place
     })
   ]
 
-  ends_same : (past : Option Kept) (before after : Scene) (error : Error) → EndsAtOnce told past before after error → EndsAtOnce was past before after error
+  ends_same : (past : Option Kept) (before after : AttemptState) (error : Error) → EndsAtOnce told past before after error → EndsAtOnce was past before after error
   ends_same past before after error ends = elim ends [
     | inl unready ↦ inl unready
     | inr other ↦ elim other [
@@ -138,7 +134,7 @@ module _ {A : Type 0} (old now : Meaning A) (same : MeansTheSame old now) (place
     ]
   ]
 
-  pub tries_same : (past : Option Kept) (before after : Scene) (attempt : Attempt A) → Tries told past before after attempt → Tries was past before after attempt
+  pub tries_same : (past : Option Kept) (before after : AttemptState) (attempt : Attempt A) → Tries told past before after attempt → Tries was past before after attempt
   tries_same past before after (Done output) tries = record {
     address = tries.address;
     conn = tries.conn;

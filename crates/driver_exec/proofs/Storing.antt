@@ -9,27 +9,29 @@ use Rattle.driver_exec.specs.declared.attempt_end.Attempt.{Attempt}
 use Rattle.driver_exec.specs.declared.attempt_end.Attempt.TheVariants.{Done, Ended, Failed, Stopped, Unselected}
 use Rattle.driver_exec.specs.declared.retry.FailurePhase.{FailurePhase}
 use Rattle.driver_exec.specs.declared.retry.FailurePhase.TheVariants.{Establishment, Execution}
-use Rattle.driver_exec.specs.Attempting.{FailsIn, Readies, Scene, Sends, Trial, Tries, asks_session}
+use Rattle.driver_exec.specs.Attempting.{FailsIn, Readies, AttemptState, Sends, Trial, Tries, asks_session}
 use Rattle.driver_exec.specs.Executing.{Ends}
 use Rattle.driver_exec.specs.Holding.{GivesBack, Held, HoldsSession, needs_session}
-use Rattle.driver_exec.specs.Pool.{DrawnApart, Draws, ToldStore}
+use Rattle.driver_exec.specs.StoreTells.{DrawnApart, Draws, StoreTells}
 use Rattle.driver_exec.specs.Retry.{Kept}
 use Rattle.driver_exec.specs.Session.{Session}
 use Rattle.driver_exec.proofs.Drawing.{apart_before, draws_lending, draws_refl, draws_staying, draws_taking}
 
-draws_same : (store now : Option ToldStore) → now ≡ store → Draws store now
+-- a store that is as it was drew nothing
+draws_same : (store now : StoreTells) → now ≡ store → Draws store now
 draws_same store now same = subst (Draws store) (sym same) (draws_refl store)
 
-holds_draws : (needed : Bool) (store now : Option ToldStore) (held held_now : Held) → HoldsSession needed store now held held_now (Ok tt) → Draws store now
+-- a session is lent where one is needed
+holds_draws : (needed : Bool) (store now : StoreTells) (held held_now : Held) → HoldsSession needed store now held held_now (Ok tt) → Draws store now
 holds_draws false store now held held_now holds = draws_same store now holds.0
-holds_draws true store now held held_now holds = draws_lending store now holds.caller holds.moment holds.session holds.lends
+holds_draws true store now held held_now holds = draws_lending store now holds.at holds.session holds.lends
 
-module _ {A : Type 0} (trial : Trial A) (mid now : Scene) where
+module _ {A : Type 0} (trial : Trial A) (mid now : AttemptState) where
   readies_draws : {past : Option Kept} (address : Address) (conn : Conn) → Readies trial past mid now address conn → Draws mid.store now.store
   readies_draws address conn readies =
-      holds_draws (needs_session (asks_session trial.sessions conn.description) mid.held) mid.store now.store mid.held now.held readies.holds
+      holds_draws (needs_session (asks_session trial.meaning.sessions conn.description) mid.held) mid.store now.store mid.held now.held readies.holds
 
-module _ {A : Type 0} (trial : Trial A) (past : Option Kept) (mid now : Scene) where
+module _ {A : Type 0} (trial : Trial A) (past : Option Kept) (mid now : AttemptState) where
   sends_draws : (address : Address) (conn : Conn) (result : Result (List ℕ) LinkError) → Sends trial past mid now address conn result → Draws mid.store now.store
   sends_draws address conn result sends = subst (Draws mid.store) (sym sends.store_is) (readies_draws trial mid sends.ready address conn sends.readies)
 
@@ -58,7 +60,7 @@ module _ {A : Type 0} (trial : Trial A) (past : Option Kept) (mid now : Scene) w
   fails_apart address phase error fails apart = apart_before mid.store now.store (fails_draws address phase error fails) apart
 
 -- and before the end of an operation
-module _ {A : Type 0} (trial : Trial A) (mid now : Scene) where
+module _ {A : Type 0} (trial : Trial A) (mid now : AttemptState) where
   pub ends_apart : (sharded : Bool) (kept : Option Kept) (result : Result A Error) → Ends trial sharded kept mid now result → DrawnApart now.store → DrawnApart mid.store
   ends_apart sharded kept result ends apart = elim ends [
     | inl last ↦ apart_before mid.store now.store (tries_draws trial kept mid now last.attempt last.tries) apart
@@ -69,6 +71,6 @@ module _ {A : Type 0} (trial : Trial A) (mid now : Scene) where
   ]
 
 -- before a session came back they were apart
-pub back_apart : (store now : Option ToldStore) (session : Option Session) → GivesBack store now session → DrawnApart now → DrawnApart store
+pub back_apart : (store now : StoreTells) (session : Option Session) → GivesBack store now session → DrawnApart now → DrawnApart store
 back_apart store now None same apart = subst DrawnApart same apart
-back_apart store now (Some session) back apart = apart_before store now (draws_taking store now back.caller session back.moment back.takes) apart
+back_apart store now (Some session) back apart = apart_before store now (draws_taking store now session back.at back.takes) apart

@@ -1,5 +1,5 @@
 -- One attempt of an operation, from the calls in which it was made.
-use Rattle.std.proofs.Common.{◌≡◌, ℕ, ◌≤◌, List, refl, sym, subst, ◌∙◌, inl, inr, arith}
+use Rattle.std.proofs.Common.{◌≡◌, ℕ, ◌≤◌, List, refl, sym, ap, subst, ◌∙◌, inl, inr, arith}
 use Rattle.std.specs.Prelude.{ℤ, Bool, true, false, ◌&&◌, Option, None, Some, is_some, Result, Ok, Err}
 use Rattle.driver_error.specs.declared.error.Error.{Error}
 use Rattle.driver_error.specs.declared.kind.ErrorKind.TheVariants as kind
@@ -11,39 +11,35 @@ use Rattle.driver_link.specs.declared.fault.LinkError.{LinkError}
 use Rattle.driver_link.specs.declared.fault.LinkError.TheVariants.{Fault, Memory}
 use Rattle.driver_link.specs.declared.machine.Place.{Place}
 use Rattle.driver_link.specs.declared.options.Address.{Address}
-use Rattle.driver_link.specs.declared.options.Asked.{Asked}
 use Rattle.driver_link.specs.declared.options.Conn.{Conn}
-use Rattle.driver_link.specs.Counting.{OnlyCounts, select_fault, selected}
+use Rattle.driver_link.specs.Counting.{OnlyCounts}
 use Rattle.driver_link.specs.Faults.{HasLinkCause}
 use Rattle.driver_link.specs.Framed.{Framed}
-use Rattle.driver_link.specs.Told.{MayNote, Notes, noted, nothing_noted}
+use Rattle.driver_link.specs.LinkCalls.{ChecksInConnection, ChecksOutConnection, ExchangesFrame, SelectsServer}
+use Rattle.driver_link.specs.LinkState.{GainsAll, GainsAnswer, HandsBack, LinkState, noted, nothing_noted, server_run, setup_of}
+use Rattle.driver_link.proofs.Handing.{handed_back_last, same_number}
 use Rattle.driver_exec.specs.declared.attempt_end.Attempt.{Attempt}
 use Rattle.driver_exec.specs.declared.attempt_end.Attempt.TheVariants.{Ended, Failed, Stopped, Unselected}
 use Rattle.driver_exec.specs.declared.retryability.Retryability.{Retryability}
-use Rattle.driver_exec.specs.Attempting.{AsksEarly, CallsLink, ChecksOut, Comes, Connects, FailsIn, Exchanging, LosesExchange, NotConnected, NotesAsked, ReadsAnswer, Readies, Scene, Selects, Sending, Sends, SpellsFailure, Trial, Tries, asked_for, asks_session, avoided, is_nothing, may_use, on_connection, scene, stops, trial_of}
+use Rattle.driver_exec.specs.Attempting.{AsksEarly, AttemptState, Comes, Connects, Exchanging, FailsIn, LosesExchange, NotConnected, ReadsAnswer, Readies, Selects, Sending, Sends, SpellsFailure, Trial, Tries, asked_for, asks_session, attempt_state, avoided, besides_out, is_nothing, may_use, on_connection, stops, trial_of}
 use Rattle.driver_exec.specs.Causes.{AllEarly}
 use Rattle.driver_exec.specs.Failing.{EndsLost, EndsRead, EndsUnconnected, EndsUnselected}
 use Rattle.driver_exec.specs.Holding.{Held, HoldsSession, needs_session}
 use Rattle.driver_exec.specs.declared.command.Command.{Command}
 use Rattle.driver_exec.specs.Operations.{GivesFrame, IsBuilt, IsFramed, Meaning, MeansTheSame}
-use Rattle.driver_exec.specs.Pool.{StaysTold, ToldStore}
+use Rattle.driver_exec.specs.StoreTells.{StoreTells}
 use Rattle.driver_exec.specs.Retry.{Kept}
-use Rattle.driver_exec.specs.Links.{ToldLink}
 use Rattle.driver_exec.proofs.Attempts.{check_out_counts, counts_twice, select_counts}
 use Rattle.driver_exec.proofs.Causes.{notes_since}
 
 -- only calls of the link were counted, and nothing was exchanged
-pub record OnlyCounted (link now : ToldLink) : Type 0 where
-  pub server : OnlyCounts link.server now.server
-  pub setup : now.setup ≡ link.setup
+pub record OnlyCounted (link now : LinkState) : Type 0 where
+  pub server : OnlyCounts (server_run link) (server_run now)
+  pub setup : setup_of now ≡ setup_of link
   pub items : List Answered
-  pub notes : Notes link.answers now.answers items
+  pub notes : GainsAll link.answers now.answers items
   pub early : AllEarly items
   pub later : link.faults ≤ now.faults
-
-pub stays_same : (store : Option ToldStore) → StaysTold store store
-stays_same None = refl
-stays_same (Some told) = (refl, λ k. refl)
 
 -- both of two hold
 pub both_true : (a b : Bool) → (a && b) ≡ true → (a ≡ true) × (b ≡ true)
@@ -70,43 +66,107 @@ check_out_early (Err (Fault fault own)) = tt
 check_out_early (Err Memory) = tt
 
 -- a selection asks for a server outside these
-pub asks_avoided : {B : Type 0} (given avoid : List Address) (before now : Option (List Asked)) (result : Result B LinkError) → given ≡ avoid
-    → MayNote before now (asked_for given) result → NotesAsked (Some (asked_for avoid)) before now result
-asks_avoided given avoid before now result is notes = subst (λ a. MayNote before now (asked_for a) result) is notes
+pub asks_avoided : (given avoid : List Address) (link now : LinkState) (result : Result Address LinkError) → given ≡ avoid
+    → SelectsServer link now (asked_for given) result → Selects avoid (besides_out link) (besides_out now) result
+asks_avoided given avoid link now result is selects =
+    subst (λ a. Selects a (besides_out link) (besides_out now) result) is (record {
+      calls = record {
+        counts = selects.calls.counts;
+        setup = selects.calls.setup;
+        answers = selects.calls.answers;
+        frames = selects.calls.frames;
+        over = selects.calls.over;
+        cause = selects.calls.cause;
+      };
+      asked = selects.asked;
+      addresses = selects.addresses;
+      connections = selects.connections;
+      out = refl;
+    })
+
+-- a check-out, besides what is out
+pub checks_besides : (link now : LinkState) (address : Address) (result : Result Conn LinkError) → ChecksOutConnection link now address result
+    → ChecksOutConnection (besides_out link) (besides_out now) address result
+checks_besides link now address result checks = record {
+  calls = record {
+    counts = checks.calls.counts;
+    setup = checks.calls.setup;
+    answers = checks.calls.answers;
+    frames = checks.calls.frames;
+    over = checks.calls.over;
+    cause = checks.calls.cause;
+  };
+  to = checks.to;
+  connections = checks.connections;
+  out = untold result;
+  asked = checks.asked;
+  addresses = checks.addresses;
+}
+  where
+    untold : (result : Result Conn LinkError) → GainsAnswer None None result
+    untold result = refl
+
+-- an exchange, besides what is out
+pub exchanges_besides : (link now : LinkState) (conn : Conn) (frame : Framed) (places : List Place) (result : Result (List ℕ) LinkError)
+    → ExchangesFrame link now conn frame places result → ExchangesFrame (besides_out link) (besides_out now) conn frame places result
+exchanges_besides link now conn frame places result exchanges = record {
+  steps = exchanges.steps;
+  setup = exchanges.setup;
+  answers = exchanges.answers;
+  frames = exchanges.frames;
+  over = exchanges.over;
+  rest = record {
+    asked = exchanges.rest.asked;
+    addresses = exchanges.rest.addresses;
+    connections = exchanges.rest.connections;
+    out = refl;
+  };
+  cause = exchanges.cause;
+}
+
+-- a connection that is handed back changes nothing besides what is out
+pub handed_besides : (link now : LinkState) (conn : Conn) → ChecksInConnection link now conn → besides_out now ≡ besides_out link
+handed_besides link now conn handed = ap besides_out handed.rest
+
+-- a connection that was checked out and is handed back leaves what is out as it was
+pub out_again : (out mid now : Option (List Conn)) (conn : Conn) → GainsAnswer out mid (Ok conn) → HandsBack mid now conn.number → now ≡ out
+out_again None mid now conn gains back = subst (λ m. HandsBack m now conn.number) gains back
+out_again (Some out) mid now conn gains back =
+    subst (λ m. HandsBack m now conn.number) gains back ∙ ap (λ conns. Some conns) (handed_back_last out conn (same_number conn.number conn.number refl))
 
 -- a selection is a call that was counted
-pub selected_counted : {asks : Option Asked} (link now : ToldLink) (result : Result Address LinkError) → CallsLink Select asks selected select_fault link now result → OnlyCounted link now
+pub selected_counted : {avoid : List Address} (link now : LinkState) (result : Result Address LinkError) → Selects avoid link now result → OnlyCounted link now
 selected_counted link now result selects = record {
-  server = select_counts Address link.server now.server result selects.counts;
-  setup = selects.setup;
+  server = select_counts Address (server_run link) (server_run now) result selects.calls.counts;
+  setup = selects.calls.setup;
   items = noted Select nothing_noted result;
-  notes = selects.notes;
+  notes = selects.calls.answers;
   early = select_early result;
-  later = later_of link.faults now.faults result selects.cause;
+  later = later_of link.faults now.faults result selects.calls.cause;
 }
 
 -- so is a check-out after it
-pub checked_counted : {asks : Option Asked} (link mid now : ToldLink) (address : Address) (result : Result Conn LinkError)
-    → CallsLink Select asks selected select_fault link mid (Ok address) → ChecksOut mid now result → OnlyCounted link now
+pub checked_counted : {avoid : List Address} (link mid now : LinkState) (address : Address) (result : Result Conn LinkError)
+    → Selects avoid link mid (Ok address) → ChecksOutConnection mid now address result → OnlyCounted link now
 checked_counted link mid now address result selects checks = record {
-  server = counts_twice link.server mid.server now.server (select_counts Address link.server mid.server (Ok address) selects.counts)
-      (check_out_counts Conn mid.server now.server result checks.counts);
-  setup = checks.setup ∙ selects.setup;
+  server = counts_twice (server_run link) (server_run mid) (server_run now) (select_counts Address (server_run link) (server_run mid) (Ok address) selects.calls.counts)
+      (check_out_counts Conn (server_run mid) (server_run now) result checks.calls.counts);
+  setup = checks.calls.setup ∙ selects.calls.setup;
   items = noted CheckOut nothing_noted result;
-  notes = notes_since link.answers mid.answers now.answers (noted CheckOut nothing_noted result) selects.notes checks.notes;
+  notes = notes_since link.answers mid.answers now.answers (noted CheckOut nothing_noted result) selects.calls.answers checks.calls.answers;
   early = check_out_early result;
-  later = omega (arith, later_of link.faults mid.faults (Ok address) selects.cause, later_of mid.faults now.faults result checks.cause);
+  later = omega (arith, later_of link.faults mid.faults (Ok address) selects.calls.cause, later_of mid.faults now.faults result checks.calls.cause);
 }
 
-pub connected_counted : {avoid : List Address} (link now : ToldLink) (address : Address) (conn : Conn) → Connects avoid link now address conn → OnlyCounted link now
+pub connected_counted : {avoid : List Address} (link now : LinkState) (address : Address) (conn : Conn) → Connects avoid link now address conn → OnlyCounted link now
 connected_counted link now address conn connects = checked_counted link connects.mid now address (Ok conn) connects.selects connects.checks_out
 
-asks_connection : (avoid : List Address) (link mid now : ToldLink) (address : Address) (result : Result Conn LinkError) → Selects avoid link mid (Ok address) → ChecksOut mid now result
+asks_connection : (avoid : List Address) (link mid now : LinkState) (address : Address) (result : Result Conn LinkError) → Selects avoid link mid (Ok address) → ChecksOutConnection mid now address result
     → AsksEarly avoid link now
 asks_connection avoid link mid now address result selects checks = inr (record { mid = mid; address = address; selects = selects; result = result; checks_out = checks })
 
 -- the calls of an attempt that came to no session were only counted
-pub early_counted : {avoid : List Address} (link now : ToldLink) → AsksEarly avoid link now → OnlyCounted link now
+pub early_counted : {avoid : List Address} (link now : LinkState) → AsksEarly avoid link now → OnlyCounted link now
 early_counted link now asks = elim asks [
   | inl fails ↦ selected_counted link now (Err fails.failure) fails.selects
   | inr more ↦ checked_counted link more.mid now more.address more.result more.selects more.checks_out
@@ -170,22 +230,18 @@ module _ {A : Type 0} (old now : Meaning A) (same : MeansTheSame old now) where
       record { answer = comes.answer; reads = answers_same reply comes.answer comes.reads; ends = comes.ends }
   comes_same turn version address (Err failure) attempt comes = comes
 
-  pub exchanging_same : (places : List Place) (link link_now : ToldLink) (turn : Retryability) (version : Option ℤ) (address : Address) (held held_now : Held) (attempt : Attempt A)
-      → Exchanging now places link link_now turn version address held held_now attempt → Exchanging old places link link_now turn version address held held_now attempt
-  exchanging_same places link link_now turn version address held held_now attempt exchanging = record {
+  pub exchanging_same : (places : List Place) (link link_now : LinkState) (turn : Retryability) (conn : Conn) (address : Address) (held held_now : Held) (attempt : Attempt A)
+      → Exchanging now places link link_now turn conn address held held_now attempt → Exchanging old places link link_now turn conn address held held_now attempt
+  exchanging_same places link link_now turn conn address held held_now attempt exchanging = record {
     result = exchanging.result;
     exchanges = record {
-      steps = λ body asked. exchanging.exchanges.steps body ((same.asked places body).0 asked);
-      setup = exchanging.exchanges.setup;
-      notes = exchanging.exchanges.notes;
       frame = exchanging.exchanges.frame;
       framed = framed_same now old (same_back old now same) _ _ exchanging.exchanges.frame exchanging.exchanges.framed;
-      frames = exchanging.exchanges.frames;
-      asked = exchanging.exchanges.asked;
-      cause = exchanging.exchanges.cause;
+      reads = λ body asked. exchanging.exchanges.reads body ((same.asked places body).0 asked);
+      exchanges = exchanging.exchanges.exchanges;
     };
     held_is = exchanging.held_is;
-    comes = comes_same turn version address exchanging.result attempt exchanging.comes;
+    comes = comes_same turn conn.description.max_wire_version address exchanging.result attempt exchanging.comes;
   }
 
 module _ {A : Type 0} (meaning : Meaning A) (places : List Place) (own : Retryability) (past : Option Kept) where
@@ -193,24 +249,24 @@ module _ {A : Type 0} (meaning : Meaning A) (places : List Place) (own : Retryab
   trial = trial_of meaning places own
 
   -- no server was selected
-  pub unselected_tries : (store : Option ToldStore) (link now : ToldLink) (held : Held) (count : ℕ) (failure : LinkError) (attempt : Attempt A)
-      → Selects (avoided past) link now (Err failure) → EndsUnselected failure attempt → Tries trial past (scene store link held count) (scene store now held count) attempt
+  pub unselected_tries : (store : StoreTells) (link now : LinkState) (held : Held) (count : ℕ) (failure : LinkError) (attempt : Attempt A)
+      → Selects (avoided past) (besides_out link) (besides_out now) (Err failure) → EndsUnselected failure attempt → Tries trial past (attempt_state store link held count) (attempt_state store now held count) attempt
   unselected_tries store link now held count (Fault fault labels) (Unselected error) selects is =
       record { fault = fault; own = labels; selects = selects; is = is; rest = record { store = refl; held = refl; count = refl } }
   unselected_tries store link now held count (Fault fault labels) (Ended error) selects memory =
-      inl (record { asks = inl (record { failure = Fault fault labels; selects = selects }); store = stays_same store; held = refl; count = refl; why = memory })
+      inl (record { asks = inl (record { failure = Fault fault labels; selects = selects }); store = refl; held = refl; count = refl; why = memory })
   unselected_tries store link now held count Memory (Ended error) selects memory =
-      inl (record { asks = inl (record { failure = Memory; selects = selects }); store = stays_same store; held = refl; count = refl; why = memory })
+      inl (record { asks = inl (record { failure = Memory; selects = selects }); store = refl; held = refl; count = refl; why = memory })
   unselected_tries store link now held count (Fault fault labels) _ selects ends = absurd ends
   unselected_tries store link now held count Memory _ selects ends = absurd ends
 
   -- no connection was had
-  pub unconnected_tries : (store : Option ToldStore) (link mid now : ToldLink) (held : Held) (count : ℕ) (address : Address) (failure : LinkError) (attempt : Attempt A)
-      → Selects (avoided past) link mid (Ok address) → ChecksOut mid now (Err failure) → EndsUnconnected own address failure attempt
-      → Tries trial past (scene store link held count) (scene store now held count) attempt
+  pub unconnected_tries : (store : StoreTells) (link mid now : LinkState) (held : Held) (count : ℕ) (address : Address) (failure : LinkError) (attempt : Attempt A)
+      → Selects (avoided past) (besides_out link) mid (Ok address) → ChecksOutConnection mid (besides_out now) address (Err failure) → EndsUnconnected own address failure attempt
+      → Tries trial past (attempt_state store link held count) (attempt_state store now held count) attempt
   unconnected_tries store link mid now held count address (Fault fault labels) (Failed failing) selects checks ends =
-      subst (λ phase. FailsIn trial past (scene store link held count) (scene store now held count) failing.address phase failing.failure.error) (sym ends.phase_is)
-      (subst (λ at. NotConnected trial past (scene store link held count) (scene store now held count) at failing.failure.error) (sym ends.address_is) (record {
+      subst (λ phase. FailsIn trial past (attempt_state store link held count) (attempt_state store now held count) failing.address phase failing.failure.error) (sym ends.phase_is)
+      (subst (λ at. NotConnected trial past (attempt_state store link held count) (attempt_state store now held count) at failing.failure.error) (sym ends.address_is) (record {
         mid = mid;
         selects = selects;
         fault = fault;
@@ -220,13 +276,13 @@ module _ {A : Type 0} (meaning : Meaning A) (places : List Place) (own : Retryab
         rest = record { store = refl; held = refl; count = refl };
       }))
   unconnected_tries store link mid now held count address (Fault fault labels) (Ended error) selects checks memory =
-      inl (record { asks = asks_connection (avoided past) link mid now address (Err (Fault fault labels)) selects checks; store = stays_same store; held = refl; count = refl; why = memory })
+      inl (record { asks = asks_connection (avoided past) (besides_out link) mid (besides_out now) address (Err (Fault fault labels)) selects checks; store = refl; held = refl; count = refl; why = memory })
   unconnected_tries store link mid now held count address Memory (Ended error) selects checks memory =
-      inl (record { asks = asks_connection (avoided past) link mid now address (Err Memory) selects checks; store = stays_same store; held = refl; count = refl; why = memory })
+      inl (record { asks = asks_connection (avoided past) (besides_out link) mid (besides_out now) address (Err Memory) selects checks; store = refl; held = refl; count = refl; why = memory })
   unconnected_tries store link mid now held count address (Fault fault labels) _ selects checks ends = absurd ends
   unconnected_tries store link mid now held count address Memory _ selects checks ends = absurd ends
 
-  module _ (store store_now : Option ToldStore) (before link : ToldLink) (held ready : Held) (count : ℕ) (address : Address) (conn : Conn) (connects : Connects (avoided past) before link address conn) where
+  module _ (store store_now : StoreTells) (before link : LinkState) (held ready : Held) (count : ℕ) (address : Address) (conn : Conn) (connects : Connects (avoided past) (besides_out before) (besides_out link) address conn) where
     -- a session was asked for where both sides take one
     pub holds_asked : (asked : Bool) (given result : Result (Unit {0}) Error) → asked ≡ asks_session meaning.sessions conn.description → given ≡ result
         → HoldsSession (needs_session asked held) store store_now held ready given
@@ -237,25 +293,25 @@ module _ {A : Type 0} (meaning : Meaning A) (places : List Place) (own : Retryab
 
     -- there was no memory for a session
     pub unready_tries : (error : Error) → HoldsSession (needs_session (asks_session meaning.sessions conn.description) held) store store_now held ready (Err error)
-        → Tries trial past (scene store before held count) (scene store_now link ready count) (Ended error)
+        → Tries trial past (attempt_state store before held count) (attempt_state store_now link ready count) (Ended error)
     unready_tries error holds = by_need (needs_session (asks_session meaning.sessions conn.description) held) holds
       where
         ok_err : ◌≡◌ {A = Result (Unit {0}) Error} (Ok tt) (Err error) → ⊥
         ok_err same = cc
 
-        by_need : (needed : Bool) → HoldsSession needed store store_now held ready (Err error) → Tries trial past (scene store before held count) (scene store_now link ready count) (Ended error)
+        by_need : (needed : Bool) → HoldsSession needed store store_now held ready (Err error) → Tries trial past (attempt_state store before held count) (attempt_state store_now link ready count) (Ended error)
         by_need false holds = absurd (ok_err (sym holds.2))
-        by_need true holds = inl (record { asks = asks_connection (avoided past) before connects.mid link address (Ok conn) connects.selects connects.checks_out; store = holds.0; held = holds.1; count = refl; why = holds.2 })
+        by_need true holds = inl (record { asks = asks_connection (avoided past) (besides_out before) connects.mid (besides_out link) address (Ok conn) connects.selects connects.checks_out; store = holds.0; held = holds.1; count = refl; why = holds.2 })
 
     module _ (holds : HoldsSession (needs_session (asks_session meaning.sessions conn.description) held) store store_now held ready (Ok tt)) where
-      readied : Readies trial past (scene store before held count) (scene store_now link ready count) address conn
+      readied : Readies trial past (attempt_state store before held count) (attempt_state store_now link ready count) address conn
       readied = record { connects = connects; holds = holds; count = refl }
 
       -- a session is held, and the connection takes none
       pub sessionless_tries : (error : Error) → may_use ready conn.description ≡ false → IsAlone kind.SessionsNotSupported no_labels error
-          → Tries trial past (scene store before held count) (scene store_now link ready count) (Ended error)
+          → Tries trial past (attempt_state store before held count) (attempt_state store_now link ready count) (Ended error)
       sessionless_tries error none is = inr (inl (record {
-        ready = scene store_now link ready count;
+        ready = attempt_state store_now link ready count;
         address = address;
         conn = conn;
         readies = readied;
@@ -266,21 +322,21 @@ module _ {A : Type 0} (meaning : Meaning A) (places : List Place) (own : Retryab
       }))
 
       -- nothing may be repeated
-      pub stopped_tries : is_some past ≡ true → may_use ready conn.description ≡ true → is_nothing (on_connection own conn.description) ≡ true → Tries trial past (scene store before held count) (scene store_now link ready count) Stopped
+      pub stopped_tries : is_some past ≡ true → may_use ready conn.description ≡ true → is_nothing (on_connection own conn.description) ≡ true → Tries trial past (attempt_state store before held count) (attempt_state store_now link ready count) Stopped
       stopped_tries is allowed nothing = (is, record { address = address; conn = conn; readies = readied; allowed = allowed; nothing = nothing })
 
-      module _ (allowed : may_use ready conn.description ≡ true) (goes : stops (is_some past) (on_connection own conn.description) ≡ false) (link_now : ToldLink) (held_now : Held) (count_now : ℕ) where
+      module _ (allowed : may_use ready conn.description ≡ true) (goes : stops (is_some past) (on_connection own conn.description) ≡ false) (link_now : LinkState) (held_now : Held) (count_now : ℕ) where
         abbrev turn : Retryability
         turn = on_connection own conn.description
 
         abbrev version : Option ℤ
         version = conn.description.max_wire_version
 
-        abbrev began : Scene
-        began = scene store before held count
+        abbrev began : AttemptState
+        began = attempt_state store before held count
 
-        abbrev came : Scene
-        came = scene store_now link_now held_now count_now
+        abbrev came : AttemptState
+        came = attempt_state store_now link_now held_now count_now
 
         -- the command's reply was read
         read_tries : (reply : List ℕ) (answer : Result A Error) (attempt : Attempt A) → Sends trial past began came address conn (Ok reply) → ReadsAnswer meaning reply answer
@@ -326,10 +382,10 @@ module _ {A : Type 0} (meaning : Meaning A) (places : List Place) (own : Retryab
         came_tries (Ok reply) attempt sends comes = read_tries reply comes.answer attempt sends comes.reads comes.ends
         came_tries (Err failure) attempt sends comes = lost_tries failure attempt sends comes
 
-        sending_tries : (attempt : Attempt A) → Sending meaning places link link_now turn version address ready held_now count count_now attempt → Tries trial past began came attempt
+        sending_tries : (attempt : Attempt A) → Sending meaning places (besides_out link) (besides_out link_now) turn conn address ready held_now count count_now attempt → Tries trial past began came attempt
         sending_tries attempt sending = elim sending [
           | inl none ↦ subst (λ a. Tries trial past began came a) (sym none.ends) (inr (inl (record {
-            ready = scene store_now link ready count;
+            ready = attempt_state store_now link ready count;
             address = address;
             conn = conn;
             readies = readied;
@@ -340,7 +396,7 @@ module _ {A : Type 0} (meaning : Meaning A) (places : List Place) (own : Retryab
           })))
           | inr other ↦ elim other [
             | inl none ↦ subst (λ a. Tries trial past began came a) (sym none.ends) (inr (inl (record {
-              ready = scene store_now link ready count;
+              ready = attempt_state store_now link ready count;
               address = address;
               conn = conn;
               readies = readied;
@@ -350,7 +406,7 @@ module _ {A : Type 0} (meaning : Meaning A) (places : List Place) (own : Retryab
               refused = inr (inr (record { goes = goes; number = none.number; draws = none.draws; why = none.why }));
             })))
             | inr out ↦ came_tries out.exchanging.result attempt (record {
-              ready = scene store_now link ready count;
+              ready = attempt_state store_now link ready count;
               readies = readied;
               allowed = allowed;
               goes = goes;
@@ -366,6 +422,6 @@ module _ {A : Type 0} (meaning : Meaning A) (places : List Place) (own : Retryab
         ]
 
         -- the command of an attempt on its connection
-        pub sent_tries : (found : Retryability) (attempt : Attempt A) → found ≡ turn → Sending meaning places link link_now found version address ready held_now count count_now attempt
+        pub sent_tries : (found : Retryability) (attempt : Attempt A) → found ≡ turn → Sending meaning places (besides_out link) (besides_out link_now) found conn address ready held_now count count_now attempt
             → Tries trial past began came attempt
-        sent_tries found attempt is sending = sending_tries attempt (subst (λ t. Sending meaning places link link_now t version address ready held_now count count_now attempt) is sending)
+        sent_tries found attempt is sending = sending_tries attempt (subst (λ t. Sending meaning places (besides_out link) (besides_out link_now) t conn address ready held_now count count_now attempt) is sending)

@@ -1,7 +1,7 @@
 -- The insert of a write keeps the invariant of one client's plain writes, whatever the link answers, and where it is done
 -- its entry stands.
 use Rattle.std.proofs.Common.{◌≡◌, ℕ, zero, suc, ◌+◌, ◌<◌, ◌≤◌, Bool, true, false, List, [], ◌∷◌, ◌++◌, refl, sym, ap, subst, ◌∙◌, inl, inr, arith, append_assoc}
-use Rattle.std.specs.Prelude.{ℤ, pos, ◌+ℤ◌, ◌<ℤ◌, ◌≤ℤ◌, Option, None, Some, ◌⊎◌, slice_get}
+use Rattle.std.specs.Prelude.{ℤ, pos, ◌+ℤ◌, ◌<ℤ◌, ◌≤ℤ◌, Option, None, Some, ◌⊎◌, slice_get, if◌then◌else◌}
 use Rattle.std.proofs.lemmas.Int.{ints}
 use Rattle.std.proofs.lemmas.List.{append-nil}
 use Rattle.driver_link.specs.declared.machine.Counted.{Counted}
@@ -15,7 +15,8 @@ use Rattle.driver_link.specs.Counting.{KeepsServer}
 use Rattle.driver_link.specs.Exchange.{after_picks, exchanged, next_step, traced}
 use Rattle.driver_link.specs.Settled.{Has, IsEither, IsOrderly, IsPlain, IsSettled, IsUnder, IsUnnumbered, MayJoin, SharePlace}
 use Rattle.driver_link.specs.Statements.{entry_of}
-use Rattle.driver_link.specs.Told.{Told, told_after}
+use Rattle.driver_link.specs.LinkState.{server_run}
+use Rattle.driver_link.specs.ServerRun.{ServerRun, run_after}
 use Rattle.driver_link.proofs.Exchanged.{exchanged_settled}
 use Rattle.driver_link.proofs.Growing.{exchanged_keeps}
 use Rattle.driver_link.proofs.Lists.{has_either, has_last}
@@ -27,11 +28,12 @@ use Rattle.driver_exec.specs.declared.pool.IdleSession.{IdleSession}
 use Rattle.driver_exec.specs.BetweenCalls.{AllBelow, Between, FitsIdle, Knows, NoneOf, SentUpTo, Sound}
 use Rattle.driver_exec.specs.Causes.{Failure}
 use Rattle.driver_exec.specs.Inserts.{is_done_reply}
-use Rattle.driver_exec.specs.Pool.{AllApart, Lends, Pool, TakesBack, ToldStore, taken_back}
-use Rattle.driver_exec.specs.Resending.{Borrowed, Borrows, SendsTold}
+use Rattle.driver_exec.specs.Moment.{Moment}
+use Rattle.driver_exec.specs.Pool.{AllApart, Pool, is_lent, taken_back}
+use Rattle.driver_exec.specs.Resending.{Borrowed, Borrows, SendsTold, SentTimes}
 use Rattle.driver_exec.specs.Session.{Session}
-use Rattle.driver_exec.specs.Writing.{DoneLast, EndsWritten, WritesLast, Wrote, insert_send, placed_write}
-use Rattle.driver_exec.proofs.Drawing.{drawn_back}
+use Rattle.driver_exec.specs.Writing.{DoneLast, EndsWritten, WasDoneLast, WritesLast, Wrote, insert_send, placed_write}
+use Rattle.driver_exec.proofs.PoolTells.{TurnsPool, same_told, turns_told}
 use Rattle.driver_exec.proofs.Standing.{done_stands, error_not_done, failed_not_done}
 use Rattle.driver_exec.proofs.Knowing.{Holding, joined_holds, lends_holds, number_raised, taken_between}
 
@@ -114,16 +116,16 @@ module _ (made : ℕ) (session : Option (List ℕ)) (number : Option ℤ) (write
       ]
 
   -- the sends of a told link, of which each but the first is one that was sent before
-  module _ (told : Told) (start : Going told.server told.server) (first : MayJoin told.server.trace sent) where
-    Keeping : Told → Type 0
+  module _ (told : ServerRun) (start : Going told.server told.server) (first : MayJoin told.server.trace sent) where
+    Keeping : ServerRun → Type 0
     Keeping now = Going told.server now.server × MayJoin now.server.trace sent
 
-    kept : (mid now : Told) → KeepsServer mid now → Keeping mid → Keeping now
+    kept : (mid now : ServerRun) → KeepsServer mid now → Keeping mid → Keeping now
     unfolding Keeping
     kept mid now keeps keeping = subst (λ s. Going told.server s × MayJoin s.trace sent) (sym keeps.server) keeping
 
     -- a number may be sent again
-    one_more : IsPlain sent → (mid : Told) → Keeping mid → Keeping (told_after mid sent)
+    one_more : IsPlain sent → (mid : ServerRun) → Keeping mid → Keeping (run_after mid sent)
     unfolding Keeping
     one_more plain mid keeping =
         let step = next_step mid.schedule mid.server in
@@ -132,17 +134,17 @@ module _ (made : ℕ) (session : Option (List ℕ)) (number : Option ℤ) (write
         let has : Has (exchanged mid.server sent step).trace sent = subst (λ t. Has t sent) (sym exchanges.trace) (has_last mid.server.trace sent) in
         (going, orderly_again (exchanged mid.server sent step).trace sent has plain going.orderly)
 
-    numbered_keeps : IsPlain sent → (count : ℕ) (now : Told) → SendsTold told now sent count → Keeping now
+    numbered_keeps : IsPlain sent → (count : ℕ) (now : ServerRun) → SendsTold told now sent count → Keeping now
     unfolding Keeping
     numbered_keeps plain zero now sends = kept told now sends (start, first)
-    numbered_keeps plain (suc count) now sends = kept (told_after sends.0 sent) now sends.1.1 (one_more plain sends.0 (numbered_keeps plain count sends.0 sends.1.0))
+    numbered_keeps plain (suc count) now sends = kept (run_after sends.0 sent) now sends.1.1 (one_more plain sends.0 (numbered_keeps plain count sends.0 sends.1.0))
 
-    pub numbered_goes : IsPlain sent → (count : ℕ) (now : Told) → SendsTold told now sent count → Going told.server now.server
+    pub numbered_goes : IsPlain sent → (count : ℕ) (now : ServerRun) → SendsTold told now sent count → Going told.server now.server
     unfolding Keeping
     numbered_goes plain count now sends = (numbered_keeps plain count now sends).0
 
     -- without a number there is one send at most
-    pub unnumbered_goes : (count : ℕ) (now : Told) → count ≤ 1 → SendsTold told now sent count → Going told.server now.server
+    pub unnumbered_goes : (count : ℕ) (now : ServerRun) → count ≤ 1 → SendsTold told now sent count → Going told.server now.server
     unnumbered_goes zero now one sends = subst (Going told.server) (sym sends.server) start
     unnumbered_goes (suc zero) now one sends =
         let mid = sends.0 in
@@ -152,7 +154,7 @@ module _ (made : ℕ) (session : Option (List ℕ)) (number : Option ℤ) (write
     unnumbered_goes (suc (suc count)) now one sends = absurd (omega arith)
 
     -- before the last send
-    pub numbered_joins : IsPlain sent → (count : ℕ) (now : Told) → SendsTold told now sent count → MayJoin now.server.trace sent
+    pub numbered_joins : IsPlain sent → (count : ℕ) (now : ServerRun) → SendsTold told now sent count → MayJoin now.server.trace sent
     unfolding Keeping
     numbered_joins plain count now sends = (numbered_keeps plain count now sends).1
 
@@ -233,9 +235,9 @@ module _ (trace : List Send) (sent : Send) (none : sent.number ≡ None) where
   pub between_free : (pool : Pool) → Between pool trace → Between pool (trace ++ sent ∷ [])
   between_free pool between = record { lent = between.lent; knows = knows_free pool.drawn pool.idle between.knows }
 
--- what the insert of a write leaves of a told store and a told server
-pub record Left (made : ℕ) (session : Option (List ℕ)) (number : Option ℤ) (write : PlacedWrite) (store_now : ToldStore) (old now : Server) : Type 0 where
-  pub between : Between store_now.pool now.trace
+-- what the insert of a write leaves of a told pool and a told server
+pub record Left (made : ℕ) (session : Option (List ℕ)) (number : Option ℤ) (write : PlacedWrite) (pool_now : Pool) (old now : Server) : Type 0 where
+  pub between : Between pool_now now.trace
   pub sound : Sound (made + 1) now
   pub more : List Entry
   pub log : now.log ≡ old.log ++ more
@@ -246,32 +248,53 @@ pub record Stands (session : Option (List ℕ)) (number : Option ℤ) (write : P
   pub result : Counted
   pub has : Has log (entry_of session number (placed_write write) result)
 
+-- a check-in draws no id
+drawn_back : (caller : ℕ) (session : Session) (moment : ℕ) (pool : Pool) → (taken_back caller session moment pool).drawn ≡ pool.drawn
+unfolding taken_back
+drawn_back caller session moment pool = if_drawn (is_lent session.id pool.lent) _ pool refl
+  where
+    if_drawn : (b : Bool) (taken kept : Pool) → taken.drawn ≡ kept.drawn → (if b then taken else kept).drawn ≡ kept.drawn
+    if_drawn true taken kept same = same
+    if_drawn false taken kept same = refl
+
 -- a pool that lends one session, and takes it back
-record Lending (now : ToldStore) (trace : List Send) (session back : Session) : Type 0 where
+record Lending (now : Pool) (trace : List Send) (session back : Session) : Type 0 where
   pool : Pool
   caller : ℕ
   moment : ℕ
   holds : Holding pool trace session
-  now_is : now.pool ≡ taken_back caller back moment pool
+  now_is : now ≡ taken_back caller back moment pool
 
-lending : (old now : ToldStore) (lent : Option ToldStore) (out_by out_at back_by back_at : ℕ) (session back : Session) (trace : List Send)
-    → Lends (Some old) lent out_by out_at session → TakesBack lent (Some now) back_by back back_at → AllApart now.pool.drawn → Between old.pool trace
-    → Lending now trace session back
-lending old now None out_by out_at back_by back_at session back trace lends takes apart between = absurd lends
-lending old now (Some mid) out_by out_at back_by back_at session back trace lends takes apart between =
-    let same : now.pool.drawn ≡ mid.pool.drawn = ap (λ pool. pool.drawn) takes.0 ∙ drawn_back back_by back back_at mid.pool in
+-- what such a pool holds between
+lending : (pool now : Pool) (out_at back_at : ℕ) (session back : Session) (trace : List Send) → TurnsPool pool now out_at back_at session back
+    → AllApart now.drawn → Between pool trace → Lending now trace session back
+lending pool now out_at back_at session back trace turns apart between =
+    let same : now.drawn ≡ turns.mid.drawn = ap (λ p. p.drawn) turns.takes ∙ drawn_back turns.back_by back back_at turns.mid in
     record {
-      pool = mid.pool;
-      caller = back_by;
+      pool = turns.mid;
+      caller = turns.back_by;
       moment = back_at;
-      holds = lends_holds old mid out_by out_at session trace lends (subst AllApart same apart) between;
-      now_is = takes.0;
+      holds = lends_holds pool turns.mid turns.out_by out_at session trace turns.lends (subst AllApart same apart) between;
+      now_is = turns.takes;
     }
 
-came_back : (now : ToldStore) (old trace : List Send) (session back : Session) (lent : Lending now old session back) → Holding lent.pool trace back → Between now.pool trace
+-- what holds once the session came back
+came_back : (now : Pool) (old trace : List Send) (session back : Session) (lent : Lending now old session back) → Holding lent.pool trace back → Between now trace
 came_back now old trace session back lent holds =
     let P : Pool → Type 0 = λ pool. Between pool trace in
     subst P (sym lent.now_is) (taken_between lent.caller back lent.moment lent.pool trace holds)
+
+-- the sends of told servers
+sends_told : (link link_now : Option ServerRun) (run run_now : ServerRun) (send : Send) (count : ℕ) → link ≡ Some run → link_now ≡ Some run_now
+    → SentTimes link link_now send count → SendsTold run run_now send count
+sends_told link link_now run run_now send count is now_is sends =
+    subst (λ now. SentTimes (Some run) now send count) now_is (subst (λ old. SentTimes old link_now send count) is sends)
+
+-- the last of them
+done_told : (link link_now : Option ServerRun) (run run_now : ServerRun) (send : Send) (earlier : ℕ) → link ≡ Some run → link_now ≡ Some run_now
+    → WasDoneLast link link_now send earlier → DoneLast run run_now send earlier
+done_told link link_now run run_now send earlier is now_is done =
+    subst (λ now. WasDoneLast (Some run) now send earlier) now_is (subst (λ old. WasDoneLast old link_now send earlier) is done)
 
 grows : (number more : ℤ) → more ≡ (number +ℤ pos 1) → number <ℤ more
 grows number more is = omega (arith, ints)
@@ -282,16 +305,18 @@ no_less number more is = omega (arith, ints)
 differ : ◌≡◌ {A = Bool} true false → ⊥
 differ is = cc
 
-module _ (made : ℕ) (old now : ToldStore) (told told_now : Told) (write : PlacedWrite) (placed : write.place.call ≡ made) (apart : AllApart now.pool.drawn)
-    (between : Between old.pool told.server.trace) (sound : Sound made told.server) where
+module _ (made : ℕ) (before now : Moment) (pool pool_now : Pool) (run run_now : ServerRun) (pool_is : before.store.pool ≡ Some pool) (pool_now_is : now.store.pool ≡ Some pool_now)
+    (run_is : server_run before.link ≡ Some run) (run_now_is : server_run now.link ≡ Some run_now) (write : PlacedWrite) (placed : write.place.call ≡ made)
+    (apart : AllApart pool_now.drawn) (between : Between pool run.server.trace) (sound : Sound made run.server) where
   -- a session was borrowed
-  module _ (id : List ℕ) (number : Option ℤ) (borrowed : Borrowed (Some old) (Some now) id number) where
+  module _ (id : List ℕ) (number : Option ℤ) (borrowed : Borrowed before.store now.store id number) where
     abbrev send : Send
     send = insert_send (Some id) number write
 
-    lent : Lending now told.server.trace borrowed.session borrowed.back
-    lent = lending old now borrowed.lent borrowed.out_by borrowed.out_at borrowed.back_by borrowed.back_at borrowed.session borrowed.back told.server.trace
-        borrowed.lends borrowed.takes apart between
+    lent : Lending pool_now run.server.trace borrowed.session borrowed.back
+    lent = lending pool pool_now borrowed.out_at borrowed.back_at borrowed.session borrowed.back run.server.trace
+        (turns_told before.store borrowed.lent now.store pool pool_now borrowed.out_at borrowed.back_at borrowed.session borrowed.back pool_is pool_now_is borrowed.lends borrowed.takes)
+        apart between
 
     id_back : id ≡ borrowed.back.id
     id_back = sym (borrowed.same ∙ borrowed.id_is)
@@ -300,10 +325,10 @@ module _ (made : ℕ) (old now : ToldStore) (told told_now : Told) (write : Plac
     HoldsBack trace = Holding lent.pool trace borrowed.back
 
     left_by : (either : IsEither send) (keep : (trace : List Send) → HoldsBack trace → HoldsBack (trace ++ send ∷ []))
-        → Going made (Some id) number write placed either HoldsBack keep told.server told_now.server → Left made (Some id) number write now told.server told_now.server
+        → Going made (Some id) number write placed either HoldsBack keep run.server run_now.server → Left made (Some id) number write pool_now run.server run_now.server
     unfolding HoldsBack
     left_by either keep going = record {
-      between = came_back now told.server.trace told_now.server.trace borrowed.session borrowed.back lent going.holds;
+      between = came_back pool_now run.server.trace run_now.server.trace borrowed.session borrowed.back lent going.holds;
       sound = record { orderly = going.orderly; settled = going.settled; below = going.below };
       more = going.more;
       log = going.log;
@@ -311,7 +336,7 @@ module _ (made : ℕ) (old now : ToldStore) (told told_now : Told) (write : Plac
     }
 
   -- its sends have its next number
-  module _ (id : List ℕ) (number : ℤ) (borrowed : Borrowed (Some old) (Some now) id (Some number)) where
+  module _ (id : List ℕ) (number : ℤ) (borrowed : Borrowed before.store now.store id (Some number)) where
     abbrev numbered_send : Send
     numbered_send = insert_send (Some id) (Some number) write
 
@@ -325,42 +350,42 @@ module _ (made : ℕ) (old now : ToldStore) (told told_now : Told) (write : Plac
     unfolding HoldsNumbered HoldsBack
     keep_numbered trace holds = joined_holds (lent id (Some number) borrowed).pool trace borrowed.back numbered_send back_under holds
 
-    start_numbered : HoldsNumbered told.server.trace
+    start_numbered : HoldsNumbered run.server.trace
     unfolding HoldsNumbered HoldsBack
     start_numbered =
         let held = lent id (Some number) borrowed in
-        number_raised held.pool told.server.trace borrowed.session borrowed.back borrowed.same (no_less borrowed.session.number borrowed.back.number borrowed.numbered.1) held.holds
+        number_raised held.pool run.server.trace borrowed.session borrowed.back borrowed.same (no_less borrowed.session.number borrowed.back.number borrowed.numbered.1) held.holds
 
-    join_numbered : MayJoin told.server.trace numbered_send
+    join_numbered : MayJoin run.server.trace numbered_send
     join_numbered =
         let held = lent id (Some number) borrowed in
-        let P : List ℕ → Type 0 = λ i. SentUpTo i borrowed.session.number told.server.trace in
+        let P : List ℕ → Type 0 = λ i. SentUpTo i borrowed.session.number run.server.trace in
         let raised = subst (λ n. borrowed.session.number <ℤ n) borrowed.numbered.0 (grows borrowed.session.number borrowed.back.number borrowed.numbered.1) in
-        numbered_new made told.server.trace id number borrowed.session.number write placed sound.below sound.orderly (subst P borrowed.id_is held.holds.up_to) raised
+        numbered_new made run.server.trace id number borrowed.session.number write placed sound.below sound.orderly (subst P borrowed.id_is held.holds.up_to) raised
 
     plain : IsPlain numbered_send
     plain = numbered_insert id number write
 
-    start_going : Going made (Some id) (Some number) write placed (inl plain) HoldsNumbered keep_numbered told.server told.server
-    start_going = begins made (Some id) (Some number) write placed (inl plain) HoldsNumbered keep_numbered told.server sound start_numbered
+    start_going : Going made (Some id) (Some number) write placed (inl plain) HoldsNumbered keep_numbered run.server run.server
+    start_going = begins made (Some id) (Some number) write placed (inl plain) HoldsNumbered keep_numbered run.server sound start_numbered
 
-    numbered_left : (count : ℕ) → SendsTold told told_now numbered_send count → Left made (Some id) (Some number) write now told.server told_now.server
+    numbered_left : (count : ℕ) → SendsTold run run_now numbered_send count → Left made (Some id) (Some number) write pool_now run.server run_now.server
     unfolding HoldsNumbered
     numbered_left count sends = left_by id (Some number) borrowed (inl plain) keep_numbered
-        (numbered_goes made (Some id) (Some number) write placed (inl plain) HoldsNumbered keep_numbered told start_going join_numbered plain count told_now sends)
+        (numbered_goes made (Some id) (Some number) write placed (inl plain) HoldsNumbered keep_numbered run start_going join_numbered plain count run_now sends)
 
-    numbered_stands : (earlier : ℕ) → DoneLast told told_now numbered_send earlier → Stands (Some id) (Some number) write told_now.server.log
+    numbered_stands : (earlier : ℕ) → DoneLast run run_now numbered_send earlier → Stands (Some id) (Some number) write run_now.server.log
     unfolding plain numbered_insert
     numbered_stands earlier last =
         let mid = last.mid in
-        let going = numbered_goes made (Some id) (Some number) write placed (inl plain) HoldsNumbered keep_numbered told start_going join_numbered plain earlier mid last.sent in
-        let joins = numbered_joins made (Some id) (Some number) write placed (inl plain) HoldsNumbered keep_numbered told start_going join_numbered plain earlier mid last.sent in
+        let going = numbered_goes made (Some id) (Some number) write placed (inl plain) HoldsNumbered keep_numbered run start_going join_numbered plain earlier mid last.sent in
+        let joins = numbered_joins made (Some id) (Some number) write placed (inl plain) HoldsNumbered keep_numbered run start_going join_numbered plain earlier mid last.sent in
         let one : IsOneInsert numbered_send (placed_write write) = record { plain = plain; ordered = true; body = refl } in
         let stands = done_stands mid.server.trace mid.server numbered_send (placed_write write) one joins going.settled (next_step mid.schedule mid.server) last.reply last.is last.done in
         subst (λ s. Stands (Some id) (Some number) write s.log) (sym last.rest.server) (record { result = stands.result; has = stands.has })
 
   -- its sends have none
-  module _ (id : List ℕ) (borrowed : Borrowed (Some old) (Some now) id None) where
+  module _ (id : List ℕ) (borrowed : Borrowed before.store now.store id None) where
     abbrev free_send : Send
     free_send = insert_send (Some id) None write
 
@@ -371,45 +396,45 @@ module _ (made : ℕ) (old now : ToldStore) (told told_now : Told) (write : Plac
     unfolding HoldsFree HoldsBack
     keep_free trace holds = holding_free trace free_send refl (lent id None borrowed).pool borrowed.back holds
 
-    start_free : HoldsFree told.server.trace
+    start_free : HoldsFree run.server.trace
     unfolding HoldsFree HoldsBack
     start_free =
         let held = lent id None borrowed in
-        number_raised held.pool told.server.trace borrowed.session borrowed.back borrowed.same borrowed.numbered.0 held.holds
+        number_raised held.pool run.server.trace borrowed.session borrowed.back borrowed.same borrowed.numbered.0 held.holds
 
     free : IsUnnumbered free_send
     free = unnumbered_insert (Some id) write
 
-    free_left : (count : ℕ) → count ≤ 1 → SendsTold told told_now free_send count → Left made (Some id) None write now told.server told_now.server
+    free_left : (count : ℕ) → count ≤ 1 → SendsTold run run_now free_send count → Left made (Some id) None write pool_now run.server run_now.server
     unfolding HoldsFree
     free_left count one sends = left_by id None borrowed (inr free) keep_free
-        (unnumbered_goes made (Some id) None write placed (inr free) HoldsFree keep_free told
-        (begins made (Some id) None write placed (inr free) HoldsFree keep_free told.server sound start_free)
-        (unnumbered_new made told.server.trace (Some id) write placed sound.below sound.orderly) count told_now one sends)
+        (unnumbered_goes made (Some id) None write placed (inr free) HoldsFree keep_free run
+        (begins made (Some id) None write placed (inr free) HoldsFree keep_free run.server sound start_free)
+        (unnumbered_new made run.server.trace (Some id) write placed sound.below sound.orderly) count run_now one sends)
 
   -- no session was borrowed
-  module _ (stays : now.pool ≡ old.pool) where
+  module _ (stays : pool_now ≡ pool) where
     abbrev bare_send : Send
     bare_send = insert_send None None write
 
     BetweenOld : List Send → Type 0
-    BetweenOld trace = Between old.pool trace
+    BetweenOld trace = Between pool trace
 
     keep_bare : (trace : List Send) → BetweenOld trace → BetweenOld (trace ++ bare_send ∷ [])
     unfolding BetweenOld
-    keep_bare trace holds = between_free trace bare_send refl old.pool holds
+    keep_bare trace holds = between_free trace bare_send refl pool holds
 
     bare : IsUnnumbered bare_send
     bare = unnumbered_insert None write
 
-    bare_left : (count : ℕ) → count ≤ 1 → SendsTold told told_now bare_send count → Left made None None write now told.server told_now.server
+    bare_left : (count : ℕ) → count ≤ 1 → SendsTold run run_now bare_send count → Left made None None write pool_now run.server run_now.server
     unfolding BetweenOld
     bare_left count one sends =
-        let going = unnumbered_goes made None None write placed (inr bare) BetweenOld keep_bare told
-        (begins made None None write placed (inr bare) BetweenOld keep_bare told.server sound between)
-        (unnumbered_new made told.server.trace None write placed sound.below sound.orderly) count told_now one sends in
+        let going = unnumbered_goes made None None write placed (inr bare) BetweenOld keep_bare run
+        (begins made None None write placed (inr bare) BetweenOld keep_bare run.server sound between)
+        (unnumbered_new made run.server.trace None write placed sound.below sound.orderly) count run_now one sends in
         record {
-          between = subst (λ pool. Between pool told_now.server.trace) (sym stays) going.holds;
+          between = subst (λ p. Between p run_now.server.trace) (sym stays) going.holds;
           sound = record { orderly = going.orderly; settled = going.settled; below = going.below };
           more = going.more;
           log = going.log;
@@ -417,7 +442,7 @@ module _ (made : ℕ) (old now : ToldStore) (told told_now : Told) (write : Plac
         }
 
   -- an insert without a number that was done
-  unnumbered_stands : (session : Option (List ℕ)) → DoneLast told told_now (insert_send session None write) 0 → Stands session None write told_now.server.log
+  unnumbered_stands : (session : Option (List ℕ)) → DoneLast run run_now (insert_send session None write) 0 → Stands session None write run_now.server.log
   unnumbered_stands session last =
       let mid = last.mid in
       let one : IsOneUnnumbered (insert_send session None write) (placed_write write) = record { free = unnumbered_insert session write; ordered = true; body = refl } in
@@ -430,28 +455,39 @@ module _ (made : ℕ) (old now : ToldStore) (told told_now : Told) (write : Plac
         ]
       ]
 
-  -- what the insert leaves
-  pub left_of : (session : Option (List ℕ)) (number : Option ℤ) (count : ℕ) → Borrows (Some old) (Some now) session number → (number ≡ None → count ≤ 1)
-      → SendsTold told told_now (insert_send session number write) count → Left made session number write now told.server told_now.server
-  left_of (Some id) (Some number) count borrows once sends = numbered_left id number borrows count sends
-  left_of (Some id) None count borrows once sends = free_left id borrows count (once refl) sends
-  left_of None (Some number) count borrows once sends = absurd (let e : ◌≡◌ {A = Option ℤ} (Some number) None = borrows.1 in cc)
-  left_of None None count borrows once sends = bare_left borrows.0.0 count (once refl) sends
+  -- a store that borrowed nothing has its pool still
+  pool_stays : now.store ≡ before.store → pool_now ≡ pool
+  pool_stays stays = same_told pool_now pool (sym pool_now_is ∙ ap (λ store. store.pool) stays ∙ pool_is)
 
-  stands_of : (session : Option (List ℕ)) (number : Option ℤ) (earlier : ℕ) → Borrows (Some old) (Some now) session number → (number ≡ None → earlier ≡ 0)
-      → DoneLast told told_now (insert_send session number write) earlier → Stands session number write told_now.server.log
+  -- what the insert leaves
+  pub left_of : (session : Option (List ℕ)) (number : Option ℤ) (count : ℕ) → Borrows before.store now.store session number → (number ≡ None → count ≤ 1)
+      → SentTimes (server_run before.link) (server_run now.link) (insert_send session number write) count
+      → Left made session number write pool_now run.server run_now.server
+  left_of session number count borrows once sends =
+      by_session session number borrows once (sends_told (server_run before.link) (server_run now.link) run run_now (insert_send session number write) count run_is run_now_is sends)
+    where
+      by_session : (session : Option (List ℕ)) (number : Option ℤ) → Borrows before.store now.store session number → (number ≡ None → count ≤ 1)
+          → SendsTold run run_now (insert_send session number write) count → Left made session number write pool_now run.server run_now.server
+      by_session (Some id) (Some number) borrows once sends = numbered_left id number borrows count sends
+      by_session (Some id) None borrows once sends = free_left id borrows count (once refl) sends
+      by_session None (Some number) borrows once sends = absurd (let e : ◌≡◌ {A = Option ℤ} (Some number) None = borrows.1 in cc)
+      by_session None None borrows once sends = bare_left (pool_stays borrows.0) count (once refl) sends
+
+  -- what was done stands
+  stands_of : (session : Option (List ℕ)) (number : Option ℤ) (earlier : ℕ) → Borrows before.store now.store session number → (number ≡ None → earlier ≡ 0)
+      → DoneLast run run_now (insert_send session number write) earlier → Stands session number write run_now.server.log
   stands_of (Some id) (Some number) earlier borrows once last = numbered_stands id number borrows earlier last
   stands_of None (Some number) earlier borrows once last = absurd (let e : ◌≡◌ {A = Option ℤ} (Some number) None = borrows.1 in cc)
-  stands_of session None earlier borrows once last = unnumbered_stands session (subst (DoneLast told told_now (insert_send session None write)) (once refl) last)
+  stands_of session None earlier borrows once last = unnumbered_stands session (subst (DoneLast run run_now (insert_send session None write)) (once refl) last)
 
-  pub wrote_leaves : (ended : Option Failure) (wrote : Wrote (Some old) (Some now) (Some told) (Some told_now) write ended)
-      → Left made wrote.session wrote.number write now told.server told_now.server
+  -- the same of what the insert of a write leaves
+  pub wrote_leaves : (ended : Option Failure) (wrote : Wrote before now write ended) → Left made wrote.session wrote.number write pool_now run.server run_now.server
   wrote_leaves ended wrote = left_of wrote.session wrote.number wrote.sends.count wrote.borrows wrote.sends.once wrote.sends.sends
 
   -- where it was done its entry stands
-  pub wrote_stands : (ended : Option Failure) (wrote : Wrote (Some old) (Some now) (Some told) (Some told_now) write ended) → ended ≡ None
-      → Stands wrote.session wrote.number write told_now.server.log
+  pub wrote_stands : (ended : Option Failure) (wrote : Wrote before now write ended) → ended ≡ None → Stands wrote.session wrote.number write run_now.server.log
   wrote_stands ended wrote done =
-      let last : WritesLast (Some told) (Some told_now) wrote.session wrote.number write
-      = subst (EndsWritten (Some told) (Some told_now) wrote.session wrote.number write) done wrote.ends in
-      stands_of wrote.session wrote.number last.earlier wrote.borrows last.once last.done
+      let last : WritesLast (server_run before.link) (server_run now.link) wrote.session wrote.number write
+      = subst (EndsWritten (server_run before.link) (server_run now.link) wrote.session wrote.number write) done wrote.ends in
+      let told = done_told (server_run before.link) (server_run now.link) run run_now (insert_send wrote.session wrote.number write) last.earlier run_is run_now_is last.done in
+      stands_of wrote.session wrote.number last.earlier wrote.borrows last.once told

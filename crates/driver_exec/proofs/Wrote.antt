@@ -9,15 +9,16 @@ use Rattle.bson_lite.specs.declared.namespace.Namespace.{Namespace}
 use Rattle.driver_link.specs.declared.machine.Place.{Place}
 use Rattle.driver_link.specs.declared.machine.PlacedWrite.{PlacedWrite}
 use Rattle.driver_link.specs.declared.machine.Send.{Send}
-use Rattle.driver_link.specs.Told.{IsReply, Told, told_answer}
+use Rattle.driver_link.specs.LinkState.{server_run}
+use Rattle.driver_link.specs.ServerRun.{IsReply, ServerRun, run_answer}
 use Rattle.driver_exec.specs.Attempting.{ReadsOutput}
 use Rattle.driver_exec.specs.Causes.{end_of}
 use Rattle.driver_exec.specs.InsertMeaning.{AsksInsert, insert_meaning}
 use Rattle.driver_exec.specs.Inserts.{is_done_reply}
 use Rattle.driver_exec.specs.Keeping.{ReadsDone}
+use Rattle.driver_exec.specs.Moment.{Moment}
 use Rattle.driver_exec.specs.Operations.{Meaning}
-use Rattle.driver_exec.specs.Pool.{ToldStore}
-use Rattle.driver_exec.specs.Resending.{AnsweredLast, EndsWithReading, LastAnswer, Works}
+use Rattle.driver_exec.specs.Resending.{AnsweredLast, EndsWithReading, LastAnswer, SendsOneCommand}
 use Rattle.driver_exec.specs.Writing.{DoneLast, EndsWritten, WasDoneLast, Wrote, insert_asked, insert_send}
 use Rattle.driver_exec.proofs.Attempts.{spells_one}
 use Rattle.driver_exec.proofs.InsertReading.{output_done}
@@ -33,11 +34,11 @@ insert_reads namespace bytes = λ reply output reads. output_done namespace byte
 
 module _ {A : Type 0} (meaning : Meaning A) (places : List Place) (write : PlacedWrite) (asked : meaning.asked places (insert_asked write)) (reads_done : ReadsDone meaning) where
   -- a reply that was read tells of an insert that was done
-  done_last : (told now : Told) (send : Send) (earlier : ℕ) (reply : List ℕ) (output : A) → ReadsOutput meaning reply output → LastAnswer told now send earlier reply
+  done_last : (told now : ServerRun) (send : Send) (earlier : ℕ) (reply : List ℕ) (output : A) → ReadsOutput meaning reply output → LastAnswer told now send earlier reply
       → DoneLast told now send earlier
-  done_last told now send earlier reply output reads last = of_answer (told_answer last.mid send) refl last.reply
+  done_last told now send earlier reply output reads last = of_answer (run_answer last.mid send) refl last.reply
     where
-      of_answer : (answer : Option (List (Pair Bson))) → told_answer last.mid send ≡ answer → IsReply answer reply → DoneLast told now send earlier
+      of_answer : (answer : Option (List (Pair Bson))) → run_answer last.mid send ≡ answer → IsReply answer reply → DoneLast told now send earlier
       of_answer None is given = absurd given
       of_answer (Some document) is given = record {
         mid = last.mid;
@@ -48,13 +49,13 @@ module _ {A : Type 0} (meaning : Meaning A) (places : List Place) (write : Place
         rest = last.rest;
       }
 
-  was_done : (link now : Option Told) (send : Send) (earlier : ℕ) (reply : List ℕ) (output : A) → ReadsOutput meaning reply output → AnsweredLast link now send earlier reply
+  was_done : (link now : Option ServerRun) (send : Send) (earlier : ℕ) (reply : List ℕ) (output : A) → ReadsOutput meaning reply output → AnsweredLast link now send earlier reply
       → WasDoneLast link now send earlier
   was_done None now send earlier reply output reads last = last
   was_done (Some told) None send earlier reply output reads last = absurd last
   was_done (Some told) (Some now) send earlier reply output reads last = done_last told now send earlier reply output reads last
 
-  ends_written : (link now : Option Told) (session : Option (List ℕ)) (number : Option ℤ) (result : Result A Error)
+  ends_written : (link now : Option ServerRun) (session : Option (List ℕ)) (number : Option ℤ) (result : Result A Error)
       → EndsWithReading meaning places link now session number result → EndsWritten link now session number write (end_of result)
   ends_written link now session number (Ok output) last = record {
     earlier = last.earlier;
@@ -65,12 +66,11 @@ module _ {A : Type 0} (meaning : Meaning A) (places : List Place) (write : Place
   ends_written link now session number (Err error) last = tt
 
   -- what the insert of the write leaves
-  pub works_wrote : (store store_now : Option ToldStore) (link link_now : Option Told) (result : Result A Error)
-      → Works meaning places store store_now link link_now result → Wrote store store_now link link_now write (end_of result)
-  works_wrote store store_now link link_now result works = record {
+  pub works_wrote : (before now : Moment) (result : Result A Error) → SendsOneCommand meaning places before now result → Wrote before now write (end_of result)
+  works_wrote before now result works = record {
     session = works.session;
     number = works.number;
     borrows = works.borrows;
     sends = works.sends (insert_asked write) asked;
-    ends = ends_written link link_now works.session works.number result works.ends;
+    ends = ends_written (server_run before.link) (server_run now.link) works.session works.number result works.ends;
   }

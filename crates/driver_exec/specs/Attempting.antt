@@ -5,8 +5,6 @@ use Rattle.driver_error.specs.declared.error.Error.{Error}
 use Rattle.driver_error.specs.declared.kind.ErrorKind.TheVariants as kind
 use Rattle.driver_error.specs.Error.{HasResponse, IsAlone, kind_of}
 use Rattle.driver_error.specs.LabelTexts.{no_labels}
-use Rattle.driver_link.specs.declared.fault.LinkCall.{LinkCall}
-use Rattle.driver_link.specs.declared.fault.LinkCall.TheVariants.{CheckOut, Exchange, Select}
 use Rattle.driver_link.specs.declared.fault.LinkError.{LinkError}
 use Rattle.driver_link.specs.declared.fault.LinkError.TheVariants.{Fault}
 use Rattle.driver_link.specs.declared.fault.LinkFault.{LinkFault}
@@ -16,10 +14,10 @@ use Rattle.driver_link.specs.declared.options.Address.{Address}
 use Rattle.driver_link.specs.declared.options.Asked.{Asked}
 use Rattle.driver_link.specs.declared.options.Conn.{Conn}
 use Rattle.driver_link.specs.declared.options.Description.{Description}
-use Rattle.driver_link.specs.Counting.{Counts, Listed, check_out_fault, checked_out, select_fault, selected}
-use Rattle.driver_link.specs.Faults.{HasLinkCause}
 use Rattle.driver_link.specs.Framed.{Framed}
-use Rattle.driver_link.specs.Told.{IsTo, MayNote, Told, Notes, Steps, noted, nothing_noted, reply_noted}
+use Rattle.driver_link.specs.LinkCalls.{ChecksOutConnection, ExchangesFrame, SelectsServer}
+use Rattle.driver_link.specs.LinkState.{LinkState}
+use Rattle.driver_link.specs.Reads.{Reads}
 use Rattle.driver_exec.specs.declared.attempt_end.Attempt.{Attempt}
 use Rattle.driver_exec.specs.declared.attempt_end.Attempt.TheVariants.{Done, Ended, Failed, Stopped, Unselected}
 use Rattle.driver_exec.specs.declared.response.CommandResponse.{CommandResponse}
@@ -30,33 +28,36 @@ use Rattle.driver_exec.specs.declared.retryability.Retryability.TheVariants as m
 use Rattle.driver_exec.specs.Failing.{EndsLost, EndsRead, IsFaultOf, IsLabelledRead, IsVersioned}
 use Rattle.driver_exec.specs.Holding.{DrawsNumber, Held, HoldsSession, held_after_failure, held_id, needs_session, number_before}
 use Rattle.driver_exec.specs.Operations.{IsFramed, Meaning, TellsUnframed, plain_send}
-use Rattle.driver_exec.specs.Pool.{StaysTold, ToldStore}
 use Rattle.driver_exec.specs.Responses.{ReadsResponse}
 use Rattle.driver_exec.specs.Retry.{Kept}
-use Rattle.driver_exec.specs.Links.{ToldLink}
+use Rattle.driver_exec.specs.StoreTells.{StoreTells}
 
--- what store and link tell at one moment of an operation, what it then holds, and how many sends were counted by then
-pub record Scene : Type 0 where
-  pub store : Option ToldStore
-  pub link : ToldLink
+-- what a link tells besides the connections that are out
+abbrev pub besides_out : LinkState → LinkState
+besides_out link = record link { out = None }
+
+-- the state of an operation's attempts at one moment: what the store tells, and the link besides the connections that are
+-- out, what the operation holds, and how many sends were counted by then
+pub record AttemptState : Type 0 where
+  pub store : StoreTells
+  pub link : LinkState
   pub held : Held
   pub count : ℕ
 
--- an operation as its attempts see it: what it tells, the places of its writes, what of it may be repeated by its own
--- rules, and whether it takes a session
+-- an operation as its attempts see it: what it tells, the places of its writes, and what of it may be repeated by its own
+-- rules
 pub record Trial (A : Type 0) : Type 1 where
   pub meaning : Meaning A
   pub places : List Place
   pub own : Retryability
-  pub sessions : Bool
 
 -- the same from its parts
-abbrev pub scene : Option ToldStore → ToldLink → Held → ℕ → Scene
-scene store link held count = record { store = store; link = link; held = held; count = count }
+abbrev pub attempt_state : StoreTells → LinkState → Held → ℕ → AttemptState
+attempt_state store link held count = record { store = store; link = besides_out link; held = held; count = count }
 
 -- an operation by what it tells, the places of its writes, and what of it may be repeated by its own rules
 abbrev pub trial_of : {A : Type 0} → Meaning A → List Place → Retryability → Trial A
-trial_of meaning places own = record { meaning = meaning; places = places; own = own; sessions = meaning.sessions }
+trial_of meaning places own = record { meaning = meaning; places = places; own = own }
 
 -- what of an operation may be repeated on a connection: a write where that takes such writes
 abbrev pub on_connection : Retryability → Description → Retryability
@@ -81,36 +82,18 @@ avoided (Some kept) = kept.deprioritized
 abbrev pub asked_for : List Address → Asked
 asked_for avoid = record { criteria = None; deprioritized = avoid }
 
--- what a call asked is noted, where it is a selection
-abbrev pub NotesAsked : {B : Type 0} → Option Asked → Option (List Asked) → Option (List Asked) → Result B LinkError → Type 0
-NotesAsked None before now result = now ≡ before
-NotesAsked (Some asked) before now result = MayNote before now asked result
-
--- a call of the link that is counted, with what it notes, and what it asks where it is a selection
-pub record CallsLink {B : Type 0} (which : LinkCall) (asks : Option Asked) (next : Told → Told) (fault : Told → Option Listed) (link now : ToldLink) (result : Result B LinkError) : Type 0 where
-  pub counts : Counts next fault link.server now.server result
-  pub setup : now.setup ≡ link.setup
-  pub notes : Notes link.answers now.answers (noted which nothing_noted result)
-  pub frames : now.frames ≡ link.frames
-  pub asked : NotesAsked asks link.asked now.asked result
-  pub cause : HasLinkCause link.faults now.faults result
-
--- a selection
-abbrev pub Selects : List Address → ToldLink → ToldLink → Result Address LinkError → Type 0
-Selects avoid link now result = CallsLink Select (Some (asked_for avoid)) selected select_fault link now result
-
--- a check-out
-abbrev pub ChecksOut : ToldLink → ToldLink → Result Conn LinkError → Type 0
-ChecksOut link now result = CallsLink CheckOut None checked_out check_out_fault link now result
+-- a selection outside those
+abbrev pub Selects : List Address → LinkState → LinkState → Result Address LinkError → Type 0
+Selects avoid link now result = SelectsServer link now (asked_for avoid) result
 
 -- store and what is held are as before, and nothing was sent
-pub record OnlyLink (before now : Scene) : Type 0 where
+pub record OnlyLink (before now : AttemptState) : Type 0 where
   pub store : now.store ≡ before.store
   pub held : now.held ≡ before.held
   pub count : now.count ≡ before.count
 
 -- no server was selected: the fault has its own labels alone
-pub record NotSelected (kept : Option Kept) (before now : Scene) (error : Error) : Type 0 where
+pub record NotSelected (kept : Option Kept) (before now : AttemptState) (error : Error) : Type 0 where
   pub fault : LinkFault
   pub own : List (List ℕ)
   pub selects : Selects (avoided kept) before.link now.link (Err (Fault fault own))
@@ -118,21 +101,20 @@ pub record NotSelected (kept : Option Kept) (before now : Scene) (error : Error)
   pub rest : OnlyLink before now
 
 -- a server was selected, and no connection to it was had
-pub record NotConnected {A : Type 0} (trial : Trial A) (kept : Option Kept) (before now : Scene) (address : Address) (error : Error) : Type 0 where
-  pub mid : ToldLink
+pub record NotConnected {A : Type 0} (trial : Trial A) (kept : Option Kept) (before now : AttemptState) (address : Address) (error : Error) : Type 0 where
+  pub mid : LinkState
   pub selects : Selects (avoided kept) before.link mid (Ok address)
   pub fault : LinkFault
   pub own : List (List ℕ)
-  pub checks_out : ChecksOut mid now.link (Err (Fault fault own))
+  pub checks_out : ChecksOutConnection mid now.link address (Err (Fault fault own))
   pub is : IsFaultOf fault own trial.own error
   pub rest : OnlyLink before now
 
 -- a server was selected, which was asked to be none of those to be avoided, and a connection to it checked out
-pub record Connects (avoid : List Address) (link now : ToldLink) (address : Address) (conn : Conn) : Type 0 where
-  pub mid : ToldLink
+pub record Connects (avoid : List Address) (link now : LinkState) (address : Address) (conn : Conn) : Type 0 where
+  pub mid : LinkState
   pub selects : Selects avoid link mid (Ok address)
-  pub checks_out : ChecksOut mid now (Ok conn)
-  pub to : IsTo mid.setup address conn
+  pub checks_out : ChecksOutConnection mid now address (Ok conn)
 
 -- a session is asked for: both sides take one
 abbrev pub asks_session : Bool → Description → Bool
@@ -143,23 +125,18 @@ abbrev pub may_use : Held → Description → Bool
 may_use held description = if is_some held.session then description.supports_sessions else true
 
 -- a connection was had, and a session where one is needed
-pub record Readies {A : Type 0} (trial : Trial A) (kept : Option Kept) (before now : Scene) (address : Address) (conn : Conn) : Type 0 where
+pub record Readies {A : Type 0} (trial : Trial A) (kept : Option Kept) (before now : AttemptState) (address : Address) (conn : Conn) : Type 0 where
   pub connects : Connects (avoided kept) before.link now.link address conn
-  pub holds : HoldsSession (needs_session (asks_session trial.sessions conn.description) before.held) before.store now.store before.held now.held (Ok tt)
+  pub holds : HoldsSession (needs_session (asks_session trial.meaning.sessions conn.description) before.held) before.store now.store before.held now.held (Ok tt)
   pub count : now.count ≡ before.count
 
--- a command went out under a session and a number, where there are such, with this result of the exchange: the server
--- stepped by the send of what was asked, the frame was the built command with the executor's fields, and the frame, the
--- answer and its cause were noted
-pub record Exchanges {A : Type 0} (meaning : Meaning A) (places : List Place) (link now : ToldLink) (session : Option (List ℕ)) (number : Option ℤ) (result : Result (List ℕ) LinkError) : Type 0 where
-  pub steps : (body : SendBody) → meaning.asked places body → Steps link.server now.server (plain_send session number body) result
-  pub setup : now.setup ≡ link.setup
-  pub notes : Notes link.answers now.answers (noted Exchange reply_noted result)
+-- a command went out over a connection under a session and a number, where there are such, with this result of the
+-- exchange: the frame was the built command with the executor's fields, and it reads as the send of what was asked
+pub record Exchanges {A : Type 0} (meaning : Meaning A) (places : List Place) (link now : LinkState) (conn : Conn) (session : Option (List ℕ)) (number : Option ℤ) (result : Result (List ℕ) LinkError) : Type 0 where
   pub frame : Framed
   pub framed : IsFramed meaning session number frame
-  pub frames : MayNote link.frames now.frames frame result
-  pub asked : now.asked ≡ link.asked
-  pub cause : HasLinkCause link.faults now.faults result
+  pub reads : (body : SendBody) → meaning.asked places body → Reads frame places (plain_send session number body)
+  pub exchanges : ExchangesFrame link now conn frame places result
 
 -- what is held after an exchange
 abbrev pub held_after : Result (List ℕ) LinkError → Held → Held
@@ -168,15 +145,15 @@ held_after (Err failure) held = held_after_failure failure held
 
 -- the command went out on a connection, under the number of the send before or a first one, and was counted; a further
 -- attempt sends it only where it may be repeated there
-pub record Sends {A : Type 0} (trial : Trial A) (kept : Option Kept) (before now : Scene) (address : Address) (conn : Conn) (result : Result (List ℕ) LinkError) : Type 0 where
-  pub ready : Scene
+pub record Sends {A : Type 0} (trial : Trial A) (kept : Option Kept) (before now : AttemptState) (address : Address) (conn : Conn) (result : Result (List ℕ) LinkError) : Type 0 where
+  pub ready : AttemptState
   pub readies : Readies trial kept before ready address conn
   pub allowed : may_use ready.held conn.description ≡ true
   pub goes : stops (is_some kept) (on_connection trial.own conn.description) ≡ false
   pub numbered : Held
   pub number : Option ℤ
   pub draws : DrawsNumber ready.held.sent (on_connection trial.own conn.description) ready.held numbered (Ok number)
-  pub exchanges : Exchanges trial.meaning trial.places ready.link now.link (held_id numbered) number result
+  pub exchanges : Exchanges trial.meaning trial.places ready.link now.link conn (held_id numbered) number result
   pub store_is : now.store ≡ ready.store
   pub held_is : now.held ≡ held_after result (record numbered { sent = Some number })
   pub counted : now.count ≡ ready.count + 1
@@ -211,23 +188,23 @@ abbrev pub Comes : {A : Type 0} → Meaning A → Retryability → Option ℤ �
 Comes meaning turn version address (Ok reply) attempt = ComesOfReply meaning turn version address reply attempt
 Comes meaning turn version address (Err failure) attempt = EndsLost turn version address failure attempt
 
--- one exchange under what is held, and what came of it
-pub record Exchanging {A : Type 0} (meaning : Meaning A) (places : List Place) (link link_now : ToldLink) (turn : Retryability) (version : Option ℤ) (address : Address) (held held_now : Held)
+-- one exchange under what is held over a connection, and what came of it
+pub record Exchanging {A : Type 0} (meaning : Meaning A) (places : List Place) (link link_now : LinkState) (turn : Retryability) (conn : Conn) (address : Address) (held held_now : Held)
     (attempt : Attempt A) : Type 0 where
   pub result : Result (List ℕ) LinkError
-  pub exchanges : Exchanges meaning places link link_now (held_id held) (number_before held) result
+  pub exchanges : Exchanges meaning places link link_now conn (held_id held) (number_before held) result
   pub held_is : held_now ≡ held_after result held
-  pub comes : Comes meaning turn version address result attempt
+  pub comes : Comes meaning turn conn.description.max_wire_version address result attempt
 
 -- there was no number, or no frame under it, and nothing went out
-pub record EndsUnnumbered {A : Type 0} (link link_now : ToldLink) (turn : Retryability) (held held_now : Held) (count count_now : ℕ) (attempt : Attempt A) : Type 0 where
+pub record EndsUnnumbered {A : Type 0} (link link_now : LinkState) (turn : Retryability) (held held_now : Held) (count count_now : ℕ) (attempt : Attempt A) : Type 0 where
   pub error : Error
   pub draws : DrawsNumber held.sent turn held held_now (Err error)
   pub link_is : link_now ≡ link
   pub uncounted : count_now ≡ count
   pub ends : attempt ≡ Ended error
 
-pub record EndsUnframed {A : Type 0} (meaning : Meaning A) (link link_now : ToldLink) (turn : Retryability) (held held_now : Held) (count count_now : ℕ) (attempt : Attempt A) : Type 0 where
+pub record EndsUnframed {A : Type 0} (meaning : Meaning A) (link link_now : LinkState) (turn : Retryability) (held held_now : Held) (count count_now : ℕ) (attempt : Attempt A) : Type 0 where
   pub error : Error
   pub number : Option ℤ
   pub draws : DrawsNumber held.sent turn held held_now (Ok number)
@@ -237,22 +214,22 @@ pub record EndsUnframed {A : Type 0} (meaning : Meaning A) (link link_now : Told
   pub ends : attempt ≡ Ended error
 
 -- the command went out under its number
-pub record SendsOut {A : Type 0} (meaning : Meaning A) (places : List Place) (link link_now : ToldLink) (turn : Retryability) (version : Option ℤ) (address : Address) (held held_now : Held)
+pub record SendsOut {A : Type 0} (meaning : Meaning A) (places : List Place) (link link_now : LinkState) (turn : Retryability) (conn : Conn) (address : Address) (held held_now : Held)
     (count count_now : ℕ) (attempt : Attempt A) : Type 0 where
   pub numbered : Held
   pub number : Option ℤ
   pub draws : DrawsNumber held.sent turn held numbered (Ok number)
-  pub exchanging : Exchanging meaning places link link_now turn version address (record numbered { sent = Some number }) held_now attempt
+  pub exchanging : Exchanging meaning places link link_now turn conn address (record numbered { sent = Some number }) held_now attempt
   pub counted : count_now ≡ count + 1
 
 -- the command of an attempt
-abbrev pub Sending : {A : Type 0} → Meaning A → List Place → ToldLink → ToldLink → Retryability → Option ℤ → Address → Held → Held → ℕ → ℕ → Attempt A → Type 0
-Sending meaning places link link_now turn version address held held_now count count_now attempt =
+abbrev pub Sending : {A : Type 0} → Meaning A → List Place → LinkState → LinkState → Retryability → Conn → Address → Held → Held → ℕ → ℕ → Attempt A → Type 0
+Sending meaning places link link_now turn conn address held held_now count count_now attempt =
     EndsUnnumbered link link_now turn held held_now count count_now attempt
-    ⊎ (EndsUnframed meaning link link_now turn held held_now count count_now attempt ⊎ SendsOut meaning places link link_now turn version address held held_now count count_now attempt)
+    ⊎ (EndsUnframed meaning link link_now turn held held_now count count_now attempt ⊎ SendsOut meaning places link link_now turn conn address held held_now count count_now attempt)
 
 -- the attempt's reply was read
-pub record IsAnswered {A : Type 0} (trial : Trial A) (kept : Option Kept) (before now : Scene) (output : A) : Type 0 where
+pub record IsAnswered {A : Type 0} (trial : Trial A) (kept : Option Kept) (before now : AttemptState) (output : A) : Type 0 where
   pub address : Address
   pub conn : Conn
   pub reply : List ℕ
@@ -260,7 +237,7 @@ pub record IsAnswered {A : Type 0} (trial : Trial A) (kept : Option Kept) (befor
   pub reads : ReadsAnswer trial.meaning reply (Ok output)
 
 -- the exchange of the attempt's command failed
-pub record LosesExchange {A : Type 0} (trial : Trial A) (kept : Option Kept) (before now : Scene) (address : Address) (error : Error) : Type 0 where
+pub record LosesExchange {A : Type 0} (trial : Trial A) (kept : Option Kept) (before now : AttemptState) (address : Address) (error : Error) : Type 0 where
   pub conn : Conn
   pub fault : LinkFault
   pub own : List (List ℕ)
@@ -274,19 +251,19 @@ pub record IsReadIn {A : Type 0} (meaning : Meaning A) (bytes : List ℕ) (turn 
   pub labelled : IsLabelledRead turn bare error
 
 -- the reply to the attempt's command spelled an error
-pub record SpellsFailure {A : Type 0} (trial : Trial A) (kept : Option Kept) (before now : Scene) (address : Address) (error : Error) : Type 0 where
+pub record SpellsFailure {A : Type 0} (trial : Trial A) (kept : Option Kept) (before now : AttemptState) (address : Address) (error : Error) : Type 0 where
   pub conn : Conn
   pub reply : List ℕ
   pub sends : Sends trial kept before now address conn (Ok reply)
   pub is : IsVersioned (IsReadIn trial.meaning reply (on_connection trial.own conn.description)) conn.description.max_wire_version error
 
 -- an attempt failed in a phase
-abbrev pub FailsIn : {A : Type 0} → Trial A → Option Kept → Scene → Scene → Address → FailurePhase → Error → Type 0
+abbrev pub FailsIn : {A : Type 0} → Trial A → Option Kept → AttemptState → AttemptState → Address → FailurePhase → Error → Type 0
 FailsIn trial kept before now address Establishment error = NotConnected trial kept before now address error
 FailsIn trial kept before now address Execution error = LosesExchange trial kept before now address error ⊎ SpellsFailure trial kept before now address error
 
 -- a connection was had that what is held may use, and nothing may be repeated on it
-pub record Stops {A : Type 0} (trial : Trial A) (kept : Option Kept) (before now : Scene) : Type 0 where
+pub record Stops {A : Type 0} (trial : Trial A) (kept : Option Kept) (before now : AttemptState) : Type 0 where
   pub address : Address
   pub conn : Conn
   pub readies : Readies trial kept before now address conn
@@ -294,26 +271,26 @@ pub record Stops {A : Type 0} (trial : Trial A) (kept : Option Kept) (before now
   pub nothing : is_nothing (on_connection trial.own conn.description) ≡ true
 
 -- a selection failed
-pub record SelectionFails (avoid : List Address) (link now : ToldLink) : Type 0 where
+pub record SelectionFails (avoid : List Address) (link now : LinkState) : Type 0 where
   pub failure : LinkError
   pub selects : Selects avoid link now (Err failure)
 
 -- a server was selected, and a connection to it asked for
-pub record AsksConnection (avoid : List Address) (link now : ToldLink) : Type 0 where
-  pub mid : ToldLink
+pub record AsksConnection (avoid : List Address) (link now : LinkState) : Type 0 where
+  pub mid : LinkState
   pub address : Address
   pub selects : Selects avoid link mid (Ok address)
   pub result : Result Conn LinkError
-  pub checks_out : ChecksOut mid now result
+  pub checks_out : ChecksOutConnection mid now address result
 
 -- the calls of an attempt that came to no session
-abbrev pub AsksEarly : List Address → ToldLink → ToldLink → Type 0
+abbrev pub AsksEarly : List Address → LinkState → LinkState → Type 0
 AsksEarly avoid link now = SelectionFails avoid link now ⊎ AsksConnection avoid link now
 
 -- there was no memory before a session was lent
-pub record EndsUnready (kept : Option Kept) (before now : Scene) (error : Error) : Type 0 where
+pub record EndsUnready (kept : Option Kept) (before now : AttemptState) (error : Error) : Type 0 where
   pub asks : AsksEarly (avoided kept) before.link now.link
-  pub store : StaysTold before.store now.store
+  pub store : now.store ≡ before.store
   pub held : now.held ≡ before.held
   pub count : now.count ≡ before.count
   pub why : kind_of error ≡ kind.Memory
@@ -337,8 +314,8 @@ pub record NoFrame {A : Type 0} (meaning : Meaning A) (kept : Option Kept) (turn
   pub why : TellsUnframed meaning (held_id now) number (kind_of error)
 
 -- a connection was had, and the command was refused before it went out
-pub record EndsRefused {A : Type 0} (trial : Trial A) (kept : Option Kept) (before now : Scene) (error : Error) : Type 0 where
-  pub ready : Scene
+pub record EndsRefused {A : Type 0} (trial : Trial A) (kept : Option Kept) (before now : AttemptState) (error : Error) : Type 0 where
+  pub ready : AttemptState
   pub address : Address
   pub conn : Conn
   pub readies : Readies trial kept before ready address conn
@@ -349,7 +326,7 @@ pub record EndsRefused {A : Type 0} (trial : Trial A) (kept : Option Kept) (befo
       ⊎ (NoNumber kept (on_connection trial.own conn.description) ready.held now.held error ⊎ NoFrame trial.meaning kept (on_connection trial.own conn.description) ready.held now.held error)
 
 -- the command went out, and there was no memory for what came of it
-pub record EndsSent {A : Type 0} (trial : Trial A) (kept : Option Kept) (before now : Scene) (error : Error) : Type 0 where
+pub record EndsSent {A : Type 0} (trial : Trial A) (kept : Option Kept) (before now : AttemptState) (error : Error) : Type 0 where
   pub address : Address
   pub conn : Conn
   pub result : Result (List ℕ) LinkError
@@ -357,11 +334,11 @@ pub record EndsSent {A : Type 0} (trial : Trial A) (kept : Option Kept) (before 
   pub why : kind_of error ≡ kind.Memory
 
 -- the operation ends at once
-abbrev pub EndsAtOnce : {A : Type 0} → Trial A → Option Kept → Scene → Scene → Error → Type 0
+abbrev pub EndsAtOnce : {A : Type 0} → Trial A → Option Kept → AttemptState → AttemptState → Error → Type 0
 EndsAtOnce trial kept before now error = EndsUnready kept before now error ⊎ (EndsRefused trial kept before now error ⊎ EndsSent trial kept before now error)
 
 -- one attempt, by what is kept of the failures before and how it ended; only one that is not the first stops
-abbrev pub Tries : {A : Type 0} → Trial A → Option Kept → Scene → Scene → Attempt A → Type 0
+abbrev pub Tries : {A : Type 0} → Trial A → Option Kept → AttemptState → AttemptState → Attempt A → Type 0
 Tries trial kept before now (Done output) = IsAnswered trial kept before now output
 Tries trial kept before now (Failed failing) = FailsIn trial kept before now failing.address failing.failure.phase failing.failure.error
 Tries trial kept before now (Unselected error) = NotSelected kept before now error

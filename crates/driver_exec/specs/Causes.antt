@@ -15,8 +15,9 @@ use Rattle.driver_link.specs.declared.fault.LinkFault.TheVariants.{Io, PoolClear
 use Rattle.driver_exec.specs.declared.pool.IdleSession.{IdleSession}
 use Rattle.driver_exec.specs.Fields.{IsSixteen}
 use Rattle.driver_exec.specs.Inserts.{insert_body}
-use Rattle.driver_exec.specs.Pool.{ToldStore}
 use Rattle.driver_exec.specs.Session.{last_number}
+use Rattle.driver_exec.specs.Pool.{Pool}
+use Rattle.driver_exec.specs.StoreTells.{StoreTells}
 
 -- one of the replies has a property
 abbrev pub HasReply : (List ℕ → Type 0) → List Answered → Type 0
@@ -88,6 +89,9 @@ lent_number [] = pos 0
 lent_number (front ∷ idle) = front.number
 
 -- the number of the session that is lent next, where the store tells it
-abbrev pub next_number : Option ToldStore → Option ℤ
-next_number None = None
-next_number (Some told) = Some (lent_number told.pool.idle)
+abbrev pub number_in : Option Pool → Option ℤ
+number_in None = None
+number_in (Some pool) = Some (lent_number pool.idle)
+
+abbrev pub next_number : StoreTells → Option ℤ
+next_number store = number_in store.pool

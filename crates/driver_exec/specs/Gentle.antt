@@ -6,7 +6,7 @@ use Rattle.driver_link.specs.declared.machine.Item.TheVariants.{Lost, Late, Repl
 use Rattle.driver_link.specs.Counting.{is_listed, one_more}
 use Rattle.driver_link.specs.Exchange.{step_at}
 use Rattle.driver_link.specs.Retried.{IsGentleItem}
-use Rattle.driver_link.specs.Told.{Told}
+use Rattle.driver_link.specs.ServerRun.{ServerRun}
 
 -- a call had this number, from one count to another; a count stands still at the greatest u64
 abbrev pub IsCounted : ℕ → ℕ → ℕ → Type 0
@@ -24,11 +24,11 @@ IsLossy ReplyLost = Unit {0}
 IsLossy _ = ⊥
 
 -- an exchange has this number, from one moment of a told link to another
-abbrev pub IsOfPart : Told → Told → ℕ → Type 0
+abbrev pub IsOfPart : ServerRun → ServerRun → ℕ → Type 0
 IsOfPart before now at = (length before.server.trace ≤ at) × (at < length now.server.trace)
 
 -- the part of a schedule that was taken from one moment to another is gentle, by whether a send may go out again
-pub record IsGentlePart (repeats : Type 0) (before now : Told) : Type 0 where
+pub record IsGentlePart (repeats : Type 0) (before now : ServerRun) : Type 0 where
   pub selects : NoneListed before.schedule.selects before.counts.selects now.counts.selects
   pub check_outs : NoneListed before.schedule.check_outs before.counts.check_outs now.counts.check_outs
   pub overloaded : NoneListed before.schedule.overloaded_check_outs before.counts.check_outs now.counts.check_outs
@@ -36,7 +36,7 @@ pub record IsGentlePart (repeats : Type 0) (before now : Told) : Type 0 where
   pub one : (a b : ℕ) → IsOfPart before now a → IsOfPart before now b → IsLossy (step_at before.schedule a).item → IsLossy (step_at before.schedule b).item → a ≡ b
 
 -- the same of a link that tells its server
-abbrev pub IsGentleTold : Type 0 → Option Told → Option Told → Type 0
+abbrev pub IsGentleTold : Type 0 → Option ServerRun → Option ServerRun → Type 0
 IsGentleTold repeats None now = ⊥
 IsGentleTold repeats (Some told) None = ⊥
 IsGentleTold repeats (Some told) (Some now) = IsGentlePart repeats told now

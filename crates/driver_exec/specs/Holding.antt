@@ -10,8 +10,8 @@ use Rattle.driver_link.specs.declared.fault.LinkError.TheVariants.{Fault, Memory
 use Rattle.driver_exec.specs.declared.retryability.Retryability.{Retryability}
 use Rattle.driver_exec.specs.declared.retryability.Retryability.TheVariants.{Write}
 use Rattle.driver_exec.specs.Causes.{is_network}
-use Rattle.driver_exec.specs.Pool.{Lends, StaysTold, TakesBack, ToldStore}
 use Rattle.driver_exec.specs.Session.{Numbers, Session}
+use Rattle.driver_exec.specs.StoreTells.{LendsSession, StoreTells, TakesSession}
 
 -- the session that it was lent, if it was; and the number of the send before, which may be none, once there was one
 pub record Held : Type 0 where
@@ -47,18 +47,17 @@ abbrev pub needs_session : Bool → Held → Bool
 needs_session asked held = asked && is_none held.session && is_none held.sent
 
 -- a session was lent and is held
-pub record HoldsLent (store now : Option ToldStore) (held held_now : Held) : Type 0 where
-  pub caller : ℕ
-  pub moment : ℕ
+pub record HoldsLent (store now : StoreTells) (held held_now : Held) : Type 0 where
+  pub at : ℕ
   pub session : Session
-  pub lends : Lends store now caller moment session
+  pub lends : LendsSession store now at session
   pub is : held_now ≡ record held { session = Some session }
 
 -- a session was lent where one is needed, or there was no memory for it; else nothing changed
-abbrev pub HoldsSession : Bool → Option ToldStore → Option ToldStore → Held → Held → Result (Unit {0}) Error → Type 0
+abbrev pub HoldsSession : Bool → StoreTells → StoreTells → Held → Held → Result (Unit {0}) Error → Type 0
 HoldsSession false store now held held_now result = (now ≡ store) × (held_now ≡ held) × (result ≡ Ok tt)
 HoldsSession true store now held held_now (Ok given) = HoldsLent store now held held_now
-HoldsSession true store now held held_now (Err error) = StaysTold store now × (held_now ≡ held) × (kind_of error ≡ kind.Memory)
+HoldsSession true store now held held_now (Err error) = (now ≡ store) × (held_now ≡ held) × (kind_of error ≡ kind.Memory)
 
 -- the number of a session as that of a send, or why there is none
 abbrev pub GivesNumber : Result ℤ Error → Result (Option ℤ) Error → Type 0
@@ -90,12 +89,11 @@ DrawsNumber (Some before) turn held held_now result = (held_now ≡ held) × (re
 DrawsNumber None turn held held_now result = DrawsFirst turn held held_now result
 
 -- the session came back
-pub record TakesHeld (store now : Option ToldStore) (session : Session) : Type 0 where
-  pub caller : ℕ
-  pub moment : ℕ
-  pub takes : TakesBack store now caller session moment
+pub record TakesHeld (store now : StoreTells) (session : Session) : Type 0 where
+  pub at : ℕ
+  pub takes : TakesSession store now session at
 
 -- a session that is held comes back to its store
-abbrev pub GivesBack : Option ToldStore → Option ToldStore → Option Session → Type 0
+abbrev pub GivesBack : StoreTells → StoreTells → Option Session → Type 0
 GivesBack store now None = now ≡ store
 GivesBack store now (Some session) = TakesHeld store now session

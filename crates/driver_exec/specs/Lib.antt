@@ -13,7 +13,7 @@ pub mod InsertMeaning
 pub mod Inserts
 pub mod Keeping
 pub mod LabelTable
-pub mod Links
+pub mod Moment
 pub mod OldDeployment
 pub mod OperationCauses
 pub mod Operations
@@ -24,5 +24,6 @@ pub mod Responses
 pub mod Retry
 pub mod Session
 pub mod Singles
+pub mod StoreTells
 pub mod WriteReplies
 pub mod Writing

@@ -14,7 +14,7 @@ use Rattle.driver_link.specs.declared.fault.LinkFault.{LinkFault}
 use Rattle.driver_link.specs.declared.fault.LinkFault.TheVariants as fault
 use Rattle.driver_link.specs.declared.machine.Setup.{Setup}
 use Rattle.driver_link.specs.Faults.{Rose}
-use Rattle.driver_link.specs.Told.{Notes}
+use Rattle.driver_link.specs.LinkState.{GainsAll, LinkState, setup_of}
 use Rattle.driver_exec.specs.declared.retryability.Retryability.{Retryability}
 use Rattle.driver_exec.specs.declared.retryability.Retryability.TheVariants as may
 use Rattle.driver_exec.specs.Attempting.{ReadsAnswer, on_connection}
@@ -22,7 +22,7 @@ use Rattle.driver_exec.specs.Causes.{AllEarly, Failure, HasReply, IsLast, KindAt
 use Rattle.driver_exec.specs.LabelTable.{labels_outside_transactions}
 use Rattle.driver_exec.specs.OldDeployment.{reworded_kind}
 use Rattle.driver_exec.specs.Operations.{Meaning}
-use Rattle.driver_exec.specs.Pool.{ToldStore}
+use Rattle.driver_exec.specs.Moment.{Moment}
 
 -- the labels of the error of a fault: a failure of the network has the label that lets a write be tried again beside the
 -- link's own labels, where the write may be repeated
@@ -72,8 +72,13 @@ pub record Grounds (A : Type 0) : Type 1 where
   pub setup : Option Setup
   pub number : Option ℤ
 
-abbrev pub grounds : {A : Type 0} → Meaning A → Retryability → Option Setup → Option ToldStore → Grounds A
-grounds meaning own setup store = record { meaning = meaning; own = own; setup = setup; number = next_number store }
+abbrev pub grounds : {A : Type 0} → Meaning A → Moment → Grounds A
+grounds meaning before = record {
+  meaning = meaning;
+  own = meaning.own before.client.options;
+  setup = setup_of before.link;
+  number = next_number before.store;
+}
 
 -- what an error of each kind needs; want of memory needs nothing
 abbrev pub KindNeeds : {A : Type 0} → Grounds A → ℕ → ℕ → List Answered → LabelSet → ErrorKind → Type 0
@@ -107,9 +112,13 @@ EndAtLast on items None = ⊥
 EndAtLast on items (Some why) = AllEarly items × KindAtLast on.meaning.refused why.kind
 
 -- an end with its cause: what the link answered in between, and a count of faults that never falls
-pub record Caused {A : Type 0} (on : Grounds A) (before now : ℕ) (answers answers_now : Option (List Answered)) (ended : Option Failure) : Type 0 where
+pub record EndsCaused {A : Type 0} (on : Grounds A) (link now : LinkState) (ended : Option Failure) : Type 0 where
   pub items : List Answered
-  pub noted : Notes answers answers_now items
-  pub never_falls : before ≤ now
-  pub needs : EndNeeds on before now items ended
+  pub noted : GainsAll link.answers now.answers items
+  pub never_falls : link.faults ≤ now.faults
+  pub needs : EndNeeds on link.faults now.faults items ended
   pub at_last : DrawsNumbers on.meaning.sessions on.own on.setup → IsLast on.number → EndAtLast on items ended
+
+-- an operation that began at a moment ended so
+abbrev pub Caused : {A : Type 0} → Meaning A → Moment → Moment → Option Failure → Type 0
+Caused meaning before now ended = EndsCaused (grounds meaning before) before.link now.link ended

@@ -1,8 +1,10 @@
 -- The pool of sessions by MongoDB's sessions specification: the front session is lent, a session that
 -- comes back goes to the front, and one under which the network failed is dropped.
-use Rattle.std.specs.Prelude.{◌≡◌, ℕ, zero, suc, ◌+◌, ◌<◌, pos, Bool, true, false, List, [], ◌∷◌, ◌++◌, length, take, drop, Option, None, Some, if◌then◌else◌}
+use Rattle.std.specs.Prelude.{◌≡◌, ℕ, ◌+◌, ◌<◌, pos, Bool, true, false, List, [], ◌∷◌, ◌++◌, length, take, drop, Option, None, Some, if◌then◌else◌}
 use Rattle.std.specs.List.{list_any}
 use Rattle.std.specs.Str.{bytes_eq}
+use Rattle.driver_link.specs.Ids.{IdsToCome, after_draw}
+use Rattle.driver_link.specs.declared.ids.IdKind.TheVariants.{Session as SessionId}
 use Rattle.driver_exec.specs.declared.pool.IdleSession.{IdleSession}
 use Rattle.driver_exec.specs.declared.pool.StoreEvent.{StoreEvent}
 use Rattle.driver_exec.specs.declared.pool.StoreEvent.TheVariants.{Lent, Back}
@@ -16,14 +18,9 @@ pub record Pool : Type 0 where
   pub history : List StoreEvent
 
 -- a source of ids with the pool of the sessions that it gave ids to
-pub record Stock (I : Type 0) : Type 0 where
+pub record StorePool (I : Type 0) : Type 0 where
   pub ids : I
   pub pool : Pool
-
--- a pool with the session ids that its source will give: the k-th of them from now on
-pub record ToldStore : Type 0 where
-  pub pool : Pool
-  pub to_come : ℕ → List ℕ
 
 -- the pool of a store that has not been used
 abbrev pub empty_pool : Pool
@@ -43,6 +40,11 @@ idle_out (front ∷ idle) = idle
 abbrev pub draws : List IdleSession → Bool
 draws [] = true
 draws (front ∷ idle) = false
+
+-- the ids to come once a session id was drawn, or none
+abbrev pub ids_after : Bool → IdsToCome → IdsToCome
+ids_after true to_come = after_draw SessionId to_come
+ids_after false to_come = to_come
 
 -- the pool after a check-out
 unfoldable pub lent_out : ℕ → List ℕ → ℕ → Pool → Pool
@@ -84,12 +86,6 @@ abbrev pub times_lent : List ℕ → List (List ℕ) → ℕ
 times_lent id [] = 0
 times_lent id (other ∷ lent) = (if bytes_eq other id then 1 else 0) + times_lent id lent
 
--- each id is lent as often as before
-abbrev pub LendsAsBefore : Option ToldStore → Option ToldStore → Type 0
-LendsAsBefore None now = now ≡ None
-LendsAsBefore (Some old) None = ⊥
-LendsAsBefore (Some old) (Some now) = (id : List ℕ) → times_lent id now.pool.lent ≡ times_lent id old.pool.lent
-
 -- an idle session holds what a lent one does
 abbrev pub IsNext : Session → IdleSession → Type 0
 IsNext session idle = session ≡ record { id = idle.id; number = idle.number; last_use = idle.last_use; dirty = false }
@@ -100,51 +96,6 @@ FindsLent id lent None = is_lent id lent ≡ false
 FindsLent id lent (Some at) =
     (is_lent id lent ≡ true) × (at < length lent) × (take at lent ++ drop (at + 1) lent ≡ without_first id lent)
 
--- one check-out of a store that tells its pool
-pub record LendsFrom (old now : ToldStore) (caller moment : ℕ) (session : Session) : Type 0 where
-  pub session_is : session ≡ session_out old.pool.idle (old.to_come 0) moment
-  pub pool_is : now.pool ≡ lent_out caller (old.to_come 0) moment old.pool
-  pub rest : (k : ℕ) → now.to_come k ≡ old.to_come (if draws old.pool.idle then k + 1 else k)
-
-abbrev pub Lends : Option ToldStore → Option ToldStore → ℕ → ℕ → Session → Type 0
-Lends None now caller moment session = now ≡ None
-Lends (Some old) None caller moment session = ⊥
-Lends (Some old) (Some now) caller moment session = LendsFrom old now caller moment session
-
--- one check-in of a store that tells its pool
-abbrev pub TakesBack : Option ToldStore → Option ToldStore → ℕ → Session → ℕ → Type 0
-TakesBack None now caller session moment = now ≡ None
-TakesBack (Some old) None caller session moment = ⊥
-TakesBack (Some old) (Some now) caller session moment =
-    (now.pool ≡ taken_back caller session moment old.pool) × ((k : ℕ) → now.to_come k ≡ old.to_come k)
-
--- what is told stays: the same pool, and the same ids to come
-abbrev pub StaysTold : Option ToldStore → Option ToldStore → Type 0
-StaysTold None now = now ≡ None
-StaysTold (Some old) None = ⊥
-StaysTold (Some old) (Some now) = (now.pool ≡ old.pool) × ((k : ℕ) → now.to_come k ≡ old.to_come k)
-
--- the first ids of those to come
-abbrev pub first_ids : ℕ → (ℕ → List ℕ) → List (List ℕ)
-first_ids zero to_come = []
-first_ids (suc count) to_come = to_come 0 ∷ first_ids count (λ k. to_come (k + 1))
-
--- the drawn ids gained a front of those that were to come
-pub record DrawsMore (old now : ToldStore) : Type 0 where
-  pub count : ℕ
-  pub drawn : now.pool.drawn ≡ old.pool.drawn ++ first_ids count old.to_come
-  pub rest : (k : ℕ) → now.to_come k ≡ old.to_come (count + k)
-
-abbrev pub Draws : Option ToldStore → Option ToldStore → Type 0
-Draws None now = now ≡ None
-Draws (Some old) None = ⊥
-Draws (Some old) (Some now) = DrawsMore old now
-
--- the store tells that it has not been used
-abbrev pub IsNewStore : Option ToldStore → Type 0
-IsNewStore None = ⊥
-IsNewStore (Some told) = told.pool ≡ empty_pool
-
 -- an id is not among these
 abbrev pub NotAmong : List ℕ → List (List ℕ) → Type 0
 NotAmong id [] = Unit {0}
@@ -154,8 +105,3 @@ NotAmong id (other ∷ ids) = (id ≡ other → ⊥) × NotAmong id ids
 abbrev pub AllApart : List (List ℕ) → Type 0
 AllApart [] = Unit {0}
 AllApart (id ∷ ids) = NotAmong id ids × AllApart ids
-
--- the ids that a store drew are distinct
-abbrev pub DrawnApart : Option ToldStore → Type 0
-DrawnApart None = Unit {0}
-DrawnApart (Some told) = AllApart told.pool.drawn

@@ -6,38 +6,40 @@ use Rattle.driver_link.specs.declared.machine.Place.{Place}
 use Rattle.driver_link.specs.declared.machine.Send.{Send}
 use Rattle.driver_link.specs.declared.machine.SendBody.{SendBody}
 use Rattle.driver_link.specs.Counting.{KeepsServer}
-use Rattle.driver_link.specs.Told.{IsReply, Told, told_after, told_answer}
+use Rattle.driver_link.specs.LinkState.{server_run}
+use Rattle.driver_link.specs.ServerRun.{IsReply, ServerRun, run_after, run_answer}
 use Rattle.driver_exec.specs.Attempting.{ReadsOutput}
 use Rattle.driver_exec.specs.Operations.{Meaning, plain_send}
-use Rattle.driver_exec.specs.Pool.{Lends, StaysTold, TakesBack, ToldStore}
+use Rattle.driver_exec.specs.Moment.{Moment}
 use Rattle.driver_exec.specs.Session.{MayRaise, Raises, Session}
+use Rattle.driver_exec.specs.StoreTells.{LendsSession, StoreTells, TakesSession}
 
 -- one send went out so many times; all else were calls that were only counted
-abbrev pub SendsTold : Told → Told → Send → ℕ → Type 0
+abbrev pub SendsTold : ServerRun → ServerRun → Send → ℕ → Type 0
 SendsTold told now send zero = KeepsServer told now
-SendsTold told now send (suc count) = (mid : Told) × (SendsTold told mid send count × KeepsServer (told_after mid send) now)
+SendsTold told now send (suc count) = (mid : ServerRun) × (SendsTold told mid send count × KeepsServer (run_after mid send) now)
 
 -- the same for a link that may tell its server
-abbrev pub SentTimes : Option Told → Option Told → Send → ℕ → Type 0
+abbrev pub SentTimes : Option ServerRun → Option ServerRun → Send → ℕ → Type 0
 SentTimes None now send count = now ≡ None
 SentTimes (Some told) None send count = ⊥
 SentTimes (Some told) (Some now) send count = SendsTold told now send count
 
 -- one send went out at most so many times, and at most once where it has no number
-pub record SentWithin (most : ℕ) (link now : Option Told) (send : Send) : Type 0 where
+pub record SentWithin (most : ℕ) (link now : Option ServerRun) (send : Send) : Type 0 where
   pub count : ℕ
   pub within : count ≤ most
   pub once : send.number ≡ None → count ≤ 1
   pub sends : SentTimes link now send count
 
 -- the last of the sends was answered by a reply in these bytes, after so many others
-pub record LastAnswer (told now : Told) (send : Send) (earlier : ℕ) (bytes : List ℕ) : Type 0 where
-  pub mid : Told
+pub record LastAnswer (told now : ServerRun) (send : Send) (earlier : ℕ) (bytes : List ℕ) : Type 0 where
+  pub mid : ServerRun
   pub sent : SendsTold told mid send earlier
-  pub reply : IsReply (told_answer mid send) bytes
-  pub rest : KeepsServer (told_after mid send) now
+  pub reply : IsReply (run_answer mid send) bytes
+  pub rest : KeepsServer (run_after mid send) now
 
-abbrev pub AnsweredLast : Option Told → Option Told → Send → ℕ → List ℕ → Type 0
+abbrev pub AnsweredLast : Option ServerRun → Option ServerRun → Send → ℕ → List ℕ → Type 0
 AnsweredLast None now send earlier bytes = now ≡ None
 AnsweredLast (Some told) None send earlier bytes = ⊥
 AnsweredLast (Some told) (Some now) send earlier bytes = LastAnswer told now send earlier bytes
@@ -49,28 +51,26 @@ IsNumbered None lent back = MayRaise lent back
 IsNumbered (Some number) lent back = (back.number ≡ number) × Raises lent back
 
 -- a session was lent and came back
-pub record Borrowed (store now : Option ToldStore) (id : List ℕ) (number : Option ℤ) : Type 0 where
-  pub lent : Option ToldStore
-  pub out_by : ℕ
+pub record Borrowed (store now : StoreTells) (id : List ℕ) (number : Option ℤ) : Type 0 where
+  pub lent : StoreTells
   pub out_at : ℕ
-  pub back_by : ℕ
   pub back_at : ℕ
   pub session : Session
   pub back : Session
-  pub lends : Lends store lent out_by out_at session
-  pub takes : TakesBack lent now back_by back back_at
+  pub lends : LendsSession store lent out_at session
+  pub takes : TakesSession lent now back back_at
   pub id_is : session.id ≡ id
   pub same : back.id ≡ session.id
   pub numbered : IsNumbered number session back
 
 -- a session was borrowed, or none: then the sends have no number
-abbrev pub Borrows : Option ToldStore → Option ToldStore → Option (List ℕ) → Option ℤ → Type 0
-Borrows store now None number = StaysTold store now × (number ≡ None)
+abbrev pub Borrows : StoreTells → StoreTells → Option (List ℕ) → Option ℤ → Type 0
+Borrows store now None number = (now ≡ store) × (number ≡ None)
 Borrows store now (Some id) number = Borrowed store now id number
 
 -- an Ok is what the operation reads in the last reply: that to the last send of what was asked for, of which at most one
 -- went out before it, and none where it has no number
-pub record ReadsLast {A : Type 0} (meaning : Meaning A) (places : List Place) (link now : Option Told) (session : Option (List ℕ)) (number : Option ℤ) (output : A) : Type 0 where
+pub record ReadsLast {A : Type 0} (meaning : Meaning A) (places : List Place) (link now : Option ServerRun) (session : Option (List ℕ)) (number : Option ℤ) (output : A) : Type 0 where
   pub bytes : List ℕ
   pub reads : ReadsOutput meaning bytes output
   pub earlier : ℕ
@@ -78,15 +78,15 @@ pub record ReadsLast {A : Type 0} (meaning : Meaning A) (places : List Place) (l
   pub once : number ≡ None → earlier ≡ 0
   pub answered : (body : SendBody) → meaning.asked places body → AnsweredLast link now (plain_send session number body) earlier bytes
 
-abbrev pub EndsWithReading : {A : Type 0} → Meaning A → List Place → Option Told → Option Told → Option (List ℕ) → Option ℤ → Result A Error → Type 0
+abbrev pub EndsWithReading : {A : Type 0} → Meaning A → List Place → Option ServerRun → Option ServerRun → Option (List ℕ) → Option ℤ → Result A Error → Type 0
 EndsWithReading meaning places link now session number (Ok output) = ReadsLast meaning places link now session number output
 EndsWithReading meaning places link now session number (Err error) = Unit {0}
 
 -- an operation: one send of what was asked for went out at most twice, and at most once where it has no number; the session
 -- that it was under, if any, was borrowed from the store; and an Ok is the reading of the last reply
-pub record Works {A : Type 0} (meaning : Meaning A) (places : List Place) (store store_now : Option ToldStore) (link link_now : Option Told) (result : Result A Error) : Type 0 where
+pub record SendsOneCommand {A : Type 0} (meaning : Meaning A) (places : List Place) (before now : Moment) (result : Result A Error) : Type 0 where
   pub session : Option (List ℕ)
   pub number : Option ℤ
-  pub borrows : Borrows store store_now session number
-  pub sends : (body : SendBody) → meaning.asked places body → SentWithin 2 link link_now (plain_send session number body)
-  pub ends : EndsWithReading meaning places link link_now session number result
+  pub borrows : Borrows before.store now.store session number
+  pub sends : (body : SendBody) → meaning.asked places body → SentWithin 2 (server_run before.link) (server_run now.link) (plain_send session number body)
+  pub ends : EndsWithReading meaning places (server_run before.link) (server_run now.link) session number result

@@ -75,7 +75,8 @@ pub(crate) fn fault_error(
 
 /// A failure in a phase, at the server of an address.
 fn fails_at<T>(error: Error, phase: FailurePhase, address: Address) -> Attempt<T>
-    ensures { result ≡ Failed (record { failure = record { error = error; phase = phase }; address = address }) }
+    ensures { result ≡ Failed
+        (record { failure = record { error = error; phase = phase }; address = address }) }
 {
     Attempt::Failed(Failing {
         failure: Failure { error, phase },

@@ -3,7 +3,7 @@ ghost use Rattle.std.specs.Prelude.{◌≡◌, IfErr, IfOk, OnErr};
 ghost use Rattle.driver_error.specs.Error.{kind_of};
 ghost use Rattle.driver_error.specs.declared.kind.ErrorKind.TheVariants.{Memory};
 ghost use Rattle.driver_exec.specs.Client.{options_of, store_of};
-ghost use Rattle.driver_exec.specs.Pool.{Lends, StaysTold, TakesBack};
+ghost use Rattle.driver_exec.specs.StoreTells.{DrawsObjectId, LendsSession, TakesSession};
 
 use crate::session::ServerSession;
 use crate::store::SessionStore;
@@ -55,10 +55,10 @@ impl<S: Drop> Client<S> {
 impl<S: SessionStore> Client<S> {
     /// Lends a session of the store: the front idle one, else a new one. It answers want of memory alone.
     pub fn lend(&mut self, alloc: Global, now_ms: u64) -> Result<ServerSession>
-        ensures lends { IfOk result (λ session. Lends (S.told (store_of self.old)) (S.told (store_of self.new)) (S.caller (store_of self.old)) now_ms session) }
-        ensures err { OnErr result (StaysTold (S.told (store_of self.old)) (S.told (store_of self.new))) }
+        ensures lends { IfOk result (λ session.
+            LendsSession (S.tells (store_of self.old)) (S.tells (store_of self.new)) now_ms session) }
+        ensures err { OnErr result (S.tells (store_of self.new) ≡ S.tells (store_of self.old)) }
         ensures kind { IfErr result (λ error. kind_of error ≡ Memory) }
-        ensures caller { S.caller (store_of self.new) ≡ S.caller (store_of self.old) }
         ensures options { options_of self.new ≡ options_of self.old }
     {
         self.store.check_out(alloc, now_ms)
@@ -66,8 +66,8 @@ impl<S: SessionStore> Client<S> {
 
     /// Gives a session back to the store. It takes no memory.
     pub fn give_back(&mut self, session: ServerSession, now_ms: u64)
-        ensures takes { TakesBack (S.told (store_of self.old)) (S.told (store_of self.new)) (S.caller (store_of self.old)) session now_ms }
-        ensures caller { S.caller (store_of self.new) ≡ S.caller (store_of self.old) }
+        ensures takes { TakesSession (S.tells (store_of self.old)) (S.tells (store_of self.new)) session
+            now_ms }
         ensures options { options_of self.new ≡ options_of self.old }
     {
         self.store.check_in(session, now_ms);
@@ -75,8 +75,8 @@ impl<S: SessionStore> Client<S> {
 
     /// A new object id. It takes no memory.
     pub fn object_id(&mut self) -> ObjectId
-        ensures stays { StaysTold (S.told (store_of self.old)) (S.told (store_of self.new)) }
-        ensures caller { S.caller (store_of self.new) ≡ S.caller (store_of self.old) }
+        ensures draws { DrawsObjectId (S.tells (store_of self.old)) (S.tells (store_of self.new))
+            result.bytes }
         ensures options { options_of self.new ≡ options_of self.old }
     {
         self.store.object_id()

@@ -2,23 +2,22 @@
 ghost use Rattle.std.specs.Prelude.{◌≡◌, ◌≤◌, ◌+◌, IsSome};
 ghost use Rattle.driver_link.specs.declared.machine.PlacedWrite.{PlacedWrite};
 ghost use Rattle.driver_link.specs.declared.machine.SendBody.{SendBody};
-ghost use Rattle.driver_exec.specs.Attempting.{scene, trial_of};
+ghost use Rattle.driver_exec.specs.Attempting.{attempt_state, trial_of};
 ghost use Rattle.driver_exec.specs.Causes.{end_of};
 ghost use Rattle.driver_exec.specs.Client.{options_of, store_of};
 ghost use Rattle.driver_exec.specs.Executing.{Executes, IsLastError, Turns, kept_or, limit_reached};
 ghost use Rattle.driver_exec.specs.Holding.{holds_nothing};
-ghost use Rattle.driver_exec.specs.Keeping.{EndsStanding, Keeps, ReadsDone};
-ghost use Rattle.driver_exec.specs.Pool.{Draws, LendsAsBefore};
-ghost use Rattle.driver_exec.specs.Resending.{Works};
+ghost use Rattle.driver_exec.specs.Keeping.{KeepsInvariant, OkHasEntries, ReadsDone};
+ghost use Rattle.driver_exec.specs.Moment.{moment_of};
+ghost use Rattle.driver_exec.specs.OperationCauses.{Caused};
+ghost use Rattle.driver_exec.specs.Resending.{SendsOneCommand};
 ghost use Rattle.driver_exec.specs.Retry.{Decides, decide};
-ghost use Rattle.driver_exec.specs.OperationCauses.{Caused, grounds};
-ghost use Rattle.driver_exec.specs.Operations.{MeansTheSame};
-ghost use Rattle.driver_exec.specs.Links.{told_link};
+ghost use Rattle.driver_exec.specs.StoreTells.{Draws, LendsAsBefore};
 ghost use Rattle.driver_exec.specs.Writing.{insert_asked};
 
 use crate::attempt_end::{Attempt, Failing};
 use crate::client::Client;
-use crate::held::{Held, give_back};
+use crate::held::{Held, check_in_session};
 use crate::operation::Operation;
 use crate::outside::Outside;
 use crate::retry::{FailurePhase, Retry};
@@ -28,6 +27,7 @@ use crate::store::SessionStore;
 use crate::try_once::try_once;
 use driver_error::{Error, Result};
 use driver_link::{Clock, Link, Place};
+use rand_core::Rng;
 use std::alloc::Global;
 use std::sync::ledger::Ledger;
 
@@ -36,7 +36,7 @@ use std::sync::ledger::Ledger;
 /// `sends` counts the sends of its command, each once, of which there are two at most. An insert that it runs
 /// keeps what stands between the calls of one client's plain writes (`keeps`), and where its reply is read as
 /// done its entry stands (`stands`).
-pub fn execute_operation<O: Operation, S: SessionStore, L: Link, K: Clock, R, Q: Ledger>(
+pub fn execute_operation<O: Operation, S: SessionStore, L: Link, K: Clock, R: Rng, Q: Ledger>(
     alloc: Global,
     client: &mut Client<S>,
     op: &mut O,
@@ -45,20 +45,36 @@ pub fn execute_operation<O: Operation, S: SessionStore, L: Link, K: Clock, R, Q:
     sends: &mut Steps<Q>,
 ) -> Result<O::Output>
     requires { (body : SendBody) × (O.meaning op.old).asked places.now body }
-    ensures executes { Executes (trial_of (O.meaning op.old) places.now ((O.meaning op.old).own (options_of client.old))) (S.told (store_of client.old)) (S.told (store_of client.new)) (told_link (L.told outside.old.link) (L.setup outside.old.link) (L.answers outside.old.link) (L.frames outside.old.link) (L.asked outside.old.link) (L.faults outside.old.link)) (told_link (L.told outside.new.link) (L.setup outside.new.link) (L.answers outside.new.link) (L.frames outside.new.link) (L.asked outside.new.link) (L.faults outside.new.link)) sends.old sends.new result }
-    ensures works { Works (O.meaning op.old) places.now (S.told (store_of client.old)) (S.told (store_of client.new)) (L.told outside.old.link) (L.told outside.new.link) result }
-    ensures keeps { (write : PlacedWrite) → (O.meaning op.old).asked places.now (insert_asked write) → Keeps (S.told (store_of client.old)) (S.told (store_of client.new)) (L.told outside.old.link) (L.told outside.new.link) write }
-    ensures stands { (write : PlacedWrite) → (O.meaning op.old).asked places.now (insert_asked write) → ReadsDone (O.meaning op.old) → EndsStanding (S.told (store_of client.old)) (S.told (store_of client.new)) (L.told outside.old.link) (L.told outside.new.link) write (end_of result) }
-    ensures lent { LendsAsBefore (S.told (store_of client.old)) (S.told (store_of client.new)) }
-    ensures drawn { Draws (S.told (store_of client.old)) (S.told (store_of client.new)) }
-    ensures caused { Caused (grounds (O.meaning op.old) ((O.meaning op.old).own (options_of client.old)) (L.setup outside.old.link) (S.told (store_of client.old))) (L.faults outside.old.link) (L.faults outside.new.link) (L.answers outside.old.link) (L.answers outside.new.link) (end_of result) }
-    ensures options { options_of client.new ≡ options_of client.old }
+    ensures executes { Executes (O.meaning op.old) places.now
+        (moment_of S.tells L.tells K.tells R.stream client.old outside.old)
+        (moment_of S.tells L.tells K.tells R.stream client.new outside.new)
+        sends.old sends.new result }
+    ensures one_command { SendsOneCommand (O.meaning op.old) places.now
+        (moment_of S.tells L.tells K.tells R.stream client.old outside.old)
+        (moment_of S.tells L.tells K.tells R.stream client.new outside.new)
+        result }
+    ensures keeps { (write : PlacedWrite) → (O.meaning op.old).asked places.now (insert_asked write) →
+        KeepsInvariant
+        (moment_of S.tells L.tells K.tells R.stream client.old outside.old)
+        (moment_of S.tells L.tells K.tells R.stream client.new outside.new)
+        write }
+    ensures stands { (write : PlacedWrite) → (O.meaning op.old).asked places.now (insert_asked write) →
+        ReadsDone (O.meaning op.old) → OkHasEntries
+        (moment_of S.tells L.tells K.tells R.stream client.old outside.old)
+        (moment_of S.tells L.tells K.tells R.stream client.new outside.new)
+        write (end_of result) }
+    ensures lent { LendsAsBefore (S.tells (store_of client.old)) (S.tells (store_of client.new)) }
+    ensures drawn { Draws (S.tells (store_of client.old)) (S.tells (store_of client.new)) }
+    ensures caused { Caused (O.meaning op.old)
+        (moment_of S.tells L.tells K.tells R.stream client.old outside.old)
+        (moment_of S.tells L.tells K.tells R.stream client.new outside.new)
+        (end_of result) }
     ensures call { outside.new.call ≡ outside.old.call }
     ensures sends { sends.new ≤ sends.old + 2 }
 {
     let sharded = outside.link.is_sharded();
     let (held, result) = turns(alloc, client, outside, op, places, sharded, sends);
-    give_back(client, &mut outside.clock, held);
+    check_in_session(client, &mut outside.clock, held);
     result
 }
 
@@ -73,8 +89,13 @@ fn turns<O: Operation, S: SessionStore, L: Link, K: Clock, R, Q: Ledger>(
     sends: &mut Steps<Q>,
 ) -> (Held, Result<O::Output>)
     requires { (body : SendBody) × (O.meaning op.old).asked places.now body }
-    ensures turns { Turns (trial_of (O.meaning op.old) places.now ((O.meaning op.old).own (options_of client.old))) sharded (scene (S.told (store_of client.old)) (told_link (L.told outside.old.link) (L.setup outside.old.link) (L.answers outside.old.link) (L.frames outside.old.link) (L.asked outside.old.link) (L.faults outside.old.link)) holds_nothing sends.old) (scene (S.told (store_of client.new)) (told_link (L.told outside.new.link) (L.setup outside.new.link) (L.answers outside.new.link) (L.frames outside.new.link) (L.asked outside.new.link) (L.faults outside.new.link)) result.0 sends.new) result.1 }
+    ensures turns { Turns
+        (trial_of (O.meaning op.old) places.now ((O.meaning op.old).own (options_of client.old))) sharded
+        (attempt_state (S.tells (store_of client.old)) (L.tells outside.old.link) holds_nothing sends.old)
+        (attempt_state (S.tells (store_of client.new)) (L.tells outside.new.link) result.0 sends.new)
+        result.1 }
     ensures options { options_of client.new ≡ options_of client.old }
+    ensures out { (L.tells outside.new.link).out ≡ (L.tells outside.old.link).out }
     ensures call { outside.new.call ≡ outside.old.call }
     ensures sends { sends.new ≤ sends.old + 2 }
 {

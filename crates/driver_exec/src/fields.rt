@@ -17,7 +17,8 @@ pub(crate) fn append_fields(
     session: Option<&[u8; 16]>,
     number: Option<i64>,
 ) -> Result<(), AllocError>
-    ensures fields { OnOk result (command.new ≡ with_fields (option_copied session.entry) number command.old) }
+    ensures fields { OnOk result
+        (command.new ≡ with_fields (option_copied session.entry) number command.old) }
     ensures sixteen { IsSixteen (option_copied session.entry) }
 {
     push_session(alloc, &mut command.body, session)?;

@@ -16,7 +16,7 @@ use std::alloc::Global;
 use std::marker::Model;
 
 /// The session, if one was lent, and the number of the send before, which may be none, once there was one.
-/// It is given back by `give_back`.
+/// It is given back by `check_in_session`.
 pub(crate) struct Held {
     session: Option<ServerSession>,
     sent: Option<Option<i64>>,
@@ -145,14 +145,15 @@ fn is_network(fault: &LinkFault) -> bool
 }
 
 /// Lends a session where one is asked for, none is held and nothing was sent yet.
-pub(crate) fn hold_session<S: SessionStore, K: Clock>(
+pub(crate) fn check_out_session<S: SessionStore, K: Clock>(
     alloc: Global,
     client: &mut Client<S>,
     clock: &mut K,
     held: Held,
     asked: bool,
 ) -> (Held, Result<()>)
-    ensures holds { HoldsSession (needs_session asked held) (S.told (store_of client.old)) (S.told (store_of client.new)) held result.0 result.1 }
+    ensures holds { HoldsSession (needs_session asked held)
+        (S.tells (store_of client.old)) (S.tells (store_of client.new)) held result.0 result.1 }
     ensures options { options_of client.new ≡ options_of client.old }
 {
     if !asked || held.has_session() || held.has_sent() {
@@ -200,12 +201,12 @@ fn first_number(
 }
 
 /// Gives back the session that is held, if there is one.
-pub(crate) fn give_back<S: SessionStore, K: Clock>(
+pub(crate) fn check_in_session<S: SessionStore, K: Clock>(
     client: &mut Client<S>,
     clock: &mut K,
     held: Held,
 )
-    ensures takes { GivesBack (S.told (store_of client.old)) (S.told (store_of client.new)) held.session }
+    ensures takes { GivesBack (S.tells (store_of client.old)) (S.tells (store_of client.new)) held.session }
     ensures options { options_of client.new ≡ options_of client.old }
 {
     let Held { session, sent: _ } = held;

@@ -18,9 +18,9 @@ pub struct PlainStore<I> {
 }
 
 impl<I> Model for PlainStore<I> {
-    ghost use Rattle.driver_exec.specs.Pool.{Stock};
+    ghost use Rattle.driver_exec.specs.Pool.{StorePool};
 
-    ghost Value = { Stock I };
+    ghost Value = { StorePool I };
 
     ghost view = { λ store. store.state };
 }
@@ -55,10 +55,13 @@ impl<I> PlainStore<I> {
 impl<I: IdSource> SessionStore for PlainStore<I> {
     ghost use Rattle.std.specs.Prelude.{Some};
 
-    ghost told = { λ store. Some (record { pool = store.pool; to_come = λ k. I.sessions store.ids k }) };
+    ghost tells = { λ store. record {
+      pool = Some store.pool;
+      to_come = Some (I.to_come store.ids);
+      caller = 0;
+    } };
 
-    ghost caller = { λ store. 0 };
-
+    #[tactic(auto, using(crate::proofs::PoolTells::check_out_lends))]
     fn check_out(&mut self, _alloc: Global, now_ms: u64) -> Result<ServerSession> {
         self.state.check_out(0, now_ms)
     }

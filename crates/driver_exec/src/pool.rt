@@ -1,9 +1,11 @@
 //! The pool of server sessions behind a store, with its history.
-ghost use Rattle.std.specs.Prelude.{◌≡◌, ℕ, ◌+◌, ◌<◌, ◌≤◌, ◌++◌, [], ◌∷◌, IfErr, IfOk, OnErr, OnOk, if◌then◌else◌, vec_len, vec_capacity};
+ghost use Rattle.std.specs.Prelude.{◌≡◌, ◌+◌, ◌<◌, ◌≤◌, ◌++◌, [], ◌∷◌, IfErr, IfOk, OnErr, OnOk, if◌then◌else◌, vec_len, vec_capacity};
 ghost use Rattle.driver_error.specs.Error.{kind_of};
 ghost use Rattle.driver_error.specs.declared.kind.ErrorKind.TheVariants.{Memory};
 ghost use Rattle.std.specs.VecDeque.{deque_len, deque_capacity};
-ghost use Rattle.driver_exec.specs.Pool.{empty_pool, session_out, idle_out, lent_out, taken_back, draws, IsNext, FindsLent};
+ghost use Rattle.driver_exec.specs.Pool.{empty_pool, session_out, idle_out, lent_out, taken_back, draws, ids_after, IsNext, FindsLent};
+ghost use Rattle.driver_link.specs.Ids.{after_draw};
+ghost use Rattle.driver_link.specs.declared.ids.IdKind.TheVariants.{Object, Session};
 
 use crate::session::ServerSession;
 use bson_lite::ObjectId;
@@ -56,13 +58,23 @@ pub struct StoreState<I> {
 impl<I> Model for StoreState<I> {
     ghost use Rattle.std.specs.Prelude.{◌+◌, ◌≤◌, vec_len, vec_capacity};
     ghost use Rattle.std.specs.VecDeque.{deque_len, deque_capacity};
-    ghost use Rattle.driver_exec.specs.Pool.{Stock};
+    ghost use Rattle.driver_exec.specs.Pool.{StorePool};
 
-    ghost Value = { Stock I };
+    ghost Value = { StorePool I };
 
-    ghost view = { λ state. record { ids = state.ids; pool = record { idle = state.idle.items; lent = state.lent.items; drawn = state.drawn.items; history = state.history.items } } };
+    ghost view = { λ state. record {
+      ids = state.ids;
+      pool = record {
+        idle = state.idle.items;
+        lent = state.lent.items;
+        drawn = state.drawn.items;
+        history =
+            state.history.items;
+      };
+    } };
 
-    ghost invariant = { λ state. (deque_len state.idle + vec_len state.lent ≤ deque_capacity state.idle) × (vec_len state.history + vec_len state.lent ≤ vec_capacity state.history) };
+    ghost invariant = { λ state. (deque_len state.idle + vec_len state.lent ≤ deque_capacity state.idle) ×
+        (vec_len state.history + vec_len state.lent ≤ vec_capacity state.history) };
 }
 
 impl<I: IdSource> StoreState<I> {
@@ -83,9 +95,12 @@ impl<I: IdSource> StoreState<I> {
     /// sessions needs, before anything changes. It answers want of memory alone.
     #[tactic(auto, unfolding(crate::specs::Pool::lent_out))]
     pub fn check_out(&mut self, caller: u32, now_ms: u64) -> Result<ServerSession>
-        ensures session { IfOk result (λ session. session ≡ session_out self.old.pool.idle (I.sessions self.old.ids 0) now_ms) }
-        ensures pool { OnOk result (self.new.pool ≡ lent_out caller (I.sessions self.old.ids 0) now_ms self.old.pool) }
-        ensures ids { OnOk result ((k : ℕ) → I.sessions self.new.ids k ≡ I.sessions self.old.ids (if draws self.old.pool.idle then k + 1 else k)) }
+        ensures session { IfOk result
+            (λ session. session ≡ session_out self.old.pool.idle (I.to_come self.old.ids [] Session) now_ms) }
+        ensures pool { OnOk result
+            (self.new.pool ≡ lent_out caller (I.to_come self.old.ids [] Session) now_ms self.old.pool) }
+        ensures ids { OnOk result
+            (I.to_come self.new.ids ≡ ids_after (draws self.old.pool.idle) (I.to_come self.old.ids)) }
         ensures err { OnErr result (self.new ≡ self.old) }
         ensures kind { IfErr result (λ error. kind_of error ≡ Memory) }
     {
@@ -116,7 +131,7 @@ impl<I: IdSource> StoreState<I> {
     #[tactic(auto, unfolding(crate::specs::Pool::taken_back))]
     pub fn check_in(&mut self, caller: u32, session: ServerSession, now_ms: u64)
         ensures pool { self.new.pool ≡ taken_back caller session now_ms self.old.pool }
-        ensures ids { (k : ℕ) → I.sessions self.new.ids k ≡ I.sessions self.old.ids k }
+        ensures ids { I.to_come self.new.ids ≡ I.to_come self.old.ids }
     {
         let (id, number, last_use, dirty) = session.into_parts();
         let Some(at) = place_of(self.lent.as_slice(), &id) else {
@@ -142,10 +157,9 @@ impl<I: IdSource> StoreState<I> {
 
     /// A new object id. It takes no memory.
     pub fn object_id(&mut self) -> ObjectId
-        ensures id { result.bytes ≡ I.objects self.old.ids 0 }
+        ensures id { result.bytes ≡ I.to_come self.old.ids [] Object }
         ensures pool { self.new.pool ≡ self.old.pool }
-        ensures sessions { (k : ℕ) → I.sessions self.new.ids k ≡ I.sessions self.old.ids k }
-        ensures objects { (k : ℕ) → I.objects self.new.ids k ≡ I.objects self.old.ids (k + 1) }
+        ensures ids { I.to_come self.new.ids ≡ after_draw Object (I.to_come self.old.ids) }
     {
         ObjectId {
             bytes: self.ids.object_id(),
@@ -180,11 +194,13 @@ fn make_room(
     ensures lent { (lent.new.items ≡ lent.old.items) × (vec_len lent.new ≡ vec_len lent.old) }
     ensures drawn { drawn.new.items ≡ drawn.old.items }
     ensures history { (history.new.items ≡ history.old.items) × (vec_len history.new ≡ vec_len history.old) }
-    ensures kept { (deque_capacity idle.old ≤ deque_capacity idle.new) × (vec_capacity history.old ≤ vec_capacity history.new) }
+    ensures kept { (deque_capacity idle.old ≤ deque_capacity idle.new) ×
+        (vec_capacity history.old ≤ vec_capacity history.new) }
     ensures idle_room { OnOk result (deque_len idle.new + (vec_len lent.new + 1) ≤ deque_capacity idle.new) }
     ensures lent_room { OnOk result (vec_len lent.new < vec_capacity lent.new) }
     ensures drawn_room { OnOk result (vec_len drawn.new < vec_capacity drawn.new) }
-    ensures history_room { OnOk result (vec_len history.new + (vec_len lent.new + 2) ≤ vec_capacity history.new) }
+    ensures history_room { OnOk result
+        (vec_len history.new + (vec_len lent.new + 2) ≤ vec_capacity history.new) }
 {
     lent.reserve(1)?;
     drawn.reserve(1)?;
@@ -207,12 +223,15 @@ fn next_session<I: IdSource>(
     now_ms: u64,
 ) -> NextSession
     requires { vec_len drawn.old < vec_capacity drawn.old }
-    ensures session { IsNext (session_out idle.old.items (I.sessions ids.old 0) now_ms) result.session }
+    ensures session { IsNext (session_out idle.old.items (I.to_come ids.old [] Session) now_ms)
+        result.session }
     ensures drew { result.drawn ≡ draws idle.old.items }
     ensures idle { idle.new.items ≡ idle_out idle.old.items }
-    ensures room { (deque_len idle.new ≤ deque_len idle.old) × (deque_capacity idle.new ≡ deque_capacity idle.old) }
-    ensures drawn { drawn.new.items ≡ drawn.old.items ++ (if draws idle.old.items then I.sessions ids.old 0 ∷ [] else []) }
-    ensures ids { (k : ℕ) → I.sessions ids.new k ≡ I.sessions ids.old (if draws idle.old.items then k + 1 else k) }
+    ensures room { (deque_len idle.new ≤ deque_len idle.old) ×
+        (deque_capacity idle.new ≡ deque_capacity idle.old) }
+    ensures drawn { drawn.new.items ≡ drawn.old.items ++
+        (if draws idle.old.items then I.to_come ids.old [] Session ∷ [] else []) }
+    ensures ids { I.to_come ids.new ≡ ids_after (draws idle.old.items) (I.to_come ids.old) }
 {
     match idle.pop_front() {
         Some(session) => NextSession {

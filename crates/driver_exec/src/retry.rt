@@ -51,7 +51,13 @@ impl Model for Retry {
 
     ghost coded = { Prim.hlevel (codes, error_contract.the_row.coded) };
 
-    ghost view = { λ retry. record { attempt = retry.attempt; limit = retry.limit; failure = retry.failure; number = retry.number; deprioritized = retry.deprioritized } };
+    ghost view = { λ retry. record {
+      attempt = retry.attempt;
+      limit = retry.limit;
+      failure = retry.failure;
+      number = retry.number;
+      deprioritized = retry.deprioritized;
+    } };
 }
 
 impl Retry {
@@ -66,7 +72,9 @@ impl Retry {
         retryability: Retryability,
         sharded: bool,
     ) -> Result<Retry>
-        ensures { Decides (decide kept (record { error = failure; phase = Establishment }) number address.now retryability sharded) result }
+        ensures { Decides
+            (decide kept (record { error = failure; phase = Establishment }) number address.now retryability
+            sharded) result }
     {
         let failure = Failure {
             error: failure,
@@ -86,7 +94,9 @@ impl Retry {
         retryability: Retryability,
         sharded: bool,
     ) -> Result<Retry>
-        ensures { Decides (decide kept (record { error = failure; phase = Execution }) number address.now retryability sharded) result }
+        ensures { Decides
+            (decide kept (record { error = failure; phase = Execution }) number address.now retryability
+            sharded) result }
     {
         let failure = Failure {
             error: failure,

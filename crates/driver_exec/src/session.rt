@@ -25,7 +25,8 @@ impl Model for ServerSession {
 
     ghost Value = { Session };
 
-    ghost view = { λ session. record { id = session.id; number = session.number; last_use = session.last_use; dirty = session.dirty } };
+    ghost view = { λ session. record
+        { id = session.id; number = session.number; last_use = session.last_use; dirty = session.dirty } };
 }
 
 impl ServerSession {

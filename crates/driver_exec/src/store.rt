@@ -1,8 +1,8 @@
 //! Where sessions are lent from.
-ghost use Rattle.std.specs.Prelude.{◌≡◌, ℕ, Option, IfOk, IfErr, OnErr, Some};
+ghost use Rattle.std.specs.Prelude.{◌≡◌, IfErr, IfOk, OnErr};
 ghost use Rattle.driver_error.specs.Error.{kind_of};
 ghost use Rattle.driver_error.specs.declared.kind.ErrorKind.TheVariants.{Memory};
-ghost use Rattle.driver_exec.specs.Pool.{ToldStore, Lends, TakesBack, StaysTold};
+ghost use Rattle.driver_exec.specs.StoreTells.{DrawsObjectId, LendsSession, StoreTells, TakesSession};
 
 use crate::session::ServerSession;
 use bson_lite::ObjectId;
@@ -11,27 +11,22 @@ use std::alloc::Global;
 
 /// Lends server sessions and takes them back. Moments are in milliseconds.
 pub trait SessionStore {
-    // The pool, where the store tells it.
-    ghost told: { Self → Option ToldStore };
-
-    // The caller's number in the store's events.
-    ghost caller: { Self → ℕ };
+    // All that it tells.
+    ghost tells: { Self → StoreTells };
 
     /// A session: the front idle one, else a new one. It answers want of memory alone.
     fn check_out(&mut self, alloc: Global, now_ms: u64) -> Result<ServerSession>
-        ensures lends { IfOk result (λ session. Lends (told self.old) (told self.new) (caller self.old) now_ms session) }
-        ensures err { OnErr result (StaysTold (told self.old) (told self.new)) }
-        ensures kind { IfErr result (λ error. kind_of error ≡ Memory) }
-        ensures caller { caller self.new ≡ caller self.old };
+        ensures lends { IfOk result
+            (λ session. LendsSession (tells self.old) (tells self.new) now_ms session) }
+        ensures err { OnErr result (tells self.new ≡ tells self.old) }
+        ensures kind { IfErr result (λ error. kind_of error ≡ Memory) };
 
     /// Takes a session back. It takes no memory, since the check-out made room. A session that this
     /// store has not lent is dropped and changes nothing.
     fn check_in(&mut self, session: ServerSession, now_ms: u64)
-        ensures takes { TakesBack (told self.old) (told self.new) (caller self.old) session now_ms }
-        ensures caller { caller self.new ≡ caller self.old };
+        ensures { TakesSession (tells self.old) (tells self.new) session now_ms };
 
     /// A new object id. It takes no memory.
     fn object_id(&mut self) -> ObjectId
-        ensures stays { StaysTold (told self.old) (told self.new) }
-        ensures caller { caller self.new ≡ caller self.old };
+        ensures { DrawsObjectId (tells self.old) (tells self.new) result.bytes };
 }

@@ -4,19 +4,20 @@ ghost use Rattle.std.specs.Prelude.{◌≡◌, ◌≤◌, ◌+◌, Err, IfOk, No
 ghost use Rattle.std.specs.Option.{option_copied};
 ghost use Rattle.bson_lite.specs.Spelling.{Spells};
 ghost use Rattle.driver_link.specs.declared.machine.SendBody.{SendBody};
-ghost use Rattle.driver_exec.specs.Attempting.{Connects, Exchanging, ReadsAnswer, Sending, Tries, asks_session, avoided, is_nothing, may_use, on_connection, scene, stops, trial_of};
+ghost use Rattle.driver_link.specs.LinkCalls.{ChecksInConnection};
+ghost use Rattle.driver_link.specs.LinkState.{LinkState};
+ghost use Rattle.driver_exec.specs.Attempting.{Connects, Exchanging, ReadsAnswer, Sending, Tries, asks_session, attempt_state, avoided, besides_out, is_nothing, may_use, on_connection, stops, trial_of};
 ghost use Rattle.driver_exec.specs.declared.retryability.Retryability.{Retryability as Repeated};
 ghost use Rattle.driver_exec.specs.Client.{options_of, store_of};
 ghost use Rattle.driver_exec.specs.Failing.{EndsLost, EndsRead, EndsUnconnected, EndsUnselected};
 ghost use Rattle.driver_exec.specs.Holding.{held_id, number_before};
 ghost use Rattle.driver_exec.specs.Operations.{BuildsFrame, GivesFrame, MeansTheSame};
-ghost use Rattle.driver_exec.specs.Links.{ToldLink, told_link};
 ghost use Rattle.driver_exec.specs.Retry.{Kept};
 
 use crate::attempt_end::{Attempt, lost, read, unconnected, unselected};
 use crate::client::Client;
 use crate::fields::append_fields;
-use crate::held::{Held, draw_number, hold_session};
+use crate::held::{Held, check_out_session, draw_number};
 use crate::operation::Operation;
 use crate::outside::Outside;
 use crate::response::{read_response, with_reply};
@@ -50,9 +51,15 @@ pub(crate) fn try_once<O: Operation, S: SessionStore, L: Link, K: Clock, R, Q: L
     sends: &mut Steps<Q>,
 ) -> (Held, Attempt<O::Output>)
     requires { (body : SendBody) × (O.meaning op.old).asked places.now body }
-    ensures tries { Tries (trial_of (O.meaning op.old) places.now ((O.meaning op.old).own (options_of client.old))) (option_copied kept.entry) (scene (S.told (store_of client.old)) (told_link (L.told outside.old.link) (L.setup outside.old.link) (L.answers outside.old.link) (L.frames outside.old.link) (L.asked outside.old.link) (L.faults outside.old.link)) held sends.old) (scene (S.told (store_of client.new)) (told_link (L.told outside.new.link) (L.setup outside.new.link) (L.answers outside.new.link) (L.frames outside.new.link) (L.asked outside.new.link) (L.faults outside.new.link)) result.0 sends.new) result.1 }
+    ensures tries { Tries
+        (trial_of (O.meaning op.old) places.now ((O.meaning op.old).own (options_of client.old)))
+        (option_copied kept.entry)
+        (attempt_state (S.tells (store_of client.old)) (L.tells outside.old.link) held sends.old)
+        (attempt_state (S.tells (store_of client.new)) (L.tells outside.new.link) result.0 sends.new)
+        result.1 }
     ensures options { options_of client.new ≡ options_of client.old }
     ensures meaning { MeansTheSame (O.meaning op.old) (O.meaning op.new) }
+    ensures out { (L.tells outside.new.link).out ≡ (L.tells outside.old.link).out }
     ensures call { outside.new.call ≡ outside.old.call }
     ensures sends { sends.new ≤ sends.old + 1 }
 {
@@ -73,13 +80,13 @@ pub(crate) fn try_once<O: Operation, S: SessionStore, L: Link, K: Clock, R, Q: L
     let (held, attempt) = use_connection(
         alloc, client, outside, op, places, held, &turn, address, sends,
     );
-    part_with(&mut outside.link, conn, &attempt);
+    check_in_connection(&mut outside.link, conn, &attempt);
     (held, attempt)
 }
 
 /// Reports the failure of an attempt, if it is one, and checks its connection in.
-fn part_with<L: Link, T>(link: &mut L, conn: Conn, attempt: &Attempt<T>)
-    ensures { told_link (L.told link.new) (L.setup link.new) (L.answers link.new) (L.frames link.new) (L.asked link.new) (L.faults link.new) ≡ told_link (L.told link.old) (L.setup link.old) (L.answers link.old) (L.frames link.old) (L.asked link.old) (L.faults link.old) }
+fn check_in_connection<L: Link, T>(link: &mut L, conn: Conn, attempt: &Attempt<T>)
+    ensures { ChecksInConnection (L.tells link.old) (L.tells link.new) conn }
 {
     if let Attempt::Failed(failing) = attempt {
         link.report(&conn.address, &failing.failure.error);
@@ -171,15 +178,23 @@ fn use_connection<O: Operation, S: SessionStore, L: Link, K: Clock, R, Q: Ledger
     sends: &mut Steps<Q>,
 ) -> (Held, Attempt<O::Output>)
     requires { (body : SendBody) × (O.meaning op.old).asked places.now body }
-    ensures tries { (own : Repeated) → turn.now.turn ≡ on_connection own turn.now.conn.now.description → (kept : Option Kept) → turn.now.again ≡ is_some kept → (before : ToldLink) → Connects (avoided kept) before (told_link (L.told outside.old.link) (L.setup outside.old.link) (L.answers outside.old.link) (L.frames outside.old.link) (L.asked outside.old.link) (L.faults outside.old.link)) address turn.now.conn.now → Tries (trial_of (O.meaning op.old) places.now own) kept (scene (S.told (store_of client.old)) before held sends.old) (scene (S.told (store_of client.new)) (told_link (L.told outside.new.link) (L.setup outside.new.link) (L.answers outside.new.link) (L.frames outside.new.link) (L.asked outside.new.link) (L.faults outside.new.link)) result.0 sends.new) result.1 }
+    ensures tries { (own : Repeated) → turn.now.turn ≡ on_connection own turn.now.conn.now.description →
+        (kept : Option Kept) → turn.now.again ≡ is_some kept → (before : LinkState) →
+        Connects (avoided kept) (besides_out before) (besides_out (L.tells outside.old.link))
+        address turn.now.conn.now →
+        Tries (trial_of (O.meaning op.old) places.now own) kept
+        (attempt_state (S.tells (store_of client.old)) before held sends.old)
+        (attempt_state (S.tells (store_of client.new)) (L.tells outside.new.link) result.0 sends.new)
+        result.1 }
     ensures options { options_of client.new ≡ options_of client.old }
     ensures meaning { MeansTheSame (O.meaning op.old) (O.meaning op.new) }
+    ensures out { (L.tells outside.new.link).out ≡ (L.tells outside.old.link).out }
     ensures call { outside.new.call ≡ outside.old.call }
     ensures sends { sends.new ≤ sends.old + 1 }
 {
     let description = &turn.conn.description;
     let asked = asks_session(op.supports_sessions(), description);
-    let (held, lent) = hold_session(alloc, client, &mut outside.clock, held, asked);
+    let (held, lent) = check_out_session(alloc, client, &mut outside.clock, held, asked);
     match lent {
         Ok(()) => {}
         Err(error) => return (held, Attempt::Ended(error)),
@@ -215,8 +230,11 @@ fn send<O: Operation, L: Link, Q: Ledger>(
     sends: &mut Steps<Q>,
 ) -> (Held, Attempt<O::Output>)
     requires { (body : SendBody) × (O.meaning op.old).asked places.now body }
-    ensures sending { Sending (O.meaning op.old) places.now (told_link (L.told link.old) (L.setup link.old) (L.answers link.old) (L.frames link.old) (L.asked link.old) (L.faults link.old)) (told_link (L.told link.new) (L.setup link.new) (L.answers link.new) (L.frames link.new) (L.asked link.new) (L.faults link.new)) turn.now.turn turn.now.conn.now.description.max_wire_version address held result.0 sends.old sends.new result.1 }
+    ensures sending { Sending (O.meaning op.old) places.now
+        (besides_out (L.tells link.old)) (besides_out (L.tells link.new))
+        turn.now.turn turn.now.conn.now address held result.0 sends.old sends.new result.1 }
     ensures meaning { MeansTheSame (O.meaning op.old) (O.meaning op.new) }
+    ensures out { (L.tells link.new).out ≡ (L.tells link.old).out }
     ensures sends { sends.new ≤ sends.old + 1 }
 {
     let (held, drawn) = draw_number(alloc, held, turn.turn);
@@ -255,8 +273,11 @@ fn exchange<O: Operation, L: Link, Q: Ledger>(
 ) -> (Held, Attempt<O::Output>)
     requires asked { (body : SendBody) × (O.meaning op.old).asked places.now body }
     requires gives { GivesFrame (O.meaning op.old) (held_id held) (number_before held) frame.now }
-    ensures exchanging { Exchanging (O.meaning op.old) places.now (told_link (L.told link.old) (L.setup link.old) (L.answers link.old) (L.frames link.old) (L.asked link.old) (L.faults link.old)) (told_link (L.told link.new) (L.setup link.new) (L.answers link.new) (L.frames link.new) (L.asked link.new) (L.faults link.new)) turn.now.turn turn.now.conn.now.description.max_wire_version address held result.0 result.1 }
+    ensures exchanging { Exchanging (O.meaning op.old) places.now
+        (besides_out (L.tells link.old)) (besides_out (L.tells link.new))
+        turn.now.turn turn.now.conn.now address held result.0 result.1 }
     ensures meaning { MeansTheSame (O.meaning op.old) (O.meaning op.new) }
+    ensures out { (L.tells link.new).out ≡ (L.tells link.old).out }
     ensures sends { sends.new ≡ sends.old + 1 }
 {
     let version = turn.conn.description.max_wire_version;

@@ -1,10 +1,13 @@
 -- The ids that count: the next of them, and that the first of them differ.
-use Rattle.std.proofs.Common.{◌≡◌, ◌<◌, ℕ, zero, suc, ◌+◌, ◌-◌, ◌*◌, ◌/◌, ◌%◌, ◌^◌, List, ◌∷◌, refl, sym, ap, ◌∙◌, arith, lit<, add-zero, zero-add}
+use Rattle.std.proofs.Common.{◌≡◌, ◌<◌, ℕ, zero, suc, ◌+◌, ◌-◌, ◌*◌, ◌/◌, ◌%◌, ◌^◌, List, [], ◌∷◌, refl, sym, ap, ◌∙◌, arith, lit<, add-zero, zero-add}
 use Rattle.std.proofs.Math.Arith.{mod-mul}
 use Rattle.std.proofs.Math.Nat.{div-one, mod-add-mod, mod-eq_of_lt, mod-one, pow-suc, pow-succ'}
 use Rattle.std.specs.Int.{byte_at, bytes_high_first}
 use Rattle.driver_link.specs.Apart.{AllApart, NotAmong, first_ids}
-use Rattle.driver_link.specs.CountingIds.{IdsDrawn, none_drawn, number_at, object_at, session_at}
+use Rattle.driver_link.specs.CountingIds.{IdsDrawn, counted_ids, none_drawn, number_at, object_at, session_at}
+use Rattle.driver_link.specs.Ids.{IdsToCome, after_draw, session_ids, times}
+use Rattle.driver_link.specs.declared.ids.IdKind.{IdKind}
+use Rattle.driver_link.specs.declared.ids.IdKind.TheVariants.{Session, Object}
 
 -- the number of the next id, and those of the ids after it
 number_now : (greatest drawn : ℕ) → drawn < greatest → number_at greatest drawn 0 ≡ drawn + 1
@@ -39,6 +42,27 @@ session_kept ids n k = refl
 pub object_kept : (ids : IdsDrawn) (n k : ℕ) → object_at (record ids { sessions = n }) k ≡ object_at ids k
 unfolding object_at
 object_kept ids n k = refl
+
+-- the ids to come after a draw of a session id, and after one of an object id
+pub session_rest : (ids : IdsDrawn) (drawn : ℕ) → drawn ≡ (ids.sessions + 1) % (2 ^ 128 - 1) → (kinds : List IdKind) (kind : IdKind)
+    → counted_ids (record ids { sessions = drawn }) kinds kind ≡ counted_ids ids (Session ∷ kinds) kind
+session_rest ids drawn is kinds Session = ap (λ n. session_at (record ids { sessions = n }) (times Session kinds)) is ∙ session_next ids (times Session kinds)
+session_rest ids drawn is kinds Object = object_kept ids drawn (times Object kinds)
+
+pub object_rest : (ids : IdsDrawn) (drawn : ℕ) → drawn ≡ (ids.objects + 1) % (2 ^ 96 - 1) → (kinds : List IdKind) (kind : IdKind)
+    → counted_ids (record ids { objects = drawn }) kinds kind ≡ counted_ids ids (Object ∷ kinds) kind
+object_rest ids drawn is kinds Session = session_kept ids drawn (times Session kinds)
+object_rest ids drawn is kinds Object = ap (λ n. object_at (record ids { objects = n }) (times Object kinds)) is ∙ object_next ids (times Object kinds)
+
+-- where session ids count by themselves, the draws of both kinds give the first of them
+pub session_ids_first : (kinds : List IdKind) (to_come : IdsToCome) (sessions : ℕ → List ℕ)
+    → ((earlier : List IdKind) → to_come earlier Session ≡ sessions (times Session earlier)) → session_ids kinds to_come ≡ first_ids (times Session kinds) sessions
+session_ids_first [] to_come sessions count = refl
+session_ids_first (Session ∷ kinds) to_come sessions count =
+    let rest = session_ids_first kinds (after_draw Session to_come) (λ k. sessions (k + 1)) (λ earlier. count (Session ∷ earlier)) in
+    (λ i. count [] i ∷ rest i) ∙ ap (λ n. first_ids n sessions) (let same : suc (times Session kinds) ≡ times Session kinds + 1 = omega arith in same)
+session_ids_first (Object ∷ kinds) to_come sessions count =
+    session_ids_first kinds (after_draw Object to_come) sessions (λ earlier. count (Object ∷ earlier))
 
 -- a byte of a number
 byte_is : (k n : ℕ) → byte_at k n ≡ n / 256 ^ k % 256

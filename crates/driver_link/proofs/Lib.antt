@@ -10,6 +10,7 @@ pub mod Plain
 pub mod Unnumbered
 pub mod Exchanged
 pub mod Growing
+pub mod Handing
 pub mod Replying
 pub mod ReplyingUnnumbered
 pub mod Replaying

@@ -9,7 +9,7 @@ use Rattle.driver_link.specs.declared.fault.LinkFault.{LinkFault}
 use Rattle.driver_link.specs.declared.fault.LinkFault.TheVariants.{Io, Selection, Authentication}
 use Rattle.driver_link.specs.declared.machine.Schedule.{Schedule}
 use Rattle.driver_link.specs.declared.keys.TheConstants.{SELECTION_FAILURE, REAUTHENTICATION_FAILURE}
-use Rattle.driver_link.specs.Told.{Told}
+use Rattle.driver_link.specs.ServerRun.{ServerRun}
 
 -- a fault that a schedule lists, with its labels
 pub record Listed : Type 0 where
@@ -33,39 +33,39 @@ abbrev pub one_more : ℕ → ℕ
 one_more count = min (count + 1) (2 ^ 64 - 1)
 
 -- the fault of the next selection
-abbrev pub select_fault : Told → Option Listed
+abbrev pub select_fault : ServerRun → Option Listed
 select_fault told = fault_where (is_listed told.schedule.selects told.counts.selects) (Selection SELECTION_FAILURE.now) [] None
 
-abbrev pub selected : Told → Told
+abbrev pub selected : ServerRun → ServerRun
 selected told = record told { counts = record told.counts { selects = one_more told.counts.selects } }
 
 -- the fault of the next question for support of transactions
-abbrev pub support_fault : Told → Option Listed
+abbrev pub support_fault : ServerRun → Option Listed
 support_fault told = fault_where (is_listed told.schedule.supports told.counts.supports) (Selection SELECTION_FAILURE.now) [] None
 
-abbrev pub supported : Told → Told
+abbrev pub supported : ServerRun → ServerRun
 supported told = record told { counts = record told.counts { supports = one_more told.counts.supports } }
 
 -- the fault of the next check-out: one that is listed as overloaded has the labels of overload
-abbrev pub check_out_fault : Told → Option Listed
+abbrev pub check_out_fault : ServerRun → Option Listed
 check_out_fault told =
     fault_where (is_listed told.schedule.overloaded_check_outs told.counts.check_outs) (Io ConnectionRefused) overload_labels
     (fault_where (is_listed told.schedule.check_outs told.counts.check_outs) (Io ConnectionRefused) [] None)
 
-abbrev pub checked_out : Told → Told
+abbrev pub checked_out : ServerRun → ServerRun
 checked_out told = record told { counts = record told.counts { check_outs = one_more told.counts.check_outs } }
 
 -- the fault of the next authentication
-abbrev pub reauthentication_fault : Told → Option Listed
+abbrev pub reauthentication_fault : ServerRun → Option Listed
 reauthentication_fault told =
     fault_where (is_listed told.schedule.reauthentications told.counts.reauthentications) (Authentication REAUTHENTICATION_FAILURE.now) [] None
 
-abbrev pub reauthenticated : Told → Told
+abbrev pub reauthenticated : ServerRun → ServerRun
 reauthenticated told = record told { counts = record told.counts { reauthentications = one_more told.counts.reauthentications } }
 
 -- a call that is counted: it faults exactly where the schedule lists its number, and changes the count
 -- alone; after want of memory it was counted or not
-abbrev pub Counts : {A : Type 0} → (Told → Told) → (Told → Option Listed) → Option Told → Option Told → Result A LinkError → Type 0
+abbrev pub Counts : {A : Type 0} → (ServerRun → ServerRun) → (ServerRun → Option Listed) → Option ServerRun → Option ServerRun → Result A LinkError → Type 0
 Counts next fault None now result = now ≡ None
 Counts next fault (Some told) now (Ok given) = (now ≡ Some (next told)) × (fault told ≡ None)
 Counts next fault (Some told) now (Err (Fault found labels)) =
@@ -73,12 +73,12 @@ Counts next fault (Some told) now (Err (Fault found labels)) =
 Counts next fault (Some told) now (Err Memory) = (now ≡ Some told) ⊎ (now ≡ Some (next told))
 
 -- only calls were counted: the server, its setup and its schedule are as before
-pub record KeepsServer (old now : Told) : Type 0 where
+pub record KeepsServer (old now : ServerRun) : Type 0 where
   pub server : now.server ≡ old.server
   pub setup : now.setup ≡ old.setup
   pub schedule : now.schedule ≡ old.schedule
 
-abbrev pub OnlyCounts : Option Told → Option Told → Type 0
+abbrev pub OnlyCounts : Option ServerRun → Option ServerRun → Type 0
 OnlyCounts None now = now ≡ None
 OnlyCounts (Some told) None = ⊥
 OnlyCounts (Some told) (Some now) = KeepsServer told now

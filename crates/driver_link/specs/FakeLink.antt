@@ -1,5 +1,5 @@
 -- A link whose answers are chosen beforehand.
-use Rattle.std.specs.Prelude.{◌≡◌, ℕ, ◌-◌, min, length, slice_get, List, [], ◌∷◌, ◌++◌, Option, None, Some, Result, Ok, Err}
+use Rattle.std.specs.Prelude.{◌≡◌, ℕ, ◌+◌, ◌-◌, ◌<◌, min, false, length, take, drop, slice_get, List, [], ◌∷◌, ◌++◌, Option, None, Some, Result, Ok, Err}
 use Rattle.driver_error.specs.declared.kind.IoKind.TheVariants.{ConnectionReset}
 use Rattle.driver_link.specs.declared.fake_link.FakeStep.{FakeStep}
 use Rattle.driver_link.specs.declared.fake_link.FakeStep.TheVariants as step
@@ -18,22 +18,55 @@ use Rattle.driver_link.specs.declared.options.SelectionCriteria.{SelectionCriter
 use Rattle.driver_link.specs.declared.options.SelectionCriteria.TheVariants as criteria
 use Rattle.driver_link.specs.Counting.{one_more}
 use Rattle.driver_link.specs.Framed.{Framed}
+use Rattle.driver_link.specs.LinkState.{LinkState, Untold, has_number, without_newest}
 
--- what it was made with, how many check-outs and exchanges it has had, what it was asked and given, what it
--- answered, and how many of its answers were faults
+-- what it was made with, how many check-outs and exchanges it has had, what its selections asked and answered, the
+-- connections that it gave and those of them that are out, the frames that it was given and for each the number of its
+-- connection, what it answered, and how many of its answers were faults
 pub record Fake : Type 0 where
   pub descriptions : List Description
   pub steps : List FakeStep
   pub check_outs : ℕ
   pub exchanges : ℕ
   pub asked : List Asked
+  pub addresses : List Address
+  pub connections : List Conn
+  pub out : List Conn
   pub frames : List Framed
+  pub over : List ℕ
   pub answered : List Answered
   pub faults : ℕ
 
 -- a link that has had no calls
 abbrev pub fresh_link : List Description → List FakeStep → Fake
-fresh_link descriptions steps = record { descriptions = descriptions; steps = steps; check_outs = 0; exchanges = 0; asked = []; frames = []; answered = []; faults = 0 }
+fresh_link descriptions steps = record {
+  descriptions = descriptions;
+  steps = steps;
+  check_outs = 0;
+  exchanges = 0;
+  asked = [];
+  addresses = [];
+  connections = [];
+  out = [];
+  frames = [];
+  over = [];
+  answered = [];
+  faults = 0;
+}
+
+-- what it tells: nothing of a server, and all else
+abbrev pub fake_tells : Fake → LinkState
+fake_tells fake = record {
+  making = Untold;
+  answers = Some fake.answered;
+  frames = Some fake.frames;
+  over = Some fake.over;
+  asked = Some fake.asked;
+  addresses = Some fake.addresses;
+  connections = Some fake.connections;
+  out = Some fake.out;
+  faults = fake.faults;
+}
 
 -- the address of a fake link
 abbrev pub fake_address : Address
@@ -44,9 +77,10 @@ abbrev pub address_for : Option SelectionCriteria → Address
 address_for (Some (criteria.Address address)) = address
 address_for criteria = fake_address
 
--- one selection: what it asked is noted; want of memory changes nothing, and no fault is answered
+-- one selection: what it asked and answered is noted; want of memory changes nothing, and no fault is answered
 abbrev pub Selects : Fake → Fake → Asked → Result Address LinkError → Type 0
-Selects old now asked (Ok address) = (address ≡ address_for asked.criteria) × (now ≡ record old { asked = old.asked ++ asked ∷ [] })
+Selects old now asked (Ok address) =
+    (address ≡ address_for asked.criteria) × (now ≡ record old { asked = old.asked ++ asked ∷ []; addresses = old.addresses ++ address ∷ [] })
 Selects old now asked (Err (Fault fault labels)) = ⊥
 Selects old now asked (Err Memory) = now ≡ old
 
@@ -61,9 +95,11 @@ pub record IsNext (fake : Fake) (to : Address) (conn : Conn) : Type 0 where
   pub number : conn.number ≡ fake.check_outs
   pub description : description_at fake.descriptions fake.check_outs ≡ Some conn.description
 
--- one check-out: it is counted; want of memory changes nothing, and no fault is answered
+-- one check-out: it is counted, and its connection noted; want of memory changes nothing, and no fault is answered
 abbrev pub ChecksOut : Fake → Fake → Address → Result Conn LinkError → Type 0
-ChecksOut old now address (Ok conn) = IsNext old address conn × (now ≡ record old { check_outs = one_more old.check_outs })
+ChecksOut old now address (Ok conn) =
+    IsNext old address conn
+    × (now ≡ record old { check_outs = one_more old.check_outs; connections = old.connections ++ conn ∷ []; out = old.out ++ conn ∷ [] })
 ChecksOut old now address (Err (Fault fault labels)) = ⊥
 ChecksOut old now address (Err Memory) = now ≡ old
 
@@ -85,16 +121,29 @@ abbrev pub note_of : FakeStep → Answered
 note_of (step.Reply bytes) = answer.Reply bytes
 note_of (step.Fault fault) = answer.Fault Exchange fault []
 
--- the link after an exchange of a frame with this note: it is counted, and its frame and its note are kept
-abbrev pub exchanged_with : Fake → Framed → Answered → Fake
-exchanged_with fake frame note =
-    record fake { exchanges = one_more fake.exchanges; frames = fake.frames ++ frame ∷ []; answered = fake.answered ++ note ∷ [] }
+-- the link after an exchange of a frame over a connection, with this note: it is counted, and frame, number and note are kept
+abbrev pub exchanged_with : Fake → ℕ → Framed → Answered → Fake
+exchanged_with fake number frame note = record fake {
+  exchanges = one_more fake.exchanges;
+  frames = fake.frames ++ frame ∷ [];
+  over = fake.over ++ number ∷ [];
+  answered = fake.answered ++ note ∷ [];
+}
 
 -- one exchange: it answers what the next step says, a fault without labels, and a fault is counted; want of
 -- memory changes nothing
-abbrev pub Exchanges : Fake → Fake → Framed → Result (List ℕ) LinkError → Type 0
-Exchanges old now frame (Ok bytes) = (next_step old ≡ step.Reply bytes) × (now ≡ exchanged_with old frame (answer.Reply bytes))
-Exchanges old now frame (Err (Fault fault labels)) =
+abbrev pub Exchanges : Fake → Fake → ℕ → Framed → Result (List ℕ) LinkError → Type 0
+Exchanges old now number frame (Ok bytes) = (next_step old ≡ step.Reply bytes) × (now ≡ exchanged_with old number frame (answer.Reply bytes))
+Exchanges old now number frame (Err (Fault fault labels)) =
     (next_step old ≡ step.Fault fault) × (labels ≡ [])
-    × (now ≡ record (exchanged_with old frame (answer.Fault Exchange fault [])) { faults = one_more old.faults })
-Exchanges old now frame (Err Memory) = now ≡ old
+    × (now ≡ record (exchanged_with old number frame (answer.Fault Exchange fault [])) { faults = one_more old.faults })
+Exchanges old now number frame (Err Memory) = now ≡ old
+
+-- a connection is handed back: where one of its number is out, the newest is out no more
+abbrev pub ChecksIn : Fake → Fake → ℕ → Type 0
+ChecksIn old now number = now ≡ record old { out = without_newest number old.out }
+
+-- where the newest connection of a number is out, or that none is
+abbrev pub FindsNewest : ℕ → List Conn → Option ℕ → Type 0
+FindsNewest number out None = has_number number out ≡ false
+FindsNewest number out (Some at) = (at < length out) × (take at out ++ drop (at + 1) out ≡ without_newest number out)

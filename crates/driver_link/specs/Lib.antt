@@ -2,6 +2,7 @@ pub mod AbortFrame
 pub mod Apart
 pub mod Asking
 pub mod Cases
+pub mod Clock
 pub mod CommandNames
 pub mod Commands
 pub mod Counting
@@ -13,7 +14,10 @@ pub mod FakeLink
 pub mod Faults
 pub mod Framed
 pub mod Honesty
+pub mod Ids
 pub mod Interrupting
+pub mod LinkCalls
+pub mod LinkState
 pub mod MemClock
 pub mod MemStreams
 pub mod Numbers
@@ -22,12 +26,12 @@ pub mod Reads
 pub mod Replies
 pub mod Retried
 pub mod Sequences
+pub mod ServerRun
 pub mod Serving
 pub mod Sessions
 pub mod Settled
 pub mod Statements
 pub mod Streams
-pub mod Told
 pub mod Values
 pub mod WellFormed
 pub mod Writes

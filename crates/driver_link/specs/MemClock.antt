@@ -1,5 +1,6 @@
 -- A clock in memory.
-use Rattle.std.specs.Prelude.{ℕ, ◌+◌, ◌-◌, ◌^◌, min}
+use Rattle.std.specs.Prelude.{ℕ}
+use Rattle.driver_link.specs.Clock.{ClockTells}
 
 -- its moment, what a reading adds to it, its last reading, and the sum of its sleeps
 pub record ClockState : Type 0 where
@@ -8,6 +9,6 @@ pub record ClockState : Type 0 where
   pub last : ℕ
   pub slept : ℕ
 
--- a sum that stops at the greatest u64
-abbrev pub capped_sum : ℕ → ℕ → ℕ
-capped_sum a b = min (a + b) (2 ^ 64 - 1)
+-- what it tells
+abbrev pub clock_tells : ClockState → ClockTells
+clock_tells clock = record { last = clock.last; slept = clock.slept }

@@ -42,11 +42,9 @@ impl CountingIds {
 }
 
 impl IdSource for CountingIds {
-    ghost use Rattle.driver_link.specs.CountingIds.{session_at, object_at};
+    ghost use Rattle.driver_link.specs.CountingIds.{counted_ids};
 
-    ghost sessions = { session_at };
-
-    ghost objects = { object_at };
+    ghost to_come = { counted_ids };
 
     fn session_id(&mut self) -> [u8; 16] {
         let number = self.sessions + 1;

@@ -1,7 +1,8 @@
 //! A link whose answers are chosen beforehand, for tests of what stands above a link.
 ghost use Rattle.std.specs.Prelude.{◌≡◌, ◌<◌, ◌++◌, ◌∷◌, [], length, slice_get, Some, IfOk, OnOk, OnErr};
-ghost use Rattle.std.specs.Option.{option_copied, option_map};
-ghost use Rattle.driver_link.specs.FakeLink.{address_for as selected_address, description_at as given_description, step_at as taken_step, note_of as taken_note, fresh_link};
+ghost use Rattle.std.specs.Option.{option_copied};
+ghost use Rattle.driver_link.specs.FakeLink.{FindsNewest, address_for as selected_address, description_at as given_description, step_at as taken_step, note_of as taken_note, fresh_link};
+ghost use Rattle.driver_link.specs.LinkState.{without_newest};
 
 use crate::fault::{Answered, LinkCall, LinkError, LinkFault};
 use crate::frame::Frame;
@@ -37,6 +38,57 @@ impl TryClone for FakeStep {
     }
 }
 
+/// A connection as a link notes it: unlike the connection it may be let go.
+#[derive(Debug, Drop)]
+pub struct NotedConn {
+    address: Address,
+    description: Description,
+    number: u64,
+}
+
+impl Model for NotedConn {
+    ghost use Rattle.std.specs.Coded.{codes};
+    ghost use Rattle.driver_link.specs.contracts.options.Conn as conn_contract;
+    ghost use Rattle.driver_link.specs.declared.options.Conn.{Conn};
+
+    ghost Value = { Conn };
+
+    ghost coded = { Prim.hlevel (codes, conn_contract.the_row.coded) };
+
+    ghost view = { λ conn. record {
+      address = conn.address;
+      description = conn.description;
+      number = conn.number;
+    } };
+}
+
+impl NotedConn {
+    /// A note of the connection with these parts.
+    fn new(address: Address, description: Description, number: u64) -> NotedConn
+        ensures { result ≡ record { address = address; description = description; number = number } }
+    {
+        NotedConn {
+            address,
+            description,
+            number,
+        }
+    }
+
+    /// The number of the connection.
+    pub fn number(&self) -> u64
+        ensures { result ≡ self.now.number }
+    {
+        self.number
+    }
+
+    /// The address that it leads to.
+    pub fn address(&self) -> &Address
+        ensures { result.now ≡ self.now.address }
+    {
+        &self.address
+    }
+}
+
 /// A link without a server, which answers by its steps and keeps what it was asked and given.
 #[derive(Debug, Drop)]
 pub struct FakeLink {
@@ -45,7 +97,11 @@ pub struct FakeLink {
     check_outs: u64,
     exchanges: u64,
     asked: List<Asked>,
+    addresses: List<Address>,
+    connections: List<NotedConn>,
+    out: Vec<NotedConn>,
     frames: List<Frame>,
+    over: List<u64>,
     answered: List<Answered>,
     faults: u64,
 }
@@ -56,7 +112,20 @@ impl Model for FakeLink {
 
     ghost Value = { Fake };
 
-    ghost view = { λ link. record { descriptions = link.descriptions; steps = link.steps; check_outs = link.check_outs; exchanges = link.exchanges; asked = link.asked; frames = link.frames; answered = link.answered; faults = link.faults } };
+    ghost view = { λ link. record {
+      descriptions = link.descriptions;
+      steps = link.steps;
+      check_outs = link.check_outs;
+      exchanges = link.exchanges;
+      asked = link.asked;
+      addresses = link.addresses;
+      connections = link.connections;
+      out = link.out.items;
+      frames = link.frames;
+      over = link.over;
+      answered = link.answered;
+      faults = link.faults;
+    } };
 
     ghost invariant = { λ link. 0 < length link.descriptions };
 }
@@ -73,7 +142,11 @@ impl FakeLink {
             check_outs: 0,
             exchanges: 0,
             asked: List::new(alloc),
+            addresses: List::new(alloc),
+            connections: List::new(alloc),
+            out: Vec::new(alloc),
             frames: List::new(alloc),
+            over: List::new(alloc),
             answered: List::new(alloc),
             faults: 0,
         }
@@ -84,6 +157,34 @@ impl FakeLink {
         ensures { result.now ≡ self.now.asked }
     {
         self.asked.as_slice()
+    }
+
+    /// What each selection answered, the oldest first.
+    pub fn addresses(&self) -> &[Address]
+        ensures { result.now ≡ self.now.addresses }
+    {
+        self.addresses.as_slice()
+    }
+
+    /// The connections that were checked out, the oldest first.
+    pub fn connections(&self) -> &[NotedConn]
+        ensures { result.now ≡ self.now.connections }
+    {
+        self.connections.as_slice()
+    }
+
+    /// Those of them that were not handed back.
+    pub fn out(&self) -> &[NotedConn]
+        ensures { result.now ≡ self.now.out }
+    {
+        self.out.as_slice()
+    }
+
+    /// The numbers of the connections that the frames went over, the oldest first.
+    pub fn over(&self) -> &[u64]
+        ensures { result.now ≡ self.now.over }
+    {
+        self.over.as_slice()
     }
 
     /// The frames of its exchanges, the oldest first.
@@ -109,29 +210,15 @@ impl FakeLink {
 }
 
 impl Link for FakeLink {
-    ghost use Rattle.std.specs.Prelude.{◌≡◌, Option, None, Some, Ok, true, IfOk, IfSome, List, slice_get};
+    ghost use Rattle.std.specs.Prelude.{◌≡◌, Ok, None, Some, true, IfSome, slice_get};
     ghost use Rattle.std.specs.Option.{option_copied, option_map};
-    ghost use Rattle.driver_link.specs.Counting.{Counts, selected, select_fault, supported, support_fault, checked_out, check_out_fault, reauthenticated, reauthentication_fault};
-    ghost use Rattle.driver_link.specs.FakeLink.{Selects, ChecksOut, Exchanges};
-    ghost use Rattle.driver_link.specs.Faults.{HasLinkCause};
-    ghost use Rattle.driver_link.specs.Framed.{Framed};
+    ghost use Rattle.driver_link.specs.FakeLink.{ChecksIn, ChecksOut, Exchanges, Selects, fake_tells};
+    ghost use Rattle.driver_link.specs.LinkCalls.{AsksSupport, ChecksInConnection, ChecksOutConnection, ExchangesFrame, Reauthenticates, SelectsServer};
+    ghost use Rattle.driver_link.specs.LinkState.{setup_of};
     ghost use Rattle.driver_link.specs.Reads.{Reads};
-    ghost use Rattle.driver_link.specs.Told.{Told, Steps, IsTo, Notes, MayNote, noted, reply_noted, nothing_noted};
-    ghost use Rattle.driver_link.specs.declared.fault.LinkCall.TheVariants.{Select, Support, CheckOut, Exchange, Reauthenticate};
     ghost use Rattle.driver_link.specs.declared.machine.Send.{Send as Sent};
-    ghost use Rattle.driver_link.specs.declared.machine.Setup.{Setup as ToldSetup};
 
-    ghost told = { λ link. None };
-
-    ghost setup = { λ link. None };
-
-    ghost answers = { λ link. Some link.answered };
-
-    ghost frames = { λ link. Some link.frames };
-
-    ghost asked = { λ link. Some link.asked };
-
-    ghost faults = { λ link. link.faults };
+    ghost tells = { fake_tells };
 
     fn select(
         &mut self,
@@ -139,45 +226,38 @@ impl Link for FakeLink {
         criteria: Option<&SelectionCriteria>,
         deprioritized: &[Address],
     ) -> Result<Address, LinkError>
-        ensures counts { Counts selected select_fault None None result }
-        ensures setup { ◌≡◌ {A = Option ToldSetup} None None }
-        ensures answers { Notes (Some self.old.answered) (Some self.new.answered) (noted Select nothing_noted result) }
-        ensures asked { MayNote (Some self.old.asked) (Some self.new.asked) (record { criteria = option_copied criteria.entry; deprioritized = deprioritized.now }) result }
-        ensures frames { Some self.new.frames ≡ Some self.old.frames }
-        ensures cause { HasLinkCause self.old.faults self.new.faults result }
-        ensures selects { Selects self.old self.new (record { criteria = option_copied criteria.entry; deprioritized = deprioritized.now }) result }
+        ensures told { SelectsServer (fake_tells self.old) (fake_tells self.new)
+            (record { criteria = option_copied criteria.entry; deprioritized = deprioritized.now }) result }
+        ensures selects { Selects self.old self.new
+            (record { criteria = option_copied criteria.entry; deprioritized = deprioritized.now }) result }
     {
         let address = address_for(alloc, criteria)?;
         let asked = Asked {
             criteria: copied_criteria(alloc, criteria)?,
             deprioritized: copied_addresses(alloc, deprioritized)?,
         };
-        self.asked.push(asked)?;
+        let noted = address.try_clone(alloc)?;
+        push_both(&mut self.asked, &mut self.addresses, asked, noted)?;
         Ok(address)
     }
 
     fn is_sharded(&self) -> bool
-        ensures setup { IfSome {T = ToldSetup} None (λ setup. result ≡ setup.description.sharded) }
-        ensures first { option_map (λ description. description.sharded) (slice_get self.now.descriptions 0) ≡ Some result }
+        ensures told { IfSome (setup_of (fake_tells self.now)) (λ setup. result ≡ setup.description.sharded) }
+        ensures first { option_map (λ description. description.sharded) (slice_get self.now.descriptions 0)
+            ≡ Some result }
     {
         self.descriptions.as_slice()[0].sharded
     }
 
     fn session_timeout_ms(&self) -> Option<u64>
-        ensures setup { IfSome {T = ToldSetup} None (λ setup. result ≡ setup.timeout_ms) }
+        ensures told { IfSome (setup_of (fake_tells self.now)) (λ setup. result ≡ setup.timeout_ms) }
         ensures none { result ≡ None }
     {
         None
     }
 
     fn transaction_support(&mut self, _alloc: Global) -> Result<bool, LinkError>
-        ensures counts { Counts supported support_fault None None result }
-        ensures support { IfOk result (λ answer. IfSome {T = ToldSetup} None (λ setup. answer ≡ setup.transactions)) }
-        ensures setup { ◌≡◌ {A = Option ToldSetup} None None }
-        ensures answers { Notes (Some self.old.answered) (Some self.new.answered) (noted Support nothing_noted result) }
-        ensures asked { Some self.new.asked ≡ Some self.old.asked }
-        ensures frames { Some self.new.frames ≡ Some self.old.frames }
-        ensures cause { HasLinkCause self.old.faults self.new.faults result }
+        ensures told { AsksSupport (fake_tells self.old) (fake_tells self.new) result }
         ensures supported { result ≡ Ok true }
         ensures unchanged { self.new ≡ self.old }
     {
@@ -185,45 +265,40 @@ impl Link for FakeLink {
     }
 
     fn check_out(&mut self, alloc: Global, address: &Address) -> Result<Conn, LinkError>
-        ensures counts { Counts checked_out check_out_fault None None result }
-        ensures to { IfOk result (λ conn. IsTo None address.now conn) }
-        ensures setup { ◌≡◌ {A = Option ToldSetup} None None }
-        ensures answers { Notes (Some self.old.answered) (Some self.new.answered) (noted CheckOut nothing_noted result) }
-        ensures asked { Some self.new.asked ≡ Some self.old.asked }
-        ensures frames { Some self.new.frames ≡ Some self.old.frames }
-        ensures cause { HasLinkCause self.old.faults self.new.faults result }
+        ensures told { ChecksOutConnection (fake_tells self.old) (fake_tells self.new) address.now result }
         ensures checks_out { ChecksOut self.old self.new address.now result }
     {
         let number = self.check_outs;
-        let conn = Conn {
-            address: address.try_clone(alloc)?,
-            description: description_at(self.descriptions.as_slice(), number),
-            number,
-        };
+        let description = description_at(self.descriptions.as_slice(), number);
+        let noted = NotedConn::new(address.try_clone(alloc)?, description, number);
+        let lent = NotedConn::new(address.try_clone(alloc)?, description, number);
+        let address = address.try_clone(alloc)?;
+        note_conn(&mut self.connections, &mut self.out, noted, lent)?;
         self.check_outs = number.saturating_add(1);
-        Ok(conn)
+        Ok(Conn {
+            address,
+            description,
+            number,
+        })
     }
 
     fn exchange(
         &mut self,
         alloc: Global,
-        _conn: &Conn,
+        conn: &Conn,
         frame: &Frame,
         places: &[Place],
     ) -> Result<Bytes, LinkError>
         requires { (send : Sent) × Reads frame.now places.now send }
-        ensures step { (send : Sent) → Reads frame.now places.now send → Steps None None send result }
-        ensures setup { ◌≡◌ {A = Option ToldSetup} None None }
-        ensures answers { Notes (Some self.old.answered) (Some self.new.answered) (noted Exchange reply_noted result) }
-        ensures asked { Some self.new.asked ≡ Some self.old.asked }
-        ensures frames { MayNote (Some self.old.frames) (Some self.new.frames) frame.now result }
-        ensures cause { HasLinkCause self.old.faults self.new.faults result }
-        ensures exchanges { Exchanges self.old self.new frame.now result }
+        ensures told { ExchangesFrame (fake_tells self.old) (fake_tells self.new)
+            conn.now frame.now places.now result }
+        ensures exchanges { Exchanges self.old self.new conn.now.number frame.now result }
     {
         let step = step_at(alloc, &self.steps, self.exchanges)?;
         let note = note_of(alloc, &step)?;
         let frame = frame.try_clone(alloc)?;
-        keep(&mut self.frames, &mut self.answered, frame, note)?;
+        let (frames, over) = (&mut self.frames, &mut self.over);
+        keep(frames, over, &mut self.answered, frame, conn.number, note)?;
         self.exchanges = self.exchanges.saturating_add(1);
         match step {
             FakeStep::Reply(reply) => Ok(reply),
@@ -238,35 +313,28 @@ impl Link for FakeLink {
     }
 
     fn reauthenticate(&mut self, _alloc: Global, _conn: &Conn) -> Result<(), LinkError>
-        ensures counts { Counts reauthenticated reauthentication_fault None None result }
-        ensures setup { ◌≡◌ {A = Option ToldSetup} None None }
-        ensures answers { Notes (Some self.old.answered) (Some self.new.answered) (noted Reauthenticate nothing_noted result) }
-        ensures asked { Some self.new.asked ≡ Some self.old.asked }
-        ensures frames { Some self.new.frames ≡ Some self.old.frames }
-        ensures cause { HasLinkCause self.old.faults self.new.faults result }
+        ensures told { Reauthenticates (fake_tells self.old) (fake_tells self.new) result }
         ensures authenticated { result ≡ Ok tt }
         ensures unchanged { self.new ≡ self.old }
     {
         Ok(())
     }
 
-    fn check_in(&mut self, _conn: Conn)
-        ensures told { ◌≡◌ {A = Option Told} None None }
-        ensures setup { ◌≡◌ {A = Option ToldSetup} None None }
-        ensures answers { Some self.new.answered ≡ Some self.old.answered }
-        ensures asked { Some self.new.asked ≡ Some self.old.asked }
-        ensures frames { Some self.new.frames ≡ Some self.old.frames }
-        ensures faults { self.new.faults ≡ self.old.faults }
-        ensures unchanged { self.new ≡ self.old }
-    {}
+    fn check_in(&mut self, conn: Conn)
+        ensures told { ChecksInConnection (fake_tells self.old) (fake_tells self.new) conn }
+        ensures checks_in { ChecksIn self.old self.new conn.number }
+    {
+        let Conn {
+            address,
+            description: _,
+            number,
+        } = conn;
+        drop(address);
+        hand_back(&mut self.out, number);
+    }
 
     fn report(&mut self, _address: &Address, _error: &Error)
-        ensures told { ◌≡◌ {A = Option Told} None None }
-        ensures setup { ◌≡◌ {A = Option ToldSetup} None None }
-        ensures answers { Some self.new.answered ≡ Some self.old.answered }
-        ensures asked { Some self.new.asked ≡ Some self.old.asked }
-        ensures frames { Some self.new.frames ≡ Some self.old.frames }
-        ensures faults { self.new.faults ≡ self.old.faults }
+        ensures told { fake_tells self.new ≡ fake_tells self.old }
         ensures unchanged { self.new ≡ self.old }
     {}
 }
@@ -341,24 +409,94 @@ fn note_of(alloc: Global, step: &FakeStep) -> Result<Answered, AllocError>
     })
 }
 
-/// Keeps the frame of an exchange and its note. A refusal changes nothing.
+/// Notes a connection that is checked out, among all and among those that are out. A refusal changes
+/// nothing.
+fn note_conn(
+    connections: &mut List<NotedConn>,
+    out: &mut Vec<NotedConn>,
+    noted: NotedConn,
+    lent: NotedConn,
+) -> Result<(), AllocError>
+    ensures connections { OnOk result (connections.new ≡ connections.old ++ noted ∷ []) }
+    ensures out { OnOk result (out.new.items ≡ out.old.items ++ lent ∷ []) }
+    ensures connections_err { OnErr result (connections.new ≡ connections.old) }
+    ensures out_err { OnErr result (out.new.items ≡ out.old.items) }
+{
+    out.reserve(1)?;
+    connections.push(noted)?;
+    out.push_reserved(lent);
+    Ok(())
+}
+
+/// Takes the newest connection of a number from those that are out, where one is.
+#[tactic(auto, using(crate::proofs::Handing::none_newest))]
+fn hand_back(out: &mut Vec<NotedConn>, number: u64)
+    ensures { out.new.items ≡ without_newest number out.old.items }
+{
+    if let Some(at) = newest_of(out.as_slice(), number) {
+        drop(out.remove(at));
+    }
+}
+
+/// Where the newest connection of a number stands.
+fn newest_of(out: &[NotedConn], number: u64) -> Option<usize>
+    ensures { FindsNewest number out.now result }
+{
+    let mut at = out.len();
+    'back: while at > 0 {
+        at -= 1;
+        if out[at].number() == number {
+            return Some(at);
+        }
+    }
+    None
+}
+
+/// Appends an item to each of two lists. A refusal changes nothing.
+fn push_both<A: Drop, B: Drop>(
+    first: &mut List<A>,
+    second: &mut List<B>,
+    a: A,
+    b: B,
+) -> Result<(), AllocError>
+    ensures first { OnOk result (first.new ≡ first.old ++ a ∷ []) }
+    ensures second { OnOk result (second.new ≡ second.old ++ b ∷ []) }
+    ensures first_err { OnErr result (first.new ≡ first.old) }
+    ensures second_err { OnErr result (second.new ≡ second.old) }
+{
+    let had = first.len();
+    first.push(a)?;
+    match second.push(b) {
+        Ok(()) => Ok(()),
+        Err(refused) => {
+            first.truncate(had);
+            Err(refused)
+        }
+    }
+}
+
+/// Keeps the frame of an exchange, the number of its connection and its note. A refusal changes nothing.
 fn keep(
     frames: &mut List<Frame>,
+    over: &mut List<u64>,
     answered: &mut List<Answered>,
     frame: Frame,
+    number: u64,
     note: Answered,
 ) -> Result<(), AllocError>
     ensures frame { OnOk result (frames.new ≡ frames.old ++ frame ∷ []) }
+    ensures over { OnOk result (over.new ≡ over.old ++ number ∷ []) }
     ensures note { OnOk result (answered.new ≡ answered.old ++ note ∷ []) }
     ensures frames_err { OnErr result (frames.new ≡ frames.old) }
+    ensures over_err { OnErr result (over.new ≡ over.old) }
     ensures answered_err { OnErr result (answered.new ≡ answered.old) }
 {
-    let had = frames.len();
-    frames.push(frame)?;
-    match answered.push(note) {
+    let had = over.len();
+    over.push(number)?;
+    match push_both(frames, answered, frame, note) {
         Ok(()) => Ok(()),
         Err(refused) => {
-            frames.truncate(had);
+            over.truncate(had);
             Err(refused)
         }
     }

@@ -43,7 +43,8 @@ impl Model for Frame {
 
     ghost Value = { Framed };
 
-    ghost view = { λ frame. record { database = frame.database; body = frame.body; sequences = frame.sequences } };
+    ghost view = { λ frame. record
+        { database = frame.database; body = frame.body; sequences = frame.sequences } };
 }
 
 impl TryClone for Frame {

@@ -25,10 +25,10 @@ pub use by_id::ById;
 pub use clock::Clock;
 pub use command::{CommandName, command_named};
 pub use counting_ids::{CountingIds, counting_ids_differ};
-pub use fake_link::{FakeLink, FakeStep};
+pub use fake_link::{FakeLink, FakeStep, NotedConn};
 pub use fault::{Answered, LinkCall, LinkError, LinkFault};
 pub use frame::{Documents, Frame, Sequence};
-pub use ids::IdSource;
+pub use ids::{IdKind, IdSource};
 pub use link::Link;
 pub use machine::{
     Counted, Entry, Failing, Item, KnownSession, Place, PlacedWrite, Planned, PlannedConcern,

@@ -1,6 +1,6 @@
 //! A clock in memory, for runs that are to repeat exactly.
-ghost use Rattle.std.specs.Prelude.{◌≡◌, ◌≤◌, ◌+◌, ◌-◌, ◌^◌, min};
-ghost use Rattle.driver_link.specs.MemClock.{ClockState, capped_sum};
+ghost use Rattle.std.specs.Prelude.{◌≡◌, ◌≤◌};
+ghost use Rattle.driver_link.specs.Clock.{capped_sum};
 
 use crate::clock::Clock;
 use std::marker::Model;
@@ -20,7 +20,8 @@ impl Model for MemClock {
 
     ghost Value = { ClockState };
 
-    ghost view = { λ clock. record { moment = clock.moment; step = clock.step; last = clock.last; slept = clock.slept } };
+    ghost view = { λ clock. record
+        { moment = clock.moment; step = clock.step; last = clock.last; slept = clock.slept } };
 
     ghost invariant = { λ clock. clock.last ≤ clock.moment };
 }
@@ -40,16 +41,19 @@ impl MemClock {
 }
 
 impl Clock for MemClock {
-    ghost last = { λ clock. clock.last };
+    ghost use Rattle.driver_link.specs.Clock.{ClockTells, capped_sum};
+    ghost use Rattle.driver_link.specs.MemClock.{clock_tells};
 
-    ghost slept = { λ clock. clock.slept };
+    ghost tells = { clock_tells };
 
     fn now_ms(&mut self) -> u64
-        ensures reading { self.new.last ≡ result }
-        ensures forward { self.old.last ≤ self.new.last }
-        ensures awake { self.new.slept ≡ self.old.slept }
+        ensures reading { clock_tells self.new ≡ record (clock_tells self.old) { last = result } }
+        ensures forward { self.old.last ≤ result }
         ensures moment { result ≡ self.old.moment }
-        ensures steps { self.new ≡ record self.old { moment = capped_sum self.old.moment self.old.step; last = self.old.moment } }
+        ensures steps { self.new ≡ record self.old {
+          moment = capped_sum self.old.moment self.old.step;
+          last = self.old.moment;
+        } }
     {
         let now = self.moment;
         self.last = now;
@@ -58,9 +62,12 @@ impl Clock for MemClock {
     }
 
     fn sleep_ms(&mut self, ms: u64)
-        ensures slept { self.new.slept ≡ min (self.old.slept + ms) (2 ^ 64 - 1) }
-        ensures last { self.new.last ≡ self.old.last }
-        ensures goes_on { self.new ≡ record self.old { moment = capped_sum self.old.moment ms; slept = capped_sum self.old.slept ms } }
+        ensures slept { clock_tells self.new ≡
+            record (clock_tells self.old) { slept = capped_sum self.old.slept ms } }
+        ensures goes_on { self.new ≡ record self.old {
+          moment = capped_sum self.old.moment ms;
+          slept = capped_sum self.old.slept ms;
+        } }
     {
         self.moment = self.moment.saturating_add(ms);
         self.slept = self.slept.saturating_add(ms);

@@ -26,7 +26,12 @@ impl Model for MemSource {
 
     ghost Value = { SourceState };
 
-    ghost view = { λ source. record { left = drop (cursor_position source.bytes) (cursor_inner source.bytes).items; fails = source.fails; calls = source.calls; faults = source.faults } };
+    ghost view = { λ source. record {
+      left = drop (cursor_position source.bytes) (cursor_inner source.bytes).items;
+      fails = source.fails;
+      calls = source.calls;
+      faults = source.faults;
+    } };
 }
 
 impl MemSource {
@@ -50,7 +55,8 @@ impl Source for MemSource {
 
     fn read(&mut self, into: &mut [u8]) -> Result<usize, Failed>
         ensures within { IfOk result (λ count. count ≤ length into.old) }
-        ensures taken { IfOk result (λ count. Consumes (Some self.old.left) (Some self.new.left) (take count into.new)) }
+        ensures taken { IfOk result
+            (λ count. Consumes (Some self.old.left) (Some self.new.left) (take count into.new)) }
         ensures end { IfOk result (λ count. count ≡ 0 → 0 < length into.old → IsAtEnd (Some self.old.left)) }
         ensures err { OnErr result (Some self.new.left ≡ Some self.old.left) }
         ensures cause { HasCause self.old.faults self.new.faults result }
@@ -87,15 +93,24 @@ impl Model for MemSink {
 
     ghost Value = { SinkState };
 
-    ghost view = { λ sink. record { contents = sink.bytes.items; room = sink.room; fails = sink.fails; calls = sink.calls; faults = sink.faults } };
+    ghost view = { λ sink. record {
+      contents = sink.bytes.items;
+      room = sink.room;
+      fails = sink.fails;
+      calls = sink.calls;
+      faults =
+          sink.faults;
+    } };
 
-    ghost invariant = { λ sink. (length sink.bytes.items ≤ sink.room) × (sink.room ≤ vec_capacity sink.bytes) };
+    ghost invariant = { λ sink. (length sink.bytes.items ≤ sink.room) ×
+        (sink.room ≤ vec_capacity sink.bytes) };
 }
 
 impl MemSink {
     /// A sink with so much room that fails at the calls listed, counted from 0, and once it is full.
     pub fn new(alloc: Global, room: usize, fails: List<u64>) -> Result<MemSink, AllocError>
-        ensures { IfOk result (λ sink. sink ≡ record { contents = []; room = room; fails = fails; calls = 0; faults = 0 }) }
+        ensures { IfOk result
+            (λ sink. sink ≡ record { contents = []; room = room; fails = fails; calls = 0; faults = 0 }) }
     {
         Ok(MemSink {
             bytes: Vec::with_capacity(alloc, room)?,
@@ -122,11 +137,13 @@ impl Sink for MemSink {
     fn write(&mut self, bytes: &[u8]) -> Result<usize, Failed>
         ensures within { IfOk result (λ count. count ≤ length bytes.now) }
         ensures some { IfOk result (λ count. 0 < length bytes.now → 0 < count) }
-        ensures taken { IfOk result (λ count. Appends (Some self.old.contents) (Some self.new.contents) (take count bytes.now)) }
+        ensures taken { IfOk result
+            (λ count. Appends (Some self.old.contents) (Some self.new.contents) (take count bytes.now)) }
         ensures err { OnErr result (Some self.new.contents ≡ Some self.old.contents) }
         ensures cause { HasCause self.old.faults self.new.faults result }
         ensures listed { is_err result ≡ write_fails self.old }
-        ensures fits { IfOk result (λ count. count ≡ min (length bytes.now) (self.old.room - length self.old.contents)) }
+        ensures fits { IfOk result
+            (λ count. count ≡ min (length bytes.now) (self.old.room - length self.old.contents)) }
         ensures calls { self.new.calls ≡ min (self.old.calls + 1) (2 ^ 64 - 1) }
         ensures fails { self.new.fails ≡ self.old.fails }
         ensures room { self.new.room ≡ self.old.room }

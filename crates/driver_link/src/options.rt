@@ -76,8 +76,8 @@ pub struct Description {
     pub sharded: bool,
 }
 
-/// A connection that was checked out. It is handed back by value.
-#[derive(Debug, Drop)]
+/// A connection that was checked out. It is handed back by value, and can't be let go.
+#[derive(Debug)]
 pub struct Conn {
     pub address: Address,
     pub description: Description,

@@ -19,7 +19,8 @@ pub trait Source {
     /// empty is the end of the input.
     fn read(&mut self, into: &mut [u8]) -> Result<usize, Failed>
         ensures within { IfOk result (λ count. count ≤ length into.old) }
-        ensures taken { IfOk result (λ count. Consumes (left self.old) (left self.new) (take count into.new)) }
+        ensures taken { IfOk result
+            (λ count. Consumes (left self.old) (left self.new) (take count into.new)) }
         ensures end { IfOk result (λ count. count ≡ 0 → 0 < length into.old → IsAtEnd (left self.old)) }
         ensures err { OnErr result (left self.new ≡ left self.old) }
         ensures cause { HasCause (faults self.old) (faults self.new) result };
@@ -38,7 +39,8 @@ pub trait Sink {
     fn write(&mut self, bytes: &[u8]) -> Result<usize, Failed>
         ensures within { IfOk result (λ count. count ≤ length bytes.now) }
         ensures some { IfOk result (λ count. 0 < length bytes.now → 0 < count) }
-        ensures taken { IfOk result (λ count. Appends (contents self.old) (contents self.new) (take count bytes.now)) }
+        ensures taken { IfOk result
+            (λ count. Appends (contents self.old) (contents self.new) (take count bytes.now)) }
         ensures err { OnErr result (contents self.new ≡ contents self.old) }
         ensures cause { HasCause (faults self.old) (faults self.new) result };
 }

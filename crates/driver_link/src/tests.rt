@@ -3,7 +3,7 @@ ghost use Rattle.std.specs.Prelude.{◌≡◌, [], IfOk};
 ghost use Rattle.driver_link.specs.AbortFrame.{abort_body as body_of_abort, abort_send};
 ghost use Rattle.driver_link.specs.Reads.{Reads};
 
-use crate::fake_link::{FakeLink, FakeStep};
+use crate::fake_link::{FakeLink, FakeStep, NotedConn};
 use crate::fault::{Answered, LinkCall, LinkError, LinkFault};
 use crate::frame::Frame;
 use crate::keys::{ABORT_TRANSACTION, ADMIN, DATABASE};
@@ -99,12 +99,10 @@ fn check_out(link: &mut FakeLink, alloc: Global) -> Result<(u64, Option<i32>), L
 /// Sends one frame over a connection of its own.
 fn exchange(link: &mut FakeLink, alloc: Global) -> Result<Bytes, LinkError> {
     let frame = abort_frame(alloc)?;
-    let conn = Conn {
-        address: there(alloc)?,
-        description: described(25, false),
-        number: 0,
-    };
-    link.exchange(alloc, &conn, &frame, &[])
+    let conn = link.check_out(alloc, &there(alloc)?)?;
+    let answer = link.exchange(alloc, &conn, &frame, &[]);
+    link.check_in(conn);
+    answer
 }
 
 /// A link that had three exchanges.
@@ -182,6 +180,14 @@ fn asked_there(asked: &[Asked], at: usize) -> bool {
     }
 }
 
+/// Whether a selection answered this address.
+fn selected(addresses: &[Address], at: usize, host: &str, port: u16) -> bool {
+    match addresses.get(at) {
+        Some(address) => is_at(address, host, port),
+        None => false,
+    }
+}
+
 /// Whether a selection asked for nothing.
 fn asked_any(asked: &[Asked], at: usize) -> bool {
     match asked.get(at) {
@@ -206,6 +212,9 @@ fn selections_are_told(rt: HostRuntime) -> Result<(), LinkError> {
     assert_eq!(rt; link.asked().len(), 2);
     assert!(rt; asked_there(link.asked(), 0));
     assert!(rt; asked_any(link.asked(), 1));
+    assert_eq!(rt; link.addresses().len(), 2);
+    assert!(rt; selected(link.addresses(), 0, "there", 5));
+    assert!(rt; selected(link.addresses(), 1, "fake", 27017));
     Ok(())
 }
 
@@ -251,11 +260,64 @@ fn the_other_calls_answer_the_same_each_time(rt: HostRuntime) -> Result<(), Link
     let alloc = rt.alloc();
     let mut link = two_steps(alloc)?;
     let address = there(alloc)?;
-    let conn = link.check_out(alloc, &address)?;
     assert!(rt; link.is_sharded());
     assert_eq!(rt; link.session_timeout_ms(), None);
     assert!(rt; link.transaction_support(alloc)?);
-    link.reauthenticate(alloc, &conn)?;
+    let conn = link.check_out(alloc, &address)?;
+    let answer = link.reauthenticate(alloc, &conn);
     link.check_in(conn);
+    answer
+}
+
+/// Checks a connection out that is never handed back.
+fn keep_out(link: &mut FakeLink, alloc: Global) -> Result<(), LinkError> {
+    let conn = link.check_out(alloc, &there(alloc)?)?;
+    let Conn {
+        address,
+        description: _,
+        number: _,
+    } = conn;
+    drop(address);
+    Ok(())
+}
+
+/// Whether a noted connection leads to the tests' address.
+fn leads_there(conns: &[NotedConn], at: usize) -> bool {
+    match conns.get(at) {
+        Some(conn) => is_at(conn.address(), "there", 5),
+        None => false,
+    }
+}
+
+/// The numbers of noted connections.
+fn numbers(alloc: Global, conns: &[NotedConn]) -> Result<Vec<u64>, AllocError> {
+    let mut numbers = Vec::new(alloc);
+    for conn in conns {
+        numbers.push(conn.number())?;
+    }
+    Ok(numbers)
+}
+
+#[test]
+fn connections_are_told_and_those_that_are_out(rt: HostRuntime) -> Result<(), LinkError> {
+    let alloc = rt.alloc();
+    let mut link = two_steps(alloc)?;
+    keep_out(&mut link, alloc)?;
+    check_out(&mut link, alloc)?;
+    keep_out(&mut link, alloc)?;
+    let all = numbers(alloc, link.connections())?;
+    assert_eq!(rt; all.as_slice(), [0, 1, 2].as_slice());
+    let out = numbers(alloc, link.out())?;
+    assert_eq!(rt; out.as_slice(), [0, 2].as_slice());
+    assert!(rt; leads_there(link.out(), 1));
+    Ok(())
+}
+
+#[test]
+fn frames_are_told_with_the_numbers_of_their_connections(rt: HostRuntime) -> Result<(), LinkError> {
+    let alloc = rt.alloc();
+    let link = exchanged(alloc)?;
+    assert_eq!(rt; link.over(), [0, 1, 2].as_slice());
+    assert!(rt; link.out().is_empty());
     Ok(())
 }

@@ -8,6 +8,8 @@ use driver_exec::{Client, Outside, PlainStore, Steps, insert_single};
 use driver_link::{
     ClientOptions, CountingIds, Description, Link, MemClock, Place, PlacedWrite, WriteKind, Written,
 };
+use rand_core::SeedableRng;
+use rand_pcg::Pcg32;
 use std::alloc::{AllocError, Global};
 use std::marker::Brand;
 use std::sync::ledger::{Blank, Ledger};
@@ -152,7 +154,7 @@ fn counted<L: Link, Q: Ledger>(
     let mut outside = Outside {
         link,
         clock: MemClock::new(0, 0),
-        words: (),
+        words: Pcg32::seed_from_u64(1),
         call: 0,
     };
     let mut sends: Steps<Q> = Steps::new(blank);

@@ -17,18 +17,19 @@ struct Ports {
 
 impl Link for Ports {
     ghost use Rattle.std.specs.Prelude.{None};
+    ghost use Rattle.driver_link.specs.LinkState.{Untold};
 
-    ghost told = { λ link. None };
-
-    ghost setup = { λ link. None };
-
-    ghost answers = { λ link. None };
-
-    ghost frames = { λ link. None };
-
-    ghost asked = { λ link. None };
-
-    ghost faults = { λ link. link.fake.faults };
+    ghost tells = { λ link. record {
+      making = Untold;
+      answers = None;
+      frames = None;
+      over = None;
+      asked = None;
+      addresses = None;
+      connections = None;
+      out = None;
+      faults = link.fake.faults;
+    } };
 
     fn select(
         &mut self,

@@ -1,38 +1,13 @@
 //! What no clause shows of a store: that it lends, takes back and counts with ample memory.
 use driver_error::Result;
 use driver_exec::{PlainStore, ServerSession, SessionStore};
-use driver_link::IdSource;
+use driver_link::CountingIds;
 use std::alloc::Global;
 
-/// Session ids that count up.
-#[derive(Drop)]
-struct Counting {
-    next: u64,
-}
-
-impl IdSource for Counting {
-    ghost use Rattle.std.specs.Prelude.{◌+◌, ◌-◌, ◌^◌, min, [], ◌∷◌};
-    ghost use Rattle.std.specs.Int.{w128, to_le_bytes};
-
-    ghost sessions = { λ source k. to_le_bytes w128 (min (source.next + k) (2 ^ 64 - 1)) };
-
-    ghost objects = { λ source k. 0 ∷ 0 ∷ 0 ∷ 0 ∷ 0 ∷ 0 ∷ 0 ∷ 0 ∷ 0 ∷ 0 ∷ 0 ∷ 0 ∷ [] };
-
-    fn session_id(&mut self) -> [u8; 16] {
-        let id = u128::from(self.next).to_le_bytes();
-        self.next = self.next.saturating_add(1);
-        id
-    }
-
-    fn object_id(&mut self) -> [u8; 12] {
-        [0; 12]
-    }
-}
-
-/// Lends a session and takes it back, dirty or not. It answers the first byte of the id.
-fn lend_one(store: &mut PlainStore<Counting>, alloc: Global, dirty: bool) -> Result<u8> {
+/// Lends a session and takes it back, dirty or not. It answers the last byte of the id.
+fn lend_one(store: &mut PlainStore<CountingIds>, alloc: Global, dirty: bool) -> Result<u8> {
     let mut session = store.check_out(alloc, 5)?;
-    let id = session.id()[0];
+    let id = session.id()[15];
     if dirty {
         session.mark_dirty();
     }
@@ -41,11 +16,11 @@ fn lend_one(store: &mut PlainStore<Counting>, alloc: Global, dirty: bool) -> Res
 }
 
 /// Lends two sessions at once, and takes the second back before the first.
-fn lend_two(store: &mut PlainStore<Counting>, alloc: Global) -> Result<(u8, u8)> {
+fn lend_two(store: &mut PlainStore<CountingIds>, alloc: Global) -> Result<(u8, u8)> {
     let first = store.check_out(alloc, 5)?;
     let ids = match store.check_out(alloc, 5) {
         Ok(second) => {
-            let ids = (first.id()[0], second.id()[0]);
+            let ids = (first.id()[15], second.id()[15]);
             store.check_in(second, 6);
             Ok(ids)
         }
@@ -58,19 +33,22 @@ fn lend_two(store: &mut PlainStore<Counting>, alloc: Global) -> Result<(u8, u8)>
 #[test]
 fn lends_the_front_first_and_no_dirty_one(rt: HostRuntime) {
     let alloc = rt.alloc();
-    let mut store = PlainStore::new(alloc, Counting { next: 1 });
+    let mut store = PlainStore::new(alloc, CountingIds::new());
     assert_eq!(rt; lend_two(&mut store, alloc).ok(), Some((1, 2)));
     assert_eq!(rt; lend_one(&mut store, alloc, false).ok(), Some(1));
     assert_eq!(rt; lend_one(&mut store, alloc, true).ok(), Some(1));
     assert_eq!(rt; lend_one(&mut store, alloc, false).ok(), Some(2));
     assert_eq!(rt; store.drawn().len(), 2);
     assert_eq!(rt; store.history().len(), 10);
-    assert_eq!(rt; store.object_id().bytes, [0; 12]);
+    assert_eq!(rt;
+        store.object_id().bytes,
+        [0, 0, 0, 0, 0, 0, 0, 0, 0, 0, 0, 1]
+    );
 }
 
 #[test]
 fn numbers_go_up_by_one(rt: HostRuntime) {
-    let mut store = PlainStore::new(rt.alloc(), Counting { next: 1 });
+    let mut store = PlainStore::new(rt.alloc(), CountingIds::new());
     let mut session = ServerSession::with_number([9; 16], 5, 41);
     let number = session.next_number(rt.alloc());
     store.check_in(session, 6);

@@ -1,5 +1,5 @@
 -- An effect that was made beforehand is what a send in its case makes of sessions and log.
-use Rattle.std.proofs.Common.{◌≡◌, ℕ, ℤ, true, false, List, ◌++◌, Option, None, Some, refl, sym, ◌∙◌}
+use Rattle.std.proofs.Common.{◌≡◌, ℕ, ℤ, true, false, List, [], ◌++◌, Option, None, Some, refl, sym, ◌∙◌}
 use Rattle.std.proofs.lemmas.List.{append-nil}
 use Rattle.std.specs.FinMap as finite
 use Rattle.driver_link.specs.Cases.{is_in_transaction, known_as, known_under}
@@ -24,21 +24,10 @@ step_law : (makes : Makes) (case : Case) (id : List ℕ) (number : ℤ) (step : 
     → effect_in (effect.Taken id number (is_in_transaction send) send.start step false) server ≡ parts_as makes (Some id) (Some number) case done ran server send
 unfolding effect_in parts_as known_as
 step_law makes met.TooOld id number step done ran server send early does = let no = early in cc
-step_law makes met.Outside id number step done ran server send early does =
-    let now = does (known_under id number server send) in λ i. record server { sessions = finite.insert server.sessions id (now.session i); log = now.log server.log i }
-step_law makes met.Gathers id number step done ran server send early does =
-    let now = does (known_under id number server send) in λ i. record server { sessions = finite.insert server.sessions id (now.session i); log = now.log server.log i }
-step_law makes met.Commits id number step done ran server send early does =
-    let now = does (known_under id number server send) in λ i. record server { sessions = finite.insert server.sessions id (now.session i); log = now.log server.log i }
-step_law makes met.Aborts id number step done ran server send early does =
-    let now = does (known_under id number server send) in λ i. record server { sessions = finite.insert server.sessions id (now.session i); log = now.log server.log i }
-step_law makes met.OfCursor id number step done ran server send early does =
-    let now = does (known_under id number server send) in λ i. record server { sessions = finite.insert server.sessions id (now.session i); log = now.log server.log i }
-step_law makes met.Nothing id number step done ran server send early does =
-    let now = does (known_under id number server send) in λ i. record server { sessions = finite.insert server.sessions id (now.session i); log = now.log server.log i }
-step_law makes met.Denied id number step done ran server send early does =
+step_law makes case id number step done ran server send early does =
     let now = does (known_under id number server send) in λ i. record server { sessions = finite.insert server.sessions id (now.session i); log = now.log server.log i }
 
+-- the same of a send that names its session and number
 pub taken_law : (makes : Makes) (case : Case) (id : List ℕ) (number : ℤ) (step : SessionStep) (done : List Statement) (ran : List Entry) (server : Server) (send : Send)
     → send.session ≡ Some id → send.number ≡ Some number → is_too_old case ≡ false
     → ((known : KnownSession) → Does makes step case done ran known)
@@ -47,18 +36,16 @@ taken_law makes case id number step done ran server send session_is number_is ea
     step_law makes case id number step done ran server send early does
     ∙ λ i. parts_as makes (sym session_is i) (sym number_is i) case done ran server send
 
+-- a server whose log gains nothing stays as it is
+nothing_added : (server : Server) → server ≡ record server { log = server.log ++ [] }
+nothing_added server = λ i. record server { log = sym (append-nil server.log) i }
+
 -- a number that is too old changes nothing
 pub old_law : (makes : Makes) (case : Case) (session : Option (List ℕ)) (number : Option ℤ) (done : List Statement) (ran : List Entry) (server : Server) (send : Send)
     → is_too_old case ≡ true → effect_in effect.Nothing server ≡ parts_as makes session number case done ran server send
 unfolding effect_in parts_as
-old_law makes met.TooOld session number done ran server send old = λ i. record server { log = sym (append-nil server.log) i }
-old_law makes met.Outside session number done ran server send old = let no = old in cc
-old_law makes met.Gathers session number done ran server send old = let no = old in cc
-old_law makes met.Commits session number done ran server send old = let no = old in cc
-old_law makes met.Aborts session number done ran server send old = let no = old in cc
-old_law makes met.OfCursor session number done ran server send old = let no = old in cc
-old_law makes met.Nothing session number done ran server send old = let no = old in cc
-old_law makes met.Denied session number done ran server send old = let no = old in cc
+old_law makes met.TooOld session number done ran server send old = nothing_added server
+old_law makes case session number done ran server send old = let no = old in cc
 
 -- statements without a number enter the log
 pub logged_law : (makes : Makes) (session : Option (List ℕ)) (number : Option ℤ) (done : List Statement) (ran entries : List Entry) (server : Server) (send : Send)
@@ -73,33 +60,12 @@ pub nothing_law : (makes : Makes) (case : Case) (session : Option (List ℕ)) (n
     → is_numbered session number ≡ false → is_outside case ≡ false → effect_in effect.Nothing server ≡ parts_as makes session number case done ran server send
 unfolding effect_in parts_as known_as
 nothing_law makes met.Outside session number done ran server send none other = let no = other in cc
-nothing_law makes met.TooOld session number done ran server send none other = λ i. record server { log = sym (append-nil server.log) i }
-nothing_law makes met.Gathers None number done ran server send none other = λ i. record server { log = sym (append-nil server.log) i }
-nothing_law makes met.Gathers (Some id) None done ran server send none other = λ i. record server { log = sym (append-nil server.log) i }
-nothing_law makes met.Gathers (Some id) (Some number) done ran server send none other = let no = none in cc
-nothing_law makes met.Commits None number done ran server send none other = λ i. record server { log = sym (append-nil server.log) i }
-nothing_law makes met.Commits (Some id) None done ran server send none other = λ i. record server { log = sym (append-nil server.log) i }
-nothing_law makes met.Commits (Some id) (Some number) done ran server send none other = let no = none in cc
-nothing_law makes met.Aborts None number done ran server send none other = λ i. record server { log = sym (append-nil server.log) i }
-nothing_law makes met.Aborts (Some id) None done ran server send none other = λ i. record server { log = sym (append-nil server.log) i }
-nothing_law makes met.Aborts (Some id) (Some number) done ran server send none other = let no = none in cc
-nothing_law makes met.OfCursor None number done ran server send none other = λ i. record server { log = sym (append-nil server.log) i }
-nothing_law makes met.OfCursor (Some id) None done ran server send none other = λ i. record server { log = sym (append-nil server.log) i }
-nothing_law makes met.OfCursor (Some id) (Some number) done ran server send none other = let no = none in cc
-nothing_law makes met.Nothing None number done ran server send none other = λ i. record server { log = sym (append-nil server.log) i }
-nothing_law makes met.Nothing (Some id) None done ran server send none other = λ i. record server { log = sym (append-nil server.log) i }
-nothing_law makes met.Nothing (Some id) (Some number) done ran server send none other = let no = none in cc
-nothing_law makes met.Denied None number done ran server send none other = λ i. record server { log = sym (append-nil server.log) i }
-nothing_law makes met.Denied (Some id) None done ran server send none other = λ i. record server { log = sym (append-nil server.log) i }
-nothing_law makes met.Denied (Some id) (Some number) done ran server send none other = let no = none in cc
+nothing_law makes met.TooOld session number done ran server send none other = nothing_added server
+nothing_law makes case None number done ran server send none other = nothing_added server
+nothing_law makes case (Some id) None done ran server send none other = nothing_added server
+nothing_law makes case (Some id) (Some number) done ran server send none other = let no = none in cc
 
 -- a case that is not outside
 pub other_law : (case : Case) → (case ≡ met.Outside → ⊥) → is_outside case ≡ false
 other_law met.Outside other = absurd (other refl)
-other_law met.TooOld other = refl
-other_law met.Gathers other = refl
-other_law met.Commits other = refl
-other_law met.Aborts other = refl
-other_law met.OfCursor other = refl
-other_law met.Nothing other = refl
-other_law met.Denied other = refl
+other_law case other = refl

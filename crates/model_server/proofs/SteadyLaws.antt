@@ -5,7 +5,7 @@ use Rattle.std.proofs.lemmas.List.{append-nil}
 use Rattle.std.specs.Cmp.Lexicographic.{nat_list_cmp_total}
 use Rattle.std.specs.FinMap as finite
 use Rattle.bson_lite.proofs.FinMaps.{get_inserted}
-use Rattle.driver_link.specs.Cases.{Case, abort_case, case_as, case_of, case_under, commit_case, is_end, is_in_transaction, known_of, known_under, numbered_case, results_of, too_old, outside, gathers, commits, aborts, of_cursor, nothing, denied, write_case}
+use Rattle.driver_link.specs.Cases.{Case, abort_case, case_as, case_of, case_under, commit_case, is_end, is_in_transaction, known_of, known_under, numbered_case, results_of, too_old, outside, of_cursor, nothing, denied, write_case}
 use Rattle.driver_link.specs.Serving.{Plan, done_in, served, served_in, session_after, sessions_as}
 use Rattle.driver_link.specs.Sessions.{denied_transaction, is_below, is_new, running, taken}
 use Rattle.driver_link.specs.Statements.{negated}
@@ -14,6 +14,7 @@ use Rattle.driver_link.specs.declared.machine.Send.{Send}
 use Rattle.driver_link.specs.declared.machine.SendBody.{SendBody}
 use Rattle.driver_link.specs.declared.machine.SendBody.TheVariants.{Write, Commit, Abort, More, Kill}
 use Rattle.driver_link.specs.declared.machine.Server.{Server}
+use Rattle.driver_link.specs.declared.machine.ServerTransaction.{ServerTransaction}
 use Rattle.driver_link.specs.declared.machine.ServerTransaction.TheVariants as transaction
 use Rattle.driver_link.specs.declared.machine.Statement.{Statement}
 use Rattle.model_server.proofs.TransientLaws.{not_below_itself, taken_again}
@@ -79,34 +80,34 @@ module _ (id : List ℕ) (number : ℤ) (server : Server) (send : Send) (under :
       ∙ ap (λ b. if b then too_old else numbered_case (known_under id number server send) (is_new number (finite.get server.sessions id)) send send.body) above
       ∙ λ i. numbered_case (known_is i) (new_is i) send send.body
 
+  -- a quiet case adds nothing to the log
   quiet_log : (case : Case) (done : List Statement) (page : Option ℕ) → is_quiet case ≡ true → (served_in case done page server send).log ≡ server.log
   unfolding is_quiet served_in
   quiet_log of_cursor done page quiet = append-nil server.log
   quiet_log nothing done page quiet = append-nil server.log
   quiet_log denied done page quiet = append-nil server.log
-  quiet_log too_old done page quiet = let no = quiet in cc
-  quiet_log outside done page quiet = let no = quiet in cc
-  quiet_log (gathers entries) done page quiet = let no = quiet in cc
-  quiet_log (commits entries) done page quiet = let no = quiet in cc
-  quiet_log aborts done page quiet = let no = quiet in cc
+  quiet_log case done page quiet = let no = quiet in cc
 
+  -- what is made of the known session is found under its id
   put_there : (change : KnownSession → KnownSession) → finite.get (finite.insert server.sessions id (change (known_under id number server send))) id ≡ Some (change known)
   put_there change = get_inserted nat_list_cmp_total server.sessions id (change (known_under id number server send)) ∙ ap (λ k. Some (change k)) known_is
 
+  -- a case that puts the session anew puts there what it makes of the known one
+  put_by : (case : Case) (change : KnownSession → KnownSession)
+      → sessions_as (Some id) (Some number) case change server send ≡ finite.insert server.sessions id (change (known_under id number server send))
+      → finite.get (sessions_as send.session send.number case change server send) id ≡ Some (change known)
+  put_by case change puts =
+      (λ i. finite.get (sessions_as (under.its_session i) (under.its_number i) case change server send) id)
+      ∙ ap (λ sessions. finite.get sessions id) puts ∙ put_there change
+
+  -- a quiet case puts there what it makes of the known session
   quiet_there : (case : Case) (done : List Statement) (page : Option ℕ) → is_quiet case ≡ true
       → finite.get (served_in case done page server send).sessions id ≡ Some (session_after case done [] known)
   unfolding is_quiet served_in
-  quiet_there of_cursor done page quiet =
-      (λ i. finite.get (sessions_as (under.its_session i) (under.its_number i) of_cursor (λ k. k) server send) id) ∙ put_there (λ k. k)
-  quiet_there nothing done page quiet =
-      (λ i. finite.get (sessions_as (under.its_session i) (under.its_number i) nothing (λ k. k) server send) id) ∙ put_there (λ k. k)
-  quiet_there denied done page quiet =
-      (λ i. finite.get (sessions_as (under.its_session i) (under.its_number i) denied (session_after denied done []) server send) id) ∙ put_there (session_after denied done [])
-  quiet_there too_old done page quiet = let no = quiet in cc
-  quiet_there outside done page quiet = let no = quiet in cc
-  quiet_there (gathers entries) done page quiet = let no = quiet in cc
-  quiet_there (commits entries) done page quiet = let no = quiet in cc
-  quiet_there aborts done page quiet = let no = quiet in cc
+  quiet_there of_cursor done page quiet = put_by of_cursor (λ k. k) refl
+  quiet_there nothing done page quiet = put_by nothing (λ k. k) refl
+  quiet_there denied done page quiet = put_by denied (session_after denied done []) refl
+  quiet_there case done page quiet = let no = quiet in cc
 
   -- a send in an aborted transaction
   write_denied : (inside again : Bool) → inside ≡ true → is_quiet (if inside then write_case None again else outside) ≡ true
@@ -133,67 +134,45 @@ module _ (id : List ℕ) (number : ℤ) (server : Server) (send : Send) (under :
   committed_quiet body is committed =
       ap (λ b. is_quiet (numbered_case known false send b)) is ∙ ap (λ t. is_quiet (commit_case t)) committed
 
-  kept_aborted : (case : Case) (done : List Statement) → is_quiet case ≡ true → known.transaction ≡ transaction.Aborted → (session_after case done [] known).transaction ≡ transaction.Aborted
+  -- a quiet case leaves a transaction that a denial leaves
+  kept_transaction : (its : ServerTransaction) (case : Case) (done : List Statement) → denied_transaction its ≡ its → is_quiet case ≡ true → known.transaction ≡ its
+      → (session_after case done [] known).transaction ≡ its
   unfolding is_quiet
-  kept_aborted of_cursor done quiet is = is
-  kept_aborted nothing done quiet is = is
-  kept_aborted denied done quiet is = ap denied_transaction is
-  kept_aborted too_old done quiet is = let no = quiet in cc
-  kept_aborted outside done quiet is = let no = quiet in cc
-  kept_aborted (gathers entries) done quiet is = let no = quiet in cc
-  kept_aborted (commits entries) done quiet is = let no = quiet in cc
-  kept_aborted aborts done quiet is = let no = quiet in cc
+  kept_transaction its of_cursor done stays quiet is = is
+  kept_transaction its nothing done stays quiet is = is
+  kept_transaction its denied done stays quiet is = ap denied_transaction is ∙ stays
+  kept_transaction its case done stays quiet is = let no = quiet in cc
 
-  kept_committed : (case : Case) (done : List Statement) → is_quiet case ≡ true → known.transaction ≡ transaction.Committed → (session_after case done [] known).transaction ≡ transaction.Committed
-  unfolding is_quiet
-  kept_committed of_cursor done quiet is = is
-  kept_committed nothing done quiet is = is
-  kept_committed denied done quiet is = ap denied_transaction is
-  kept_committed too_old done quiet is = let no = quiet in cc
-  kept_committed outside done quiet is = let no = quiet in cc
-  kept_committed (gathers entries) done quiet is = let no = quiet in cc
-  kept_committed (commits entries) done quiet is = let no = quiet in cc
-  kept_committed aborts done quiet is = let no = quiet in cc
-
+  -- a quiet case keeps the number
   kept_greatest : (case : Case) (done : List Statement) → is_quiet case ≡ true → (session_after case done [] known).greatest ≡ number
   unfolding is_quiet
   kept_greatest of_cursor done quiet = same
   kept_greatest nothing done quiet = same
   kept_greatest denied done quiet = same
-  kept_greatest too_old done quiet = let no = quiet in cc
-  kept_greatest outside done quiet = let no = quiet in cc
-  kept_greatest (gathers entries) done quiet = let no = quiet in cc
-  kept_greatest (commits entries) done quiet = let no = quiet in cc
-  kept_greatest aborts done quiet = let no = quiet in cc
+  kept_greatest case done quiet = let no = quiet in cc
 
+  -- in a quiet case the log stays, and such a transaction stays under its number
+  quiet_after : (plan : Plan) (its : ServerTransaction) → denied_transaction its ≡ its → known.transaction ≡ its → is_quiet (numbered_case known false send send.body) ≡ true
+      → ((served plan server send).log ≡ server.log) × HasTransaction id number its (served plan server send)
+  quiet_after plan its stays is quiet =
+      let case : Case = numbered_case known false send send.body in
+      let done : List Statement = done_in case plan (results_of (known_of server send)) send.body in
+      let whole = served_case plan server send case case_is in (
+        ap (λ s. s.log) whole ∙ quiet_log case done plan.page quiet,
+        record {
+          known = session_after case done [] known;
+          there = ap (λ s. finite.get s.sessions id) whole ∙ quiet_there case done plan.page quiet;
+          greatest = kept_greatest case done quiet;
+          its = kept_transaction its case done stays quiet is;
+        },
+      )
+
+  -- an aborted transaction stays aborted, and adds nothing to the log
   pub aborted_after : (plan : Plan) → known.transaction ≡ transaction.Aborted → is_in_transaction send ≡ true
       → ((served plan server send).log ≡ server.log) × HasTransaction id number transaction.Aborted (served plan server send)
-  aborted_after plan is inside =
-      let case : Case = numbered_case known false send send.body in
-      let quiet : is_quiet case ≡ true = aborted_quiet send.body is inside in
-      let done : List Statement = done_in case plan (results_of (known_of server send)) send.body in
-      let whole = served_case plan server send case case_is in (
-        ap (λ s. s.log) whole ∙ quiet_log case done plan.page quiet,
-        record {
-          known = session_after case done [] known;
-          there = ap (λ s. finite.get s.sessions id) whole ∙ quiet_there case done plan.page quiet;
-          greatest = kept_greatest case done quiet;
-          its = kept_aborted case done quiet is;
-        },
-      )
+  aborted_after plan is inside = quiet_after plan transaction.Aborted refl is (aborted_quiet send.body is inside)
 
+  -- a committed transaction that is committed again stays so, and adds nothing to the log
   pub committed_after : (plan : Plan) → known.transaction ≡ transaction.Committed → send.body ≡ Commit
       → ((served plan server send).log ≡ server.log) × HasTransaction id number transaction.Committed (served plan server send)
-  committed_after plan is commit =
-      let case : Case = numbered_case known false send send.body in
-      let quiet : is_quiet case ≡ true = committed_quiet send.body commit is in
-      let done : List Statement = done_in case plan (results_of (known_of server send)) send.body in
-      let whole = served_case plan server send case case_is in (
-        ap (λ s. s.log) whole ∙ quiet_log case done plan.page quiet,
-        record {
-          known = session_after case done [] known;
-          there = ap (λ s. finite.get s.sessions id) whole ∙ quiet_there case done plan.page quiet;
-          greatest = kept_greatest case done quiet;
-          its = kept_committed case done quiet is;
-        },
-      )
+  committed_after plan is commit = quiet_after plan transaction.Committed refl is (committed_quiet send.body commit is)

@@ -7,9 +7,9 @@ use Rattle.driver_link.specs.declared.fault.LinkFault.TheVariants.{Io}
 use Rattle.driver_link.specs.declared.machine.Send.{Send}
 use Rattle.driver_link.specs.Cursors.{Reply}
 use Rattle.driver_link.specs.Exchange.{answered, next_step}
-use Rattle.driver_link.specs.Told.{IsReply, Steps}
+use Rattle.driver_link.specs.ServerRun.{IsReply, TakesStep}
 use Rattle.model_server.specs.Meets.{IsSpelled}
-use Rattle.model_server.specs.ModelState.{ModelState, Stepped, told_of}
+use Rattle.model_server.specs.ModelState.{ModelState, Stepped, server_run_of}
 
 is_reply : (found : Option Reply) (bytes : List ℕ) → IsSpelled found (Some bytes) → IsReply found bytes
 is_reply None bytes spelled = spelled
@@ -21,24 +21,24 @@ is_none (Some document) spelled = absurd spelled
 
 -- an exchange that was answered
 pub replied : (old now : ModelState) (send other : Send) (bytes : Option (List ℕ)) (reply : List ℕ)
-    → send ≡ other → bytes ≡ Some reply → Stepped old now send bytes → Steps (Some (told_of old)) (Some (told_of now)) other (Ok reply)
+    → send ≡ other → bytes ≡ Some reply → Stepped old now send bytes → TakesStep (Some (server_run_of old)) (Some (server_run_of now)) other (Ok reply)
 replied old now send other bytes reply same some stepped =
-    subst (λ s. Steps (Some (told_of old)) (Some (told_of now)) s (Ok reply)) same (
-      ap (λ model. Some (told_of model)) stepped.is,
+    subst (λ s. TakesStep (Some (server_run_of old)) (Some (server_run_of now)) s (Ok reply)) same (
+      ap (λ model. Some (server_run_of model)) stepped.is,
       is_reply (answered old.server send (next_step old.schedule old.server)) reply
           (subst (IsSpelled (answered old.server send (next_step old.schedule old.server))) some stepped.reply),
     )
 
 -- an exchange whose connection was reset
 pub was_reset : (old middle now : ModelState) (send other : Send) (bytes : Option (List ℕ)) (failure : LinkError)
-    → send ≡ other → bytes ≡ None → Stepped old middle send bytes → told_of now ≡ told_of middle → failure ≡ Fault (Io ConnectionReset) []
-    → Steps (Some (told_of old)) (Some (told_of now)) other (Err failure)
+    → send ≡ other → bytes ≡ None → Stepped old middle send bytes → server_run_of now ≡ server_run_of middle → failure ≡ Fault (Io ConnectionReset) []
+    → TakesStep (Some (server_run_of old)) (Some (server_run_of now)) other (Err failure)
 was_reset old middle now send other bytes failure same none stepped counted is =
-    let P : LinkError → Type 0 = λ why. Steps (Some (told_of old)) (Some (told_of now)) other (Err why) in
-    let Q : Send → Type 0 = λ s. Steps (Some (told_of old)) (Some (told_of now)) s (Err (Fault (Io ConnectionReset) [])) in
+    let P : LinkError → Type 0 = λ why. TakesStep (Some (server_run_of old)) (Some (server_run_of now)) other (Err why) in
+    let Q : Send → Type 0 = λ s. TakesStep (Some (server_run_of old)) (Some (server_run_of now)) s (Err (Fault (Io ConnectionReset) [])) in
     subst P (sym is)
     (subst Q same (
-      ap (λ told. Some told) counted ∙ ap (λ model. Some (told_of model)) stepped.is,
+      ap (λ told. Some told) counted ∙ ap (λ model. Some (server_run_of model)) stepped.is,
       is_none (answered old.server send (next_step old.schedule old.server))
           (subst (IsSpelled (answered old.server send (next_step old.schedule old.server))) none stepped.reply),
       (refl, refl),

@@ -14,7 +14,8 @@ use Rattle.driver_link.specs.declared.options.SelectionCriteria.{SelectionCriter
 use Rattle.driver_link.specs.declared.options.SelectionCriteria.TheVariants as criteria
 use Rattle.driver_link.specs.Counting.{Listed, one_more}
 use Rattle.driver_link.specs.Exchange.{answered, exchanged, next_step}
-use Rattle.driver_link.specs.Told.{CallCounts, Told}
+use Rattle.driver_link.specs.LinkState.{LinkState, Served}
+use Rattle.driver_link.specs.ServerRun.{CallCounts, ServerRun}
 use Rattle.model_server.specs.Meets.{IsSpelled, note_of}
 use Rattle.model_server.specs.declared.server.TheConstants.{HOST, PORT}
 
@@ -32,9 +33,23 @@ pub record ModelState : Type 0 where
 abbrev pub no_calls : CallCounts
 no_calls = record { selects = 0; supports = 0; check_outs = 0; reauthentications = 0 }
 
--- what the model server tells
-abbrev pub told_of : ModelState → Told
-told_of model = record { server = model.server; setup = model.setup; schedule = model.schedule; counts = model.counts }
+-- its server with what it was made with, and how many calls it has had
+abbrev pub server_run_of : ModelState → ServerRun
+server_run_of model = record { server = model.server; setup = model.setup; schedule = model.schedule; counts = model.counts }
+
+-- what the model server tells as a link: its server and its answers
+abbrev pub model_tells : ModelState → LinkState
+model_tells model = record {
+  making = Served (server_run_of model);
+  answers = Some model.answers;
+  frames = None;
+  over = None;
+  asked = None;
+  addresses = None;
+  connections = None;
+  out = None;
+  faults = model.faults;
+}
 
 -- the address of the model server
 abbrev pub model_address : Address
@@ -56,11 +71,11 @@ failed call listed model =
     record model { answers = model.answers ++ answer.Fault call listed.fault listed.labels ∷ []; faults = one_more model.faults }
 
 -- a call that is counted, and fails where the schedule lists it
-abbrev pub Called : {A : Type 0} → (CallCounts → CallCounts) → (Told → Option Listed) → LinkCall → ModelState → ModelState → Result A LinkError → Type 0
-Called next fault call old now (Ok given) = (now ≡ record old { counts = next old.counts }) × (fault (told_of old) ≡ None)
+abbrev pub Called : {A : Type 0} → (CallCounts → CallCounts) → (ServerRun → Option Listed) → LinkCall → ModelState → ModelState → Result A LinkError → Type 0
+Called next fault call old now (Ok given) = (now ≡ record old { counts = next old.counts }) × (fault (server_run_of old) ≡ None)
 Called next fault call old now (Err (Fault found labels)) =
     (now ≡ failed call (record { fault = found; labels = labels }) (record old { counts = next old.counts }))
-    × (fault (told_of old) ≡ Some (record { fault = found; labels = labels }))
+    × (fault (server_run_of old) ≡ Some (record { fault = found; labels = labels }))
 Called next fault call old now (Err Memory) = now ≡ record old { counts = next old.counts }
 
 -- the counts after one call more of each kind

@@ -1,7 +1,8 @@
 -- What a send in its case makes of sessions and log, for serving and for interrupting alike.
 use Rattle.std.specs.Prelude.{ℕ, ℤ, List, ◌++◌, Option}
-use Rattle.driver_link.specs.Cases.{Case, known_as}
+use Rattle.driver_link.specs.Cases.{Case, known_as, writes_of}
 use Rattle.driver_link.specs.Serving.{log_gains, sessions_as}
+use Rattle.driver_link.specs.Statements.{entries_of}
 use Rattle.driver_link.specs.declared.machine.Entry.{Entry}
 use Rattle.driver_link.specs.declared.machine.KnownSession.{KnownSession}
 use Rattle.driver_link.specs.declared.machine.Send.{Send}
@@ -22,3 +23,11 @@ parts_as makes session number case done ran server send =
       sessions = sessions_as session number whole (makes whole done ran) server send;
       log = server.log ++ log_gains whole ran;
     }
+
+-- the entries of those of a send's statements that ran
+abbrev pub ran_of : Send → List Statement → List Entry
+ran_of send done = entries_of send.session send.number (writes_of send) done
+
+-- sessions and log once a send was taken in its case
+abbrev pub parts_of : Makes → Met → List Statement → Server → Send → Server
+parts_of makes case done server send = parts_as makes send.session send.number case done (ran_of send done) server send

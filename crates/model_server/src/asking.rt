@@ -137,7 +137,8 @@ fn asked_as(
     sequences: List<Documents>,
     places: &[Place],
 ) -> Result<Option<SendBody>, AllocError>
-    ensures { IfOk result (λ asked. asked ≡ asks_by_name name database.now value.now body.now sequences places.now) }
+    ensures { IfOk result
+        (λ asked. asked ≡ asks_by_name name database.now value.now body.now sequences places.now) }
 {
     match name {
         CommandName::Insert => {

@@ -1,11 +1,10 @@
 //! The calls of a model server that are counted: each faults exactly where the schedule lists its number.
-ghost use Rattle.std.specs.Prelude.{◌≡◌, ◌≤◌, ◌++◌, ◌∷◌, [], IfOk, OnOk, OnErr};
+ghost use Rattle.std.specs.Prelude.{◌≡◌, ◌≤◌, IfOk, OnOk, OnErr};
 ghost use Rattle.driver_link.specs.Counting.{one_more, is_listed as listed_at, select_fault, support_fault, check_out_fault, reauthentication_fault, overload_labels};
 ghost use Rattle.driver_link.specs.Faults.{HasLinkCause};
-ghost use Rattle.driver_link.specs.declared.fault.Answered.TheVariants as answer;
 ghost use Rattle.driver_link.specs.declared.fault.LinkError.TheVariants.{Fault};
 ghost use Rattle.driver_link.specs.declared.fault.LinkCall.TheVariants as call_of;
-ghost use Rattle.model_server.specs.ModelState.{Called, one_select, one_support, one_check_out, one_reauthentication};
+ghost use Rattle.model_server.specs.ModelState.{Called, failed, one_select, one_support, one_check_out, one_reauthentication};
 
 use crate::server::ModelServer;
 use bson_lite::{List, Text, TryClone};
@@ -47,52 +46,42 @@ fn both_overload_labels(alloc: Global) -> Result<List<Text>, AllocError>
     Ok(labels)
 }
 
-/// Notes a fault, and counts it. A refusal changes nothing.
-fn fail(
-    notes: &mut List<Answered>,
-    faults: &mut u64,
-    alloc: Global,
-    call: LinkCall,
-    fault: LinkFault,
-    labels: List<Text>,
-) -> Result<LinkError, AllocError>
-    ensures failure { IfOk result (λ failure. failure ≡ Fault fault labels) }
-    ensures notes { OnOk result (notes.new ≡ notes.old ++ answer.Fault call fault labels ∷ []) }
-    ensures faults { OnOk result (faults.new ≡ one_more faults.old) }
-    ensures later { faults.old ≤ faults.new }
-    ensures notes_err { OnErr result (notes.new ≡ notes.old) }
-    ensures faults_err { OnErr result (faults.new ≡ faults.old) }
-{
-    let note = Answered::Fault {
-        call,
-        fault: fault.try_clone(alloc)?,
-        labels: labels.try_clone(alloc)?,
-    };
-    notes.push(note)?;
-    raise(faults);
-    Ok(LinkError::Fault { fault, labels })
-}
-
 impl ModelServer {
+    /// Notes the fault of a call, and counts it. A refusal changes nothing.
+    fn fail(
+        &mut self,
+        alloc: Global,
+        call: LinkCall,
+        fault: LinkFault,
+        labels: List<Text>,
+    ) -> Result<LinkError, AllocError>
+        ensures failure { IfOk result (λ failure. failure ≡ Fault fault labels) }
+        ensures ok { OnOk result
+            (self.new ≡ failed call (record { fault = fault; labels = labels }) self.old) }
+        ensures err { OnErr result (self.new ≡ self.old) }
+        ensures later { self.old.faults ≤ self.new.faults }
+    {
+        let note = Answered::Fault {
+            call,
+            fault: fault.try_clone(alloc)?,
+            labels: labels.try_clone(alloc)?,
+        };
+        self.answered.push(note)?;
+        raise(&mut self.faults);
+        Ok(LinkError::Fault { fault, labels })
+    }
+
     /// Counts a selection, which fails where its number is listed.
     pub(crate) fn count_select(&mut self, alloc: Global) -> Result<(), LinkError>
         ensures called { Called one_select select_fault call_of.Select self.old self.new result }
         ensures cause { HasLinkCause self.old.faults self.new.faults result }
     {
         let number = raise(&mut self.calls.selects);
-        if !is_listed(self.schedule.selects.as_slice(), number) {
-            return Ok(());
+        if is_listed(self.schedule.selects.as_slice(), number) {
+            let fault = LinkFault::Selection(Text::from_str(alloc, SELECTION_FAILURE)?);
+            return Err(self.fail(alloc, LinkCall::Select, fault, List::new(alloc))?);
         }
-        let fault = LinkFault::Selection(Text::from_str(alloc, SELECTION_FAILURE)?);
-        let (notes, faults) = (&mut self.answered, &mut self.faults);
-        Err(fail(
-            notes,
-            faults,
-            alloc,
-            LinkCall::Select,
-            fault,
-            List::new(alloc),
-        )?)
+        Ok(())
     }
 
     /// Counts a question for support of transactions, which fails where its number is listed.
@@ -101,19 +90,11 @@ impl ModelServer {
         ensures cause { HasLinkCause self.old.faults self.new.faults result }
     {
         let number = raise(&mut self.calls.supports);
-        if !is_listed(self.schedule.supports.as_slice(), number) {
-            return Ok(());
+        if is_listed(self.schedule.supports.as_slice(), number) {
+            let fault = LinkFault::Selection(Text::from_str(alloc, SELECTION_FAILURE)?);
+            return Err(self.fail(alloc, LinkCall::Support, fault, List::new(alloc))?);
         }
-        let fault = LinkFault::Selection(Text::from_str(alloc, SELECTION_FAILURE)?);
-        let (notes, faults) = (&mut self.answered, &mut self.faults);
-        Err(fail(
-            notes,
-            faults,
-            alloc,
-            LinkCall::Support,
-            fault,
-            List::new(alloc),
-        )?)
+        Ok(())
     }
 
     /// Counts a check-out, which fails where its number is listed: with the labels of overload where it is
@@ -124,32 +105,29 @@ impl ModelServer {
     {
         let number = raise(&mut self.calls.check_outs);
         let fault = LinkFault::Io(IoKind::ConnectionRefused);
-        let (notes, faults) = (&mut self.answered, &mut self.faults);
         if is_listed(self.schedule.overloaded_check_outs.as_slice(), number) {
             let labels = both_overload_labels(alloc)?;
-            return Err(fail(notes, faults, alloc, LinkCall::CheckOut, fault, labels)?);
+            return Err(self.fail(alloc, LinkCall::CheckOut, fault, labels)?);
         }
         if is_listed(self.schedule.check_outs.as_slice(), number) {
-            let labels = List::new(alloc);
-            return Err(fail(notes, faults, alloc, LinkCall::CheckOut, fault, labels)?);
+            return Err(self.fail(alloc, LinkCall::CheckOut, fault, List::new(alloc))?);
         }
         Ok(())
     }
 
     /// Counts an authentication, which fails where its number is listed.
     pub(crate) fn count_reauthentication(&mut self, alloc: Global) -> Result<(), LinkError>
-        ensures called { Called one_reauthentication reauthentication_fault call_of.Reauthenticate self.old self.new result }
+        ensures called { Called one_reauthentication reauthentication_fault call_of.Reauthenticate self.old
+            self.new result }
         ensures cause { HasLinkCause self.old.faults self.new.faults result }
     {
         let number = raise(&mut self.calls.reauthentications);
-        if !is_listed(self.schedule.reauthentications.as_slice(), number) {
-            return Ok(());
+        if is_listed(self.schedule.reauthentications.as_slice(), number) {
+            let message = Text::from_str(alloc, REAUTHENTICATION_FAILURE)?;
+            let fault = LinkFault::Authentication(message);
+            return Err(self.fail(alloc, LinkCall::Reauthenticate, fault, List::new(alloc))?);
         }
-        let message = Text::from_str(alloc, REAUTHENTICATION_FAILURE)?;
-        let fault = LinkFault::Authentication(message);
-        let (notes, faults) = (&mut self.answered, &mut self.faults);
-        let call = LinkCall::Reauthenticate;
-        Err(fail(notes, faults, alloc, call, fault, List::new(alloc))?)
+        Ok(())
     }
 
     /// Notes and counts the reset of a connection.

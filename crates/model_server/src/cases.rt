@@ -116,7 +116,8 @@ fn abort_case(transaction: &ServerTransaction) -> Case
 
 /// The case of a send under a number, by what is then known of its session and whether the number is new.
 fn numbered_case(known: &KnownSession, new: bool, send: &Send) -> Case
-    ensures { seen result (entries_in known.now.transaction) ≡ case_numbered known.now new send.now send.now.body }
+    ensures { seen result (entries_in known.now.transaction) ≡
+        case_numbered known.now new send.now send.now.body }
 {
     match &send.body {
         SendBody::Write { .. } => {
@@ -147,7 +148,8 @@ fn unnumbered_case(body: &SendBody) -> Case
 /// The case of a send under a session and a number.
 #[tactic(auto, unfolding(driver_link::specs::Cases::case_under, driver_link::specs::Sessions::is_below, driver_link::specs::Sessions::is_new, driver_link::specs::Sessions::taken))]
 fn case_under(alloc: Global, id: [u8; 16], number: i64, server: &Server, send: &Send) -> Case
-    ensures { seen result (entries_in (known_under id number server.now send.now).transaction) ≡ case_by_number id number server.now send.now }
+    ensures { seen result (entries_in (known_under id number server.now send.now).transaction) ≡
+        case_by_number id number server.now send.now }
 {
     let in_transaction = is_in_transaction(send);
     let Some(known) = server.sessions.get(&id) else {

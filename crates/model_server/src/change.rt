@@ -122,7 +122,8 @@ fn put_opening(
     left: List<Document>,
 ) -> Result<Displaced, AllocError>
     ensures ok { OnOk result (server.new ≡ changed effect (CursorChange.Opens left) server.old) }
-    ensures displaced { IfOk result (λ displaced. displaced ≡ displaced_by effect (CursorChange.Opens left) server.old) }
+    ensures displaced { IfOk result
+        (λ displaced. displaced ≡ displaced_by effect (CursorChange.Opens left) server.old) }
     ensures err { OnErr result (server.new ≡ server.old) }
 {
     let had = server.cursors.len();
@@ -210,8 +211,12 @@ fn put_step(
     step: SessionStep,
     transient: bool,
 ) -> Result<Option<KnownSession>, AllocError>
-    ensures ok { OnOk result (server.new ≡ step_in id step transient (taken taking.number taking.in_transaction taking.start (finite.get server.old.sessions id)) server.old) }
-    ensures displaced { IfOk result (λ displaced. displaced ≡ outdated taking.number (finite.get server.old.sessions id)) }
+    ensures ok { OnOk result
+        (server.new ≡ step_in id step transient
+        (taken taking.number taking.in_transaction taking.start (finite.get server.old.sessions id))
+        server.old) }
+    ensures displaced { IfOk result
+        (λ displaced. displaced ≡ outdated taking.number (finite.get server.old.sessions id)) }
     ensures err { OnErr result (server.new ≡ server.old) }
 {
     let anew = begun(alloc, taking.number, taking.in_transaction, taking.start);
@@ -259,7 +264,9 @@ fn go_on(
     transient: bool,
 ) -> Result<(), AllocError>
     requires { IsSome (finite.get server.old.sessions id) }
-    ensures ok { OnOk result ((known : Known) → finite.get server.old.sessions id ≡ Some known → server.new ≡ step_in id step transient known server.old) }
+    ensures ok { OnOk result
+        ((known : Known) → finite.get server.old.sessions id ≡ Some known →
+        server.new ≡ step_in id step transient known server.old) }
     ensures err { OnErr result (server.new ≡ server.old) }
 {
     let mut known = lend(&mut server.sessions, alloc, id);
@@ -372,7 +379,8 @@ fn gather(known: &mut KnownSession, more: List<Entry>, ran: bool) -> Result<(), 
 
 /// Appends entries to those that a transaction has gathered; it then runs.
 fn append_gathered(transaction: &mut ServerTransaction, more: List<Entry>) -> Result<(), AllocError>
-    ensures ok { OnOk result (transaction.new ≡ ServerTransaction.Running (entries_in transaction.old ++ more)) }
+    ensures ok { OnOk result
+        (transaction.new ≡ ServerTransaction.Running (entries_in transaction.old ++ more)) }
     ensures err { OnErr result (transaction.new ≡ transaction.old) }
 {
     match transaction {
@@ -451,7 +459,8 @@ pub fn lend(sessions: &mut ById<KnownSession>, alloc: Global, id: [u8; 16]) -> K
     requires { IsSome (finite.get sessions.old id) }
     ensures known { finite.get sessions.old id ≡ Some result }
     ensures there { IsSome (finite.get sessions.new id) }
-    ensures back { (known : Known) → finite.insert sessions.new id known ≡ finite.insert sessions.old id known }
+    ensures back { (known : Known) →
+        finite.insert sessions.new id known ≡ finite.insert sessions.old id known }
 {
     let empty = begun(alloc, 0, false, false);
     match sessions.insert(id, empty) {

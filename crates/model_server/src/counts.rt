@@ -50,7 +50,9 @@ fn counted_of_kind<'a>(
     write: &PlacedWrite,
     statement: &'a Statement,
 ) -> Option<&'a Counted>
-    ensures { (rest : Listed Count) → cons_option (option_copied result) rest ≡ kept_where (same_kind does write.now.written.kind) (result_of statement.now) rest }
+    ensures { (rest : Listed Count) →
+        cons_option (option_copied result) rest ≡
+        kept_where (same_kind does write.now.written.kind) (result_of statement.now) rest }
 {
     if is_kind(does, write.written.kind) {
         return counted(statement);
@@ -108,7 +110,8 @@ pub fn sum_of_kind(
     writes: &[PlacedWrite],
     done: &[Statement],
 ) -> Result<i64, AllocError>
-    ensures { IfOk result (λ sum. sum ≡ sum_of (λ counts. counts.n) (results_of_kind does writes.now done.now)) }
+    ensures { IfOk result
+        (λ sum. sum ≡ sum_of (λ counts. counts.n) (results_of_kind does writes.now done.now)) }
 {
     let mut sum = 0;
     for (at, write) in writes.iter().enumerate() {
@@ -126,7 +129,9 @@ pub fn sum_of_kind(
 /// The sum of `n` over the updates that inserted nothing.
 #[tactic(auto, unfolding(driver_link::specs::Replies::sum_of, driver_link::specs::Replies::results_of_kind))]
 pub fn matched(writes: &[PlacedWrite], done: &[Statement]) -> Result<i64, AllocError>
-    ensures { IfOk result (λ sum. sum ≡ sum_of (λ counts. counts.n) (filter (λ counts. is_none counts.upserted) (results_of_kind WriteKind.Update writes.now done.now))) }
+    ensures { IfOk result
+        (λ sum. sum ≡ sum_of (λ counts. counts.n)
+        (filter (λ counts. is_none counts.upserted) (results_of_kind WriteKind.Update writes.now done.now))) }
 {
     let mut sum = 0;
     for (at, write) in writes.iter().enumerate() {
@@ -147,7 +152,9 @@ pub fn matched(writes: &[PlacedWrite], done: &[Statement]) -> Result<i64, AllocE
 /// The sum of `modified` over the updates.
 #[tactic(auto, unfolding(driver_link::specs::Replies::sum_of, driver_link::specs::Replies::results_of_kind))]
 pub fn modified(writes: &[PlacedWrite], done: &[Statement]) -> Result<i64, AllocError>
-    ensures { IfOk result (λ sum. sum ≡ sum_of (λ counts. counts.modified) (results_of_kind WriteKind.Update writes.now done.now)) }
+    ensures { IfOk result
+        (λ sum. sum ≡
+        sum_of (λ counts. counts.modified) (results_of_kind WriteKind.Update writes.now done.now)) }
 {
     let mut sum = 0;
     for (at, write) in writes.iter().enumerate() {
@@ -165,7 +172,8 @@ pub fn modified(writes: &[PlacedWrite], done: &[Statement]) -> Result<i64, Alloc
 /// How many updates inserted a document.
 #[tactic(auto, unfolding(driver_link::specs::Replies::results_of_kind))]
 pub fn upserted(writes: &[PlacedWrite], done: &[Statement]) -> usize
-    ensures { result ≡ count_by (λ counts. is_some counts.upserted) (results_of_kind WriteKind.Update writes.now done.now) }
+    ensures { result ≡
+        count_by (λ counts. is_some counts.upserted) (results_of_kind WriteKind.Update writes.now done.now) }
 {
     let mut inserted = 0;
     for (at, write) in writes.iter().enumerate() {

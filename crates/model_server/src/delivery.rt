@@ -73,7 +73,8 @@ fn serve_waiting(server: &mut Server, alloc: Global, at: usize) -> Result<Option
 /// the server as it was.
 fn serve_late(server: &mut Server, alloc: Global, send: &Send) -> Result<Undoing, AllocError>
     ensures ok { OnOk result (server.new ≡ served usual server.old send.now) }
-    ensures back { IfOk result (λ undoing. server_before undoing.past undoing.displaced server.new ≡ server.old) }
+    ensures back { IfOk result
+        (λ undoing. server_before undoing.past undoing.displaced server.new ≡ server.old) }
     ensures err { OnErr result (server.new ≡ server.old) }
 {
     let made = prepare(server, alloc, send, &[], &[], &None, None)?;
@@ -120,7 +121,8 @@ fn deliver_next(
     lates: &mut Vec<Late>,
 ) -> Result<(), AllocError>
     ensures ok { OnOk result (server.new ≡ delivered server.old pick) }
-    ensures back { OnOk result (each_before lates.new.items server.new ≡ each_before lates.old.items server.old) }
+    ensures back { OnOk result
+        (each_before lates.new.items server.new ≡ each_before lates.old.items server.old) }
     ensures err { OnErr result (server.new ≡ server.old) }
     ensures lates_err { OnErr result (lates.new.items ≡ lates.old.items) }
 {

@@ -1,14 +1,12 @@
 //! What serving a send comes to, made in full before anything is put in place.
 ghost use Rattle.std.specs.Prelude.{◌≡◌, List as Listed, false, IfOk};
 ghost use Rattle.driver_link.specs.Exchange.{empty_server, plan_of};
-ghost use Rattle.driver_link.specs.Cases.{writes_of as writes_in};
 ghost use Rattle.driver_link.specs.Replies.{served_reply};
 ghost use Rattle.driver_link.specs.Serving.{session_after, served as serving};
-ghost use Rattle.driver_link.specs.Statements.{entries_of};
 ghost use Rattle.driver_link.specs.declared.machine.Send.{Send as Sent};
 ghost use Rattle.driver_link.specs.declared.machine.Server.{Server as State};
 ghost use Rattle.model_server.specs.Changes.{changed, effect_in};
-ghost use Rattle.model_server.specs.Parts.{Makes, parts_as};
+ghost use Rattle.model_server.specs.Parts.{Makes, parts_of};
 ghost use Rattle.model_server.specs.Seen.{is_numbered};
 
 use crate::cases::{Case, case_of, is_in_transaction, is_too_old, writes_of};
@@ -39,7 +37,9 @@ fn effect_of(
     case: Case,
     done: &[Statement],
 ) -> Result<Effect, AllocError>
-    ensures { IfOk result (λ effect. (state : State) → effect_in effect state ≡ parts_as session_after send.now.session send.now.number case done.now (entries_of send.now.session send.now.number (writes_in send.now) done.now) state send.now) }
+    ensures { IfOk result
+        (λ effect. (state : State) →
+        effect_in effect state ≡ parts_of session_after case done.now state send.now) }
 {
     if is_too_old(case) {
         return Ok(Effect::Nothing);
@@ -68,7 +68,9 @@ pub(crate) fn unnumbered_effect(
     done: &[Statement],
 ) -> Result<Effect, AllocError>
     requires { is_numbered send.now.session send.now.number ≡ false }
-    ensures { IfOk result (λ effect. (makes : Makes) (state : State) → effect_in effect state ≡ parts_as makes send.now.session send.now.number case done.now (entries_of send.now.session send.now.number (writes_in send.now) done.now) state send.now) }
+    ensures { IfOk result
+        (λ effect. (makes : Makes) (state : State) →
+        effect_in effect state ≡ parts_of makes case done.now state send.now) }
 {
     match case {
         Case::Outside => {
@@ -103,8 +105,15 @@ pub(crate) fn prepare(
     concern: &Option<PlannedConcern>,
     page: Option<u64>,
 ) -> Result<Prepared, AllocError>
-    ensures reply { IfOk result (λ made. (trace : Listed Sent) → made.reply ≡ served_reply (plan_of results.now fail.now concern.now page) (record server.now { trace = trace }) send.now) }
-    ensures server { IfOk result (λ made. (trace : Listed Sent) → changed made.effect made.change (record server.now { trace = trace }) ≡ serving (plan_of results.now fail.now concern.now page) (record server.now { trace = trace }) send.now) }
+    ensures reply { IfOk result
+        (λ made. (trace : Listed Sent) →
+        made.reply ≡ served_reply (plan_of results.now fail.now concern.now page)
+        (record server.now { trace = trace }) send.now) }
+    ensures server { IfOk result
+        (λ made. (trace : Listed Sent) →
+        changed made.effect made.change (record server.now { trace = trace }) ≡
+        serving (plan_of results.now fail.now concern.now page) (record server.now { trace = trace })
+        send.now) }
 {
     let case = case_of(alloc, server, send);
     let done = done_in(alloc, server, send, case, results, fail)?;

@@ -1,19 +1,18 @@
 //! Interrupted sends: the first statements run, and then an error is answered whose labels tell no lie.
 ghost use Rattle.std.specs.Prelude.{◌≡◌, ◌&&◌, List as Listed, Some, false, IfOk};
-ghost use Rattle.driver_link.specs.Cases.{case_of as case_met, is_decided as decided, known_of, results_of, writes_of as writes_in};
+ghost use Rattle.driver_link.specs.Cases.{case_of as case_met, is_decided as decided, known_of, results_of};
 ghost use Rattle.driver_link.specs.Exchange.{interrupted as after_interruption, interrupted_labels, interrupted_reply as reply_interrupted};
 ghost use Rattle.driver_link.specs.Honesty.{can_be_transient as transient_by_rule};
 ghost use Rattle.driver_link.specs.Interrupting.{interrupted_case as left_of, interrupted_done as done_by_rule, interruption, session_interrupted, runs_in as runs_by_rule, told_of_error};
 ghost use Rattle.driver_link.specs.Replies.{error_reply};
 ghost use Rattle.driver_link.specs.Serving.{has_entries};
-ghost use Rattle.driver_link.specs.Statements.{entries_of};
 ghost use Rattle.driver_link.specs.declared.machine.Entry.{Entry as Written};
 ghost use Rattle.driver_link.specs.declared.machine.KnownSession.{KnownSession as Known};
 ghost use Rattle.driver_link.specs.declared.machine.Send.{Send as Sent};
 ghost use Rattle.driver_link.specs.declared.machine.Server.{Server as State};
 ghost use Rattle.model_server.specs.Changes.{changed, effect_in};
 ghost use Rattle.model_server.specs.Does.{Does};
-ghost use Rattle.model_server.specs.Parts.{parts_as};
+ghost use Rattle.model_server.specs.Parts.{parts_of, ran_of};
 ghost use Rattle.model_server.specs.Seen.{seen, entries_in, gathered_by, is_too_old as too_old, is_numbered};
 ghost use Rattle.model_server.specs.Transient.{called, still_transient};
 
@@ -55,7 +54,10 @@ fn interrupted_done(
     case: Case,
     after: u64,
 ) -> Result<List<Statement>, AllocError>
-    ensures { IfOk result (λ done. (entries : Listed Written) → done ≡ done_by_rule after (seen case entries) (results_of (known_of server.now send.now)) send.now.body) }
+    ensures { IfOk result
+        (λ done. (entries : Listed Written) →
+        done ≡ done_by_rule after (seen case entries) (results_of (known_of server.now send.now))
+        send.now.body) }
 {
     let none = ByIndex::new(alloc);
     let writes = writes_of(&send.body);
@@ -108,7 +110,9 @@ fn runs_in(server: &Server, send: &Send, case: Case, done: &[Statement]) -> bool
 
 /// Whether a send's transaction can be called transient once it was interrupted in a case.
 fn can_still_be_transient(alloc: Global, server: &Server, send: &Send, case: Case) -> bool
-    ensures { (entries : Listed Written) → result ≡ still_transient (seen case entries) (transient_by_rule send.now.session send.now.number server.now send.now) }
+    ensures { (entries : Listed Written) →
+        result ≡ still_transient (seen case entries)
+        (transient_by_rule send.now.session send.now.number server.now send.now) }
 {
     match case {
         Case::Gathers => true,
@@ -124,7 +128,9 @@ fn interrupted_step(
     case: Case,
     done: &[Statement],
 ) -> Result<SessionStep, AllocError>
-    ensures { IfOk result (λ step. (known : Known) → Does session_interrupted step case done.now (entries_of send.now.session send.now.number (writes_in send.now) done.now) known) }
+    ensures { IfOk result
+        (λ step. (known : Known) →
+        Does session_interrupted step case done.now (ran_of send.now done.now) known) }
 {
     match case {
         Case::Gathers => Ok(SessionStep::Fails { ran: has_run(done) }),
@@ -153,7 +159,10 @@ fn numbered_effect(
     requires early { too_old case ≡ false }
     requires session { send.now.session ≡ Some id }
     requires number { send.now.number ≡ Some number }
-    ensures { IfOk result (λ effect. (state : State) → effect_in effect state ≡ called transient (parts_as session_interrupted send.now.session send.now.number case done.now (entries_of send.now.session send.now.number (writes_in send.now) done.now) state send.now) send.now) }
+    ensures { IfOk result
+        (λ effect. (state : State) →
+        effect_in effect state ≡
+        called transient (parts_of session_interrupted case done.now state send.now) send.now) }
 {
     let step = interrupted_step(alloc, send, case, done)?;
     let in_transaction = is_in_transaction(send);
@@ -176,7 +185,10 @@ fn effect_without_number(
     transient: bool,
 ) -> Result<Effect, AllocError>
     requires { is_numbered send.now.session send.now.number ≡ false }
-    ensures { IfOk result (λ effect. (state : State) → effect_in effect state ≡ called transient (parts_as session_interrupted send.now.session send.now.number case done.now (entries_of send.now.session send.now.number (writes_in send.now) done.now) state send.now) send.now) }
+    ensures { IfOk result
+        (λ effect. (state : State) →
+        effect_in effect state ≡
+        called transient (parts_of session_interrupted case done.now state send.now) send.now) }
 {
     let _called = transient;
     unnumbered_effect(alloc, send, case, done)
@@ -192,7 +204,10 @@ fn interrupted_effect(
     transient: bool,
 ) -> Result<Effect, AllocError>
     requires { too_old case ≡ false }
-    ensures { IfOk result (λ effect. (state : State) → effect_in effect state ≡ called transient (parts_as session_interrupted send.now.session send.now.number case done.now (entries_of send.now.session send.now.number (writes_in send.now) done.now) state send.now) send.now) }
+    ensures { IfOk result
+        (λ effect. (state : State) →
+        effect_in effect state ≡
+        called transient (parts_of session_interrupted case done.now state send.now) send.now) }
 {
     match (send.session, send.number) {
         (Some(id), Some(number)) => numbered_effect(alloc, id, number, send, case, done, transient),
@@ -211,10 +226,18 @@ fn interrupt_in(
     code: i32,
     labels: &[Text],
 ) -> Result<Prepared, AllocError>
-    requires case { seen case (gathered_by (known_of server.now send.now)) ≡ left_of after (case_met server.now send.now) }
+    requires case { seen case (gathered_by (known_of server.now send.now)) ≡
+        left_of after (case_met server.now send.now) }
     requires open { decided (case_met server.now send.now) ≡ false }
-    ensures reply { IfOk result (λ made. (trace : Listed Sent) → made.reply ≡ error_reply code (interrupted_labels after labels.now (record server.now { trace = trace }) send.now)) }
-    ensures server { IfOk result (λ made. (trace : Listed Sent) → changed made.effect made.change (record server.now { trace = trace }) ≡ told_of_error (interrupted_labels after labels.now (record server.now { trace = trace }) send.now) (interruption after (record server.now { trace = trace }) send.now) send.now) }
+    ensures reply { IfOk result
+        (λ made. (trace : Listed Sent) →
+        made.reply ≡ error_reply code
+        (interrupted_labels after labels.now (record server.now { trace = trace }) send.now)) }
+    ensures server { IfOk result
+        (λ made. (trace : Listed Sent) →
+        changed made.effect made.change (record server.now { trace = trace }) ≡ told_of_error
+        (interrupted_labels after labels.now (record server.now { trace = trace }) send.now)
+        (interruption after (record server.now { trace = trace }) send.now) send.now) }
 {
     let done = interrupted_done(alloc, server, send, case, after)?;
     let facts = Judgement {
@@ -242,8 +265,13 @@ pub(crate) fn interrupt(
     code: i32,
     labels: &[Text],
 ) -> Result<Prepared, AllocError>
-    ensures reply { IfOk result (λ made. (trace : Listed Sent) → made.reply ≡ reply_interrupted after code labels.now (record server.now { trace = trace }) send.now) }
-    ensures server { IfOk result (λ made. (trace : Listed Sent) → changed made.effect made.change (record server.now { trace = trace }) ≡ after_interruption after labels.now (record server.now { trace = trace }) send.now) }
+    ensures reply { IfOk result
+        (λ made. (trace : Listed Sent) →
+        made.reply ≡ reply_interrupted after code labels.now (record server.now { trace = trace }) send.now) }
+    ensures server { IfOk result
+        (λ made. (trace : Listed Sent) →
+        changed made.effect made.change (record server.now { trace = trace }) ≡
+        after_interruption after labels.now (record server.now { trace = trace }) send.now) }
 {
     let case = case_of(alloc, server, send);
     if is_decided(case) {

@@ -31,6 +31,7 @@ mod stepping;
 pub mod undoing;
 pub mod writing;
 
+pub use exchange::new_server;
 pub use server::ModelServer;
 
 #[cfg(test)]

@@ -37,45 +37,28 @@ fn reset(alloc: Global) -> LinkError
 }
 
 impl Link for ModelServer {
-    ghost use Rattle.std.specs.Prelude.{◌≡◌, ◌≤◌, Option, None, Some, IfOk, IfSome, List};
+    ghost use Rattle.std.specs.Prelude.{◌≡◌, IfOk, IfSome};
     ghost use Rattle.std.specs.Option.{option_copied};
-    ghost use Rattle.driver_link.specs.Counting.{Counts, selected, select_fault, supported, support_fault, checked_out, check_out_fault, reauthenticated, reauthentication_fault};
-    ghost use Rattle.driver_link.specs.Faults.{HasLinkCause};
-    ghost use Rattle.driver_link.specs.Framed.{Framed};
+    ghost use Rattle.driver_link.specs.LinkCalls.{AsksSupport, ChecksInConnection, ChecksOutConnection, ExchangesFrame, Reauthenticates, SelectsServer};
+    ghost use Rattle.driver_link.specs.LinkState.{setup_of};
     ghost use Rattle.driver_link.specs.Reads.{Reads};
-    ghost use Rattle.driver_link.specs.Told.{IsTo, Notes, Steps, noted, nothing_noted, reply_noted};
-    ghost use Rattle.driver_link.specs.declared.fault.LinkCall.TheVariants.{Select, Support, CheckOut, Exchange, Reauthenticate};
     ghost use Rattle.driver_link.specs.declared.machine.Send.{Send as Sent};
-    ghost use Rattle.driver_link.specs.declared.options.Asked.{Asked};
-    ghost use Rattle.model_server.specs.ModelState.{address_for, told_of, faults_after, one_select, one_support, one_check_out, one_reauthentication};
+    ghost use Rattle.model_server.specs.ModelState.{address_for, faults_after, model_tells};
 
-    ghost told = { λ model. Some (told_of model) };
-
-    ghost setup = { λ model. Some model.setup };
-
-    ghost answers = { λ model. Some model.answers };
-
-    ghost frames = { λ model. None };
-
-    ghost asked = { λ model. None };
-
-    ghost faults = { λ model. model.faults };
+    ghost tells = { model_tells };
 
     fn select(
         &mut self,
         alloc: Global,
         criteria: Option<&SelectionCriteria>,
-        _deprioritized: &[Address],
+        deprioritized: &[Address],
     ) -> Result<Address, LinkError>
-        ensures counts { Counts selected select_fault (Some (told_of self.old)) (Some (told_of self.new)) result }
-        ensures setup { Some self.new.setup ≡ Some self.old.setup }
-        ensures answers { Notes (Some self.old.answers) (Some self.new.answers) (noted Select nothing_noted result) }
-        ensures asked { ◌≡◌ {A = Option (List Asked)} None None }
-        ensures frames { ◌≡◌ {A = Option (List Framed)} None None }
-        ensures cause { HasLinkCause self.old.faults self.new.faults result }
+        ensures told { SelectsServer (model_tells self.old) (model_tells self.new)
+            (record { criteria = option_copied criteria.entry; deprioritized = deprioritized.now }) result }
         ensures selects { IfOk result (λ address. address ≡ address_for (option_copied criteria.entry)) }
         ensures faults { self.new.faults ≡ faults_after self.old.faults result }
     {
+        let _ = deprioritized;
         self.count_select(alloc)?;
         Ok(address_for(alloc, criteria)?)
     }
@@ -89,13 +72,7 @@ impl Link for ModelServer {
     }
 
     fn transaction_support(&mut self, alloc: Global) -> Result<bool, LinkError>
-        ensures counts { Counts supported support_fault (Some (told_of self.old)) (Some (told_of self.new)) result }
-        ensures support { IfOk result (λ answer. answer ≡ self.old.setup.transactions) }
-        ensures setup { Some self.new.setup ≡ Some self.old.setup }
-        ensures answers { Notes (Some self.old.answers) (Some self.new.answers) (noted Support nothing_noted result) }
-        ensures asked { ◌≡◌ {A = Option (List Asked)} None None }
-        ensures frames { ◌≡◌ {A = Option (List Framed)} None None }
-        ensures cause { HasLinkCause self.old.faults self.new.faults result }
+        ensures told { AsksSupport (model_tells self.old) (model_tells self.new) result }
         ensures faults { self.new.faults ≡ faults_after self.old.faults result }
     {
         self.count_support(alloc)?;
@@ -103,13 +80,7 @@ impl Link for ModelServer {
     }
 
     fn check_out(&mut self, alloc: Global, address: &Address) -> Result<Conn, LinkError>
-        ensures counts { Counts checked_out check_out_fault (Some (told_of self.old)) (Some (told_of self.new)) result }
-        ensures to { IfOk result (λ conn. IsTo (Some self.old.setup) address.now conn) }
-        ensures setup { Some self.new.setup ≡ Some self.old.setup }
-        ensures answers { Notes (Some self.old.answers) (Some self.new.answers) (noted CheckOut nothing_noted result) }
-        ensures asked { ◌≡◌ {A = Option (List Asked)} None None }
-        ensures frames { ◌≡◌ {A = Option (List Framed)} None None }
-        ensures cause { HasLinkCause self.old.faults self.new.faults result }
+        ensures told { ChecksOutConnection (model_tells self.old) (model_tells self.new) address.now result }
         ensures number { IfOk result (λ conn. conn.number ≡ self.old.counts.check_outs) }
         ensures faults { self.new.faults ≡ faults_after self.old.faults result }
     {
@@ -125,19 +96,16 @@ impl Link for ModelServer {
     fn exchange(
         &mut self,
         alloc: Global,
-        _conn: &Conn,
+        conn: &Conn,
         frame: &Frame,
         places: &[Place],
     ) -> Result<Bytes, LinkError>
         requires { (send : Sent) × Reads frame.now places.now send }
-        ensures step { (send : Sent) → Reads frame.now places.now send → Steps (Some (told_of self.old)) (Some (told_of self.new)) send result }
-        ensures setup { Some self.new.setup ≡ Some self.old.setup }
-        ensures answers { Notes (Some self.old.answers) (Some self.new.answers) (noted Exchange reply_noted result) }
-        ensures asked { ◌≡◌ {A = Option (List Asked)} None None }
-        ensures frames { ◌≡◌ {A = Option (List Framed)} None None }
-        ensures cause { HasLinkCause self.old.faults self.new.faults result }
+        ensures told { ExchangesFrame (model_tells self.old) (model_tells self.new)
+            conn.now frame.now places.now result }
         ensures faults { self.new.faults ≡ faults_after self.old.faults result }
     {
+        let _ = conn;
         let Some(send) = read_send(alloc, frame, places)? else {
             unreachable!()
         };
@@ -151,34 +119,26 @@ impl Link for ModelServer {
     }
 
     fn reauthenticate(&mut self, alloc: Global, _conn: &Conn) -> Result<(), LinkError>
-        ensures counts { Counts reauthenticated reauthentication_fault (Some (told_of self.old)) (Some (told_of self.new)) result }
-        ensures setup { Some self.new.setup ≡ Some self.old.setup }
-        ensures answers { Notes (Some self.old.answers) (Some self.new.answers) (noted Reauthenticate nothing_noted result) }
-        ensures asked { ◌≡◌ {A = Option (List Asked)} None None }
-        ensures frames { ◌≡◌ {A = Option (List Framed)} None None }
-        ensures cause { HasLinkCause self.old.faults self.new.faults result }
+        ensures told { Reauthenticates (model_tells self.old) (model_tells self.new) result }
         ensures faults { self.new.faults ≡ faults_after self.old.faults result }
     {
         self.count_reauthentication(alloc)
     }
 
-    fn check_in(&mut self, _conn: Conn)
-        ensures told { Some (told_of self.new) ≡ Some (told_of self.old) }
-        ensures setup { Some self.new.setup ≡ Some self.old.setup }
-        ensures answers { Some self.new.answers ≡ Some self.old.answers }
-        ensures asked { ◌≡◌ {A = Option (List Asked)} None None }
-        ensures frames { ◌≡◌ {A = Option (List Framed)} None None }
-        ensures faults { self.new.faults ≡ self.old.faults }
+    fn check_in(&mut self, conn: Conn)
+        ensures told { ChecksInConnection (model_tells self.old) (model_tells self.new) conn }
         ensures unchanged { self.new ≡ self.old }
-    {}
+    {
+        let Conn {
+            address,
+            description: _,
+            number: _,
+        } = conn;
+        drop(address);
+    }
 
     fn report(&mut self, _address: &Address, _error: &Error)
-        ensures told { Some (told_of self.new) ≡ Some (told_of self.old) }
-        ensures setup { Some self.new.setup ≡ Some self.old.setup }
-        ensures answers { Some self.new.answers ≡ Some self.old.answers }
-        ensures asked { ◌≡◌ {A = Option (List Asked)} None None }
-        ensures frames { ◌≡◌ {A = Option (List Framed)} None None }
-        ensures faults { self.new.faults ≡ self.old.faults }
+        ensures told { model_tells self.new ≡ model_tells self.old }
         ensures unchanged { self.new ≡ self.old }
     {}
 }

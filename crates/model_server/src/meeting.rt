@@ -45,8 +45,14 @@ fn serve(
     concern: &Option<PlannedConcern>,
     page: Option<u64>,
 ) -> Result<Meeting, AllocError>
-    ensures reply { IfOk result (λ made. (trace : Listed Sent) → reply_of made ≡ reply_by (record server.now { trace = trace }) send.now (Item.Serve results.now fail.now concern.now page)) }
-    ensures server { IfOk result (λ made. (trace : Listed Sent) → met_by made (record server.now { trace = trace }) ≡ met (record server.now { trace = trace }) send.now (Item.Serve results.now fail.now concern.now page)) }
+    ensures reply { IfOk result
+        (λ made. (trace : Listed Sent) →
+        reply_of made ≡ reply_by (record server.now { trace = trace }) send.now
+        (Item.Serve results.now fail.now concern.now page)) }
+    ensures server { IfOk result
+        (λ made. (trace : Listed Sent) →
+        met_by made (record server.now { trace = trace }) ≡ met (record server.now { trace = trace }) send.now
+        (Item.Serve results.now fail.now concern.now page)) }
 {
     let made = prepare(
         server,
@@ -79,8 +85,13 @@ fn answers(made: Prepared) -> Meeting
 /// A send that is served, and whose reply is lost.
 #[tactic(auto, unfolding(driver_link::specs::Exchange::met, driver_link::specs::Exchange::reply, crate::specs::Meets::met_by))]
 fn lose_reply(server: &Server, alloc: Global, send: &Send) -> Result<Meeting, AllocError>
-    ensures reply { IfOk result (λ made. (trace : Listed Sent) → reply_of made ≡ reply_by (record server.now { trace = trace }) send.now Item.ReplyLost) }
-    ensures server { IfOk result (λ made. (trace : Listed Sent) → met_by made (record server.now { trace = trace }) ≡ met (record server.now { trace = trace }) send.now Item.ReplyLost) }
+    ensures reply { IfOk result
+        (λ made. (trace : Listed Sent) →
+        reply_of made ≡ reply_by (record server.now { trace = trace }) send.now Item.ReplyLost) }
+    ensures server { IfOk result
+        (λ made. (trace : Listed Sent) →
+        met_by made (record server.now { trace = trace }) ≡
+        met (record server.now { trace = trace }) send.now Item.ReplyLost) }
 {
     let made = prepare(server, alloc, send, &[], &[], &None, None)?;
     let Prepared {
@@ -105,8 +116,14 @@ fn interrupted(
     code: i32,
     labels: &List<Text>,
 ) -> Result<Meeting, AllocError>
-    ensures reply { IfOk result (λ made. (trace : Listed Sent) → reply_of made ≡ reply_by (record server.now { trace = trace }) send.now (Item.Interrupted after code labels.now)) }
-    ensures server { IfOk result (λ made. (trace : Listed Sent) → met_by made (record server.now { trace = trace }) ≡ met (record server.now { trace = trace }) send.now (Item.Interrupted after code labels.now)) }
+    ensures reply { IfOk result
+        (λ made. (trace : Listed Sent) →
+        reply_of made ≡ reply_by (record server.now { trace = trace }) send.now
+        (Item.Interrupted after code labels.now)) }
+    ensures server { IfOk result
+        (λ made. (trace : Listed Sent) →
+        met_by made (record server.now { trace = trace }) ≡
+        met (record server.now { trace = trace }) send.now (Item.Interrupted after code labels.now)) }
 {
     let made = interrupt(server, alloc, send, after, code, labels.as_slice())?;
     Ok(answers(made))
@@ -121,8 +138,14 @@ fn refused(
     code: i32,
     labels: &List<Text>,
 ) -> Result<Meeting, AllocError>
-    ensures reply { IfOk result (λ made. (trace : Listed Sent) → reply_of made ≡ reply_by (record server.now { trace = trace }) send.now (Item.Refused code labels.now)) }
-    ensures server { IfOk result (λ made. (trace : Listed Sent) → met_by made (record server.now { trace = trace }) ≡ met (record server.now { trace = trace }) send.now (Item.Refused code labels.now)) }
+    ensures reply { IfOk result
+        (λ made. (trace : Listed Sent) →
+        reply_of made ≡
+        reply_by (record server.now { trace = trace }) send.now (Item.Refused code labels.now)) }
+    ensures server { IfOk result
+        (λ made. (trace : Listed Sent) →
+        met_by made (record server.now { trace = trace }) ≡
+        met (record server.now { trace = trace }) send.now (Item.Refused code labels.now)) }
 {
     let made = refuse(server, alloc, send, code, labels.as_slice())?;
     Ok(answers(made))
@@ -136,8 +159,13 @@ pub(crate) fn meet(
     send: &Send,
     item: &Item,
 ) -> Result<Meeting, AllocError>
-    ensures reply { IfOk result (λ made. (trace : Listed Sent) → reply_of made ≡ reply_by (record server.now { trace = trace }) send.now item.now) }
-    ensures server { IfOk result (λ made. (trace : Listed Sent) → met_by made (record server.now { trace = trace }) ≡ met (record server.now { trace = trace }) send.now item.now) }
+    ensures reply { IfOk result
+        (λ made. (trace : Listed Sent) →
+        reply_of made ≡ reply_by (record server.now { trace = trace }) send.now item.now) }
+    ensures server { IfOk result
+        (λ made. (trace : Listed Sent) →
+        met_by made (record server.now { trace = trace }) ≡
+        met (record server.now { trace = trace }) send.now item.now) }
 {
     match item {
         Item::Serve {

@@ -31,7 +31,8 @@ pub fn read_send(alloc: Global, frame: &Frame, places: &[Place]) -> Result<Optio
 
 /// The document that bytes spell.
 fn decoded(alloc: Global, bytes: &[u8]) -> Result<Option<Document>, AllocError>
-    ensures { IfOk result (λ found. (document : Listed (Pair Value)) → Spells document bytes.now → found ≡ Some document) }
+    ensures { IfOk result
+        (λ found. (document : Listed (Pair Value)) → Spells document bytes.now → found ≡ Some document) }
 {
     match decode(alloc, bytes) {
         Ok(document) => Ok(Some(document)),
@@ -47,7 +48,9 @@ fn decoded_documents(
     place: usize,
 ) -> Result<Option<List<Document>>, AllocError>
     requires { place < length frame.now.sequences }
-    ensures { IfOk result (λ found. (documents : Listed (Listed (Pair Value))) → SpellAll documents (documents_at frame.now.sequences place) → found ≡ Some documents) }
+    ensures { IfOk result
+        (λ found. (documents : Listed (Listed (Pair Value))) →
+        SpellAll documents (documents_at frame.now.sequences place) → found ≡ Some documents) }
 {
     let count = frame.document_count(place);
     let mut documents = Vec::with_capacity(alloc, count)?;
@@ -67,7 +70,10 @@ fn decoded_sequence(
     place: usize,
 ) -> Result<Option<Documents>, AllocError>
     requires { place < length frame.now.sequences }
-    ensures { IfOk result (λ found. (sequence : Framed) (read : Named) → slice_get frame.now.sequences place ≡ Some sequence → SpellsSequence read sequence → found ≡ Some read) }
+    ensures { IfOk result
+        (λ found. (sequence : Framed) (read : Named) →
+        slice_get frame.now.sequences place ≡ Some sequence →
+        SpellsSequence read sequence → found ≡ Some read) }
 {
     let Some(documents) = decoded_documents(alloc, frame, place)? else {
         return Ok(None);
@@ -78,7 +84,8 @@ fn decoded_sequence(
 
 /// A frame's sequences.
 fn decoded_sequences(alloc: Global, frame: &Frame) -> Result<Option<List<Documents>>, AllocError>
-    ensures { IfOk result (λ found. (read : Listed Named) → SpellSequences read frame.now.sequences → found ≡ Some read) }
+    ensures { IfOk result
+        (λ found. (read : Listed Named) → SpellSequences read frame.now.sequences → found ≡ Some read) }
 {
     let count = frame.sequence_count();
     let mut sequences = Vec::with_capacity(alloc, count)?;

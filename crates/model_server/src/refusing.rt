@@ -82,8 +82,15 @@ pub(crate) fn refuse(
     code: i32,
     labels: &[Text],
 ) -> Result<Prepared, AllocError>
-    ensures reply { IfOk result (λ made. (trace : Listed Sent) → made.reply ≡ error_reply code (refused_labels labels.now (record server.now { trace = trace }) send.now)) }
-    ensures server { IfOk result (λ made. (trace : Listed Sent) → changed made.effect made.change (record server.now { trace = trace }) ≡ told_of_error (refused_labels labels.now (record server.now { trace = trace }) send.now) (record server.now { trace = trace }) send.now) }
+    ensures reply { IfOk result
+        (λ made. (trace : Listed Sent) →
+        made.reply ≡
+        error_reply code (refused_labels labels.now (record server.now { trace = trace }) send.now)) }
+    ensures server { IfOk result
+        (λ made. (trace : Listed Sent) →
+        changed made.effect made.change (record server.now { trace = trace }) ≡
+        told_of_error (refused_labels labels.now (record server.now { trace = trace }) send.now)
+        (record server.now { trace = trace }) send.now) }
 {
     let facts = Judgement {
         ran_now: false,

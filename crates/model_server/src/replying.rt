@@ -134,7 +134,8 @@ fn push_inserted(
     at: usize,
     inserted: &Option<Bson>,
 ) -> Result<(), AllocError>
-    ensures { OnOk result ((rest : Listed Value) → upserts.new ++ rest ≡ upserts.old ++ upserted_at at inserted.now rest) }
+    ensures { OnOk result
+        ((rest : Listed Value) → upserts.new ++ rest ≡ upserts.old ++ upserted_at at inserted.now rest) }
 {
     match inserted {
         Some(id) => {
@@ -152,7 +153,9 @@ fn push_upsert(
     at: usize,
     statement: &Statement,
 ) -> Result<(), AllocError>
-    ensures { OnOk result ((rest : Listed Value) → upserts.new ++ rest ≡ upserts.old ++ upserted_by at (result_of statement.now) rest) }
+    ensures { OnOk result
+        ((rest : Listed Value) →
+        upserts.new ++ rest ≡ upserts.old ++ upserted_by at (result_of statement.now) rest) }
 {
     match counts::counted(statement) {
         Some(counts) => push_inserted(alloc, upserts, at, &counts.upserted),
@@ -256,7 +259,10 @@ fn push_bulk(
 
 /// Appends the count of an insert or a delete, and the write errors.
 fn push_counted(alloc: Global, reply: &mut Document, done: &[Statement]) -> Result<(), AllocError>
-    ensures { OnOk result (reply.new ≡ reply.old ++ (field N.now (reply_number (sum_of (λ counts. counts.n) (results_in done.now))) ∷ errors_field (all_errors 0 done.now))) }
+    ensures { OnOk result
+        (reply.new ≡ reply.old ++
+        (field N.now (reply_number (sum_of (λ counts. counts.n) (results_in done.now))) ∷
+        errors_field (all_errors 0 done.now))) }
 {
     reply.push(N, number(counts::sum_n(done)?))?;
     push_errors(alloc, reply, done)
@@ -264,7 +270,11 @@ fn push_counted(alloc: Global, reply: &mut Document, done: &[Statement]) -> Resu
 
 /// Appends the counts of an update, its upserts and the write errors.
 fn push_update(alloc: Global, reply: &mut Document, done: &[Statement]) -> Result<(), AllocError>
-    ensures { OnOk result (reply.new ≡ reply.old ++ (field N.now (reply_number (sum_of (λ counts. counts.n) (results_in done.now))) ∷ field N_MODIFIED.now (reply_number (sum_of (λ counts. counts.modified) (results_in done.now))) ∷ (upserted_field (all_upserts 0 done.now) ++ errors_field (all_errors 0 done.now)))) }
+    ensures { OnOk result
+        (reply.new ≡ reply.old ++
+        (field N.now (reply_number (sum_of (λ counts. counts.n) (results_in done.now))) ∷
+        field N_MODIFIED.now (reply_number (sum_of (λ counts. counts.modified) (results_in done.now))) ∷
+        (upserted_field (all_upserts 0 done.now) ++ errors_field (all_errors 0 done.now)))) }
 {
     reply.push(N, number(counts::sum_n(done)?))?;
     reply.push(N_MODIFIED, number(counts::sum_modified(done)?))?;
@@ -275,7 +285,9 @@ fn push_update(alloc: Global, reply: &mut Document, done: &[Statement]) -> Resul
 
 /// Appends the value of a findAndModify, and its write error.
 fn push_value(alloc: Global, reply: &mut Document, done: &[Statement]) -> Result<(), AllocError>
-    ensures { OnOk result (reply.new ≡ reply.old ++ (field VALUE.now (value_of done.now) ∷ errors_field (all_errors 0 done.now))) }
+    ensures { OnOk result
+        (reply.new ≡
+        reply.old ++ (field VALUE.now (value_of done.now) ∷ errors_field (all_errors 0 done.now))) }
 {
     reply.push(VALUE, first_value(alloc, done)?)?;
     push_errors(alloc, reply, done)
@@ -291,7 +303,8 @@ fn push_needed(
     writes: &[PlacedWrite],
     done: &[Statement],
 ) -> Result<(), AllocError>
-    ensures { OnOk result (reply.new ≡ reply.old ++ needed_fields command page cursors.now writes.now done.now) }
+    ensures { OnOk result
+        (reply.new ≡ reply.old ++ needed_fields command page cursors.now writes.now done.now) }
 {
     match command {
         SendCommand::Insert => push_counted(alloc, reply, done),
@@ -322,7 +335,8 @@ pub fn write_reply(
     writes: &[PlacedWrite],
     done: &[Statement],
 ) -> Result<Document, AllocError>
-    ensures { IfOk result (λ reply. reply ≡ reply_to_writes command page concern.now cursors.now writes.now done.now) }
+    ensures { IfOk result
+        (λ reply. reply ≡ reply_to_writes command page concern.now cursors.now writes.now done.now) }
 {
     let mut reply = done_reply(alloc)?;
     push_needed(alloc, &mut reply, command, page, cursors, writes, done)?;

@@ -53,9 +53,27 @@ impl Model for ModelServer {
 
     ghost Value = { ModelState };
 
-    ghost coded = { Prim.hlevel (codes, server_contract.the_row.coded, setup_contract.the_row.coded, schedule_contract.the_row.coded, answered_contract.the_row.coded) };
+    ghost coded = { Prim.hlevel (
+      codes,
+      server_contract.the_row.coded,
+      setup_contract.the_row.coded,
+      schedule_contract.the_row.coded,
+      answered_contract.the_row.coded,
+    ) };
 
-    ghost view = { λ model. record { server = model.server; setup = model.setup; schedule = model.schedule; counts = record { selects = model.calls.selects; supports = model.calls.supports; check_outs = model.calls.check_outs; reauthentications = model.calls.reauthentications }; answers = model.answered; faults = model.faults } };
+    ghost view = { λ model. record {
+      server = model.server;
+      setup = model.setup;
+      schedule = model.schedule;
+      counts = record {
+        selects = model.calls.selects;
+        supports = model.calls.supports;
+        check_outs = model.calls.check_outs;
+        reauthentications = model.calls.reauthentications;
+      };
+      answers = model.answered;
+      faults = model.faults;
+    } };
 
     ghost invariant = { λ model. IsWellFormed model.schedule };
 }
@@ -64,7 +82,14 @@ impl ModelServer {
     /// A server that has seen nothing. It takes no memory.
     pub fn new(alloc: Global, setup: Setup, schedule: Schedule) -> ModelServer
         requires { IsWellFormed schedule }
-        ensures { result ≡ record { server = empty_server; setup = setup; schedule = schedule; counts = no_calls; answers = []; faults = 0 } }
+        ensures { result ≡ record {
+          server = empty_server;
+          setup = setup;
+          schedule = schedule;
+          counts = no_calls;
+          answers = [];
+          faults = 0;
+        } }
     {
         ModelServer {
             server: new_server(alloc),

@@ -1,11 +1,10 @@
 //! What serving a send comes to: its statements, what it changes, and its reply.
 ghost use Rattle.std.specs.Prelude.{◌≡◌, List as Listed, Option as Maybe, ℕ, IfOk};
-ghost use Rattle.driver_link.specs.Cases.{known_of, results_of, writes_of as writes_in};
+ghost use Rattle.driver_link.specs.Cases.{known_of, results_of};
 ghost use Rattle.driver_link.specs.Cursors.{rows as all_rows, pages_left as pages_rest, with_cursor, cursors_with};
 ghost use Rattle.driver_link.specs.Exchange.{plan_of};
 ghost use Rattle.driver_link.specs.Replies.{body_reply as reply_of_body, denied_reply as reply_denied, reply_in as reply_to_case, transaction_of};
 ghost use Rattle.driver_link.specs.Serving.{done_in as done_of_case, cursors_after, session_after};
-ghost use Rattle.driver_link.specs.Statements.{entries_of};
 ghost use Rattle.driver_link.specs.declared.machine.Entry.{Entry as Written};
 ghost use Rattle.driver_link.specs.declared.machine.Failing.{Failing as Fails};
 ghost use Rattle.driver_link.specs.declared.machine.KnownSession.{KnownSession as Known};
@@ -14,6 +13,7 @@ ghost use Rattle.driver_link.specs.declared.machine.PlannedConcern.{PlannedConce
 ghost use Rattle.driver_link.specs.declared.machine.Server.{Server as State};
 ghost use Rattle.model_server.specs.Changes.{cursors_put};
 ghost use Rattle.model_server.specs.Does.{Does};
+ghost use Rattle.model_server.specs.Parts.{ran_of};
 ghost use Rattle.model_server.specs.Seen.{seen};
 
 use crate::cases::{Case, begun, is_in_transaction, is_ordered, kept_of, writes_of};
@@ -41,7 +41,10 @@ pub fn done_in(
     results: &[Planned],
     fail: &[Failing],
 ) -> Result<List<Statement>, AllocError>
-    ensures { IfOk result (λ done. (entries : Listed Written) (concern : Maybe Concern) (page : Maybe ℕ) → done ≡ done_of_case (seen case entries) (plan_of results.now fail.now concern page) (results_of (known_of server.now send.now)) send.now.body) }
+    ensures { IfOk result
+        (λ done. (entries : Listed Written) (concern : Maybe Concern) (page : Maybe ℕ) →
+        done ≡ done_of_case (seen case entries) (plan_of results.now fail.now concern page)
+        (results_of (known_of server.now send.now)) send.now.body) }
 {
     let none = ByIndex::new(alloc);
     let writes = writes_of(&send.body);
@@ -58,7 +61,9 @@ pub fn done_in(
 
 /// The step of a send outside transactions.
 fn keeps(alloc: Global, send: &Send, done: &[Statement]) -> Result<SessionStep, AllocError>
-    ensures { IfOk result (λ step. (known : Known) → Does session_after step Case.Outside done.now (entries_of send.now.session send.now.number (writes_in send.now) done.now) known) }
+    ensures { IfOk result
+        (λ step. (known : Known) →
+        Does session_after step Case.Outside done.now (ran_of send.now done.now) known) }
 {
     let entries = entries(
         alloc,
@@ -78,7 +83,9 @@ fn keeps(alloc: Global, send: &Send, done: &[Statement]) -> Result<SessionStep, 
 
 /// The step of writes in a transaction that runs.
 fn gathers(alloc: Global, send: &Send, done: &[Statement]) -> Result<SessionStep, AllocError>
-    ensures { IfOk result (λ step. (known : Known) → Does session_after step Case.Gathers done.now (entries_of send.now.session send.now.number (writes_in send.now) done.now) known) }
+    ensures { IfOk result
+        (λ step. (known : Known) →
+        Does session_after step Case.Gathers done.now (ran_of send.now done.now) known) }
 {
     let ran = has_run_before_failing(done);
     if has_failed(done) {
@@ -102,7 +109,8 @@ pub fn step_in(
     case: Case,
     done: &[Statement],
 ) -> Result<SessionStep, AllocError>
-    ensures { IfOk result (λ step. (known : Known) → Does session_after step case done.now (entries_of send.now.session send.now.number (writes_in send.now) done.now) known) }
+    ensures { IfOk result
+        (λ step. (known : Known) → Does session_after step case done.now (ran_of send.now done.now) known) }
 {
     match case {
         Case::Outside => keeps(alloc, send, done),
@@ -123,7 +131,10 @@ fn opened(
     writes: &[PlacedWrite],
     done: &[Statement],
 ) -> Result<CursorChange, AllocError>
-    ensures { IfOk result (λ change. (state : State) → cursors_put change state.cursors ≡ with_cursor (pages_rest page (all_rows 0 writes.now done.now)) state.cursors) }
+    ensures { IfOk result
+        (λ change. (state : State) →
+        cursors_put change state.cursors ≡
+        with_cursor (pages_rest page (all_rows 0 writes.now done.now)) state.cursors) }
 {
     if page.is_none() {
         return Ok(CursorChange::Nothing);
@@ -155,7 +166,9 @@ fn cursor_of_writes(
     page: Option<u64>,
     done: &[Statement],
 ) -> Result<CursorChange, AllocError>
-    ensures { IfOk result (λ change. (state : State) → cursors_put change state.cursors ≡ cursors_with page done.now body.now state.cursors) }
+    ensures { IfOk result
+        (λ change. (state : State) →
+        cursors_put change state.cursors ≡ cursors_with page done.now body.now state.cursors) }
 {
     match body {
         SendBody::Write {
@@ -175,7 +188,9 @@ pub fn cursor_change(
     page: Option<u64>,
     done: &[Statement],
 ) -> Result<CursorChange, AllocError>
-    ensures { IfOk result (λ change. (state : State) (entries : Listed Written) → cursors_put change state.cursors ≡ cursors_after (seen case entries) page done.now send.now state) }
+    ensures { IfOk result
+        (λ change. (state : State) (entries : Listed Written) →
+        cursors_put change state.cursors ≡ cursors_after (seen case entries) page done.now send.now state) }
 {
     match case {
         Case::Outside => cursor_of_writes(alloc, &send.body, page, done),
@@ -216,7 +231,9 @@ fn body_reply(
     cursors: &[Option<List<Document>>],
     done: &[Statement],
 ) -> Result<Document, AllocError>
-    ensures { IfOk result (λ reply. (results : Listed Plans) (fail : Listed Fails) → reply ≡ reply_of_body body.now (plan_of results fail concern.now page) cursors.now done.now) }
+    ensures { IfOk result
+        (λ reply. (results : Listed Plans) (fail : Listed Fails) →
+        reply ≡ reply_of_body body.now (plan_of results fail concern.now page) cursors.now done.now) }
 {
     match body {
         SendBody::Write {
@@ -247,7 +264,10 @@ pub fn reply_in(
     concern: &Option<PlannedConcern>,
     done: &[Statement],
 ) -> Result<Document, AllocError>
-    ensures { IfOk result (λ reply. (entries : Listed Written) (results : Listed Plans) (fail : Listed Fails) → reply ≡ reply_to_case (seen case entries) (plan_of results fail concern.now page) done.now server.now send.now) }
+    ensures { IfOk result
+        (λ reply. (entries : Listed Written) (results : Listed Plans) (fail : Listed Fails) →
+        reply ≡ reply_to_case (seen case entries) (plan_of results fail concern.now page) done.now server.now
+        send.now) }
 {
     let cursors = server.cursors.as_slice();
     match case {

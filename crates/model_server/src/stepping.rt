@@ -43,8 +43,10 @@ fn take_usual(
     alloc: Global,
     send: Send,
 ) -> Result<Option<Bytes>, AllocError>
-    ensures reply { IfOk result (λ bytes. IsSpelled (answered server.old send (record { deliver = []; item = usual_step })) bytes) }
-    ensures ok { OnOk result (server.new ≡ exchanged server.old send (record { deliver = []; item = usual_step })) }
+    ensures reply { IfOk result
+        (λ bytes. IsSpelled (answered server.old send (record { deliver = []; item = usual_step })) bytes) }
+    ensures ok { OnOk result
+        (server.new ≡ exchanged server.old send (record { deliver = []; item = usual_step })) }
     ensures notes { IfOk result (λ bytes. notes.new ≡ notes.old ++ note_of bytes ∷ []) }
     ensures err { OnErr result (server.new ≡ server.old) }
     ensures notes_err { OnErr result (notes.new ≡ notes.old) }
@@ -61,7 +63,8 @@ pub(crate) fn take_next(
     send: Send,
     schedule: &Schedule,
 ) -> Result<Option<Bytes>, AllocError>
-    ensures reply { IfOk result (λ bytes. IsSpelled (answered server.old send (next_step schedule.now server.old)) bytes) }
+    ensures reply { IfOk result
+        (λ bytes. IsSpelled (answered server.old send (next_step schedule.now server.old)) bytes) }
     ensures ok { OnOk result (server.new ≡ exchanged server.old send (next_step schedule.now server.old)) }
     ensures notes { IfOk result (λ bytes. notes.new ≡ notes.old ++ note_of bytes ∷ []) }
     ensures err { OnErr result (server.new ≡ server.old) }

@@ -63,7 +63,10 @@ fn note_gathering(
     alloc: Global,
     transaction: &ServerTransaction,
 ) -> Result<PastTransaction, AllocError>
-    ensures { IfOk result (λ past. (more : Listed Written) → transaction_before past (ServerTransaction.Running (entries_in transaction.now ++ more)) ≡ transaction.now) }
+    ensures { IfOk result
+        (λ past. (more : Listed Written) →
+        transaction_before past (ServerTransaction.Running (entries_in transaction.now ++ more)) ≡
+        transaction.now) }
 {
     match transaction {
         ServerTransaction::Running { entries } => Ok(PastTransaction::Running {
@@ -89,7 +92,9 @@ fn note_transaction(
     transient: bool,
     known: &KnownSession,
 ) -> Result<PastTransaction, AllocError>
-    ensures { IfOk result (λ past. transaction_before past (ended transient (stepped step.now known.now)).transaction ≡ known.now.transaction) }
+    ensures { IfOk result
+        (λ past. transaction_before past (ended transient (stepped step.now known.now)).transaction ≡
+        known.now.transaction) }
 {
     if transient {
         return note_copy(alloc, &known.transaction);
@@ -109,7 +114,9 @@ fn note_kept(
     step: &SessionStep,
     known: &KnownSession,
 ) -> Result<Option<ByIndex<Counted>>, AllocError>
-    ensures { IfOk result (λ kept. (transient : Bool) → unwrap_or kept (ended transient (stepped step.now known.now)).kept ≡ known.now.kept) }
+    ensures { IfOk result
+        (λ kept. (transient : Bool) →
+        unwrap_or kept (ended transient (stepped step.now known.now)).kept ≡ known.now.kept) }
 {
     match step {
         SessionStep::Keeps { .. } => Ok(Some(copied_kept(alloc, &known.kept)?)),
@@ -125,7 +132,8 @@ fn note_step(
     transient: bool,
     known: &KnownSession,
 ) -> Result<PastStep, AllocError>
-    ensures { IfOk result (λ past. known_before past (ended transient (stepped step.now known.now)) ≡ known.now) }
+    ensures { IfOk result
+        (λ past. known_before past (ended transient (stepped step.now known.now)) ≡ known.now) }
 {
     Ok(PastStep {
         ran: known.ran,
@@ -144,7 +152,12 @@ fn note_session(
     step: &SessionStep,
     transient: bool,
 ) -> Result<PastSessions, AllocError>
-    ensures { IfOk result (λ past. (in_transaction start : Bool) → sessions_before past (outdated number (finite.get sessions.now id)) (finite.insert sessions.now id (ended transient (stepped step.now (taken number in_transaction start (finite.get sessions.now id))))) ≡ sessions.now) }
+    ensures { IfOk result
+        (λ past. (in_transaction start : Bool) →
+        sessions_before past (outdated number (finite.get sessions.now id))
+        (finite.insert sessions.now id
+        (ended transient (stepped step.now (taken number in_transaction start (finite.get sessions.now id)))))
+        ≡ sessions.now) }
 {
     let Some(known) = sessions.get(&id) else {
         return Ok(PastSessions::Began { id });
@@ -165,7 +178,9 @@ fn note_sessions(
     server: &Server,
     effect: &Effect,
 ) -> Result<PastSessions, AllocError>
-    ensures { IfOk result (λ past. sessions_before past (session_displaced effect.now server.now.sessions) (effect_in effect.now server.now).sessions ≡ server.now.sessions) }
+    ensures { IfOk result
+        (λ past. sessions_before past (session_displaced effect.now server.now.sessions)
+        (effect_in effect.now server.now).sessions ≡ server.now.sessions) }
 {
     match effect {
         Effect::Taken {
@@ -196,7 +211,9 @@ pub fn note(
     effect: &Effect,
     change: &CursorChange,
 ) -> Result<Past, AllocError>
-    ensures { IfOk result (λ past. server_before past (displaced_by effect.now change.now server.now) (changed effect.now change.now server.now) ≡ server.now) }
+    ensures { IfOk result
+        (λ past. server_before past (displaced_by effect.now change.now server.now)
+        (changed effect.now change.now server.now) ≡ server.now) }
 {
     Ok(Past {
         sessions: note_sessions(alloc, server, effect)?,

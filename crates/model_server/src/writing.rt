@@ -176,7 +176,8 @@ pub fn asked_statements(
     body: &Document,
     places: &[Place],
 ) -> Result<Option<SendBody>, AllocError>
-    ensures { IfOk result (λ asked. asked ≡ asks_statements command kind key.now namespace.now body.now places.now) }
+    ensures { IfOk result
+        (λ asked. asked ≡ asks_statements command kind key.now namespace.now body.now places.now) }
 {
     let Some(ordered) = bool_field(body, ORDERED) else {
         return Ok(None);

@@ -1,5 +1,5 @@
 -- The id that was found is the document's own.
-use Rattle.driver_actions.proofs.Making.{has_own_id}
+use Rattle.driver_actions.proofs.Parts.{has_own_id}
 use Rattle.driver_actions.proofs.single.put_id.Goals as goal
 
 pub returns-in-Some-clause-id : goal.returns-in-Some-clause-id

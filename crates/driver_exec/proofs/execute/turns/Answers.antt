@@ -2,11 +2,10 @@
 use Rattle.std.proofs.Common.{◌+◌, ap, arith, sym, subst, ◌∙◌}
 use Rattle.std.specs.Prelude.{Ok, Err}
 use Rattle.driver_exec.specs.declared.attempt_end.Attempt.TheVariants.{Done, Ended, Failed, Unselected}
-use Rattle.driver_exec.specs.Attempting.{scene, trial_of}
+use Rattle.driver_exec.specs.Attempting.{attempt_state, trial_of}
 use Rattle.driver_exec.specs.Client.{options_of, store_of}
 use Rattle.driver_exec.specs.Holding.{holds_nothing, number_before}
 use Rattle.driver_exec.specs.Retry.{Decides, decide}
-use Rattle.driver_exec.specs.Links.{told_link}
 use Rattle.driver_exec.proofs.Executing.{ends_at_limit, ends_done, ends_ended, ends_refused, ends_unselected, goes_further, one_send_more, same_twice, decided_fewer, tried}
 use Rattle.driver_exec.proofs.execute.turns.Goals as goal
 
@@ -15,8 +14,8 @@ returns-then-limit_reached-clause-turns g c =
     let meaning = g.O.Operation.meaning c.args.op.now in
     let own = meaning.own (options_of c.args.client.now) in
     let trial = trial_of meaning c.args.places.now own in
-    let began = (scene (g.S.SessionStore.told (store_of c.args.client.now)) (told_link (g.L.Link.told c.args.outside.now.link) (g.L.Link.setup c.args.outside.now.link) (g.L.Link.answers c.args.outside.now.link) (g.L.Link.frames c.args.outside.now.link) (g.L.Link.asked c.args.outside.now.link) (g.L.Link.faults c.args.outside.now.link)) holds_nothing c.args.sends.now) in
-    let mid = (scene (g.S.SessionStore.told (store_of c.turns.client)) (told_link (g.L.Link.told c.turns.outside.link) (g.L.Link.setup c.turns.outside.link) (g.L.Link.answers c.turns.outside.link) (g.L.Link.frames c.turns.outside.link) (g.L.Link.asked c.turns.outside.link) (g.L.Link.faults c.turns.outside.link)) c.turns.held c.turns.sends) in
+    let began = (attempt_state (g.S.SessionStore.tells (store_of c.args.client.now)) (g.L.Link.tells c.args.outside.now.link) holds_nothing c.args.sends.now) in
+    let mid = (attempt_state (g.S.SessionStore.tells (store_of c.turns.client)) (g.L.Link.tells c.turns.outside.link) c.turns.held c.turns.sends) in
     ends_at_limit trial c.args.sharded began c.turns.kept mid c.turns.invariant.far c.last_error.result (sym c.limit_reached.ensures ∙ c.if-limit_reached.true) c.last_error.ensures
 
 pub turns-smaller : goal.turns-smaller
@@ -29,9 +28,9 @@ turns-preserved g c =
     let meaning = g.O.Operation.meaning c.args.op.now in
     let own = meaning.own (options_of c.args.client.now) in
     let trial = trial_of meaning c.args.places.now own in
-    let began = (scene (g.S.SessionStore.told (store_of c.args.client.now)) (told_link (g.L.Link.told c.args.outside.now.link) (g.L.Link.setup c.args.outside.now.link) (g.L.Link.answers c.args.outside.now.link) (g.L.Link.frames c.args.outside.now.link) (g.L.Link.asked c.args.outside.now.link) (g.L.Link.faults c.args.outside.now.link)) holds_nothing c.args.sends.now) in
-    let mid = (scene (g.S.SessionStore.told (store_of c.turns.client)) (told_link (g.L.Link.told c.turns.outside.link) (g.L.Link.setup c.turns.outside.link) (g.L.Link.answers c.turns.outside.link) (g.L.Link.frames c.turns.outside.link) (g.L.Link.asked c.turns.outside.link) (g.L.Link.faults c.turns.outside.link)) c.turns.held c.turns.sends) in
-    let now = (scene (g.S.SessionStore.told (store_of c.try_once-next.new.client)) (told_link (g.L.Link.told c.try_once-next.new.outside.link) (g.L.Link.setup c.try_once-next.new.outside.link) (g.L.Link.answers c.try_once-next.new.outside.link) (g.L.Link.frames c.try_once-next.new.outside.link) (g.L.Link.asked c.try_once-next.new.outside.link) (g.L.Link.faults c.try_once-next.new.outside.link)) c.try_once-next.result.0 c.try_once-next.new.sends) in
+    let began = (attempt_state (g.S.SessionStore.tells (store_of c.args.client.now)) (g.L.Link.tells c.args.outside.now.link) holds_nothing c.args.sends.now) in
+    let mid = (attempt_state (g.S.SessionStore.tells (store_of c.turns.client)) (g.L.Link.tells c.turns.outside.link) c.turns.held c.turns.sends) in
+    let now = (attempt_state (g.S.SessionStore.tells (store_of c.try_once-next.new.client)) (g.L.Link.tells c.try_once-next.new.outside.link) c.try_once-next.result.0 c.try_once-next.new.sends) in
     let goes_on = sym c.limit_reached.ensures ∙ c.if-limit_reached.false in
     let owned = c.turns.invariant.meaning.own (options_of c.turns.client) ∙ ap (λ options. meaning.own options) c.turns.invariant.options in
     let tries = tried meaning (g.O.Operation.meaning c.turns.op) c.turns.invariant.meaning c.args.places.now _ own _ c.turns.kept mid now c.try_once-next.result.1 (Failed c.in-Failed.failing)
@@ -45,6 +44,7 @@ turns-preserved g c =
       meaning = same_twice meaning (g.O.Operation.meaning c.turns.op) (g.O.Operation.meaning c.try_once-next.new.op) c.turns.invariant.meaning c.try_once-next.ensures.meaning;
       own = c.turns.invariant.own;
       options = c.try_once-next.ensures.options ∙ c.turns.invariant.options;
+      out = c.try_once-next.ensures.out ∙ c.turns.invariant.out;
       call = c.try_once-next.ensures.call ∙ c.turns.invariant.call;
       once = fewer.once;
       few = omega (arith, fewer.fewer, c.turns.invariant.few, c.try_once-next.ensures.sends);
@@ -55,9 +55,9 @@ returns-in-Err-clause-turns g c =
     let meaning = g.O.Operation.meaning c.args.op.now in
     let own = meaning.own (options_of c.args.client.now) in
     let trial = trial_of meaning c.args.places.now own in
-    let began = (scene (g.S.SessionStore.told (store_of c.args.client.now)) (told_link (g.L.Link.told c.args.outside.now.link) (g.L.Link.setup c.args.outside.now.link) (g.L.Link.answers c.args.outside.now.link) (g.L.Link.frames c.args.outside.now.link) (g.L.Link.asked c.args.outside.now.link) (g.L.Link.faults c.args.outside.now.link)) holds_nothing c.args.sends.now) in
-    let mid = (scene (g.S.SessionStore.told (store_of c.turns.client)) (told_link (g.L.Link.told c.turns.outside.link) (g.L.Link.setup c.turns.outside.link) (g.L.Link.answers c.turns.outside.link) (g.L.Link.frames c.turns.outside.link) (g.L.Link.asked c.turns.outside.link) (g.L.Link.faults c.turns.outside.link)) c.turns.held c.turns.sends) in
-    let now = (scene (g.S.SessionStore.told (store_of c.try_once-next.new.client)) (told_link (g.L.Link.told c.try_once-next.new.outside.link) (g.L.Link.setup c.try_once-next.new.outside.link) (g.L.Link.answers c.try_once-next.new.outside.link) (g.L.Link.frames c.try_once-next.new.outside.link) (g.L.Link.asked c.try_once-next.new.outside.link) (g.L.Link.faults c.try_once-next.new.outside.link)) c.try_once-next.result.0 c.try_once-next.new.sends) in
+    let began = (attempt_state (g.S.SessionStore.tells (store_of c.args.client.now)) (g.L.Link.tells c.args.outside.now.link) holds_nothing c.args.sends.now) in
+    let mid = (attempt_state (g.S.SessionStore.tells (store_of c.turns.client)) (g.L.Link.tells c.turns.outside.link) c.turns.held c.turns.sends) in
+    let now = (attempt_state (g.S.SessionStore.tells (store_of c.try_once-next.new.client)) (g.L.Link.tells c.try_once-next.new.outside.link) c.try_once-next.result.0 c.try_once-next.new.sends) in
     let goes_on = sym c.limit_reached.ensures ∙ c.if-limit_reached.false in
     let owned = c.turns.invariant.meaning.own (options_of c.turns.client) ∙ ap (λ options. meaning.own options) c.turns.invariant.options in
     let tries = tried meaning (g.O.Operation.meaning c.turns.op) c.turns.invariant.meaning c.args.places.now _ own _ c.turns.kept mid now c.try_once-next.result.1 (Failed c.in-Failed.failing)
@@ -71,9 +71,9 @@ returns-in-Done-clause-turns g c =
     let meaning = g.O.Operation.meaning c.args.op.now in
     let own = meaning.own (options_of c.args.client.now) in
     let trial = trial_of meaning c.args.places.now own in
-    let began = (scene (g.S.SessionStore.told (store_of c.args.client.now)) (told_link (g.L.Link.told c.args.outside.now.link) (g.L.Link.setup c.args.outside.now.link) (g.L.Link.answers c.args.outside.now.link) (g.L.Link.frames c.args.outside.now.link) (g.L.Link.asked c.args.outside.now.link) (g.L.Link.faults c.args.outside.now.link)) holds_nothing c.args.sends.now) in
-    let mid = (scene (g.S.SessionStore.told (store_of c.turns.client)) (told_link (g.L.Link.told c.turns.outside.link) (g.L.Link.setup c.turns.outside.link) (g.L.Link.answers c.turns.outside.link) (g.L.Link.frames c.turns.outside.link) (g.L.Link.asked c.turns.outside.link) (g.L.Link.faults c.turns.outside.link)) c.turns.held c.turns.sends) in
-    let now = (scene (g.S.SessionStore.told (store_of c.try_once-next.new.client)) (told_link (g.L.Link.told c.try_once-next.new.outside.link) (g.L.Link.setup c.try_once-next.new.outside.link) (g.L.Link.answers c.try_once-next.new.outside.link) (g.L.Link.frames c.try_once-next.new.outside.link) (g.L.Link.asked c.try_once-next.new.outside.link) (g.L.Link.faults c.try_once-next.new.outside.link)) c.try_once-next.result.0 c.try_once-next.new.sends) in
+    let began = (attempt_state (g.S.SessionStore.tells (store_of c.args.client.now)) (g.L.Link.tells c.args.outside.now.link) holds_nothing c.args.sends.now) in
+    let mid = (attempt_state (g.S.SessionStore.tells (store_of c.turns.client)) (g.L.Link.tells c.turns.outside.link) c.turns.held c.turns.sends) in
+    let now = (attempt_state (g.S.SessionStore.tells (store_of c.try_once-next.new.client)) (g.L.Link.tells c.try_once-next.new.outside.link) c.try_once-next.result.0 c.try_once-next.new.sends) in
     let goes_on = sym c.limit_reached.ensures ∙ c.if-limit_reached.false in
     let owned = c.turns.invariant.meaning.own (options_of c.turns.client) ∙ ap (λ options. meaning.own options) c.turns.invariant.options in
     let tries = tried meaning (g.O.Operation.meaning c.turns.op) c.turns.invariant.meaning c.args.places.now _ own _ c.turns.kept mid now c.try_once-next.result.1 (Done c.in-Done.output)
@@ -85,9 +85,9 @@ returns-in-Unselected-clause-turns g c =
     let meaning = g.O.Operation.meaning c.args.op.now in
     let own = meaning.own (options_of c.args.client.now) in
     let trial = trial_of meaning c.args.places.now own in
-    let began = (scene (g.S.SessionStore.told (store_of c.args.client.now)) (told_link (g.L.Link.told c.args.outside.now.link) (g.L.Link.setup c.args.outside.now.link) (g.L.Link.answers c.args.outside.now.link) (g.L.Link.frames c.args.outside.now.link) (g.L.Link.asked c.args.outside.now.link) (g.L.Link.faults c.args.outside.now.link)) holds_nothing c.args.sends.now) in
-    let mid = (scene (g.S.SessionStore.told (store_of c.turns.client)) (told_link (g.L.Link.told c.turns.outside.link) (g.L.Link.setup c.turns.outside.link) (g.L.Link.answers c.turns.outside.link) (g.L.Link.frames c.turns.outside.link) (g.L.Link.asked c.turns.outside.link) (g.L.Link.faults c.turns.outside.link)) c.turns.held c.turns.sends) in
-    let now = (scene (g.S.SessionStore.told (store_of c.try_once-next.new.client)) (told_link (g.L.Link.told c.try_once-next.new.outside.link) (g.L.Link.setup c.try_once-next.new.outside.link) (g.L.Link.answers c.try_once-next.new.outside.link) (g.L.Link.frames c.try_once-next.new.outside.link) (g.L.Link.asked c.try_once-next.new.outside.link) (g.L.Link.faults c.try_once-next.new.outside.link)) c.try_once-next.result.0 c.try_once-next.new.sends) in
+    let began = (attempt_state (g.S.SessionStore.tells (store_of c.args.client.now)) (g.L.Link.tells c.args.outside.now.link) holds_nothing c.args.sends.now) in
+    let mid = (attempt_state (g.S.SessionStore.tells (store_of c.turns.client)) (g.L.Link.tells c.turns.outside.link) c.turns.held c.turns.sends) in
+    let now = (attempt_state (g.S.SessionStore.tells (store_of c.try_once-next.new.client)) (g.L.Link.tells c.try_once-next.new.outside.link) c.try_once-next.result.0 c.try_once-next.new.sends) in
     let goes_on = sym c.limit_reached.ensures ∙ c.if-limit_reached.false in
     let owned = c.turns.invariant.meaning.own (options_of c.turns.client) ∙ ap (λ options. meaning.own options) c.turns.invariant.options in
     let tries = tried meaning (g.O.Operation.meaning c.turns.op) c.turns.invariant.meaning c.args.places.now _ own _ c.turns.kept mid now c.try_once-next.result.1 (Unselected c.in-Unselected.error)
@@ -99,9 +99,9 @@ returns-in-Ended-clause-turns g c =
     let meaning = g.O.Operation.meaning c.args.op.now in
     let own = meaning.own (options_of c.args.client.now) in
     let trial = trial_of meaning c.args.places.now own in
-    let began = (scene (g.S.SessionStore.told (store_of c.args.client.now)) (told_link (g.L.Link.told c.args.outside.now.link) (g.L.Link.setup c.args.outside.now.link) (g.L.Link.answers c.args.outside.now.link) (g.L.Link.frames c.args.outside.now.link) (g.L.Link.asked c.args.outside.now.link) (g.L.Link.faults c.args.outside.now.link)) holds_nothing c.args.sends.now) in
-    let mid = (scene (g.S.SessionStore.told (store_of c.turns.client)) (told_link (g.L.Link.told c.turns.outside.link) (g.L.Link.setup c.turns.outside.link) (g.L.Link.answers c.turns.outside.link) (g.L.Link.frames c.turns.outside.link) (g.L.Link.asked c.turns.outside.link) (g.L.Link.faults c.turns.outside.link)) c.turns.held c.turns.sends) in
-    let now = (scene (g.S.SessionStore.told (store_of c.try_once-next.new.client)) (told_link (g.L.Link.told c.try_once-next.new.outside.link) (g.L.Link.setup c.try_once-next.new.outside.link) (g.L.Link.answers c.try_once-next.new.outside.link) (g.L.Link.frames c.try_once-next.new.outside.link) (g.L.Link.asked c.try_once-next.new.outside.link) (g.L.Link.faults c.try_once-next.new.outside.link)) c.try_once-next.result.0 c.try_once-next.new.sends) in
+    let began = (attempt_state (g.S.SessionStore.tells (store_of c.args.client.now)) (g.L.Link.tells c.args.outside.now.link) holds_nothing c.args.sends.now) in
+    let mid = (attempt_state (g.S.SessionStore.tells (store_of c.turns.client)) (g.L.Link.tells c.turns.outside.link) c.turns.held c.turns.sends) in
+    let now = (attempt_state (g.S.SessionStore.tells (store_of c.try_once-next.new.client)) (g.L.Link.tells c.try_once-next.new.outside.link) c.try_once-next.result.0 c.try_once-next.new.sends) in
     let goes_on = sym c.limit_reached.ensures ∙ c.if-limit_reached.false in
     let owned = c.turns.invariant.meaning.own (options_of c.turns.client) ∙ ap (λ options. meaning.own options) c.turns.invariant.options in
     let tries = tried meaning (g.O.Operation.meaning c.turns.op) c.turns.invariant.meaning c.args.places.now _ own _ c.turns.kept mid now c.try_once-next.result.1 (Ended c.in-Ended.error)

@@ -1,20 +1,17 @@
 -- The exchange answered, and its reply was read; or it failed.
 use Rattle.std.proofs.Common.{refl}
 use Rattle.std.specs.Prelude.{Ok, Err}
+use Rattle.driver_exec.proofs.Trying.{exchanges_besides}
 use Rattle.driver_exec.proofs.try_once.exchange.Goals as goal
 
 pub returns-in-Ok-clause-exchanging : goal.returns-in-Ok-clause-exchanging
 returns-in-Ok-clause-exchanging g c = record {
   result = Ok c.in-Ok.reply;
   exchanges = record {
-    steps = λ body asked. c.in-Ok.ensures.step _ (c.requires.gives.reads c.args.places.now body asked);
-    setup = c.in-Ok.ensures.setup;
-    notes = c.in-Ok.ensures.answers;
     frame = c.args.frame.now;
     framed = c.requires.gives.framed;
-    frames = c.in-Ok.ensures.frames;
-    asked = c.in-Ok.ensures.asked;
-    cause = c.in-Ok.ensures.cause;
+    reads = λ body asked. c.requires.gives.reads c.args.places.now body asked;
+    exchanges = exchanges_besides (g.L.Link.tells c.args.link.now) _ c.args.turn.now.conn.now c.args.frame.now c.args.places.now (Ok c.in-Ok.reply) c.in-Ok.ensures;
   };
   held_is = refl;
   comes = record {
@@ -28,14 +25,10 @@ pub returns-in-Err-clause-exchanging : goal.returns-in-Err-clause-exchanging
 returns-in-Err-clause-exchanging g c = record {
   result = Err c.in-Err.failure;
   exchanges = record {
-    steps = λ body asked. c.in-Err.ensures.step _ (c.requires.gives.reads c.args.places.now body asked);
-    setup = c.in-Err.ensures.setup;
-    notes = c.in-Err.ensures.answers;
     frame = c.args.frame.now;
     framed = c.requires.gives.framed;
-    frames = c.in-Err.ensures.frames;
-    asked = c.in-Err.ensures.asked;
-    cause = c.in-Err.ensures.cause;
+    reads = λ body asked. c.requires.gives.reads c.args.places.now body asked;
+    exchanges = exchanges_besides (g.L.Link.tells c.args.link.now) _ c.args.turn.now.conn.now c.args.frame.now c.args.places.now (Err c.in-Err.failure) c.in-Err.ensures;
   };
   held_is = c.after.ensures;
   comes = c.lost.ensures;

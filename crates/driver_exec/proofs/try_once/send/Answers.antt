@@ -1,8 +1,7 @@
 -- The frame reads as what is asked for, and the exchange is one under the number.
 use Rattle.std.proofs.Common.{inr, subst}
-use Rattle.driver_exec.specs.Attempting.{Exchanging}
+use Rattle.driver_exec.specs.Attempting.{Exchanging, besides_out}
 use Rattle.driver_exec.specs.Holding.{DrawsNumber}
-use Rattle.driver_exec.specs.Links.{told_link}
 use Rattle.driver_exec.proofs.Trying.{exchanging_same}
 use Rattle.driver_exec.proofs.try_once.send.Goals as goal
 
@@ -13,7 +12,7 @@ returns-clause-sending g c =
       numbered = c.draw_number-held.result.0;
       number = c.in-Ok.number;
       draws = subst (λ r. DrawsNumber c.args.held.sent c.args.turn.now.turn c.args.held c.draw_number-held.result.0 r) c.in-Ok.is c.draw_number-held.ensures;
-      exchanging = subst (λ h. Exchanging (g.O.Operation.meaning c.args.op.now) c.args.places.now (told_link (g.L.Link.told c.args.link.now) (g.L.Link.setup c.args.link.now) (g.L.Link.answers c.args.link.now) (g.L.Link.frames c.args.link.now) (g.L.Link.asked c.args.link.now) (g.L.Link.faults c.args.link.now)) (told_link (g.L.Link.told c.exchange.new.link) (g.L.Link.setup c.exchange.new.link) (g.L.Link.answers c.exchange.new.link) (g.L.Link.frames c.exchange.new.link) (g.L.Link.asked c.exchange.new.link) (g.L.Link.faults c.exchange.new.link)) c.args.turn.now.turn
-          c.args.turn.now.conn.now.description.max_wire_version c.args.address h c.exchange.result.0 c.exchange.result.1) c.sent_under.ensures exchanging;
+      exchanging = subst (λ h. Exchanging (g.O.Operation.meaning c.args.op.now) c.args.places.now (besides_out (g.L.Link.tells c.args.link.now)) (besides_out (g.L.Link.tells c.exchange.new.link)) c.args.turn.now.turn
+          c.args.turn.now.conn.now c.args.address h c.exchange.result.0 c.exchange.result.1) c.sent_under.ensures exchanging;
       counted = c.exchange.ensures.sends;
     }))

@@ -1,7 +1,8 @@
 -- One call is made, its outcome is appended, and the run stands as before.
+use Rattle.driver_exec.specs.Moment.{moment_of}
 use Rattle.driver_actions.proofs.Completing.{call_ends}
-use Rattle.driver_actions.proofs.Sending.{call_sends, sends_draws, sends_lends, sends_making, sends_replayed}
-use Rattle.driver_actions.proofs.Standing.{made_at, stands_more}
+use Rattle.driver_actions.proofs.Sending.{caused_draws, caused_lends, caused_making, caused_replayed}
+use Rattle.driver_actions.proofs.Standing.{caused_at, stands_more}
 use Rattle.driver_actions.proofs.call_run.CallRun.make.Goals as goal
 
 pub returns-clause-makes : goal.returns-clause-makes
@@ -10,52 +11,47 @@ returns-clause-makes g c = record {
   outcome = c.make_call-outcome.result;
   next = c.next-call.ensures;
   appended = c.add.ensures;
-  holds = record {
-    makes = made_at _ _ _ c.next-call.result.now c.made.result c.args.self.now.made c.make_call-outcome.result.result c.made.ensures c.make_call-outcome.ensures.makes;
-    cause = c.make_call-outcome.ensures.cause;
-  };
+  holds = caused_at c.made-number.result c.args.self.now.made (moment_of g.S.SessionStore.tells g.L.Link.tells g.K.Clock.tells g.R.Rng.stream c.args.client.now c.args.outside.now)
+      (moment_of g.S.SessionStore.tells g.L.Link.tells g.K.Clock.tells g.R.Rng.stream c.make_call-outcome.new.client c.make_call-outcome.new.outside) c.next-call.result.now c.make_call-outcome.result c.made-number.ensures c.make_call-outcome.ensures.caused;
 }
 
 pub returns-clause-complete : goal.returns-clause-complete
 returns-clause-complete g c = λ stands apart.
     let call = c.next-call.result.now in
     let outcome = c.make_call-outcome.result in
-    let makes = made_at _ _ _ call c.made.result c.args.self.now.made outcome.result c.made.ensures c.make_call-outcome.ensures.makes in
     record {
       call = call;
       outcome = outcome;
       next = c.next-call.ensures;
       appended = c.add.ensures;
-      holds = call_ends _ c.args.self.now c.args.calls.now _ _ stands apart call outcome.result makes c.make_call-outcome.ensures.cause;
+      holds = call_ends c.args.self.now c.args.calls.now
+          (moment_of g.S.SessionStore.tells g.L.Link.tells g.K.Clock.tells g.R.Rng.stream c.args.client.now c.args.outside.now)
+          (moment_of g.S.SessionStore.tells g.L.Link.tells g.K.Clock.tells g.R.Rng.stream c.make_call-outcome.new.client c.make_call-outcome.new.outside) stands apart call outcome
+          (caused_at c.made-number.result c.args.self.now.made (moment_of g.S.SessionStore.tells g.L.Link.tells g.K.Clock.tells g.R.Rng.stream c.args.client.now c.args.outside.now)
+          (moment_of g.S.SessionStore.tells g.L.Link.tells g.K.Clock.tells g.R.Rng.stream c.make_call-outcome.new.client c.make_call-outcome.new.outside) call outcome c.made-number.ensures c.make_call-outcome.ensures.caused);
     }
 
 pub returns-clause-stands : goal.returns-clause-stands
 returns-clause-stands g c = λ stands apart.
     let call = c.next-call.result.now in
     let outcome = c.make_call-outcome.result in
-    stands_more _ c.args.self.now c.add.new.self c.args.calls.now call outcome _ _ c.add.ensures c.requires.next c.next-call.ensures
-    (made_at _ _ _ call c.made.result c.args.self.now.made outcome.result c.made.ensures c.make_call-outcome.ensures.makes) stands apart
+    stands_more c.args.self.now c.add.new.self c.args.calls.now call outcome (moment_of g.S.SessionStore.tells g.L.Link.tells g.K.Clock.tells g.R.Rng.stream c.args.client.now c.args.outside.now)
+    (moment_of g.S.SessionStore.tells g.L.Link.tells g.K.Clock.tells g.R.Rng.stream c.make_call-outcome.new.client c.make_call-outcome.new.outside) c.add.ensures c.requires.next c.next-call.ensures
+    (caused_at c.made-number.result c.args.self.now.made (moment_of g.S.SessionStore.tells g.L.Link.tells g.K.Clock.tells g.R.Rng.stream c.args.client.now c.args.outside.now)
+    (moment_of g.S.SessionStore.tells g.L.Link.tells g.K.Clock.tells g.R.Rng.stream c.make_call-outcome.new.client c.make_call-outcome.new.outside) call outcome c.made-number.ensures c.make_call-outcome.ensures.caused) stands apart
 
 pub returns-clause-replayed : goal.returns-clause-replayed
-returns-clause-replayed g c = λ replayed.
-    let call = c.next-call.result.now in
-    let result = c.make_call-outcome.result.result in
-    sends_replayed _ _ _ _ call c.made.result result (call_sends _ _ _ call c.made.result result c.make_call-outcome.ensures.makes) replayed
+returns-clause-replayed g c = λ replayed. caused_replayed c.made-number.result (moment_of g.S.SessionStore.tells g.L.Link.tells g.K.Clock.tells g.R.Rng.stream c.args.client.now c.args.outside.now)
+    (moment_of g.S.SessionStore.tells g.L.Link.tells g.K.Clock.tells g.R.Rng.stream c.make_call-outcome.new.client c.make_call-outcome.new.outside) c.next-call.result.now c.make_call-outcome.result c.make_call-outcome.ensures.caused replayed
 
 pub returns-clause-making : goal.returns-clause-making
-returns-clause-making g c =
-    let call = c.next-call.result.now in
-    let result = c.make_call-outcome.result.result in
-    sends_making _ _ _ _ call c.made.result result (call_sends _ _ _ call c.made.result result c.make_call-outcome.ensures.makes)
+returns-clause-making g c = caused_making c.made-number.result (moment_of g.S.SessionStore.tells g.L.Link.tells g.K.Clock.tells g.R.Rng.stream c.args.client.now c.args.outside.now)
+    (moment_of g.S.SessionStore.tells g.L.Link.tells g.K.Clock.tells g.R.Rng.stream c.make_call-outcome.new.client c.make_call-outcome.new.outside) c.next-call.result.now c.make_call-outcome.result c.make_call-outcome.ensures.caused
 
 pub returns-clause-drawn : goal.returns-clause-drawn
-returns-clause-drawn g c =
-    let call = c.next-call.result.now in
-    let result = c.make_call-outcome.result.result in
-    sends_draws _ _ _ _ call c.made.result result (call_sends _ _ _ call c.made.result result c.make_call-outcome.ensures.makes)
+returns-clause-drawn g c = caused_draws c.made-number.result (moment_of g.S.SessionStore.tells g.L.Link.tells g.K.Clock.tells g.R.Rng.stream c.args.client.now c.args.outside.now)
+    (moment_of g.S.SessionStore.tells g.L.Link.tells g.K.Clock.tells g.R.Rng.stream c.make_call-outcome.new.client c.make_call-outcome.new.outside) c.next-call.result.now c.make_call-outcome.result c.make_call-outcome.ensures.caused
 
 pub returns-clause-lent : goal.returns-clause-lent
-returns-clause-lent g c =
-    let call = c.next-call.result.now in
-    let result = c.make_call-outcome.result.result in
-    sends_lends _ _ _ _ call c.made.result result (call_sends _ _ _ call c.made.result result c.make_call-outcome.ensures.makes)
+returns-clause-lent g c = caused_lends c.made-number.result (moment_of g.S.SessionStore.tells g.L.Link.tells g.K.Clock.tells g.R.Rng.stream c.args.client.now c.args.outside.now)
+    (moment_of g.S.SessionStore.tells g.L.Link.tells g.K.Clock.tells g.R.Rng.stream c.make_call-outcome.new.client c.make_call-outcome.new.outside) c.next-call.result.now c.make_call-outcome.result c.make_call-outcome.ensures.caused

@@ -1,0 +1,73 @@
+//! One call of a list.
+ghost use Rattle.std.specs.Prelude.{◌≡◌};
+ghost use Rattle.driver_exec.specs.Client.{options_of};
+ghost use Rattle.driver_exec.specs.Moment.{moment_of};
+ghost use Rattle.driver_actions.specs.CallByCall.{CallCaused};
+ghost use Rattle.driver_actions.specs.Causes.{HasCause};
+ghost use Rattle.driver_actions.specs.Turns.{MakesCall};
+
+use crate::call::{Answer, Call, Outcome};
+use crate::single::single;
+use driver_error::Result;
+use driver_exec::{Client, Outside, SessionStore};
+use driver_link::{Clock, Link, Place};
+use rand_core::Rng;
+use std::alloc::Global;
+
+/// Makes the call of a number, and reads the clock before and after it.
+pub(crate) fn make_call<S: SessionStore, L: Link, K: Clock, R: Rng>(
+    alloc: Global,
+    client: &mut Client<S>,
+    outside: &mut Outside<L, K, R>,
+    call: &Call,
+    number: u64,
+) -> Outcome
+    ensures caused { CallCaused number
+        (moment_of S.tells L.tells K.tells R.stream client.old outside.old)
+        (moment_of S.tells L.tells K.tells R.stream client.new outside.new)
+        call.now result }
+    ensures options { options_of client.new ≡ options_of client.old }
+    ensures call { outside.new.call ≡ outside.old.call }
+{
+    let started_ms = outside.clock.now_ms();
+    let result = answer_call(alloc, client, outside, call, number);
+    let ended_ms = outside.clock.now_ms();
+    Outcome {
+        result,
+        started_ms,
+        ended_ms,
+    }
+}
+
+/// Makes the call of a number: a single write has the first place of its call.
+fn answer_call<S: SessionStore, L: Link, K: Clock, R: Rng>(
+    alloc: Global,
+    client: &mut Client<S>,
+    outside: &mut Outside<L, K, R>,
+    call: &Call,
+    number: u64,
+) -> Result<Answer>
+    ensures makes { MakesCall
+        (moment_of S.tells L.tells K.tells R.stream client.old outside.old)
+        (moment_of S.tells L.tells K.tells R.stream client.new outside.new)
+        call.now number result }
+    ensures cause { HasCause
+        (moment_of S.tells L.tells K.tells R.stream client.old outside.old)
+        (moment_of S.tells L.tells K.tells R.stream client.new outside.new)
+        call.now result }
+    ensures options { options_of client.new ≡ options_of client.old }
+    ensures call { outside.new.call ≡ outside.old.call }
+{
+    match call {
+        Call::Single { write } => {
+            let place = Place {
+                call: number,
+                index: 0,
+            };
+            match single(alloc, client, outside, write, place) {
+                Ok(answer) => Ok(Answer::Single(answer)),
+                Err(error) => Err(error),
+            }
+        }
+    }
+}

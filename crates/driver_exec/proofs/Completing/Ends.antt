@@ -1,0 +1,146 @@
+-- What it is that an insert ends well, and what its attempts need of labels, numbers and sessions.
+use Rattle.std.proofs.Common.{◌≡◌, ℕ, Bool, true, false, List, refl, sym, ap, subst, ◌∙◌}
+use Rattle.std.specs.Prelude.{ℤ, ◌&&◌, ◌||◌, Option, None, Some, is_some, Result, Ok, Err, if◌then◌else◌}
+use Rattle.std.specs.Option.{option_map}
+use Rattle.driver_error.specs.declared.error.Error.{Error}
+use Rattle.driver_error.specs.declared.kind.ErrorKind.TheVariants as kind
+use Rattle.driver_error.specs.declared.kind.IoKind.TheVariants.{ConnectionReset}
+use Rattle.driver_error.specs.declared.labels.TheConstants.{RETRYABLE_WRITE_ERROR}
+use Rattle.driver_error.specs.Error.{kind_of, labels_of}
+use Rattle.driver_error.specs.LabelTexts.{LabelSet, has_label, with_label}
+use Rattle.driver_error.proofs.LabelSets.{has_label-with}
+use Rattle.driver_link.specs.declared.fault.LinkError.TheVariants.{Fault}
+use Rattle.driver_link.specs.declared.fault.LinkFault.{LinkFault}
+use Rattle.driver_link.specs.declared.fault.LinkFault.TheVariants.{Io}
+use Rattle.driver_link.specs.declared.machine.Item.{Item}
+use Rattle.driver_link.specs.declared.machine.Item.TheVariants as met
+use Rattle.driver_link.specs.declared.machine.Scheduled.{Scheduled}
+use Rattle.driver_link.specs.declared.machine.Send.{Send}
+use Rattle.driver_link.specs.declared.machine.Server.{Server}
+use Rattle.driver_link.specs.declared.machine.Setup.{Setup}
+use Rattle.driver_link.specs.declared.options.Address.{Address}
+use Rattle.driver_link.specs.Cursors.{Reply}
+use Rattle.driver_link.specs.Exchange.{after_picks, answered, reply, traced}
+use Rattle.driver_exec.specs.declared.retry.Failure.{Failure}
+use Rattle.driver_exec.specs.declared.retry.FailurePhase.{FailurePhase}
+use Rattle.driver_exec.specs.declared.retry.FailurePhase.TheVariants.{Establishment, Execution}
+use Rattle.driver_exec.specs.declared.retryability.Retryability.{Retryability}
+use Rattle.driver_exec.specs.declared.retryability.Retryability.TheVariants as may
+use Rattle.driver_exec.specs.Attempting.{held_after}
+use Rattle.driver_exec.specs.Causes.{is_network}
+use Rattle.driver_exec.specs.Gentle.{IsLossy}
+use Rattle.driver_exec.specs.Holding.{DrawsSession, Held, HoldsSession, dirty_held, dirty_session, needs_session}
+use Rattle.driver_exec.specs.OldDeployment.{reworded}
+use Rattle.driver_exec.specs.OperationCauses.{DrawsNumbers}
+use Rattle.driver_exec.specs.Retry.{Kept, after, after_first, avoiding, decide, may_be_retried, may_be_sent}
+use Rattle.driver_exec.specs.Session.{Session}
+use Rattle.driver_exec.specs.StoreTells.{StoreTells}
+use Rattle.driver_exec.proofs.Ids.{equal_bytes}
+use Rattle.driver_exec.proofs.InsertReading.{IsPlainDone}
+
+-- an Ok, or want of memory
+abbrev pub EndsQuietly : {A : Type 0} → Result A Error → Type 0
+EndsQuietly (Ok output) = Unit {0}
+EndsQuietly (Err error) = kind_of error ≡ kind.Memory
+
+-- a send is answered by a reply that tells of an insert that was done, and of no failure
+pub record AnswersPlainly (server : Server) (send : Send) (step : Scheduled) : Type 0 where
+  pub reply : Reply
+  pub is : answered server send step ≡ Some reply
+  pub plain : IsPlainDone reply
+
+-- an item without a reply
+lossy_reply : (server : Server) (send : Send) (item : Item) → IsLossy item → reply server send item ≡ None
+unfolding reply
+lossy_reply server send met.Lost lossy = refl
+lossy_reply server send met.Late lossy = refl
+lossy_reply server send met.ReplyLost lossy = refl
+lossy_reply server send _ lossy = absurd lossy
+
+-- a step with such an item answers nothing
+pub lossy_none : (server : Server) (send : Send) (step : Scheduled) → IsLossy step.item → answered server send step ≡ None
+unfolding answered
+lossy_none server send step lossy = lossy_reply (traced (after_picks server step.deliver) send) send step.item lossy
+
+-- a reply is not none
+pub none_some : (reply : Reply) → ◌≡◌ {A = Option Reply} None (Some reply) → ⊥
+none_some reply is = cc
+
+-- an error is no number
+pub err_ok : (error : Error) (number : Option ℤ) → ◌≡◌ {A = Result (Option ℤ) Error} (Err error) (Ok number) → ⊥
+err_ok error number is = cc
+
+-- what is kept is no error
+pub ok_err : (retry : Kept) (error : Error) → ◌≡◌ {A = Result Kept Error} (Ok retry) (Err error) → ⊥
+ok_err retry error is = cc
+
+-- the label that lets a write be tried again
+pub has_own_label : (labels : LabelSet) → has_label (with_label labels RETRYABLE_WRITE_ERROR.now) RETRYABLE_WRITE_ERROR.now ≡ true
+has_own_label labels =
+    has_label-with labels RETRYABLE_WRITE_ERROR.now RETRYABLE_WRITE_ERROR.now
+    ∙ ap (λ b. b || has_label labels RETRYABLE_WRITE_ERROR.now) (equal_bytes RETRYABLE_WRITE_ERROR.now)
+
+-- a failure with it, of a write that has a number, is followed by another attempt
+retries : (failure : Failure) (number : Option ℤ) → has_label (labels_of failure.error) RETRYABLE_WRITE_ERROR.now ≡ true → is_some number ≡ true
+    → may_be_retried failure number may.Write ≡ true
+unfolding may_be_retried
+retries failure number labelled some = ap (λ b. b && may_be_sent failure.phase number) labelled ∙ by_phase failure.phase
+  where
+    by_phase : (phase : FailurePhase) → may_be_sent phase number ≡ true
+    by_phase Establishment = refl
+    by_phase Execution = some
+
+-- so the decision after a first failure allows one
+pub allows : (failure : Failure) (number : Option ℤ) (address : Address) (own : Retryability) (sharded : Bool) → own ≡ may.Write
+    → has_label (labels_of (reworded failure.error)) RETRYABLE_WRITE_ERROR.now ≡ true → is_some number ≡ true
+    → decide None failure number address own sharded ≡ Ok (avoiding sharded address (after_first (record failure { error = reworded failure.error }) number))
+unfolding decide after
+allows failure number address own sharded is_write labelled some =
+    let now = record failure { error = reworded failure.error } in
+    ap (λ test. if test then Ok (avoiding sharded address (after_first now number)) else Err (after_first now number).failure.error)
+    (subst (λ o. may_be_retried now number o ≡ true) (sym is_write) (retries now number labelled some))
+
+-- where each send has a number the operation may repeat its write
+pub own_write : (sessions : Bool) (own : Retryability) (setup : Option Setup) → DrawsNumbers sessions own setup → own ≡ may.Write
+own_write sessions may.Write setup draws = refl
+own_write sessions may.Read setup draws = absurd draws
+own_write sessions may.None setup draws = absurd draws
+
+-- a session that is held, and a number that was drawn from it
+pub record HasNumber (held : Held) (number : Option ℤ) : Type 0 where
+  pub session : Session
+  pub value : ℤ
+  pub session_is : held.session ≡ Some session
+  pub number_is : number ≡ Some value
+
+-- only a write may be repeated as one
+pub no_read : may.Read ≡ may.Write → ⊥
+no_read is = cc
+
+-- nor what may not be repeated
+pub no_none : may.None ≡ may.Write → ⊥
+no_none is = cc
+
+-- what is held after an exchange was lost under a session and a number
+pub lost_held : (held : Held) (number : Option ℤ) (has : HasNumber held number) (fault : LinkFault) (own : List (List ℕ)) → fault ≡ Io ConnectionReset
+    → held_after (Err (Fault fault own)) (record held { sent = Some number }) ≡ record { session = Some (dirty_session has.session); sent = Some (Some has.value) }
+lost_held held number has fault own is =
+    ap (λ f. if is_network f then dirty_held (record held { sent = Some number }) else record held { sent = Some number }) is
+    ∙ ap (λ s. record { session = option_map dirty_session s; sent = Some number }) has.session_is
+    ∙ ap (λ n. record { session = Some (dirty_session has.session); sent = Some n }) has.number_is
+
+-- without a session no number is drawn
+pub undrawn : (turn : Retryability) (now : Option Session) (result : Result (Option ℤ) Error) → DrawsSession turn None now result → (now ≡ None) × (result ≡ Ok None)
+undrawn may.Write now result draws = draws
+undrawn may.Read now result draws = draws
+undrawn may.None now result draws = draws
+
+-- what is held before a further attempt
+abbrev pub held_again : Session → ℤ → Held
+held_again session number = record { session = Some session; sent = Some (Some number) }
+
+-- it is lent no session
+pub same_again : (session : Session) (number : ℤ) (before now : StoreTells) (ready : Held) (asks : Bool)
+    → HoldsSession (needs_session asks (held_again session number)) before now (held_again session number) ready (Ok tt) → ready ≡ held_again session number
+same_again session number before now ready true holds = holds.1
+same_again session number before now ready false holds = holds.1

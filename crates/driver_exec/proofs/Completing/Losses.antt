@@ -1,0 +1,236 @@
+-- An attempt of an insert whose part of the schedule is gentle fails only where its exchange was lost.
+use Rattle.std.proofs.Common.{◌≡◌, ℕ, ◌<◌, ◌≤◌, true, List, length, refl, sym, ap, subst, ◌∙◌, inl, inr, arith}
+use Rattle.std.specs.Prelude.{ℤ, Option, None, Some, Result, Ok, Err}
+use Rattle.bson_lite.specs.Spelling.{Spells}
+use Rattle.driver_error.specs.declared.error.Error.{Error}
+use Rattle.driver_error.specs.declared.labels.TheConstants.{RETRYABLE_WRITE_ERROR}
+use Rattle.driver_error.specs.Error.{labels_of}
+use Rattle.driver_error.specs.LabelTexts.{has_label, label_set, with_label}
+use Rattle.driver_link.specs.declared.fault.LinkError.{LinkError}
+use Rattle.driver_link.specs.declared.fault.LinkError.TheVariants.{Fault}
+use Rattle.driver_link.specs.declared.fault.LinkFault.{LinkFault}
+use Rattle.driver_link.specs.declared.machine.Scheduled.{Scheduled}
+use Rattle.driver_link.specs.declared.machine.Send.{Send}
+use Rattle.driver_link.specs.declared.options.Address.{Address}
+use Rattle.driver_link.specs.declared.options.Conn.{Conn}
+use Rattle.driver_link.specs.Cursors.{Reply}
+use Rattle.driver_link.specs.Exchange.{exchanged, next_step, step_at}
+use Rattle.driver_link.specs.LinkState.{server_run, setup_of}
+use Rattle.driver_link.specs.Retried.{IsGentleItem}
+use Rattle.driver_link.specs.ServerRun.{IsReply, ServerRun, TakesStep, run_after, run_answer}
+use Rattle.driver_exec.specs.declared.retry.FailurePhase.{FailurePhase}
+use Rattle.driver_exec.specs.declared.retry.FailurePhase.TheVariants.{Establishment, Execution}
+use Rattle.driver_exec.specs.declared.retryability.Retryability.TheVariants as may
+use Rattle.driver_exec.specs.Attempting.{AttemptState, FailsIn, LosesExchange, NotConnected, NotSelected, Sends, SpellsFailure, asks_session, held_after, on_connection}
+use Rattle.driver_exec.specs.Failing.{is_memory}
+use Rattle.driver_exec.specs.Gentle.{IsGentlePart, IsLossy, IsOfPart}
+use Rattle.driver_exec.specs.Holding.{HoldsSession, dirty_session, held_id, needs_session}
+use Rattle.driver_exec.specs.OldDeployment.{reworded}
+use Rattle.driver_exec.specs.OperationCauses.{DrawsNumbers, labels_after}
+use Rattle.driver_exec.specs.Retry.{Kept}
+use Rattle.driver_exec.specs.Session.{Session}
+use Rattle.driver_exec.specs.StoreTells.{DrawnApart}
+use Rattle.driver_exec.specs.Writing.{insert_asked, insert_send}
+use Rattle.driver_exec.proofs.HeldSessions.{draws_on, not_both}
+use Rattle.driver_exec.proofs.InsertReading.{IsPlainDone, plain_read}
+use Rattle.driver_exec.proofs.Moments.{IsBefore, LeadsCalling, after_before, before_twice, checks_well, longer_after, one_moment, selects_lead, selects_well}
+use Rattle.driver_exec.proofs.OperationCausing.{fault_error, reworded_is}
+use Rattle.driver_exec.proofs.Completing.Ends.{lossy_none, none_some, has_own_label, HasNumber, lost_held, held_again, same_again}
+use Rattle.driver_exec.proofs.Completing.Sessions.{KnownInsert, trial, asked, MayGo, IsReadied, IsPrepared, again_readied, is_conn, reached_at, readied_at}
+
+module _ (known : KnownInsert) where
+  open known use {write, bytes, own, told, link, Ready, ready_answers, ready_again}
+
+  -- the part that is gentle
+  module _ (told_now : ServerRun) (gentle : IsGentlePart (DrawsNumbers true own (setup_of link)) told told_now) where
+    -- one exchange of the part was lost, from a moment on
+    pub record Lost (from : ServerRun) (now : AttemptState) : Type 0 where
+      pub draws : DrawsNumbers true own (setup_of link)
+      pub session : Session
+      pub number : ℤ
+      pub held_is : now.held ≡ held_again session number
+      pub moment : ServerRun
+      pub is : server_run now.link ≡ Some moment
+      pub after : IsBefore told moment
+      pub setup : setup_of now.link ≡ setup_of link
+      pub ready : Ready (insert_send (Some session.id) (Some number) write) moment.server
+      pub at : ℕ
+      pub part : IsOfPart told told_now at
+      pub lossy : IsLossy (step_at told.schedule at).item
+      pub since : length from.server.trace ≤ at
+      pub until : at < length moment.server.trace
+
+    -- a further attempt is prepared by it
+    pub again_prepared : (from : ServerRun) (now : AttemptState) (lost : Lost from now) → IsPrepared known lost.moment now
+    again_prepared from now lost = record {
+      is = lost.is;
+      after = lost.after;
+      setup = lost.setup;
+      readied = λ ready store_now description is holds apart.
+          let here = subst (λ h. HoldsSession (needs_session (asks_session true description) h) now.store store_now h ready (Ok tt)) lost.held_is holds in
+          subst (IsReadied known lost.moment.server description) (sym (same_again lost.session lost.number now.store store_now ready (asks_session true description) here))
+          (again_readied known lost.session lost.number lost.moment.server description lost.ready lost.draws is);
+    }
+
+    -- an attempt of the part
+    module _ (past : Option Kept) (moment : ServerRun) (mid : AttemptState) (prepared : IsPrepared known moment mid) (now : AttemptState) (last : ServerRun) (now_is : server_run now.link ≡ Some last) (later : IsBefore last told_now)
+        (apart : DrawnApart now.store) where
+      -- its selection does not fail
+      pub unselected_none : (error : Error) → NotSelected past mid now error → ⊥
+      unselected_none error fails =
+          selects_well (DrawsNumbers true own (setup_of link)) told told_now gentle moment prepared.after mid.link now.link last prepared.is now_is later fails.fault fails.own fails.selects.calls
+
+      -- nor does its check-out
+      unconnected_none : (address : Address) (error : Error) → NotConnected (trial known) past mid now address error → ⊥
+      unconnected_none address error fails =
+          let first = (selects_lead moment mid.link fails.mid (Ok address) prepared.is fails.selects.calls).leads in
+          checks_well (DrawsNumbers true own (setup_of link)) told told_now gentle first.moment (before_twice told moment first.moment prepared.after first.later) fails.mid now.link last
+          first.is now_is later fails.fault fails.own fails.checks_out.calls
+
+      -- the insert went out
+      module _ (address : Address) (conn : Conn) (result : Result (List ℕ) LinkError) (sends : Sends (trial known) past mid now address conn result) where
+        -- the calls before the exchange
+        came : LeadsCalling moment mid.link sends.ready.link
+        came = reached_at known moment mid prepared sends.ready address conn sends.readies
+
+        -- the moment before it
+        abbrev before : ServerRun
+        before = came.leads.moment
+
+        -- the send
+        abbrev send : Send
+        send = insert_send (held_id sends.numbered) sends.number write
+
+        -- the step of the schedule that it meets
+        abbrev step : Scheduled
+        step = next_step before.schedule before.server
+
+        -- the moment is of the part
+        since_told : IsBefore told before
+        since_told = before_twice told moment before prepared.after came.leads.later
+
+        -- the server takes the step
+        steps : TakesStep (Some before) (server_run now.link) send result
+        steps = subst (λ s. TakesStep s (server_run now.link) send result) came.leads.is (sends.exchanges.exchanges.steps send (sends.exchanges.reads (insert_asked write) (asked known)))
+
+        -- what was drawn may go out
+        goes : MayGo known moment.server conn.description (on_connection own conn.description) sends.numbered sends.number
+        goes = (readied_at known moment mid prepared sends.ready address conn sends.readies (subst DrawnApart sends.store_is apart)).numbered (on_connection own conn.description) sends.numbered sends.number sends.draws
+
+        -- the send may go out to the server
+        ready_here : Ready send before.server
+        ready_here = subst (Ready send) (sym came.server) goes.ready
+
+        -- its number is of the part
+        of_part : server_run now.link ≡ Some (run_after before send) → IsOfPart told told_now (length before.server.trace)
+        of_part is =
+            let over : IsBefore (run_after before send) told_now = subst (λ t. IsBefore t told_now) (one_moment now.link last (run_after before send) now_is is) later in
+            (since_told.trace, omega (arith, over.trace, longer_after before send))
+
+        -- the step is that of its number
+        step_is : step_at told.schedule (length before.server.trace) ≡ step
+        step_is = ap (λ s. step_at s (length before.server.trace)) (sym since_told.schedule)
+
+        -- a reply to it is plain
+        record HasPlain (reply_bytes : List ℕ) : Type 0 where
+          reply : Reply
+          plain : IsPlainDone reply
+          spells : Spells reply reply_bytes
+
+        -- so is each reply of this exchange
+        plain_reply : (reply_bytes : List ℕ) → TakesStep (Some before) (server_run now.link) send (Ok reply_bytes) → HasPlain reply_bytes
+        plain_reply reply_bytes stepped = elim (gentle.items (length before.server.trace) (of_part stepped.0)) [
+          | inl serves ↦
+              let here = ready_answers (held_id sends.numbered) sends.number before.server step ready_here (subst (λ s. IsGentleItem s.item) step_is serves) in
+              record { reply = here.reply; plain = here.plain; spells = subst (λ o. IsReply o reply_bytes) here.is stepped.1 }
+          | inr loses ↦ absurd (subst (λ o. IsReply o reply_bytes) (lossy_none before.server send step (subst (λ s. IsLossy s.item) step_is loses.1)) stepped.1)
+        ]
+
+        -- without a reply its item is lossy, and it has a number
+        lossy_item : run_answer before send ≡ None → server_run now.link ≡ Some (run_after before send)
+            → DrawsNumbers true own (setup_of link) × IsLossy (step_at told.schedule (length before.server.trace)).item
+        lossy_item none is = elim (gentle.items (length before.server.trace) (of_part is)) [
+          | inl serves ↦
+              let here = ready_answers (held_id sends.numbered) sends.number before.server step ready_here (subst (λ s. IsGentleItem s.item) step_is serves) in
+              absurd (none_some here.reply (sym none ∙ here.is))
+          | inr loses ↦ loses
+        ]
+
+        -- the setup stays
+        setup_now : setup_of now.link ≡ setup_of link
+        setup_now = sends.exchanges.exchanges.setup ∙ came.leads.setup ∙ prepared.setup
+
+        -- the connection takes the write again
+        turn_write : DrawsNumbers true own (setup_of link) → (conn.description.supports_sessions ≡ true) × (on_connection own conn.description ≡ may.Write)
+        turn_write draws = draws_on true own (setup_of link) conn.description draws (is_conn known moment mid prepared sends.ready address conn sends.readies)
+
+        -- the send has a number
+        lost_number : DrawsNumbers true own (setup_of link) → HasNumber sends.numbered sends.number
+        lost_number draws = let takes = turn_write draws in goes.numbers takes.0 takes.1
+
+        -- a fault means that the exchange was lost
+        lost_now : (fault : LinkFault) (labels : List (List ℕ)) → TakesStep (Some before) (server_run now.link) send (Err (Fault fault labels)) → result ≡ Err (Fault fault labels) → Lost moment now
+        lost_now fault labels stepped result_is =
+            let loses = lossy_item stepped.1 stepped.0 in
+            let has = lost_number loses.0 in
+            let id_is : held_id sends.numbered ≡ Some has.session.id = ap (λ s. held_id (record { session = s; sent = None })) has.session_is in
+            let same : send ≡ insert_send (Some has.session.id) (Some has.value) write
+            = ap (λ i. insert_send i sends.number write) id_is ∙ ap (λ n. insert_send (Some has.session.id) n write) has.number_is in
+            let ready = ready_again has.session.id has.value before.server step (subst (λ s. Ready s before.server) same ready_here) (subst (λ s. IsLossy s.item) step_is loses.1) in
+            record {
+              draws = loses.0;
+              session = dirty_session has.session;
+              number = has.value;
+              held_is = sends.held_is ∙ ap (λ r. held_after r (record sends.numbered { sent = Some sends.number })) result_is
+                  ∙ lost_held sends.numbered sends.number has fault labels stepped.2.0;
+              moment = run_after before send;
+              is = stepped.0;
+              after = since_after;
+              setup = setup_now;
+              ready = subst (λ s. Ready (insert_send (Some has.session.id) (Some has.value) write) (exchanged before.server s step)) (sym same) ready;
+              at = length before.server.trace;
+              part = of_part stepped.0;
+              lossy = loses.1;
+              since = came.leads.later.trace;
+              until = omega (arith, longer_after before send);
+            }
+          where
+            since_after : IsBefore told (run_after before send)
+            since_after = before_twice told before (run_after before send) since_told (after_before before send)
+
+      -- a reply spells no failure
+      spelled_none : (address : Address) (error : Error) → SpellsFailure (trial known) past mid now address error → ⊥
+      spelled_none address error fails =
+          let bare = fails.is.is in
+          let plain = plain_reply address fails.conn (Ok fails.reply) fails.sends fails.reply (steps address fails.conn (Ok fails.reply) fails.sends) in
+          let memory = plain_read write.written.namespace bytes fails.reply plain.reply plain.plain plain.spells bare.bare bare.reads in
+          not_both (sym (ap is_memory memory) ∙ bare.labelled.told)
+
+      -- an exchange that was lost leaves an error that lets the write be tried again
+      pub record LosesWell (error : Error) : Type 0 where
+        pub lost : Lost moment now
+        pub labelled : has_label (labels_of (reworded error)) RETRYABLE_WRITE_ERROR.now ≡ true
+
+      -- so it is for each exchange that failed
+      loses_well : (address : Address) (error : Error) → LosesExchange (trial known) past mid now address error → LosesWell error
+      loses_well address error fails =
+          let result = Err (Fault fails.fault fails.own) in
+          let turn = on_connection own fails.conn.description in
+          let stepped = steps address fails.conn result fails.sends in
+          let lost = lost_now address fails.conn result fails.sends fails.fault fails.own stepped refl in
+          let takes = turn_write address fails.conn result fails.sends lost.draws in
+          let is = fault_error fails.fault fails.own turn fails.is.bare fails.is.is in
+          let labels : labels_of (reworded error) ≡ with_label (label_set fails.own) RETRYABLE_WRITE_ERROR.now
+          = (reworded_is error).1 ∙ fails.is.versioned.labels ∙ is.1 ∙ ap (λ t. labels_after t fails.fault fails.own) takes.1
+          ∙ ap (λ f. labels_after may.Write f fails.own) stepped.2.0 in record {
+            lost = lost;
+            labelled = ap (λ l. has_label l RETRYABLE_WRITE_ERROR.now) labels ∙ has_own_label (label_set fails.own);
+          }
+
+      -- an attempt of the part fails only so
+      pub fails_well : (address : Address) (phase : FailurePhase) (error : Error) → FailsIn (trial known) past mid now address phase error → LosesWell error
+      fails_well address Establishment error fails = absurd (unconnected_none address error fails)
+      fails_well address Execution error fails = elim fails [
+        | inl lost ↦ loses_well address error lost
+        | inr says ↦ absurd (spelled_none address error says)
+      ]

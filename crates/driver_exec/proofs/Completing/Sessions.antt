@@ -1,0 +1,239 @@
+-- An insert over what is told: the session and the number that its attempts have once they have a connection.
+use Rattle.std.proofs.Common.{◌≡◌, ℕ, Bool, true, false, List, [], ◌∷◌, refl, sym, ap, subst, ◌∙◌, inl, inr}
+use Rattle.std.specs.Prelude.{ℤ, pos, ◌+ℤ◌, Option, None, Some, Result, Ok, Err}
+use Rattle.bson_lite.specs.declared.fault.EncodeFault.{EncodeFault}
+use Rattle.bson_lite.specs.Spelling.{Spells}
+use Rattle.driver_error.specs.declared.error.Error.{Error}
+use Rattle.driver_error.specs.declared.kind.ErrorKind.TheVariants as kind
+use Rattle.driver_error.specs.Error.{ErrorKind, kind_of}
+use Rattle.driver_link.specs.declared.machine.PlacedWrite.{PlacedWrite}
+use Rattle.driver_link.specs.declared.machine.Scheduled.{Scheduled}
+use Rattle.driver_link.specs.declared.machine.Send.{Send}
+use Rattle.driver_link.specs.declared.machine.Server.{Server}
+use Rattle.driver_link.specs.declared.options.Address.{Address}
+use Rattle.driver_link.specs.declared.options.Conn.{Conn}
+use Rattle.driver_link.specs.declared.options.Description.{Description}
+use Rattle.driver_link.specs.Exchange.{exchanged}
+use Rattle.driver_link.specs.LinkState.{LinkState, server_run, setup_of}
+use Rattle.driver_link.specs.Retried.{IsGentleItem}
+use Rattle.driver_link.specs.ServerRun.{ServerRun}
+use Rattle.driver_exec.specs.declared.retryability.Retryability.{Retryability}
+use Rattle.driver_exec.specs.declared.retryability.Retryability.TheVariants as may
+use Rattle.driver_exec.specs.Attempting.{AttemptState, EndsRefused, Readies, Trial, asks_session, may_use, on_connection, trial_of}
+use Rattle.driver_exec.specs.Causes.{BodyRefused}
+use Rattle.driver_exec.specs.Executing.{first_state}
+use Rattle.driver_exec.specs.Gentle.{IsLossy}
+use Rattle.driver_exec.specs.Holding.{DrawsNumber, DrawsSession, GivesNumber, Held, HoldsSession, held_id, holds_nothing, needs_session}
+use Rattle.driver_exec.specs.InsertMeaning.{AsksInsert, insert_meaning}
+use Rattle.driver_exec.specs.OperationCauses.{DrawsNumbers}
+use Rattle.driver_exec.specs.Operations.{TellsUnframed}
+use Rattle.driver_exec.specs.Retry.{Kept}
+use Rattle.driver_exec.specs.Session.{Numbers, Session, TellsEnd, last_number}
+use Rattle.driver_exec.specs.StoreTells.{DrawnApart, LendsSession, StoreTells}
+use Rattle.driver_exec.specs.Writing.{insert_asked, insert_send}
+use Rattle.driver_exec.proofs.HeldSessions.{IsOf, draws_on, is_of, not_both}
+use Rattle.driver_exec.proofs.Moments.{IsBefore, LeadsCalling, before_refl, connects_lead}
+use Rattle.driver_exec.proofs.Completing.Ends.{AnswersPlainly, err_ok, HasNumber, no_read, no_none, undrawn, held_again}
+
+-- an insert over what is told, with what is known of its sends
+pub record KnownInsert : Type 1 where
+  -- the write, and the bytes of its document
+  pub write : PlacedWrite
+  pub bytes : List ℕ
+  pub spelled : Spells write.written.document bytes
+  -- what of it may be repeated by its own rules
+  pub own : Retryability
+  -- what store and link tell before it
+  pub store : StoreTells
+  pub told : ServerRun
+  pub link : LinkState
+  pub link_is : server_run link ≡ Some told
+  -- a send may go out to a server
+  pub Ready : Send → Server → Type 0
+  -- then a gentle step answers it plainly
+  pub ready_answers : (session : Option (List ℕ)) (number : Option ℤ) (server : Server) (step : Scheduled) → Ready (insert_send session number write) server
+      → IsGentleItem step.item → AnswersPlainly server (insert_send session number write) step
+  -- and after a lossy one it may go out again
+  pub ready_again : (id : List ℕ) (number : ℤ) (server : Server) (step : Scheduled) → Ready (insert_send (Some id) (Some number) write) server → IsLossy step.item
+      → Ready (insert_send (Some id) (Some number) write) (exchanged server (insert_send (Some id) (Some number) write) step)
+  -- the first send may go out, under a number or under none
+  pub first_ready : (at : ℕ) (lent : StoreTells) (session : Session) (number : ℤ) → LendsSession store lent at session → DrawnApart lent
+      → number ≡ session.number +ℤ pos 1 → Ready (insert_send (Some session.id) (Some number) write) told.server
+  pub bare_ready : (session : Option (List ℕ)) → Ready (insert_send session None write) told.server
+  -- its command has a spelling, and the number of its session is not the last
+  pub unspelled : (session : Option (List ℕ)) (number : Option ℤ) (fault : EncodeFault) → BodyRefused write.written.namespace session number fault → ⊥
+  pub not_last : (at : ℕ) (lent : StoreTells) (session : Session) → LendsSession store lent at session → session.number ≡ last_number → ⊥
+
+module _ (known : KnownInsert) where
+  open known use {write, bytes, spelled, own, store, told, link, link_is, Ready, first_ready, bare_ready, unspelled, not_last}
+
+  -- the insert as its attempts see it
+  abbrev pub trial : Trial (Unit {0})
+  trial = trial_of (insert_meaning write.written.namespace bytes) (write.place ∷ []) own
+
+  -- what it asks for
+  pub asked : AsksInsert write.written.namespace bytes (write.place ∷ []) (insert_asked write)
+  asked = record { document = write.written.document; place = write.place; spelled = spelled; alone = refl; is = refl }
+
+  -- what may go out under what was drawn
+  pub record MayGo (server : Server) (description : Description) (turn : Retryability) (held : Held) (number : Option ℤ) : Type 0 where
+    pub ready : Ready (insert_send (held_id held) number write) server
+    pub numbers : description.supports_sessions ≡ true → turn ≡ may.Write → HasNumber held number
+
+  -- what is so once a connection was had
+  pub record IsReadied (server : Server) (description : Description) (held : Held) : Type 0 where
+    pub allowed : may_use held description ≡ false → ⊥
+    pub unnumbered : (turn : Retryability) (now : Held) (error : Error) → DrawsNumber held.sent turn held now (Err error) → kind_of error ≡ kind.Memory
+    pub numbered : (turn : Retryability) (now : Held) (number : Option ℤ) → DrawsNumber held.sent turn held now (Ok number) → MayGo server description turn now number
+
+  -- a send under an id and a number that are equal to these may go out
+  ready_of : (server : Server) (held : Held) (number : Option ℤ) (id : Option (List ℕ)) (value : Option ℤ) → held_id held ≡ id → number ≡ value
+      → Ready (insert_send id value write) server → Ready (insert_send (held_id held) number write) server
+  ready_of server held number id value id_is number_is ready =
+      subst (λ i. Ready (insert_send i number write) server) (sym id_is) (subst (λ n. Ready (insert_send id n write) server) (sym number_is) ready)
+
+  -- no session is held
+  bare_readied : (description : Description) → description.supports_sessions ≡ false → IsReadied told.server description holds_nothing
+  bare_readied description none = record {
+    allowed = λ refused. not_both refused;
+    unnumbered = λ turn now error draws. absurd (err_ok error None (undrawn turn draws.session (Err error) draws.draws).1);
+    numbered = λ turn now number draws.
+        let drawn = undrawn turn draws.session (Ok number) draws.draws in
+        let number_is : number ≡ None = cc drawn.1 in record {
+          ready = ready_of told.server now number None None (ap held_id draws.is ∙ ap (λ s. held_id (record { session = s; sent = None })) drawn.0) number_is (bare_ready None);
+          numbers = λ supports is_write. absurd (not_both (sym supports ∙ none));
+        };
+  }
+
+  -- a session was lent
+  module _ (at : ℕ) (lent : StoreTells) (session : Session) (lends : LendsSession store lent at session) (apart : DrawnApart lent) (description : Description)
+      (supports : description.supports_sessions ≡ true) where
+    -- what is held before a first number
+    abbrev held_first : Option Session → Held
+    held_first back = record { session = back; sent = None }
+
+    -- the session is not at its last number
+    not_at_end : (why : ErrorKind) → TellsEnd session why → why ≡ kind.Memory
+    not_at_end (kind.Internal message) ends = absurd (not_last at lent session lends ends.0)
+    not_at_end kind.Memory ends = refl
+    not_at_end _ ends = absurd ends
+
+    -- so there is a number, unless memory runs out
+    lent_unnumbered : (turn : Retryability) (back : Option Session) (error : Error) → DrawsSession turn (Some session) back (Err error) → kind_of error ≡ kind.Memory
+    lent_unnumbered may.Write back error draws = by_next draws.numbered draws.next draws.numbers draws.gives
+      where
+        by_next : (numbered : Session) (next : Result ℤ Error) → Numbers session numbered next → GivesNumber next (Err error) → kind_of error ≡ kind.Memory
+        by_next numbered (Ok number) numbers gives = absurd (err_ok error (Some number) gives)
+        by_next numbered (Err other) numbers gives =
+            let same : other ≡ error = cc (sym gives) in subst (λ e. kind_of e ≡ kind.Memory) same (not_at_end (kind_of other) numbers.1)
+    lent_unnumbered may.Read back error draws = absurd (err_ok error None draws.1)
+    lent_unnumbered may.None back error draws = absurd (err_ok error None draws.1)
+
+    -- no number is drawn of it
+    lent_plain : (turn : Retryability) (back : Option Session) (now : Held) (number : Option ℤ) → (turn ≡ may.Write → ⊥) → now ≡ held_first back → back ≡ Some session
+        → ◌≡◌ {A = Result (Option ℤ) Error} (Ok number) (Ok None) → MayGo told.server description turn now number
+    lent_plain turn back now number no_write is same none =
+        let number_is : number ≡ None = cc none in record {
+          ready = ready_of told.server now number (Some session.id) None (ap held_id is ∙ ap (λ s. held_id (held_first s)) same) number_is (bare_ready (Some session.id));
+          numbers = λ takes is_write. absurd (no_write is_write);
+        }
+
+    -- the number that is drawn, or none
+    lent_numbered : (turn : Retryability) (back : Option Session) (now : Held) (number : Option ℤ) → now ≡ held_first back → DrawsSession turn (Some session) back (Ok number)
+        → MayGo told.server description turn now number
+    lent_numbered may.Write back now number is draws = by_next draws.numbered draws.next draws.numbers draws.gives (is ∙ ap held_first draws.is)
+      where
+        by_next : (numbered : Session) (next : Result ℤ Error) → Numbers session numbered next → GivesNumber next (Ok number) → now ≡ held_first (Some numbered)
+            → MayGo told.server description may.Write now number
+        by_next numbered (Ok value) numbers gives is =
+            let number_is : number ≡ Some value = cc gives in record {
+              ready = ready_of told.server now number (Some session.id) (Some value) (ap held_id is ∙ ap (λ s. Some s.id) numbers.2) number_is
+                  (first_ready at lent session value lends apart numbers.1);
+              numbers = λ takes is_write. record { session = numbered; value = value; session_is = ap (λ h. h.session) is; number_is = number_is };
+            }
+        by_next numbered (Err error) numbers gives is = absurd (err_ok error number (sym gives))
+    lent_numbered may.Read back now number is draws = lent_plain may.Read back now number no_read is draws.0 draws.1
+    lent_numbered may.None back now number is draws = lent_plain may.None back now number no_none is draws.0 draws.1
+
+    -- so the connection may be used
+    lent_readied : IsReadied told.server description (held_first (Some session))
+    lent_readied = record {
+      allowed = λ refused. not_both (sym supports ∙ refused);
+      unnumbered = λ turn now error draws. lent_unnumbered turn draws.session error draws.draws;
+      numbered = λ turn now number draws. lent_numbered turn draws.session now number draws.is draws.draws;
+    }
+
+  -- a first attempt had its connection
+  first_readied : (lent : StoreTells) (ready : Held) (description : Description)
+      → HoldsSession (needs_session (asks_session true description) holds_nothing) store lent holds_nothing ready (Ok tt) → DrawnApart lent → IsReadied told.server description ready
+  first_readied lent ready description holds apart = by_asked description.supports_sessions refl holds
+    where
+      by_asked : (asks : Bool) → description.supports_sessions ≡ asks → HoldsSession (needs_session asks holds_nothing) store lent holds_nothing ready (Ok tt)
+          → IsReadied told.server description ready
+      by_asked false none holds = subst (IsReadied told.server description) (sym holds.1) (bare_readied description none)
+      by_asked true supports holds = subst (IsReadied told.server description) (sym holds.is)
+          (lent_readied holds.at lent holds.session holds.lends apart description supports)
+
+  -- a further attempt had its connection
+  pub again_readied : (session : Session) (number : ℤ) (server : Server) (description : Description) → Ready (insert_send (Some session.id) (Some number) write) server
+      → DrawsNumbers true own (setup_of link) → IsOf (setup_of link) description → IsReadied server description (held_again session number)
+  again_readied session number server description ready draws is = record {
+    allowed = λ refused. not_both (sym (draws_on true own (setup_of link) description draws is).0 ∙ refused);
+    unnumbered = λ turn now error drawn. absurd (err_ok error (Some number) drawn.1);
+    numbered = λ turn now value drawn.
+        let number_is : value ≡ Some number = cc drawn.1 in record {
+          ready = ready_of server now value (Some session.id) (Some number) (ap held_id drawn.0) number_is ready;
+          numbers = λ takes is_write. record { session = session; value = number; session_is = ap (λ h. h.session) drawn.0; number_is = number_is };
+        };
+  }
+
+  -- what is so before an attempt, at a moment
+  pub record IsPrepared (moment : ServerRun) (mid : AttemptState) : Type 0 where
+    pub is : server_run mid.link ≡ Some moment
+    pub after : IsBefore told moment
+    pub setup : setup_of mid.link ≡ setup_of link
+    pub readied : (ready : Held) (store_now : StoreTells) (description : Description) → IsOf (setup_of link) description
+        → HoldsSession (needs_session (asks_session true description) mid.held) mid.store store_now mid.held ready (Ok tt) → DrawnApart store_now → IsReadied moment.server description ready
+
+  -- it is so before the first attempt
+  pub first_prepared : (count : ℕ) → IsPrepared told (first_state store link count)
+  first_prepared count = record {
+    is = link_is;
+    after = before_refl told;
+    setup = refl;
+    readied = λ ready store_now description is holds apart. first_readied store_now ready description holds apart;
+  }
+
+  -- there is a frame, unless memory runs out
+  frame_memory : (session : Option (List ℕ)) (number : Option ℤ) (why : ErrorKind) → TellsUnframed trial.meaning session number why → why ≡ kind.Memory
+  frame_memory session number (kind.InvalidArgument message) tells = absurd tells
+  frame_memory session number (kind.BsonSerialization fault) tells = elim tells [ inl none ↦ absurd none | inr refused ↦ absurd (unspelled session number fault refused) ]
+  frame_memory session number kind.Memory tells = refl
+  frame_memory session number _ tells = absurd tells
+
+  -- an attempt
+  module _ (moment : ServerRun) (mid : AttemptState) (prepared : IsPrepared moment mid) where
+    -- a connection was had
+    module _ {past : Option Kept} (ready : AttemptState) (address : Address) (conn : Conn) (readies : Readies trial past mid ready address conn) where
+      -- its description is that of the setup
+      pub is_conn : IsOf (setup_of link) conn.description
+      is_conn = is_of (setup_of link) (setup_of readies.connects.mid) address conn (readies.connects.selects.calls.setup ∙ prepared.setup) readies.connects.checks_out.to
+
+      -- the link leads there
+      pub reached_at : LeadsCalling moment mid.link ready.link
+      reached_at = connects_lead moment mid.link ready.link address conn prepared.is readies.connects
+
+      -- what is held there may be used
+      pub readied_at : DrawnApart ready.store → IsReadied moment.server conn.description ready.held
+      readied_at apart = prepared.readied ready.held ready.store conn.description is_conn readies.holds apart
+
+    -- the operation ends at once only for want of memory
+    pub refused_memory : (past : Option Kept) (now : AttemptState) (error : Error) → DrawnApart now.store → EndsRefused trial past mid now error → kind_of error ≡ kind.Memory
+    refused_memory past now error apart refused =
+        let here = readied_at refused.ready refused.address refused.conn refused.readies (subst DrawnApart refused.store apart) in elim refused.refused [
+          | inl none ↦ absurd (here.allowed none.none)
+          | inr other ↦ elim other [
+            | inl none ↦ here.unnumbered (on_connection own refused.conn.description) now.held error none.draws
+            | inr none ↦ frame_memory _ none.number (kind_of error) none.why
+          ]
+        ]
