@@ -9,13 +9,13 @@ use Rattle.driver_link.specs.declared.machine.Send.{Send}
 use Rattle.driver_link.specs.declared.machine.Server.{Server}
 use Rattle.driver_link.specs.declared.machine.Written.{Written}
 use Rattle.driver_link.proofs.Lists.{get_left}
+use Rattle.driver_session.specs.Pool.{Pool}
 use Rattle.driver_actions.specs.declared.call.Answer.{Answer}
 use Rattle.driver_actions.specs.declared.call.Call.{Call}
 use Rattle.driver_actions.specs.declared.call.Outcome.{Outcome}
 use Rattle.driver_actions.specs.Calls.{OwnAt, Done, write_at, write_in, result_of, call_result}
 use Rattle.driver_actions.specs.MainTheorem.{answer_at}
 use Rattle.driver_actions.specs.Standing.{AllOwn}
-use Rattle.driver_exec.specs.Pool.{Pool}
 use Rattle.driver_actions.proofs.Answering.{Answered}
 use Rattle.driver_actions.proofs.Running.{Ran}
 

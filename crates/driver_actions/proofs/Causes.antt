@@ -6,8 +6,8 @@ use Rattle.bson_lite.specs.declared.document.Pair.{Pair}
 use Rattle.bson_lite.specs.declared.namespace.Namespace.{Namespace}
 use Rattle.driver_error.specs.declared.error.Error.{Error}
 use Rattle.driver_error.specs.Error.{kind_of}
-use Rattle.driver_exec.specs.Causes.{end_of, failure_of}
-use Rattle.driver_exec.specs.InsertMeaning.{insert_meaning}
+use Rattle.driver_ops.specs.InsertSpec.{insert_spec}
+use Rattle.driver_exec.specs.Causes.{end_of, outline_of}
 use Rattle.driver_exec.specs.Moment.{Moment}
 use Rattle.driver_exec.specs.OperationCauses.{Caused}
 use Rattle.driver_exec.specs.Singles.{BecomesSingle, CausedSingle}
@@ -26,7 +26,7 @@ pub caused_input : {A : Type 0} (before now : Moment) → now.link ≡ before.li
     → TellsInput namespace document (kind_of error) → WriteCaused {A = A} before now (InsertOne namespace document) (Err error)
 caused_input before now unasked namespace document error tells = record {
   caused = inl (record { unasked = unasked; error = error; is = refl; why = tells });
-  refused = input_first before now unasked namespace document (failure_of error) tells;
+  refused = input_first before now unasked namespace document (outline_of error) tells;
 }
 
 -- an operation's end in the form of its call's
@@ -42,12 +42,12 @@ becomes_err A (Err before) error becomes = becomes
 module _ (before mid now : Moment) (namespace sent : Namespace) (document : List (Pair Bson)) (bytes : List ℕ) (draws : MayDrawId before mid) (same : sent ≡ namespace)
     (accepted : IsAccepted namespace document) where
   -- its cause over the caller's namespace
-  renamed : (executed : Result (Unit {0}) Error) → Caused {A = Unit {0}} (insert_meaning sent bytes) mid now (end_of executed)
-      → Caused {A = Unit {0}} (insert_meaning namespace bytes) mid now (end_of executed)
-  renamed executed caused = subst (λ n. Caused {A = Unit {0}} (insert_meaning n bytes) mid now (end_of executed)) same caused
+  renamed : (executed : Result (Unit {0}) Error) → Caused {A = Unit {0}} (insert_spec sent bytes) mid now (end_of executed)
+      → Caused {A = Unit {0}} (insert_spec namespace bytes) mid now (end_of executed)
+  renamed executed caused = subst (λ n. Caused {A = Unit {0}} (insert_spec n bytes) mid now (end_of executed)) same caused
 
   -- an insert that was done
-  pub caused_ok : (A : Type 0) (done : Unit {0}) (answer : A) → CausedSingle {A = Unit {0}} (insert_meaning sent bytes) mid now (Ok done)
+  pub caused_ok : (A : Type 0) (done : Unit {0}) (answer : A) → CausedSingle {A = Unit {0}} (insert_spec sent bytes) mid now (Ok done)
       → WriteCaused {A = A} before now (InsertOne namespace document) (Ok answer)
   caused_ok A done answer single = record {
     caused = inr (record {
@@ -62,7 +62,7 @@ module _ (before mid now : Moment) (namespace sent : Namespace) (document : List
   }
 
   -- an insert that failed
-  pub caused_err : (A : Type 0) (error : Error) → CausedSingle {A = Unit {0}} (insert_meaning sent bytes) mid now (Err error)
+  pub caused_err : (A : Type 0) (error : Error) → CausedSingle {A = Unit {0}} (insert_spec sent bytes) mid now (Err error)
       → WriteCaused {A = A} before now (InsertOne namespace document) (Err error)
   caused_err A error single = record {
     caused = inr (record {
@@ -73,7 +73,7 @@ module _ (before mid now : Moment) (namespace sent : Namespace) (document : List
       caused = renamed single.executed single.caused;
       becomes = becomes_err A single.executed error single.becomes;
     });
-    refused = refuses_nothing before now namespace document (Some (failure_of error)) accepted;
+    refused = refuses_nothing before now namespace document (Some (outline_of error)) accepted;
   }
 
 -- the answer of a write as that of its call

@@ -16,20 +16,19 @@ use Rattle.driver_link.specs.declared.machine.Server.{Server}
 use Rattle.driver_link.specs.Retried.{IsGentleItem, one_inserted}
 use Rattle.driver_link.specs.LinkState.{server_run, setup_of}
 use Rattle.driver_link.specs.ServerRun.{ServerRun}
+use Rattle.driver_session.specs.Pool.{Pool}
+use Rattle.driver_session.specs.Session.{Session, last_number}
+use Rattle.driver_session.specs.StoreTells.{DrawnApart, LendsSession, MayDrawObjectId, StoreTells}
+use Rattle.driver_ops.specs.Inserts.{insert_body, BodyRefused}
+use Rattle.driver_ops.specs.InsertSpec.{own_of_insert}
+use Rattle.driver_ops.proofs.InsertReading.{inserted_plain}
 use Rattle.driver_exec.specs.BetweenCalls.{Between, NumbersWithin, Sound}
-use Rattle.driver_exec.specs.Causes.{BodyRefused}
 use Rattle.driver_exec.specs.Gentle.{IsGentlePart, IsGentleTold}
-use Rattle.driver_exec.specs.Inserts.{insert_body}
-use Rattle.driver_exec.specs.InsertMeaning.{own_of_insert}
 use Rattle.driver_exec.specs.Moment.{Moment}
 use Rattle.driver_exec.specs.OperationCauses.{DrawsNumbers}
-use Rattle.driver_exec.specs.Pool.{Pool}
-use Rattle.driver_exec.specs.Session.{Session, last_number}
-use Rattle.driver_exec.specs.StoreTells.{DrawnApart, LendsSession, MayDrawObjectId, StoreTells}
 use Rattle.driver_exec.specs.Writing.{insert_send}
 use Rattle.driver_exec.proofs.Completing.Course.{gentle_ends}
 use Rattle.driver_exec.proofs.Completing.Ends.{AnswersPlainly, EndsQuietly}
-use Rattle.driver_exec.proofs.InsertReading.{inserted_plain}
 use Rattle.driver_exec.proofs.Numbering.{lent_within}
 use Rattle.driver_exec.proofs.Readying.{MayGo, bare_goes, go_again, go_answered, lent_goes}
 use Rattle.driver_actions.specs.declared.call.Answer.{Answer}
@@ -43,7 +42,7 @@ use Rattle.driver_actions.specs.Calls.{inserted}
 use Rattle.driver_actions.specs.Inputs.{IsAccepted, TellsInput}
 use Rattle.driver_actions.specs.MainTheorem.{CallCompletes, CallEnds, EndsWell, IsValidInsert}
 use Rattle.driver_actions.specs.Standing.{LeavesTold, RunInvariant, RunState}
-use Rattle.driver_actions.specs.Turns.{Made, MakesCall, TellsAnswer}
+use Rattle.driver_actions.specs.SingleCalls.{Made, MakesCall, TellsAnswer}
 use Rattle.driver_actions.proofs.Logging.{first_place}
 use Rattle.driver_actions.proofs.Refusals.{accepted_not_refused}
 use Rattle.driver_actions.proofs.Sending.{call_sends, sends_own}

@@ -1,9 +1,9 @@
 -- Calls that were made one after another: what holds of each holds of all.
 use Rattle.std.proofs.Common.{◌≡◌, ℕ, ◌+◌, ◌≤◌, take, List, [], ◌∷◌, ◌++◌, length, refl, sym, subst, ◌∙◌, arith}
 use Rattle.std.proofs.lemmas.List.{length-take-le, take_all}
+use Rattle.driver_session.specs.StoreTells.{Draws}
+use Rattle.driver_session.proofs.Drawing.{apart_before}
 use Rattle.driver_exec.specs.Moment.{Moment}
-use Rattle.driver_exec.specs.StoreTells.{Draws}
-use Rattle.driver_exec.proofs.Drawing.{apart_before}
 use Rattle.driver_actions.specs.declared.call.Call.{Call}
 use Rattle.driver_actions.specs.declared.call.Outcome.{Outcome}
 use Rattle.driver_actions.specs.CallByCall.{CallByCall, CallCaused, HaveCauses}

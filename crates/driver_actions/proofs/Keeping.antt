@@ -4,15 +4,15 @@ use Rattle.std.specs.Prelude.{Option, None, Some}
 use Rattle.driver_link.specs.declared.machine.PlacedWrite.{PlacedWrite}
 use Rattle.driver_link.specs.LinkState.{server_run}
 use Rattle.driver_link.specs.ServerRun.{ServerRun}
-use Rattle.driver_exec.specs.Causes.{Failure}
+use Rattle.driver_session.specs.Pool.{Pool}
+use Rattle.driver_exec.specs.Causes.{ErrorOutline}
 use Rattle.driver_exec.specs.Keeping.{KeepsInvariant, KeepsTold}
 use Rattle.driver_exec.specs.Moment.{Moment}
-use Rattle.driver_exec.specs.Pool.{Pool}
 use Rattle.driver_exec.specs.Writing.{Wrote}
 use Rattle.driver_exec.proofs.Written.{wrote_leaves}
 
 -- where pool and server are told it keeps it
-pub insert_keeps : (before now : Moment) (write : PlacedWrite) (ended : Option Failure) → Wrote before now write ended → KeepsInvariant before now write
+pub insert_keeps : (before now : Moment) (write : PlacedWrite) (ended : Option ErrorOutline) → Wrote before now write ended → KeepsInvariant before now write
 insert_keeps before now write ended wrote =
     of_told before.store.pool now.store.pool (server_run before.link) (server_run now.link) refl refl refl refl
   where

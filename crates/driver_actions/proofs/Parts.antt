@@ -13,10 +13,10 @@ use Rattle.driver_link.specs.Clock.{ClockTells}
 use Rattle.driver_link.specs.declared.machine.Place.{Place}
 use Rattle.driver_link.specs.declared.machine.PlacedWrite.{PlacedWrite}
 use Rattle.driver_link.specs.declared.options.ClientOptions.{ClientOptions}
+use Rattle.driver_session.specs.StoreTells.{MayDrawObjectId, StoreTells}
+use Rattle.driver_ops.specs.Operations.{OperationSpec}
 use Rattle.driver_exec.specs.Moment.{Moment}
-use Rattle.driver_exec.specs.Operations.{Meaning}
 use Rattle.driver_exec.specs.Singles.{ExecutesSingle}
-use Rattle.driver_exec.specs.StoreTells.{MayDrawObjectId, StoreTells}
 use Rattle.driver_actions.specs.declared.call.Call.{Call}
 use Rattle.driver_actions.specs.declared.call.Outcome.{Outcome}
 use Rattle.driver_actions.specs.declared.call.SingleAnswer.TheVariants.{Inserted}
@@ -24,7 +24,7 @@ use Rattle.driver_actions.specs.CallByCall.{CallCaused, with_clock}
 use Rattle.driver_actions.specs.Calls.{IsOwn, inserted}
 use Rattle.driver_actions.specs.Causes.{HasCause, MayDrawId}
 use Rattle.driver_actions.specs.Inputs.{TellsInput}
-use Rattle.driver_actions.specs.Turns.{HasOwnId, Inserts, Made, Makes, MakesCall, Owns}
+use Rattle.driver_actions.specs.SingleCalls.{HasOwnId, Inserts, Made, Makes, MakesCall, Owns}
 
 -- a document that has an id keeps it
 pub has_own_id : (document : List (Pair Bson)) (value copy : Bson) → ◌≡◌ {A = Option Bson} (Some value) (value_of id_key document) → copy ≡ value
@@ -46,10 +46,10 @@ is_own namespace document place write bytes id owns =
     record { kind = owns.kind_is; namespace = owns.namespace_is; id = owns.document.id; twelve = owns.document.twelve; document = owns.document.document }
 
 -- a count that began at nothing
-pub from_none : {A : Type 0} (meaning : Meaning A) (places : List Place) (before now : Moment) (from count : ℕ) (result : Result A Error) → from ≡ 0
-    → ExecutesSingle meaning places before now from count result → ExecutesSingle meaning places before now 0 count result
-from_none meaning places before now from count result none executes =
-    subst (λ n. ExecutesSingle meaning places before now n count result) none executes
+pub from_none : {A : Type 0} (spec : OperationSpec A) (places : List Place) (before now : Moment) (from count : ℕ) (result : Result A Error) → from ≡ 0
+    → ExecutesSingle spec places before now from count result → ExecutesSingle spec places before now 0 count result
+from_none spec places before now from count result none executes =
+    subst (λ n. ExecutesSingle spec places before now n count result) none executes
 
 -- two sends more than none are two
 pub two_at_most : (from count : ℕ) → from ≡ 0 → count ≤ from + 2 → count ≤ 2

@@ -17,7 +17,7 @@ use Rattle.driver_error.specs.declared.error.Error.{Error}
 use Rattle.driver_error.specs.Conversions.{IsMade}
 use Rattle.driver_error.specs.Error.{ErrorKind, IsAlone, kind_of}
 use Rattle.driver_error.specs.LabelTexts.{no_labels}
-use Rattle.driver_exec.specs.Causes.{Failure}
+use Rattle.driver_exec.specs.Causes.{ErrorOutline}
 use Rattle.driver_exec.specs.Moment.{Moment}
 use Rattle.driver_actions.specs.Causes.{RefusesFirst, TellsOwnRefusal}
 use Rattle.driver_actions.specs.Inputs.{has_dot, dotted_text, RefusesInsert, InputRefused, IsAccepted, TellsInput}
@@ -202,7 +202,7 @@ one_input namespace document (kind.BsonSerialization fault) _ one two = absurd t
 one_input namespace document _ second one two = absurd one
 
 -- the error that was answered is the input's
-pub input_first : (before now : Moment) → now.link ≡ before.link → (namespace : Namespace) (document : List (Pair Bson)) (why : Failure)
+pub input_first : (before now : Moment) → now.link ≡ before.link → (namespace : Namespace) (document : List (Pair Bson)) (why : ErrorOutline)
     → TellsInput namespace document why.kind → RefusesFirst before now namespace document (Some why)
 input_first before now unasked namespace document why tells = record {
   tells = λ other refused. first why.kind other tells refused;
@@ -224,7 +224,7 @@ accepted_not_refused namespace document (kind.BsonSerialization fault) accepted 
 accepted_not_refused namespace document _ accepted refused = refused
 
 -- no input that is refused comes here
-pub refuses_nothing : (before now : Moment) (namespace : Namespace) (document : List (Pair Bson)) (ended : Option Failure) → IsAccepted namespace document
+pub refuses_nothing : (before now : Moment) (namespace : Namespace) (document : List (Pair Bson)) (ended : Option ErrorOutline) → IsAccepted namespace document
     → RefusesFirst before now namespace document ended
 refuses_nothing before now namespace document ended accepted = record {
   tells = λ why refused. absurd (accepted_not_refused namespace document why accepted refused);

@@ -20,12 +20,13 @@ use Rattle.driver_link.specs.Statements.{entry_of}
 use Rattle.driver_link.specs.LinkState.{server_run}
 use Rattle.driver_link.specs.ServerRun.{ServerRun}
 use Rattle.driver_link.proofs.Exchanged.{after_settled, empty_orderly, empty_settled, entry_is_from}
+use Rattle.driver_link.specs.Apart.{AllApart}
+use Rattle.driver_session.specs.Pool.{Pool, empty_pool}
+use Rattle.driver_session.proofs.PoolTells.{same_told}
 use Rattle.driver_exec.specs.BetweenCalls.{Between, Sound}
 use Rattle.driver_exec.specs.Causes.{end_of}
 use Rattle.driver_exec.specs.Moment.{Moment}
-use Rattle.driver_exec.specs.Pool.{AllApart, Pool, empty_pool}
 use Rattle.driver_exec.specs.Writing.{placed_write}
-use Rattle.driver_exec.proofs.PoolTells.{same_told}
 use Rattle.driver_exec.proofs.Written.{Left, Stands, only_write, sound_later, wrote_leaves, wrote_stands}
 use Rattle.driver_actions.specs.declared.call.Answer.{Answer}
 use Rattle.driver_actions.specs.declared.call.Answer.TheVariants as answer
@@ -38,7 +39,7 @@ use Rattle.driver_actions.specs.declared.call.SingleWrite.TheVariants.{InsertOne
 use Rattle.driver_actions.specs.Calls.{IsOwn, OwnAt, inserted, write_at}
 use Rattle.driver_actions.specs.MainTheorem.{MainTheorem}
 use Rattle.driver_actions.specs.Standing.{AllOwn}
-use Rattle.driver_actions.specs.Turns.{TellsAnswer}
+use Rattle.driver_actions.specs.SingleCalls.{TellsAnswer}
 use Rattle.driver_actions.proofs.Answering.{Answered, answered_none, answered_more, own_at}
 use Rattle.driver_actions.proofs.Logging.{first_place, mine_all}
 use Rattle.driver_actions.proofs.Sending.{Sends, SendsCall, Sent, mid_pool, mid_run}

@@ -10,18 +10,18 @@ use Rattle.driver_link.specs.Cases.{writes_of}
 use Rattle.driver_link.specs.Exchange.{empty_server, replayed}
 use Rattle.driver_link.specs.LinkState.{server_run}
 use Rattle.driver_link.specs.ServerRun.{ServerRun}
+use Rattle.driver_session.specs.Pool.{Pool}
+use Rattle.driver_session.specs.StoreTells.{Draws, LendsAsBefore, LendsPoolAsBefore, MayDrawObjectId, StoreTells}
+use Rattle.driver_session.proofs.Drawing.{draws_object, draws_staying, draws_twice}
+use Rattle.driver_session.proofs.Lending.{lends_refl, lends_twice}
+use Rattle.driver_session.proofs.PoolTells.{same_told}
 use Rattle.driver_exec.specs.BetweenCalls.{NumbersWithin}
 use Rattle.driver_exec.specs.Causes.{end_of}
 use Rattle.driver_exec.specs.Moment.{Moment}
-use Rattle.driver_exec.specs.Pool.{Pool}
 use Rattle.driver_exec.specs.Resending.{SentTimes}
-use Rattle.driver_exec.specs.StoreTells.{Draws, LendsAsBefore, LendsPoolAsBefore, MayDrawObjectId, StoreTells}
 use Rattle.driver_exec.specs.Writing.{Wrote, insert_send}
-use Rattle.driver_exec.proofs.Drawing.{draws_object, draws_staying, draws_twice}
-use Rattle.driver_exec.proofs.Lending.{lends_refl, lends_twice}
 use Rattle.driver_exec.proofs.Moves.{keeps_fold, keeps_making, new_is}
 use Rattle.driver_exec.proofs.Numbering.{borrows_within, within_staying}
-use Rattle.driver_exec.proofs.PoolTells.{same_told}
 use Rattle.driver_actions.specs.declared.call.Answer.{Answer}
 use Rattle.driver_actions.specs.declared.call.Answer.TheVariants as answer
 use Rattle.driver_actions.specs.declared.call.Call.{Call}
@@ -32,7 +32,7 @@ use Rattle.driver_actions.specs.Calls.{IsOwn, written}
 use Rattle.driver_actions.specs.CallByCall.{CallCaused, with_clock, with_reading}
 use Rattle.driver_actions.specs.Causes.{MayDrawId}
 use Rattle.driver_actions.specs.MainTheorem.{HasWriteOf, IsReplayed, IsReplayedTold, KeepsMaking, KeepsMakingTold, SendsOwn}
-use Rattle.driver_actions.specs.Turns.{Made, MakesCall, TellsAnswer}
+use Rattle.driver_actions.specs.SingleCalls.{Made, MakesCall, TellsAnswer}
 use Rattle.driver_actions.proofs.Logging.{first_place}
 use Rattle.driver_actions.proofs.Moving.{told_refl}
 

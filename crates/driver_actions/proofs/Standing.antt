@@ -7,11 +7,12 @@ use Rattle.driver_link.specs.Exchange.{empty_server}
 use Rattle.driver_link.specs.LinkState.{server_run}
 use Rattle.driver_link.specs.ServerRun.{IsFresh, ServerRun}
 use Rattle.driver_link.proofs.Lists.{get_last}
+use Rattle.driver_link.specs.Apart.{AllApart}
+use Rattle.driver_session.specs.Pool.{Pool, empty_pool}
+use Rattle.driver_session.specs.StoreTells.{DrawnApart, DrawnApartIn, GainsDrawn, IsNewStore}
+use Rattle.driver_session.proofs.PoolTells.{same_told}
 use Rattle.driver_exec.specs.BetweenCalls.{NumbersWithin}
 use Rattle.driver_exec.specs.Moment.{Moment}
-use Rattle.driver_exec.specs.Pool.{AllApart, Pool, empty_pool}
-use Rattle.driver_exec.specs.StoreTells.{DrawnApart, DrawnApartIn, GainsDrawn, IsNewStore}
-use Rattle.driver_exec.proofs.PoolTells.{same_told}
 use Rattle.driver_actions.specs.declared.call.Call.{Call}
 use Rattle.driver_actions.specs.declared.call.Outcome.{Outcome}
 use Rattle.driver_actions.specs.CallByCall.{CallCaused, with_clock, with_reading}

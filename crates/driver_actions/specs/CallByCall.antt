@@ -1,11 +1,11 @@
 -- Calls one after another: what holds of each between the moments before and after it.
 use Rattle.std.specs.Prelude.{◌≡◌, ℕ, ◌+◌, ◌≤◌, List, [], ◌∷◌}
 use Rattle.driver_link.specs.Clock.{ClockTells}
+use Rattle.driver_exec.specs.Moment.{Moment}
 use Rattle.driver_actions.specs.declared.call.Call.{Call}
 use Rattle.driver_actions.specs.declared.call.Outcome.{Outcome}
 use Rattle.driver_actions.specs.Causes.{HasCause}
-use Rattle.driver_actions.specs.Turns.{MakesCall}
-use Rattle.driver_exec.specs.Moment.{Moment}
+use Rattle.driver_actions.specs.SingleCalls.{MakesCall}
 
 -- a property holds of each call of a list, by its number and between two moments, from the first moment to the last
 abbrev pub CallByCall : (ℕ → Moment → Moment → Call → Outcome → Type 0) → ℕ → List Call → List Outcome → Moment → Moment → Type 0

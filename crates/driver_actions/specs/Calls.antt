@@ -42,6 +42,7 @@ pub record IsOwn (given sent : Written) : Type 0 where
   pub twelve : length id.bytes ≡ 12
   pub document : sent.document ≡ with_id id given.document
 
+-- a write was given at this place, and the one that was sent is that one
 abbrev pub OwnAt : Option Written → Written → Type 0
 OwnAt None sent = ⊥
 OwnAt (Some given) sent = IsOwn given sent

@@ -10,11 +10,11 @@ use Rattle.driver_error.specs.declared.error.Error.{Error}
 use Rattle.driver_error.specs.declared.kind.ErrorKind.TheVariants as kind
 use Rattle.driver_error.specs.Conversions.{Converts}
 use Rattle.driver_error.specs.Error.{ErrorKind, kind_of}
-use Rattle.driver_exec.specs.Causes.{Failure, end_of}
-use Rattle.driver_exec.specs.InsertMeaning.{insert_meaning}
+use Rattle.driver_session.specs.StoreTells.{MayDrawObjectId}
+use Rattle.driver_ops.specs.InsertSpec.{insert_spec}
+use Rattle.driver_exec.specs.Causes.{ErrorOutline, end_of}
 use Rattle.driver_exec.specs.Moment.{Moment}
 use Rattle.driver_exec.specs.OperationCauses.{Caused}
-use Rattle.driver_exec.specs.StoreTells.{MayDrawObjectId}
 use Rattle.driver_actions.specs.declared.call.Call.{Call}
 use Rattle.driver_actions.specs.declared.call.Call.TheVariants.{Single}
 use Rattle.driver_actions.specs.declared.call.SingleWrite.{SingleWrite}
@@ -22,7 +22,7 @@ use Rattle.driver_actions.specs.declared.call.SingleWrite.TheVariants.{InsertOne
 use Rattle.driver_actions.specs.Inputs.{InputRefused, TellsInput}
 
 -- an end tells of this error, or of want of memory
-abbrev pub TellsKind : ErrorKind → Option Failure → Type 0
+abbrev pub TellsKind : ErrorKind → Option ErrorOutline → Type 0
 TellsKind why None = ⊥
 TellsKind why (Some found) = (found.kind ≡ why) ⊎ (found.kind ≡ kind.Memory)
 
@@ -32,12 +32,12 @@ pub record MayDrawId (before now : Moment) : Type 0 where
   pub rest : now ≡ record before { store = now.store }
 
 -- an insert whose input is refused is answered so, and nothing was asked of the link
-pub record RefusesFirst (before now : Moment) (namespace : Namespace) (document : List (Pair Bson)) (ended : Option Failure) : Type 0 where
+pub record RefusesFirst (before now : Moment) (namespace : Namespace) (document : List (Pair Bson)) (ended : Option ErrorOutline) : Type 0 where
   pub tells : (why : ErrorKind) → InputRefused namespace document why → TellsKind why ended
   pub unasked : (why : ErrorKind) → InputRefused namespace document why → now.link ≡ before.link
 
 -- so is a write of such input
-abbrev pub RefusesInput : Moment → Moment → SingleWrite → Option Failure → Type 0
+abbrev pub RefusesInput : Moment → Moment → SingleWrite → Option ErrorOutline → Type 0
 RefusesInput before now (InsertOne namespace document) ended = RefusesFirst before now namespace document ended
 
 -- an error that tells why a document with one of these ids has no spelling, or want of memory
@@ -69,7 +69,7 @@ pub record InsertCaused {A : Type 0} (before now : Moment) (namespace : Namespac
   pub executed : Result (Unit {0}) Error
   pub mid : Moment
   pub draws : MayDrawId before mid
-  pub caused : Caused {A = Unit {0}} (insert_meaning namespace bytes) mid now (end_of executed)
+  pub caused : Caused {A = Unit {0}} (insert_spec namespace bytes) mid now (end_of executed)
   pub becomes : BecomesEnd executed result
 
 -- the operation of a write ended with its cause

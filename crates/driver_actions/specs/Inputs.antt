@@ -25,6 +25,7 @@ dotted_text name = codes "invalid database name " ++ name ++ codes ": name canno
 abbrev pub RefusesInsert : List (Pair Bson) → Option EncodeFault → Type 0
 RefusesInsert document why = (id : ObjectId) → length id.bytes ≡ 12 → refusal_within 96 (with_id id document) ≡ why
 
+-- a document is refused with this fault, whichever id it gets
 abbrev pub DocumentRefused : List (Pair Bson) → EncodeFault → Type 0
 DocumentRefused document fault = RefusesInsert document (Some fault)
 

@@ -3,5 +3,5 @@ pub mod Calls
 pub mod Causes
 pub mod Inputs
 pub mod MainTheorem
+pub mod SingleCalls
 pub mod Standing
-pub mod Turns

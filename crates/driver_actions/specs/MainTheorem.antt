@@ -19,6 +19,14 @@ use Rattle.driver_link.specs.Exchange.{after_picks, replayed, empty_server}
 use Rattle.driver_link.specs.Once.{Once}
 use Rattle.driver_link.specs.LinkState.{server_run, setup_of}
 use Rattle.driver_link.specs.ServerRun.{IsFresh, ServerRun}
+use Rattle.driver_session.specs.Session.{last_number}
+use Rattle.driver_session.specs.StoreTells.{DrawnApart, IsNewStore}
+use Rattle.driver_ops.specs.Fields.{IsSixteen}
+use Rattle.driver_ops.specs.InsertSpec.{own_of_insert}
+use Rattle.driver_ops.specs.Inserts.{insert_body}
+use Rattle.driver_exec.specs.Gentle.{IsGentleTold}
+use Rattle.driver_exec.specs.Moment.{Moment}
+use Rattle.driver_exec.specs.OperationCauses.{DrawsNumbers}
 use Rattle.driver_actions.specs.declared.call.Answer.{Answer}
 use Rattle.driver_actions.specs.declared.call.Call.{Call}
 use Rattle.driver_actions.specs.declared.call.Outcome.{Outcome}
@@ -27,14 +35,6 @@ use Rattle.driver_actions.specs.declared.call.SingleWrite.TheVariants.{InsertOne
 use Rattle.driver_actions.specs.Calls.{Mine, Done, call_result}
 use Rattle.driver_actions.specs.CallByCall.{CallByCall, CallCaused}
 use Rattle.driver_actions.specs.Inputs.{IsAccepted}
-use Rattle.driver_exec.specs.Fields.{IsSixteen}
-use Rattle.driver_exec.specs.Gentle.{IsGentleTold}
-use Rattle.driver_exec.specs.InsertMeaning.{own_of_insert}
-use Rattle.driver_exec.specs.Moment.{Moment}
-use Rattle.driver_exec.specs.Inserts.{insert_body}
-use Rattle.driver_exec.specs.OperationCauses.{DrawsNumbers}
-use Rattle.driver_exec.specs.Session.{last_number}
-use Rattle.driver_exec.specs.StoreTells.{DrawnApart, IsNewStore}
 
 -- the answer of the call at a number, where it is Ok
 abbrev pub answer_at : List Outcome → ℕ → Option Answer
@@ -61,6 +61,7 @@ pub record IsValidInsert (call : ℕ) (namespace : Namespace) (document : List (
   pub command : (session : Option (List ℕ)) (number : Option ℤ) → IsSixteen session → refusal (insert_body namespace session number) ≡ None
   pub number : pos call <ℤ last_number
 
+-- the call at a number of a list is valid
 abbrev pub IsValid : ℕ → Call → Type 0
 IsValid call (Single (InsertOne namespace document)) = IsValidInsert call namespace document
 
@@ -106,6 +107,7 @@ abbrev pub MainTheoremTold : List Call → List Outcome → Option ServerRun →
 MainTheoremTold calls outcomes None = ⊥
 MainTheoremTold calls outcomes (Some run) = MainTheorem calls outcomes run.server
 
+-- the main theorem at a moment of a link that tells its server
 abbrev pub MeetsMainTheorem : List Call → List Outcome → Moment → Type 0
 MeetsMainTheorem calls outcomes now = MainTheoremTold calls outcomes (server_run now.link)
 
@@ -122,6 +124,7 @@ KeepsMakingTold None now = now ≡ None
 KeepsMakingTold (Some run) None = ⊥
 KeepsMakingTold (Some run) (Some now) = (now.setup ≡ run.setup) × (now.schedule ≡ run.schedule)
 
+-- setup and schedule of a told server stay
 abbrev pub KeepsMaking : Moment → Moment → Type 0
 KeepsMaking before now = KeepsMakingTold (server_run before.link) (server_run now.link)
 
@@ -130,5 +133,6 @@ abbrev pub IsReplayedTold : Option ServerRun → Type 0
 IsReplayedTold None = Unit {0}
 IsReplayedTold (Some run) = run.server ≡ replayed run.schedule empty_server run.server.trace
 
+-- a told server is the fold of the exchange over its trace
 abbrev pub IsReplayed : Moment → Type 0
 IsReplayed now = IsReplayedTold (server_run now.link)

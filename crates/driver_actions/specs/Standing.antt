@@ -7,9 +7,9 @@ use Rattle.driver_link.specs.Cases.{writes_of}
 use Rattle.driver_link.specs.Settled.{Has}
 use Rattle.driver_link.specs.LinkState.{server_run}
 use Rattle.driver_link.specs.ServerRun.{ServerRun}
+use Rattle.driver_session.specs.Pool.{Pool}
 use Rattle.driver_exec.specs.BetweenCalls.{Between, NumbersWithin, Sound}
 use Rattle.driver_exec.specs.Moment.{Moment}
-use Rattle.driver_exec.specs.Pool.{Pool}
 use Rattle.driver_actions.specs.declared.call.Call.{Call}
 use Rattle.driver_actions.specs.declared.call.Outcome.{Outcome}
 use Rattle.driver_actions.specs.Calls.{OwnAt, write_at}

@@ -1,19 +1,17 @@
 //! A run of calls, which a program feeds call by call.
 ghost use Rattle.std.specs.Prelude.{◌≡◌, ◌<◌, ◌≤◌, List as Listed, length, slice_get, take, IfOk, Some};
+ghost use Rattle.driver_session.specs.StoreTells.{IsNewStore};
+ghost use Rattle.driver_exec.specs.Moment.{DrawsInOrder, HasDrawnApart, HasFreshServer, KeepsClient, KeepsLent, Moment, moment_of};
 ghost use Rattle.driver_actions.specs.MainTheorem.{IsReplayed, KeepsMaking, MeetsMainTheorem};
 ghost use Rattle.driver_actions.specs.Standing.{MakesCaused, MakesEnded, RunInvariant, new_run, run_more};
 ghost use Rattle.driver_actions.specs.declared.call.Call.{Call as Asked};
-ghost use Rattle.driver_exec.specs.Client.{options_of, store_of};
-ghost use Rattle.driver_exec.specs.Moment.{Moment, moment_of};
-ghost use Rattle.driver_exec.specs.StoreTells.{DrawnApart, Draws, IsNewStore, LendsAsBefore};
-ghost use Rattle.driver_link.specs.LinkState.{server_run};
-ghost use Rattle.driver_link.specs.ServerRun.{IsFresh};
 
 use crate::call::{Call, Outcome};
 use crate::making::make_call;
 use bson_lite::List;
-use driver_exec::{Client, Outside, SessionStore};
+use driver_exec::{Client, Outside};
 use driver_link::{Clock, Link};
+use driver_session::SessionStore;
 use rand_core::Rng;
 use std::alloc::{AllocError, Global};
 use std::marker::Model;
@@ -48,7 +46,7 @@ impl CallRun {
     pub fn begin(alloc: Global, room: usize) -> Result<CallRun, AllocError>
         ensures new { IfOk result (λ run. run ≡ new_run room) }
         ensures stands { IfOk result (λ run. (calls : Listed Asked) (now : Moment) → IsNewStore now.store →
-            IsFresh (server_run now.link) → RunInvariant run calls now) }
+            HasFreshServer now → RunInvariant run calls now) }
     {
         Ok(CallRun {
             outcomes: Vec::with_capacity(alloc, room)?,
@@ -85,21 +83,29 @@ impl CallRun {
             (moment_of S.tells L.tells K.tells R.stream client.new outside.new) }
         ensures complete { RunInvariant self.old calls.now
             (moment_of S.tells L.tells K.tells R.stream client.old outside.old) →
-            DrawnApart (S.tells (store_of client.new)) → MakesEnded self.old self.new calls.now
+            HasDrawnApart (moment_of S.tells L.tells K.tells R.stream client.new outside.new) →
+            MakesEnded self.old self.new calls.now
             (moment_of S.tells L.tells K.tells R.stream client.old outside.old)
             (moment_of S.tells L.tells K.tells R.stream client.new outside.new) }
         ensures stands { RunInvariant self.old calls.now
             (moment_of S.tells L.tells K.tells R.stream client.old outside.old) →
-            DrawnApart (S.tells (store_of client.new)) → RunInvariant self.new calls.now
+            HasDrawnApart (moment_of S.tells L.tells K.tells R.stream client.new outside.new) →
+            RunInvariant self.new calls.now
             (moment_of S.tells L.tells K.tells R.stream client.new outside.new) }
         ensures replayed { IsReplayed (moment_of S.tells L.tells K.tells R.stream client.old outside.old) →
             IsReplayed (moment_of S.tells L.tells K.tells R.stream client.new outside.new) }
         ensures making { KeepsMaking
             (moment_of S.tells L.tells K.tells R.stream client.old outside.old)
             (moment_of S.tells L.tells K.tells R.stream client.new outside.new) }
-        ensures drawn { Draws (S.tells (store_of client.old)) (S.tells (store_of client.new)) }
-        ensures lent { LendsAsBefore (S.tells (store_of client.old)) (S.tells (store_of client.new)) }
-        ensures options { options_of client.new ≡ options_of client.old }
+        ensures drawn { DrawsInOrder
+            (moment_of S.tells L.tells K.tells R.stream client.old outside.old)
+            (moment_of S.tells L.tells K.tells R.stream client.new outside.new) }
+        ensures lent { KeepsLent
+            (moment_of S.tells L.tells K.tells R.stream client.old outside.old)
+            (moment_of S.tells L.tells K.tells R.stream client.new outside.new) }
+        ensures client { KeepsClient
+            (moment_of S.tells L.tells K.tells R.stream client.old outside.old)
+            (moment_of S.tells L.tells K.tells R.stream client.new outside.new) }
         ensures call { outside.new.call ≡ self.old.made }
     {
         let number = self.made() as u64;

@@ -1,17 +1,17 @@
 //! Laws: of a run of calls between two of its calls, of one insert, and of one exchange.
 ghost use Rattle.std.specs.Prelude.{◌++◌, ◌∷◌, ℕ, List, [], Option};
-ghost use Rattle.driver_actions.specs.Standing.{RunInvariant, RunState};
-ghost use Rattle.driver_actions.specs.declared.call.Call.{Call};
-ghost use Rattle.driver_exec.specs.Causes.{Failure};
-ghost use Rattle.driver_exec.specs.Keeping.{KeepsInvariant, OkHasEntries};
-ghost use Rattle.driver_exec.specs.Moment.{Moment};
-ghost use Rattle.driver_exec.specs.Writing.{Wrote};
 ghost use Rattle.driver_link.specs.declared.machine.PlacedWrite.{PlacedWrite};
 ghost use Rattle.driver_link.specs.declared.machine.Scheduled.{Scheduled};
 ghost use Rattle.driver_link.specs.declared.machine.Send.{Send};
 ghost use Rattle.driver_link.specs.declared.machine.Server.{Server};
 ghost use Rattle.driver_link.specs.Exchange.{after_picks, exchanged};
 ghost use Rattle.driver_link.specs.Settled.{Has, IsOrderly, IsPlain, IsSettled, MayJoin};
+ghost use Rattle.driver_exec.specs.Causes.{ErrorOutline};
+ghost use Rattle.driver_exec.specs.Keeping.{KeepsInvariant, OkHasEntries};
+ghost use Rattle.driver_exec.specs.Moment.{Moment};
+ghost use Rattle.driver_exec.specs.Writing.{Wrote};
+ghost use Rattle.driver_actions.specs.Standing.{RunInvariant, RunState};
+ghost use Rattle.driver_actions.specs.declared.call.Call.{Call};
 
 /// Calls that are appended to the list change nothing of a run that stands.
 #[tactic(auto, using(crate::proofs::Standing::stands_appended))]
@@ -22,13 +22,13 @@ pub fn appended_calls_change_nothing()
 
 /// What the insert of a call leaves keeps the invariant of one client's writes, whatever the link answered.
 pub fn an_insert_keeps_the_invariant()
-    ensures { (before now : Moment) (write : PlacedWrite) (ended : Option Failure) →
+    ensures { (before now : Moment) (write : PlacedWrite) (ended : Option ErrorOutline) →
         Wrote before now write ended → KeepsInvariant before now write }
 {}
 
 /// Under that invariant an insert that was done has its entry.
 pub fn an_insert_that_was_done_stands()
-    ensures { (before now : Moment) (write : PlacedWrite) (ended : Option Failure) →
+    ensures { (before now : Moment) (write : PlacedWrite) (ended : Option ErrorOutline) →
         Wrote before now write ended → OkHasEntries before now write ended }
 {}
 

@@ -4,13 +4,14 @@ ghost use Rattle.driver_exec.specs.Client.{options_of};
 ghost use Rattle.driver_exec.specs.Moment.{moment_of};
 ghost use Rattle.driver_actions.specs.CallByCall.{CallCaused};
 ghost use Rattle.driver_actions.specs.Causes.{HasCause};
-ghost use Rattle.driver_actions.specs.Turns.{MakesCall};
+ghost use Rattle.driver_actions.specs.SingleCalls.{MakesCall};
 
 use crate::call::{Answer, Call, Outcome};
 use crate::single::single;
 use driver_error::Result;
-use driver_exec::{Client, Outside, SessionStore};
+use driver_exec::{Client, Outside};
 use driver_link::{Clock, Link, Place};
+use driver_session::SessionStore;
 use rand_core::Rng;
 use std::alloc::Global;
 

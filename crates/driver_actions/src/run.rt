@@ -1,18 +1,15 @@
 //! A list of calls, made one after another.
 ghost use Rattle.std.specs.Prelude.{◌≡◌, IfOk, OnOk, OnErr};
-ghost use Rattle.driver_exec.specs.Client.{options_of, store_of};
-ghost use Rattle.driver_exec.specs.Moment.{moment_of};
-ghost use Rattle.driver_exec.specs.StoreTells.{Draws, LendsAsBefore};
+ghost use Rattle.driver_exec.specs.Moment.{DrawsInOrder, HasFreshServer, KeepsClient, KeepsLent, moment_of};
 ghost use Rattle.driver_actions.specs.CallByCall.{HaveCauses};
 ghost use Rattle.driver_actions.specs.MainTheorem.{Begins, HaveEnded, IsReplayed, KeepsMaking, MeetsMainTheorem};
-ghost use Rattle.driver_link.specs.LinkState.{server_run};
-ghost use Rattle.driver_link.specs.ServerRun.{IsFresh};
 
 use crate::call::{Call, Outcome};
 use crate::call_run::CallRun;
 use bson_lite::List;
-use driver_exec::{Client, Outside, SessionStore};
+use driver_exec::{Client, Outside};
 use driver_link::{Clock, Link};
+use driver_session::SessionStore;
 use rand_core::Rng;
 use std::alloc::{AllocError, Global};
 
@@ -38,14 +35,21 @@ pub fn run_calls<S: SessionStore, L: Link, K: Clock, R: Rng>(
     ensures causes { IfOk result (λ outcomes. HaveCauses calls.now outcomes
         (moment_of S.tells L.tells K.tells R.stream client.old outside.old)
         (moment_of S.tells L.tells K.tells R.stream client.new outside.new)) }
-    ensures replayed { OnOk result (IsFresh (server_run (L.tells outside.old.link)) →
+    ensures replayed { OnOk result (HasFreshServer
+        (moment_of S.tells L.tells K.tells R.stream client.old outside.old) →
         IsReplayed (moment_of S.tells L.tells K.tells R.stream client.new outside.new)) }
     ensures making { KeepsMaking
         (moment_of S.tells L.tells K.tells R.stream client.old outside.old)
         (moment_of S.tells L.tells K.tells R.stream client.new outside.new) }
-    ensures drawn { Draws (S.tells (store_of client.old)) (S.tells (store_of client.new)) }
-    ensures lent { LendsAsBefore (S.tells (store_of client.old)) (S.tells (store_of client.new)) }
-    ensures options { options_of client.new ≡ options_of client.old }
+    ensures drawn { DrawsInOrder
+        (moment_of S.tells L.tells K.tells R.stream client.old outside.old)
+        (moment_of S.tells L.tells K.tells R.stream client.new outside.new) }
+    ensures lent { KeepsLent
+        (moment_of S.tells L.tells K.tells R.stream client.old outside.old)
+        (moment_of S.tells L.tells K.tells R.stream client.new outside.new) }
+    ensures client { KeepsClient
+        (moment_of S.tells L.tells K.tells R.stream client.old outside.old)
+        (moment_of S.tells L.tells K.tells R.stream client.new outside.new) }
     ensures err { OnErr result ((client.new ≡ client.old) × (outside.new ≡ outside.old)) }
 {
     let mut run = CallRun::begin(alloc, calls.len())?;

@@ -2,23 +2,24 @@
 ghost use Rattle.std.specs.Prelude.{◌≡◌, ◌<◌, ◌∷◌, [], IfErr, IfOk};
 ghost use Rattle.bson_lite.specs.Spelling.{Spells};
 ghost use Rattle.driver_error.specs.Error.{kind_of};
+ghost use Rattle.driver_session.specs.StoreTells.{MayDrawObjectId};
+ghost use Rattle.driver_ops.specs.InsertSpec.{insert_spec};
 ghost use Rattle.driver_exec.specs.Client.{options_of, store_of};
-ghost use Rattle.driver_exec.specs.InsertMeaning.{insert_meaning};
 ghost use Rattle.driver_exec.specs.Moment.{Moment, moment_of};
 ghost use Rattle.driver_exec.specs.Singles.{CausedSingle};
-ghost use Rattle.driver_exec.specs.StoreTells.{MayDrawObjectId};
 ghost use Rattle.driver_actions.specs.Causes.{MayDrawId, TellsOwnRefusal, WriteCaused};
 ghost use Rattle.driver_actions.specs.declared.call.SingleWrite.TheVariants.{InsertOne};
 ghost use Rattle.driver_actions.specs.Calls.{inserted, written};
-ghost use Rattle.driver_actions.specs.Turns.{Inserts, Makes, PutsId, Owns};
+ghost use Rattle.driver_actions.specs.SingleCalls.{Inserts, Makes, PutsId, Owns};
 
 use crate::call::{SingleAnswer, SingleWrite};
 use crate::refusal::input_refusal;
 use bson_lite::{Bson, Bytes, Document, ID_KEY, Namespace, TryClone, get_or_prepend_id_field};
 use driver_error::{InsertOneResult, Result};
-use driver_exec::encoded::encoded;
-use driver_exec::{Client, Outside, SessionStore, Steps, insert_single};
+use driver_exec::{Client, Outside, Steps, insert_single};
 use driver_link::{Clock, Link, Place, PlacedWrite, WriteKind, Written};
+use driver_ops::encoded;
+use driver_session::SessionStore;
 use rand_core::Rng;
 use std::alloc::Global;
 use std::marker::Brand;
@@ -99,7 +100,7 @@ fn insert_counted<S: SessionStore, L: Link, K: Clock, R: Rng, Q: Ledger>(
         MayDrawId before (moment_of S.tells L.tells K.tells R.stream client.old outside.old) → Inserts before
         (moment_of S.tells L.tells K.tells R.stream client.new outside.new)
         write.now result }
-    ensures caused { CausedSingle (insert_meaning write.now.written.namespace bytes)
+    ensures caused { CausedSingle (insert_spec write.now.written.namespace bytes)
         (moment_of S.tells L.tells K.tells R.stream client.old outside.old)
         (moment_of S.tells L.tells K.tells R.stream client.new outside.new)
         result }

@@ -4,11 +4,12 @@ use crate::call_run::CallRun;
 use crate::run::run_calls;
 use bson_lite::{Bson, Bytes, Document, EncodeFault, List, Namespace, Text, TryClone};
 use driver_error::{Error, ErrorKind, IoKind};
-use driver_exec::{Client, Outside, PlainStore};
+use driver_exec::{Client, Outside};
 use driver_link::{
     Address, Answered, ClientOptions, Conn, CountingIds, Description, Frame, Link, LinkError,
     LinkFault, MemClock, Place, SelectionCriteria,
 };
+use driver_session::PlainStore;
 use rand_core::SeedableRng;
 use rand_pcg::Pcg32;
 use std::alloc::{AllocError, Global};

@@ -2,7 +2,6 @@
 use Rattle.std.proofs.Common.{◌≡◌, ℕ, zero, suc, ◌+◌, ◌<◌, ◌^◌, List, [], ◌∷◌, ◌++◌, length, refl, ap, ◌∙◌, arith, subst, sym}
 use Rattle.std.specs.Prelude.{Option, None, Some}
 use Rattle.driver_link.proofs.Counting.{session_ids_first, sessions_apart}
-use Rattle.driver_link.specs.Apart as source
 use Rattle.driver_link.specs.CountingIds.{IdsDrawn, counted_ids, none_drawn, session_at}
 use Rattle.driver_link.specs.Exchange.{after_picks, replayed, empty_server}
 use Rattle.driver_link.specs.Ids.{times}
@@ -11,41 +10,33 @@ use Rattle.driver_link.specs.ServerRun.{IsFresh}
 use Rattle.driver_link.specs.WellFormed.{IsWellFormed}
 use Rattle.driver_link.specs.declared.ids.IdKind.TheVariants as id
 use Rattle.driver_link.specs.declared.machine.Schedule.{Schedule}
-use Rattle.driver_actions.specs.declared.call.Call.{Call}
-use Rattle.driver_actions.specs.declared.call.Outcome.{Outcome}
+use Rattle.driver_link.specs.Apart.{AllApart, first_ids}
+use Rattle.model_server.specs.ModelState.{ModelState, model_tells}
+use Rattle.driver_session.specs.Pool.{Pool, StorePool}
+use Rattle.driver_session.specs.StoreTells.{DrawnApart, Draws, StoreTells}
 use Rattle.driver_exec.specs.declared.client.Client.{Client}
 use Rattle.driver_exec.specs.Client.{options_of, store_of}
 use Rattle.driver_exec.specs.Moment.{Moment}
+use Rattle.driver_actions.specs.declared.call.Call.{Call}
+use Rattle.driver_actions.specs.declared.call.Outcome.{Outcome}
 use Rattle.driver_actions.specs.MainTheorem.{Begins, HaveEnded, IsReplayed, KeepsMaking, MainTheorem, MeetsMainTheorem}
-use Rattle.driver_exec.specs.Pool.{AllApart, NotAmong, Pool, StorePool}
-use Rattle.driver_exec.specs.StoreTells.{DrawnApart, Draws, StoreTells}
 use Rattle.driver_cli.specs.declared.script.Script.{Script}
 use Rattle.driver_cli.specs.Ended.{IsFirstMoment, IsMomentOf, IsRunOf, new_model, new_store, store_tells}
-use Rattle.model_server.specs.ModelState.{ModelState, model_tells}
 
 -- so many ids are as many
-length_first : (count : ℕ) (to_come : ℕ → List ℕ) → length (source.first_ids count to_come) ≡ count
+length_first : (count : ℕ) (to_come : ℕ → List ℕ) → length (first_ids count to_come) ≡ count
 length_first zero to_come = refl
 length_first (suc count) to_come = ap suc (length_first count (λ k. to_come (k + 1)))
-
--- the pool's words say what the source's words say
-not_among : (id : List ℕ) (ids : List (List ℕ)) → source.NotAmong id ids → NotAmong id ids
-not_among id [] differs = tt
-not_among id (other ∷ ids) differs = (differs.0, not_among id ids differs.1)
-
-all_apart : (ids : List (List ℕ)) → source.AllApart ids → AllApart ids
-all_apart [] apart = tt
-all_apart (id ∷ ids) apart = (not_among id ids apart.0, all_apart ids apart.1)
 
 -- a store over ids that count, which was new, has drawn distinct ids
 pub drawn_apart : (store : StorePool IdsDrawn) → Draws (store_tells new_store) (store_tells store) → length store.pool.drawn < 2 ^ 64
     → AllApart store.pool.drawn
 drawn_apart store draws few =
     let first = session_ids_first draws.kinds (counted_ids none_drawn) (session_at none_drawn) (λ earlier. refl) in
-    let is : store.pool.drawn ≡ source.first_ids (times id.Session draws.kinds) (session_at none_drawn) = draws.drawn ∙ draws.ids.1 ∙ first in
+    let is : store.pool.drawn ≡ first_ids (times id.Session draws.kinds) (session_at none_drawn) = draws.drawn ∙ draws.ids.1 ∙ first in
     let count : times id.Session draws.kinds < 2 ^ 64
     = omega (arith, few, ap length is, length_first (times id.Session draws.kinds) (session_at none_drawn)) in
-    subst AllApart (sym is) (all_apart _ (sessions_apart (times id.Session draws.kinds) count))
+    subst AllApart (sym is) (sessions_apart (times id.Session draws.kinds) count)
 
 module _ (asked : Script) (calls : List Call) (outcomes : List Outcome) (client : Client (StorePool IdsDrawn)) (before : ModelState) (first last : Moment)
     (begun : IsFirstMoment asked first) (came : IsMomentOf client before last) (well_formed : IsWellFormed asked.schedule) where

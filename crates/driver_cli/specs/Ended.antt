@@ -4,13 +4,14 @@ use Rattle.driver_link.specs.CountingIds.{IdsDrawn, counted_ids, none_drawn}
 use Rattle.driver_link.specs.Exchange.{after_picks, replayed, empty_server}
 use Rattle.driver_link.specs.Faults.{Rose}
 use Rattle.driver_link.specs.Streams.{Appends}
+use Rattle.model_server.specs.ModelState.{ModelState, model_tells, no_calls}
+use Rattle.driver_session.specs.Pool.{StorePool, empty_pool}
+use Rattle.driver_session.specs.StoreTells.{StoreTells}
 use Rattle.driver_exec.specs.Client.{options_of, store_of}
 use Rattle.driver_exec.specs.Moment.{Moment}
-use Rattle.driver_exec.specs.Pool.{StorePool, empty_pool}
-use Rattle.driver_exec.specs.StoreTells.{StoreTells}
+use Rattle.driver_exec.specs.declared.client.Client.{Client}
 use Rattle.driver_actions.specs.MainTheorem.{HaveEnded, MainTheorem}
 use Rattle.driver_actions.specs.declared.call.Outcome.{Outcome}
-use Rattle.driver_exec.specs.declared.client.Client.{Client}
 use Rattle.driver_cli.specs.declared.program.Command.{Command}
 use Rattle.driver_cli.specs.declared.program.Command.TheVariants as command
 use Rattle.driver_cli.specs.declared.running.Run.{Run}
@@ -19,7 +20,6 @@ use Rattle.driver_cli.specs.declared.script.Script.{Script}
 use Rattle.driver_cli.specs.declared.status.Status.{Status}
 use Rattle.driver_cli.specs.declared.status.Status.TheVariants as status
 use Rattle.driver_cli.specs.declared.streams.TheConstants.{LIMIT}
-use Rattle.model_server.specs.ModelState.{ModelState, model_tells, no_calls}
 use Rattle.driver_cli.specs.Lines.{newline}
 use Rattle.driver_cli.specs.Report.{report}
 use Rattle.driver_cli.specs.Script.{script}

@@ -4,16 +4,16 @@ use Rattle.driver_link.specs.declared.machine.Send.{Send}
 use Rattle.driver_link.specs.declared.machine.Server.{Server}
 use Rattle.driver_link.specs.CountingIds.{IdsDrawn}
 use Rattle.driver_link.specs.Exchange.{empty_server}
-use Rattle.driver_actions.specs.declared.call.Call.{Call}
-use Rattle.driver_actions.specs.declared.call.Outcome.{Outcome}
+use Rattle.model_server.specs.ModelState.{ModelState}
+use Rattle.driver_session.specs.Pool.{StorePool}
 use Rattle.driver_exec.specs.declared.client.Client.{Client}
 use Rattle.driver_exec.specs.Client.{store_of}
-use Rattle.driver_exec.specs.Pool.{StorePool}
+use Rattle.driver_actions.specs.declared.call.Call.{Call}
+use Rattle.driver_actions.specs.declared.call.Outcome.{Outcome}
 use Rattle.driver_cli.specs.declared.running.Run.{Run}
 use Rattle.driver_cli.specs.declared.script.Script.{Script}
 use Rattle.driver_cli.specs.Distinct.{distinct}
 use Rattle.driver_cli.specs.Lines.{call_lines, send_lines, entry_lines, newline}
-use Rattle.model_server.specs.ModelState.{ModelState}
 
 -- the calls of a script, or none
 abbrev pub calls_of : Option Script → List Call

@@ -101,6 +101,7 @@ no_faults = record { selects = []; check_outs = [] }
 abbrev pub faults_with : Option (List ℕ) → Option (List ℕ) → Faults
 faults_with selects check_outs = record { selects = unwrap_or selects []; check_outs = unwrap_or check_outs [] }
 
+-- the same, read from a value of a script
 unfoldable pub faults_of : Data → Option Faults
 faults_of d =
     if has_only (SELECT.now ∷ CHECK_OUT.now ∷ []) d

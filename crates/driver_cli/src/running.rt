@@ -4,8 +4,9 @@ ghost use Rattle.std.specs.Prelude.{◌≡◌, None};
 use crate::script::Script;
 use bson_lite::List;
 use driver_actions::Outcome;
-use driver_exec::{Client, PlainStore};
+use driver_exec::Client;
 use driver_link::CountingIds;
+use driver_session::PlainStore;
 use model_server::ModelServer;
 
 /// The script of a run, the outcomes of its calls, its client and its server, where it has come so far.

@@ -1,18 +1,13 @@
 -- What the calls of an attempt leave: the numbers of a session, a document by its bytes, and a server whose calls were
 -- only counted.
-use Rattle.std.proofs.Common.{◌≡◌, ℕ, List, refl, sym, ap, subst, ◌∙◌, inl, inr, arith}
+use Rattle.std.proofs.Common.{◌≡◌, refl, sym, ap, subst, ◌∙◌, inl, inr, arith}
 use Rattle.std.specs.Prelude.{ℤ, pos, ◌+ℤ◌, ◌≤ℤ◌, Option, None, Some, Result, Ok, Err}
 use Rattle.std.proofs.lemmas.Int.{ints}
-use Rattle.bson_lite.specs.declared.bson.Bson.{Bson}
-use Rattle.bson_lite.specs.declared.document.Pair.{Pair}
-use Rattle.bson_lite.specs.Spelling.{Spells}
-use Rattle.bson_lite.specs.Reading.{read}
-use Rattle.bson_lite.proofs.Nested.{read_again}
 use Rattle.driver_link.specs.declared.fault.LinkError.{LinkError}
 use Rattle.driver_link.specs.declared.fault.LinkError.TheVariants.{Fault, Memory}
 use Rattle.driver_link.specs.Counting.{Counts, KeepsServer, Listed, OnlyCounts, check_out_fault, checked_out, select_fault, selected}
 use Rattle.driver_link.specs.ServerRun.{ServerRun}
-use Rattle.driver_exec.specs.Session.{MayRaise, Numbers, Raises, Session}
+use Rattle.driver_session.specs.Session.{MayRaise, Numbers, Raises, Session}
 
 -- a next number is the last one and one more
 pub raises : (old now : Session) (number : ℤ) → Numbers old now (Ok number) → Raises old now
@@ -31,10 +26,6 @@ stays session back same = within session.number back.number same
   where
     within : (number more : ℤ) → more ≡ number → (number ≤ℤ more) × (more ≤ℤ (number +ℤ pos 1))
     within number more is = (omega (arith, ints), omega (arith, ints))
-
--- bytes spell one document alone
-pub spells_one : (a b : List (Pair Bson)) (bytes : List ℕ) → Spells a bytes → Spells b bytes → a ≡ b
-spells_one a b bytes first second = cc (sym (read_again a first.has) ∙ ap read (sym first.is ∙ second.is) ∙ read_again b second.has)
 
 -- calls that are only counted
 pub counts_refl : (link : Option ServerRun) → OnlyCounts link link

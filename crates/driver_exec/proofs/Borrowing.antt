@@ -2,9 +2,9 @@
 use Rattle.std.proofs.Common.{◌≡◌, ℕ, ◌<◌, List, sym, subst}
 use Rattle.std.specs.Prelude.{ℤ, Option, None, Some, unwrap_or}
 use Rattle.std.specs.Option.{option_map}
-use Rattle.driver_exec.specs.StoreTells.{LendsSession, StoreTells}
+use Rattle.driver_session.specs.StoreTells.{LendsSession, StoreTells}
+use Rattle.driver_session.specs.Session.{Raises, Session}
 use Rattle.driver_exec.specs.Resending.{IsNumbered}
-use Rattle.driver_exec.specs.Session.{Raises, Session}
 
 -- what a store that stays lends stays lent
 pub lends_then_stays : (a b c : StoreTells) (at : ℕ) (session : Session) → LendsSession a b at session → c ≡ b → LendsSession a c at session

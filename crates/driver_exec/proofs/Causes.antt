@@ -4,8 +4,8 @@ use Rattle.std.specs.Prelude.{Option, None, Some}
 use Rattle.std.proofs.lemmas.List.{append-nil}
 use Rattle.driver_link.specs.declared.fault.Answered.{Answered}
 use Rattle.driver_link.specs.LinkState.{GainsAll}
+use Rattle.driver_session.specs.StoreTells.{StoreTells}
 use Rattle.driver_exec.specs.Causes.{next_number}
-use Rattle.driver_exec.specs.StoreTells.{StoreTells}
 
 -- answers that gained nothing
 pub notes_nothing : (answers : Option (List Answered)) → GainsAll answers answers []

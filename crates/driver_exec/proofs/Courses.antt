@@ -12,34 +12,34 @@ use Rattle.driver_link.specs.declared.machine.SendBody.{SendBody}
 use Rattle.driver_link.specs.declared.options.Conn.{Conn}
 use Rattle.driver_link.specs.Counting.{OnlyCounts}
 use Rattle.driver_link.specs.ServerRun.{ServerRun, TakesStep}
-use Rattle.driver_exec.specs.declared.retryability.Retryability.{Retryability}
-use Rattle.driver_exec.specs.declared.retryability.Retryability.TheVariants as may
-use Rattle.driver_exec.specs.Attempting.{Exchanges, held_after}
-use Rattle.driver_exec.specs.Causes.{is_network}
-use Rattle.driver_exec.specs.Holding.{DrawsNumber, DrawsSession, GivesNumber, Held, HoldsSession, dirty_session, held_id, needs_session}
-use Rattle.driver_exec.specs.Operations.{Meaning, plain_send}
-use Rattle.driver_exec.specs.StoreTells.{LendsSession, StoreTells}
-use Rattle.driver_exec.specs.Resending.{AnsweredLast, IsNumbered, SentTimes, SentWithin}
-use Rattle.driver_exec.specs.Session.{Numbers, Raises, Session}
 use Rattle.driver_link.specs.LinkState.{LinkState, server_run}
+use Rattle.driver_link.specs.Failures.{is_network}
+use Rattle.driver_session.specs.declared.retryability.Retryability.{Retryability}
+use Rattle.driver_session.specs.declared.retryability.Retryability.TheVariants as may
+use Rattle.driver_session.specs.StoreTells.{LendsSession, StoreTells}
+use Rattle.driver_session.specs.Session.{Numbers, Raises, Session}
+use Rattle.driver_session.proofs.Staying.{stays_then_lends, stays_twice}
+use Rattle.driver_ops.specs.Operations.{OperationSpec, plain_send}
+use Rattle.driver_exec.specs.Attempting.{Exchanges, held_after}
+use Rattle.driver_exec.specs.Holding.{DrawsNumber, DrawsSession, GivesNumber, ExecutionSession, HoldsSession, dirty_session, held_id, needs_session}
+use Rattle.driver_exec.specs.Resending.{AnsweredLast, IsNumbered, SentTimes, SentWithin}
 use Rattle.driver_exec.proofs.Attempts.{raises, stays}
-use Rattle.driver_exec.proofs.Staying.{stays_then_lends, stays_twice}
 use Rattle.driver_exec.proofs.Trying.{both_true}
 use Rattle.driver_exec.proofs.Resends.{answered_last, begins_unsent, none_sent, sent_answered, sent_counted, sent_lost, sent_maybe}
 use Rattle.driver_exec.proofs.Borrowing.{CountFits, HeldFrom, HoldsFrom, HoldsLast, MayGoOn, NumberFits, Unnumbered, id_of, lends_then_stays, number_of}
 
-module _ {A : Type 0} (meaning : Meaning A) (places : List Place) (store : StoreTells) (link : Option ServerRun) where
+module _ {A : Type 0} (spec : OperationSpec A) (places : List Place) (store : StoreTells) (link : Option ServerRun) where
   -- what was done so far, in at most so many attempts
   pub record Course (most : ℕ) (store_now : StoreTells) (link_now : Option ServerRun) (session : Option Session) (sent : Option (Option ℤ)) : Type 0 where
     pub count : ℕ
     pub within : count ≤ most
-    pub sends : (body : SendBody) → meaning.asked places body → SentTimes link link_now (plain_send (id_of session) (number_of sent) body) count
+    pub sends : (body : SendBody) → spec.asked places body → SentTimes link link_now (plain_send (id_of session) (number_of sent) body) count
     pub holds : HoldsFrom store store_now sent session
     pub fits : CountFits sent count
 
   -- what was done once the operation is over
   pub record Over (most : ℕ) (store_now : StoreTells) (link_now : Option ServerRun) (session : Option Session) (sent : Option (Option ℤ)) : Type 0 where
-    pub sends : (body : SendBody) → meaning.asked places body → SentWithin most link link_now (plain_send (id_of session) (number_of sent) body)
+    pub sends : (body : SendBody) → spec.asked places body → SentWithin most link link_now (plain_send (id_of session) (number_of sent) body)
     pub holds : HoldsLast store store_now (number_of sent) session
 
   pub starts : Course 0 store link None None
@@ -95,12 +95,12 @@ module _ {A : Type 0} (meaning : Meaning A) (places : List Place) (store : Store
       }
 
   -- where a session is needed one was lent, and nothing had been sent
-  pub readied : (most : ℕ) (store_mid store_now : StoreTells) (link_now : Option ServerRun) (asked : Bool) (held ready : Held)
+  pub readied : (most : ℕ) (store_mid store_now : StoreTells) (link_now : Option ServerRun) (asked : Bool) (held ready : ExecutionSession)
       → HoldsSession (needs_session asked held) store_mid store_now held ready (Ok tt)
       → Course most store_mid link_now held.session held.sent → Course most store_now link_now ready.session ready.sent
   readied most store_mid store_now link_now asked held ready holds course = by_need (needs_session asked held) refl holds
     where
-      kept : (now : Held) → now ≡ held → Course most store_mid link_now held.session held.sent → Course most store_mid link_now now.session now.sent
+      kept : (now : ExecutionSession) → now ≡ held → Course most store_mid link_now held.session held.sent → Course most store_mid link_now now.session now.sent
       kept now is course = subst (λ h. Course most store_mid link_now h.session h.sent) (sym is) course
 
       none_of : {B : Type 0} (o : Option B) → is_none o ≡ true → o ≡ None
@@ -161,7 +161,7 @@ module _ {A : Type 0} (meaning : Meaning A) (places : List Place) (store : Store
   }
 
   -- what is held once a number was drawn, and what is then sent
-  pub record Drawn (held numbered : Held) (number : Option ℤ) (store_now : StoreTells) : Type 0 where
+  pub record Drawn (held numbered : ExecutionSession) (number : Option ℤ) (store_now : StoreTells) : Type 0 where
     pub same_id : id_of numbered.session ≡ id_of held.session
     pub same_sent : numbered.sent ≡ held.sent
     pub holds : HoldsFrom store store_now (Some number) numbered.session
@@ -207,7 +207,7 @@ module _ {A : Type 0} (meaning : Meaning A) (places : List Place) (store : Store
   first_drawn store_now may.Write None now number holds draws = undrawn store_now None now number holds draws.0 draws.1
   first_drawn store_now other session now number holds draws = undrawn store_now session now number holds draws.0 draws.1
 
-  pub drawn : (store_now : StoreTells) (turn : Retryability) (held numbered : Held) (number : Option ℤ) → HoldsFrom store store_now held.sent held.session
+  pub drawn : (store_now : StoreTells) (turn : Retryability) (held numbered : ExecutionSession) (number : Option ℤ) → HoldsFrom store store_now held.sent held.session
       → DrawsNumber held.sent turn held numbered (Ok number) → Drawn held numbered number store_now
   drawn store_now turn held numbered number holds draws = by_sent held.sent refl holds draws
     where
@@ -247,12 +247,12 @@ module _ {A : Type 0} (meaning : Meaning A) (places : List Place) (store : Store
       number_same None fits = fits
 
   -- what is held after an exchange has the same id, and the same number
-  record HeldAfter (held now : Held) (store_now : StoreTells) : Type 0 where
+  record HeldAfter (held now : ExecutionSession) (store_now : StoreTells) : Type 0 where
     id : id_of now.session ≡ id_of held.session
     sent : now.sent ≡ held.sent
     holds : HoldsFrom store store_now held.sent now.session
 
-  after_exchange : (store_now : StoreTells) (held : Held) (result : Result (List ℕ) LinkError) → HoldsFrom store store_now held.sent held.session
+  after_exchange : (store_now : StoreTells) (held : ExecutionSession) (result : Result (List ℕ) LinkError) → HoldsFrom store store_now held.sent held.session
       → HeldAfter held (held_after result held) store_now
   after_exchange store_now held (Ok reply) holds = record { id = refl; sent = refl; holds = holds }
   after_exchange store_now held (Err Memory) holds = record { id = refl; sent = refl; holds = holds }
@@ -284,25 +284,25 @@ module _ {A : Type 0} (meaning : Meaning A) (places : List Place) (store : Store
   same_send mid session (Some before) number count body again fits sent =
       subst (λ n. SentTimes link mid (plain_send session n body) count) (sym (again before refl)) sent
 
-  module _ (most : ℕ) (store_now : StoreTells) (mid : LinkState) (now : LinkState) (ready numbered : Held) (turn : Retryability) (number : Option ℤ)
+  module _ (most : ℕ) (store_now : StoreTells) (mid : LinkState) (now : LinkState) (ready numbered : ExecutionSession) (turn : Retryability) (number : Option ℤ)
       (goes : MayGoOn ready.sent) (draws : DrawsNumber ready.sent turn ready numbered (Ok number)) (course : Course most store_now (server_run mid) ready.session ready.sent) where
-    abbrev held : Held
+    abbrev held : ExecutionSession
     held = record numbered { sent = Some number }
 
     is_drawn : Drawn ready numbered number store_now
     is_drawn = drawn store_now turn ready numbered number course.holds draws
 
     -- the sends so far, as this one
-    so_far : (body : SendBody) → meaning.asked places body → SentTimes link (server_run mid) (plain_send (id_of numbered.session) number body) course.count
+    so_far : (body : SendBody) → spec.asked places body → SentTimes link (server_run mid) (plain_send (id_of numbered.session) number body) course.count
     so_far body asked = subst (λ id. SentTimes link (server_run mid) (plain_send id number body) course.count) (sym is_drawn.same_id)
         (same_send (server_run mid) (id_of ready.session) ready.sent number course.count body is_drawn.again course.fits (course.sends body asked))
 
-    module _ (conn : Conn) (result : Result (List ℕ) LinkError) (exchanges : Exchanges meaning places mid now conn (held_id numbered) number result) where
+    module _ (conn : Conn) (result : Result (List ℕ) LinkError) (exchanges : Exchanges spec places mid now conn (held_id numbered) number result) where
       kept : HeldAfter held (held_after result held) store_now
       kept = after_exchange store_now held result is_drawn.holds
 
       -- a send that was answered or lost
-      sent_course : ((body : SendBody) → meaning.asked places body → SentTimes link (server_run now) (plain_send (id_of numbered.session) number body) (suc course.count))
+      sent_course : ((body : SendBody) → spec.asked places body → SentTimes link (server_run now) (plain_send (id_of numbered.session) number body) (suc course.count))
           → Course (suc most) store_now (server_run now) (held_after result held).session (held_after result held).sent
       sent_course sends = subst (λ s. Course (suc most) store_now (server_run now) (held_after result held).session s) (sym kept.sent) (record {
         count = suc course.count;
@@ -312,12 +312,12 @@ module _ {A : Type 0} (meaning : Meaning A) (places : List Place) (store : Store
         fits = fits_more ready.sent number course.count goes course.fits is_drawn.again;
       })
 
-      answered_sends : (bytes : List ℕ) → result ≡ Ok bytes → (body : SendBody) → meaning.asked places body
+      answered_sends : (bytes : List ℕ) → result ≡ Ok bytes → (body : SendBody) → spec.asked places body
           → SentTimes link (server_run now) (plain_send (id_of numbered.session) number body) (suc course.count)
       answered_sends bytes is body asked = sent_answered link (plain_send (id_of numbered.session) number body) course.count (server_run mid) (server_run now) bytes (so_far body asked)
           (subst (λ r. TakesStep (server_run mid) (server_run now) (plain_send (id_of numbered.session) number body) r) is (exchanges.exchanges.steps _ (exchanges.reads body asked)))
 
-      lost_sends : (fault : LinkFault) (own : List (List ℕ)) → result ≡ Err (Fault fault own) → (body : SendBody) → meaning.asked places body
+      lost_sends : (fault : LinkFault) (own : List (List ℕ)) → result ≡ Err (Fault fault own) → (body : SendBody) → spec.asked places body
           → SentTimes link (server_run now) (plain_send (id_of numbered.session) number body) (suc course.count)
       lost_sends fault own is body asked = sent_lost link (plain_send (id_of numbered.session) number body) course.count (server_run mid) (server_run now) fault own (so_far body asked)
           (subst (λ r. TakesStep (server_run mid) (server_run now) (plain_send (id_of numbered.session) number body) r) is (exchanges.exchanges.steps _ (exchanges.reads body asked)))
@@ -371,7 +371,7 @@ module _ {A : Type 0} (meaning : Meaning A) (places : List Place) (store : Store
       abbrev send_now : SendBody → Send
       send_now body = plain_send (id_of (held_after result held).session) (number_of (held_after result held).sent) body
 
-      pub answered_now : (bytes : List ℕ) → result ≡ Ok bytes → (body : SendBody) → meaning.asked places body → AnsweredLast link (server_run now) (send_now body) course.count bytes
+      pub answered_now : (bytes : List ℕ) → result ≡ Ok bytes → (body : SendBody) → spec.asked places body → AnsweredLast link (server_run now) (send_now body) course.count bytes
       answered_now bytes is body asked =
           let send = plain_send (id_of numbered.session) number body in
           let last = answered_last link send course.count (server_run mid) (server_run now) bytes (so_far body asked)

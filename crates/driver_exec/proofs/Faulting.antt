@@ -7,8 +7,9 @@ use Rattle.driver_error.specs.Error.{kind_of}
 use Rattle.driver_link.specs.declared.fault.LinkError.{LinkError}
 use Rattle.driver_link.specs.declared.fault.LinkError.TheVariants.{Fault, Memory}
 use Rattle.driver_link.specs.Failures.{BecomesError}
-use Rattle.driver_exec.specs.declared.retryability.Retryability.{Retryability}
-use Rattle.driver_exec.specs.Failing.{FaultError, IsLabelledBy, is_memory}
+use Rattle.driver_session.specs.declared.retryability.Retryability.{Retryability}
+use Rattle.driver_exec.specs.Failures.{is_memory}
+use Rattle.driver_exec.specs.inside.Failures.{FaultError, IsLabelledBy}
 
 -- want of memory is seen
 no_memory : (error : Error) → is_memory (kind_of error) ≡ false → kind_of error ≡ kind.Memory → ⊥

@@ -13,16 +13,17 @@ use Rattle.driver_link.specs.declared.options.Address.{Address}
 use Rattle.driver_link.specs.declared.options.Conn.{Conn}
 use Rattle.driver_link.specs.declared.options.Description.{Description}
 use Rattle.driver_link.specs.LinkCalls.{IsTo}
-use Rattle.driver_exec.specs.declared.pool.IdleSession.{IdleSession}
-use Rattle.driver_exec.specs.declared.retryability.Retryability.{Retryability}
-use Rattle.driver_exec.specs.declared.retryability.Retryability.TheVariants as may
+use Rattle.driver_link.specs.Failures.{is_network}
+use Rattle.driver_session.specs.declared.pool.IdleSession.{IdleSession}
+use Rattle.driver_session.specs.declared.retryability.Retryability.{Retryability}
+use Rattle.driver_session.specs.declared.retryability.Retryability.TheVariants as may
+use Rattle.driver_session.specs.Pool.{Pool, session_out}
+use Rattle.driver_session.specs.StoreTells.{LendsFrom, LendsSession, StoreTells}
+use Rattle.driver_session.specs.Session.{Numbers, Session, TellsEnd, last_number}
 use Rattle.driver_exec.specs.Attempting.{asks_session, held_after, on_connection}
-use Rattle.driver_exec.specs.Causes.{IsLast, MayBeLast, is_network, lent_number, next_number, number_in}
-use Rattle.driver_exec.specs.Holding.{DrawsNumber, DrawsSession, GivesNumber, Held, HoldsSession, dirty_session, needs_session}
+use Rattle.driver_exec.specs.Causes.{IsLast, MayBeLast, lent_number, next_number, number_in}
+use Rattle.driver_exec.specs.Holding.{DrawsNumber, DrawsSession, GivesNumber, ExecutionSession, HoldsSession, dirty_session, needs_session}
 use Rattle.driver_exec.specs.OperationCauses.{DrawsNumbers}
-use Rattle.driver_exec.specs.Pool.{Pool, session_out}
-use Rattle.driver_exec.specs.StoreTells.{LendsFrom, LendsSession, StoreTells}
-use Rattle.driver_exec.specs.Session.{Numbers, Session, TellsEnd, last_number}
 
 -- what is true is not false
 pub not_both : true ≡ false → ⊥
@@ -110,7 +111,7 @@ module _ (store : StoreTells) (setup : Option Setup) where
   stands_at_first = record { untouched = refl; first = tt; takes = tt }
 
   -- a session was lent where one is needed
-  module _ (sessions : Bool) (description : Description) (is : IsOf setup description) (mid now : StoreTells) (held ready : Held) where
+  module _ (sessions : Bool) (description : Description) (is : IsOf setup description) (mid now : StoreTells) (held ready : ExecutionSession) where
     -- a session that is asked for is one that the link's connections take
     takes_asked : (session : Session) (setup : Option Setup) → IsOf setup description → description.supports_sessions ≡ true → TakesSessions (Some session) setup
     takes_asked session None is supports = tt
@@ -160,7 +161,7 @@ module _ (store : StoreTells) (setup : Option Setup) where
         by_need true needs holds = (ap (λ h. h.sent) holds.is ∙ unsent, ap (λ h. is_some h.session) holds.is)
 
   -- what is held after a number was drawn is a session where it was one
-  pub draw_holds : (turn : Retryability) (held numbered : Held) (result : Result (Option ℤ) Error) → DrawsNumber held.sent turn held numbered result
+  pub draw_holds : (turn : Retryability) (held numbered : ExecutionSession) (result : Result (Option ℤ) Error) → DrawsNumber held.sent turn held numbered result
       → is_some numbered.session ≡ is_some held.session
   draw_holds turn held numbered result draws = by_sent held.sent draws
     where
@@ -174,7 +175,7 @@ module _ (store : StoreTells) (setup : Option Setup) where
       by_sent None draws = ap (λ h. is_some h.session) draws.is ∙ by_turn turn held.session draws.session draws.draws
 
   -- so is what is held after an exchange
-  pub exchange_holds : (result : Result (List ℕ) LinkError) (held : Held) → (is_some (held_after result held).session ≡ is_some held.session) × ((held_after result held).sent ≡ held.sent)
+  pub exchange_holds : (result : Result (List ℕ) LinkError) (held : ExecutionSession) → (is_some (held_after result held).session ≡ is_some held.session) × ((held_after result held).sent ≡ held.sent)
   exchange_holds (Ok reply) held = (refl, refl)
   exchange_holds (Err Memory) held = (refl, refl)
   exchange_holds (Err (Fault found own)) held = by_network (is_network found)
@@ -226,7 +227,7 @@ draws_on sessions may.Read setup description draws is = absurd draws
 draws_on sessions may.None setup description draws is = absurd draws
 
 -- there is no number after the last one
-pub last_draws_none : (next : Option ℤ) (turn : Retryability) (held numbered : Held) (number : Option ℤ) → IsLast next → turn ≡ may.Write → held.sent ≡ None
+pub last_draws_none : (next : Option ℤ) (turn : Retryability) (held numbered : ExecutionSession) (number : Option ℤ) → IsLast next → turn ≡ may.Write → held.sent ≡ None
     → is_some held.session ≡ true → IsFirst held.session held.sent next → DrawsNumber held.sent turn held numbered (Ok number) → ⊥
 last_draws_none next turn held numbered number last is_write unsent holds first draws =
     let drawn = subst (λ t. DrawsNumber None t held numbered (Ok number)) is_write (subst (λ s. DrawsNumber s turn held numbered (Ok number)) unsent draws) in
@@ -247,7 +248,7 @@ AtEnd next kind.Memory = Unit {0}
 AtEnd next _ = ⊥
 
 -- where there is no number, an error tells why
-pub unnumbered_at_end : (next : Option ℤ) (turn : Retryability) (held numbered : Held) (error : Error) → IsFirst held.session held.sent next
+pub unnumbered_at_end : (next : Option ℤ) (turn : Retryability) (held numbered : ExecutionSession) (error : Error) → IsFirst held.session held.sent next
     → DrawsNumber held.sent turn held numbered (Err error) → AtEnd next (kind_of error)
 unnumbered_at_end next turn held numbered error first draws = by_sent held.sent first draws
   where

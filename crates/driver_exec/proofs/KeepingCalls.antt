@@ -6,19 +6,19 @@ use Rattle.driver_link.specs.declared.machine.Place.{Place}
 use Rattle.driver_link.specs.declared.machine.PlacedWrite.{PlacedWrite}
 use Rattle.driver_link.specs.LinkState.{server_run}
 use Rattle.driver_link.specs.ServerRun.{ServerRun}
-use Rattle.driver_exec.specs.Causes.{Failure}
+use Rattle.driver_session.specs.Pool.{Pool}
+use Rattle.driver_ops.specs.Operations.{OperationSpec}
+use Rattle.driver_exec.specs.Causes.{ErrorOutline}
 use Rattle.driver_exec.specs.Keeping.{IsWritten, KeepsInvariant, KeepsTold, OkHasEntries}
 use Rattle.driver_exec.specs.Moment.{Moment}
-use Rattle.driver_exec.specs.Operations.{Meaning}
-use Rattle.driver_exec.specs.Pool.{Pool}
 use Rattle.driver_exec.specs.Resending.{SendsOneCommand}
 use Rattle.driver_exec.specs.Writing.{Wrote, insert_asked}
 use Rattle.driver_exec.proofs.Written.{left_of, wrote_stands}
 
 -- it keeps it
-pub works_keeps : {A : Type 0} (meaning : Meaning A) (places : List Place) (before now : Moment) (result : Result A Error)
-    → SendsOneCommand meaning places before now result → (write : PlacedWrite) → meaning.asked places (insert_asked write) → KeepsInvariant before now write
-works_keeps meaning places before now result works write asked =
+pub works_keeps : {A : Type 0} (spec : OperationSpec A) (places : List Place) (before now : Moment) (result : Result A Error)
+    → SendsOneCommand spec places before now result → (write : PlacedWrite) → spec.asked places (insert_asked write) → KeepsInvariant before now write
+works_keeps spec places before now result works write asked =
     of_told before.store.pool now.store.pool (server_run before.link) (server_run now.link) refl refl refl refl
   where
     of_told : (pool pool_now : Option Pool) (run run_now : Option ServerRun) → before.store.pool ≡ pool → now.store.pool ≡ pool_now → server_run before.link ≡ run
@@ -50,6 +50,6 @@ done_written before now write wrote =
     of_told (Some pool) (Some pool_now) (Some run) None is now_is run_is run_now_is = tt
 
 -- the same of each end of the insert
-pub wrote_ends : (before now : Moment) (write : PlacedWrite) (ended : Option Failure) → Wrote before now write ended → OkHasEntries before now write ended
+pub wrote_ends : (before now : Moment) (write : PlacedWrite) (ended : Option ErrorOutline) → Wrote before now write ended → OkHasEntries before now write ended
 wrote_ends before now write None wrote = done_written before now write wrote
 wrote_ends before now write (Some why) wrote = tt

@@ -9,13 +9,14 @@ use Rattle.std.proofs.lemmas.Int.{ints}
 use Rattle.driver_link.specs.declared.machine.Send.{Send}
 use Rattle.driver_link.specs.Settled.{IsUnder}
 use Rattle.driver_link.proofs.Lists.{has_either}
-use Rattle.driver_exec.specs.declared.pool.IdleSession.{IdleSession}
-use Rattle.driver_exec.specs.declared.pool.StoreEvent.{StoreEvent}
-use Rattle.driver_exec.specs.BetweenCalls.{Among, Between, FitsIdle, Knows, NoneOf, SentUpTo, ids_of}
-use Rattle.driver_exec.specs.Pool.{Pool, NotAmong, AllApart, lent_out, taken_back, session_out, idle_back, is_lent, without_first}
-use Rattle.driver_exec.specs.Session.{Session}
-use Rattle.driver_exec.proofs.Ids.{among_left, among_last, not_among_left, apart_last, among_differs, equal_bytes}
-use Rattle.driver_exec.proofs.PoolTells.{LendsPool}
+use Rattle.driver_link.specs.Apart.{NotAmong, AllApart}
+use Rattle.driver_session.specs.declared.pool.IdleSession.{IdleSession}
+use Rattle.driver_session.specs.declared.pool.StoreEvent.{StoreEvent}
+use Rattle.driver_session.specs.Pool.{Pool, lent_out, taken_back, session_out, idle_back, is_lent, without_first, Among}
+use Rattle.driver_session.specs.Session.{Session}
+use Rattle.driver_session.proofs.Ids.{among_left, among_last, not_among_left, apart_last, among_differs, equal_bytes}
+use Rattle.driver_session.proofs.PoolTells.{LendsPool}
+use Rattle.driver_exec.specs.BetweenCalls.{Between, FitsIdle, Knows, NoneOf, SentUpTo, ids_of}
 
 -- one session is lent
 pub record Holding (pool : Pool) (trace : List Send) (session : Session) : Type 0 where

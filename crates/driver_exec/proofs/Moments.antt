@@ -20,13 +20,13 @@ use Rattle.driver_link.specs.LinkCalls.{CallsLink}
 use Rattle.driver_link.specs.LinkState.{LinkState, server_run, setup_of}
 use Rattle.driver_link.specs.ServerRun.{ServerRun, TakesStep, run_after}
 use Rattle.driver_link.proofs.Replaying.{exchanged_trace}
-use Rattle.driver_exec.specs.declared.retry.FailurePhase.{FailurePhase}
-use Rattle.driver_exec.specs.declared.retry.FailurePhase.TheVariants.{Establishment, Execution}
+use Rattle.driver_ops.specs.Operations.{plain_send}
+use Rattle.driver_exec.specs.declared.failure.FailurePhase.{FailurePhase}
+use Rattle.driver_exec.specs.declared.failure.FailurePhase.TheVariants.{ConnectionEstablishment, Execution}
 use Rattle.driver_exec.specs.Attempting.{AttemptState, Connects, FailsIn, NotConnected, Sends, Trial}
 use Rattle.driver_exec.specs.Gentle.{IsCounted, IsGentlePart}
 use Rattle.driver_exec.specs.Holding.{held_id}
-use Rattle.driver_exec.specs.Operations.{plain_send}
-use Rattle.driver_exec.specs.Retry.{Kept}
+use Rattle.driver_exec.specs.Retry.{RetryState}
 
 -- a moment is not after another: the schedule is the same, and neither the trace nor a count became less
 pub record IsBefore (a b : ServerRun) : Type 0 where
@@ -183,7 +183,7 @@ steps_lead a before now send result setup steps = by_result result steps
     by_result (Err Memory) steps = elim steps [ inl same ↦ stayed same | inr more ↦ moved more ]
 
 -- an attempt that failed
-module _ {A : Type 0} (trial : Trial A) (past : Option Kept) (body : SendBody) (asked : trial.meaning.asked trial.places body) (a : ServerRun) (mid now : AttemptState) (is : server_run mid.link ≡ Some a) where
+module _ {A : Type 0} (trial : Trial A) (past : Option RetryState) (body : SendBody) (asked : trial.spec.asked trial.places body) (a : ServerRun) (mid now : AttemptState) (is : server_run mid.link ≡ Some a) where
   -- its command went out
   pub sends_lead : (address : Address) (conn : Conn) (result : Result (List ℕ) LinkError) → Sends trial past mid now address conn result → Leads a mid.link now.link
   sends_lead address conn result sends =
@@ -202,7 +202,7 @@ module _ {A : Type 0} (trial : Trial A) (past : Option Kept) (body : SendBody) (
 
   -- it failed either way
   pub fails_lead : (address : Address) (phase : FailurePhase) (error : Error) → FailsIn trial past mid now address phase error → Leads a mid.link now.link
-  fails_lead address Establishment error fails = unconnected_leads address error fails
+  fails_lead address ConnectionEstablishment error fails = unconnected_leads address error fails
   fails_lead address Execution error fails = elim fails [
     | inl lost ↦ sends_lead address lost.conn (Err (Fault lost.fault lost.own)) lost.sends
     | inr spelled ↦ sends_lead address spelled.conn (Ok spelled.reply) spelled.sends

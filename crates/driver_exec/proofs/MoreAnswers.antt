@@ -13,8 +13,8 @@ use Rattle.driver_link.specs.declared.fault.LinkFault.TheVariants as fault
 use Rattle.driver_link.specs.declared.machine.Setup.{Setup}
 use Rattle.driver_link.specs.Faults.{Rose}
 use Rattle.driver_link.specs.LinkState.{GainsAll}
-use Rattle.driver_exec.specs.declared.retryability.Retryability.{Retryability}
-use Rattle.driver_exec.specs.Causes.{AllEarly, Failure, HasReply}
+use Rattle.driver_session.specs.declared.retryability.Retryability.{Retryability}
+use Rattle.driver_exec.specs.Causes.{AllEarly, ErrorOutline, HasReply}
 use Rattle.driver_exec.specs.OperationCauses.{EndAtLast, EndNeeds, Grounds, HasFault, IsRead, KindNeeds, SpellsEnd}
 
 -- answers noted twice
@@ -79,27 +79,27 @@ module _ {A : Type 0} (on : Grounds A) (before now from to : ℕ) (items all : L
   kind_elsewhere labels _ needs = absurd needs
 
   -- the same of each end
-  end_elsewhere : (ended : Option Failure) → EndNeeds on before now items ended → EndNeeds on from to all ended
-  end_elsewhere None needs = replies (IsRead on.meaning) needs
+  end_elsewhere : (ended : Option ErrorOutline) → EndNeeds on before now items ended → EndNeeds on from to all ended
+  end_elsewhere None needs = replies (IsRead on.spec) needs
   end_elsewhere (Some why) needs = elim needs [
     | inl needs ↦ inl (kind_elsewhere why.labels why.kind needs)
-    | inr spelled ↦ inr (replies (SpellsEnd on.meaning why) spelled)
+    | inr spelled ↦ inr (replies (SpellsEnd on.spec why) spelled)
   ]
 
 module _ {A : Type 0} (on : Grounds A) (items more : List Answered) where
   -- what an end needs stands where the link answers more
-  pub end_before : (before mid now : ℕ) (ended : Option Failure) → mid ≤ now → EndNeeds on before mid items ended → EndNeeds on before now (items ++ more) ended
+  pub end_before : (before mid now : ℕ) (ended : Option ErrorOutline) → mid ≤ now → EndNeeds on before mid items ended → EndNeeds on before now (items ++ more) ended
   end_before before mid now ended later =
       end_elsewhere on before mid before now items (items ++ more) (λ rose. omega (arith, rose)) (λ found labels. fault_before on.own on.setup found labels more items)
       (λ P. reply_before P more items) ended
 
   -- and where it had answered before
-  pub end_after : (before mid now : ℕ) (ended : Option Failure) → before ≤ mid → EndNeeds on mid now more ended → EndNeeds on before now (items ++ more) ended
+  pub end_after : (before mid now : ℕ) (ended : Option ErrorOutline) → before ≤ mid → EndNeeds on mid now more ended → EndNeeds on before now (items ++ more) ended
   end_after before mid now ended later =
       end_elsewhere on mid now before now more (items ++ more) (λ rose. omega (arith, rose)) (λ found labels. fault_after on.own on.setup found labels more items)
       (λ P. reply_after P more items) ended
 
   -- so does what an end needs where the numbers are at their end
-  pub last_after : (ended : Option Failure) → AllEarly items → EndAtLast on more ended → EndAtLast on (items ++ more) ended
+  pub last_after : (ended : Option ErrorOutline) → AllEarly items → EndAtLast on more ended → EndAtLast on (items ++ more) ended
   last_after None early ends = ends
   last_after (Some why) early ends = (early_twice items more early ends.0, ends.1)

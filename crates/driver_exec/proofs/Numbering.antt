@@ -2,14 +2,14 @@
 use Rattle.std.proofs.Common.{◌≡◌, ℕ, ◌+◌, true, false, cond, List, [], ◌∷◌, ◌++◌, refl, sym, ap, subst, ◌∙◌, arith}
 use Rattle.std.specs.Prelude.{ℤ, pos, ◌+ℤ◌, ◌≤ℤ◌, Option, None, Some, if◌then◌else◌}
 use Rattle.std.proofs.lemmas.Int.{ints}
-use Rattle.driver_exec.specs.declared.pool.IdleSession.{IdleSession}
-use Rattle.driver_exec.specs.declared.pool.StoreEvent.TheVariants.{Back}
+use Rattle.driver_session.specs.declared.pool.IdleSession.{IdleSession}
+use Rattle.driver_session.specs.declared.pool.StoreEvent.TheVariants.{Back}
+use Rattle.driver_session.specs.Pool.{Pool, lent_out, taken_back, session_out, idle_out, idle_back, is_lent, without_first}
+use Rattle.driver_session.specs.StoreTells.{StoreTells, LendsSession}
+use Rattle.driver_session.specs.Session.{Session}
+use Rattle.driver_session.proofs.PoolTells.{LendsPool, TurnsPool, lends_told, same_told, turns_told}
 use Rattle.driver_exec.specs.BetweenCalls.{NumbersWithin}
-use Rattle.driver_exec.specs.Pool.{Pool, lent_out, taken_back, session_out, idle_out, idle_back, is_lent, without_first}
-use Rattle.driver_exec.specs.StoreTells.{StoreTells, LendsSession}
 use Rattle.driver_exec.specs.Resending.{Borrowed, Borrows, IsNumbered}
-use Rattle.driver_exec.specs.Session.{Session}
-use Rattle.driver_exec.proofs.PoolTells.{LendsPool, TurnsPool, lends_told, same_told, turns_told}
 
 within_more : (made : ℕ) (idle : List IdleSession) → NumbersWithin (pos made) idle → NumbersWithin (pos (made + 1)) idle
 within_more made [] within = tt
@@ -69,13 +69,13 @@ lends_within made pool mid caller at session lends within =
 -- what is idle once a session that was lent came back
 turned : (made : ℕ) (pool now : Pool) (out_at back_at : ℕ) (session back : Session) → TurnsPool pool now out_at back_at session back
     → back.number ≤ℤ (session.number +ℤ pos 1) → NumbersWithin (pos made) pool.idle → NumbersWithin (pos (made + 1)) now.idle
-turned made pool now out_at back_at session back turns raised within =
-    let mid = turns.mid in
-    let number = lends_within made pool mid turns.out_by out_at session turns.lends within in
-    let mid_is : mid.idle ≡ idle_out pool.idle = ap (λ p. p.idle) turns.lends.pool_is ∙ idle_lent turns.out_by session.id out_at pool in
+turned made pool now out_at back_at session back attempts raised within =
+    let mid = attempts.mid in
+    let number = lends_within made pool mid attempts.out_by out_at session attempts.lends within in
+    let mid_is : mid.idle ≡ idle_out pool.idle = ap (λ p. p.idle) attempts.lends.pool_is ∙ idle_lent attempts.out_by session.id out_at pool in
     let mid_within : NumbersWithin (pos made) mid.idle = subst (NumbersWithin (pos made)) (sym mid_is) (within_out made pool.idle within) in
     let back_number : back.number ≤ℤ pos (made + 1) = at_most session.number back.number made number raised in
-    subst (λ p. NumbersWithin (pos (made + 1)) p.idle) (sym turns.takes) (within_taken made turns.back_by back back_at mid back_number mid_within)
+    subst (λ p. NumbersWithin (pos (made + 1)) p.idle) (sym attempts.takes) (within_taken made attempts.back_by back back_at mid back_number mid_within)
   where
     at_most : (number more : ℤ) (made : ℕ) → number ≤ℤ pos made → more ≤ℤ (number +ℤ pos 1) → more ≤ℤ pos (made + 1)
     at_most number more made first raised = omega (arith, ints)

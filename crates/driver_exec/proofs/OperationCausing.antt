@@ -21,33 +21,33 @@ use Rattle.driver_link.specs.declared.options.Address.{Address}
 use Rattle.driver_link.specs.declared.options.Conn.{Conn}
 use Rattle.driver_link.specs.declared.options.Description.{Description}
 use Rattle.driver_link.specs.Counting.{Listed}
-use Rattle.driver_link.specs.Failures.{fault_kind}
+use Rattle.driver_link.specs.Failures.{fault_kind, is_network}
 use Rattle.driver_link.specs.Faults.{Rose}
 use Rattle.driver_link.specs.Framed.{Framed}
 use Rattle.driver_link.specs.LinkCalls.{CallsLink, ExchangesFrame}
 use Rattle.driver_link.specs.LinkState.{GainsAll, LinkState, noted, nothing_noted, reply_noted, setup_of}
 use Rattle.driver_link.specs.ServerRun.{ServerRun}
+use Rattle.driver_session.specs.declared.retryability.Retryability.{Retryability}
+use Rattle.driver_session.specs.declared.retryability.Retryability.TheVariants as may
+use Rattle.driver_session.specs.StoreTells.{StoreTells}
+use Rattle.driver_ops.specs.Operations.{OperationSpec, TellsUnframed}
 use Rattle.driver_exec.specs.declared.attempt_end.Attempt.{Attempt}
 use Rattle.driver_exec.specs.declared.attempt_end.Attempt.TheVariants.{Done, Ended, Failed, Stopped, Unselected}
-use Rattle.driver_exec.specs.declared.attempt_end.Failing.{Failing}
-use Rattle.driver_exec.specs.declared.retry.Failure.{Failure}
-use Rattle.driver_exec.specs.declared.retry.FailurePhase.{FailurePhase}
-use Rattle.driver_exec.specs.declared.retry.FailurePhase.TheVariants.{Establishment, Execution}
-use Rattle.driver_exec.specs.declared.retryability.Retryability.{Retryability}
-use Rattle.driver_exec.specs.declared.retryability.Retryability.TheVariants as may
+use Rattle.driver_exec.specs.declared.attempt_end.AttemptFailure.{AttemptFailure}
+use Rattle.driver_exec.specs.declared.failure.Failure.{Failure}
+use Rattle.driver_exec.specs.declared.failure.FailurePhase.{FailurePhase}
+use Rattle.driver_exec.specs.declared.failure.FailurePhase.TheVariants.{ConnectionEstablishment, Execution}
 use Rattle.driver_exec.specs.Attempting.{Connects, EndsAtOnce, EndsRefused, EndsSent, EndsUnready, FailsIn, IsAnswered, LosesExchange, NoFrame, NoNumber, NoSessions, NotConnected, NotSelected, Readies, AttemptState, Sends, SpellsFailure, Trial, Tries, besides_out, on_connection, trial_of}
 use Rattle.driver_exec.specs.Causes as causes
-use Rattle.driver_exec.specs.Causes.{AllEarly, IsLast, KindAtLast, end_of, failure_of, is_network, next_number}
+use Rattle.driver_exec.specs.Causes.{AllEarly, IsLast, KindAtLast, end_of, outline_of, next_number}
 use Rattle.driver_exec.specs.Executing.{Ends, EndsWith, Executes, Reaches, decided, first_state}
-use Rattle.driver_exec.specs.Failing.{IsFaultOf}
-use Rattle.driver_exec.specs.Holding.{DrawsNumber, Held, held_id, number_before}
+use Rattle.driver_exec.specs.Failures.{IsFaultOf}
+use Rattle.driver_exec.specs.Holding.{DrawsNumber, ExecutionSession, held_id, number_before}
 use Rattle.driver_exec.specs.LabelTable.{labels_outside_transactions}
 use Rattle.driver_exec.specs.Moment.{Moment}
 use Rattle.driver_exec.specs.OldDeployment.{reworded, reworded_kind}
 use Rattle.driver_exec.specs.OperationCauses.{Caused, DrawsNumbers, EndAtLast, EndNeeds, EndsCaused, FaultLabels, Grounds, KindNeeds, SpellsEnd, grounds, labels_after}
-use Rattle.driver_exec.specs.Operations.{Meaning, TellsUnframed}
-use Rattle.driver_exec.specs.StoreTells.{StoreTells}
-use Rattle.driver_exec.specs.Retry.{Kept, after, after_further, avoiding, decide, may_be_retried, stays, told}
+use Rattle.driver_exec.specs.Retry.{RetryState, after, after_further, avoiding, decide, may_be_retried, stays, told}
 use Rattle.driver_exec.proofs.Causes.{notes_nothing}
 use Rattle.driver_exec.proofs.HeldSessions.{AtEnd, IsOf, Stands, draw_holds, draws_on, exchange_holds, is_of, last_draws_none, none_draws, ready_holds, ready_stands, sent_stands, sessionless, stands_at_first, unnumbered_at_end}
 use Rattle.driver_exec.proofs.MoreAnswers.{early_twice, end_after, end_before, last_after, notes_twice}
@@ -139,7 +139,7 @@ module _ {A : Type 0} (on : Grounds A) (before now : ℕ) (which : LinkCall) (gi
 
   -- what an end by it needs
   fault_end : (found : LinkFault) (error : Error) → kind_of error ≡ fault_kind found → FaultLabels which on.own on.setup found given (labels_of error)
-      → EndNeeds on before now (answer.Fault which found given ∷ []) (Some (failure_of error))
+      → EndNeeds on before now (answer.Fault which found given ∷ []) (Some (outline_of error))
   fault_end found error is labels =
       inl (subst (KindNeeds on before now (answer.Fault which found given ∷ []) (labels_of error)) (sym is) (fault_needs found (labels_of error) labels))
 
@@ -171,23 +171,23 @@ reworded_same : (found : LinkFault) (error : Error) → kind_of error ≡ fault_
 reworded_same found error is = (reworded_is error).0 ∙ ap reworded_kind is ∙ reworded_fault found
 
 -- the error of the failure that is kept has a property
-abbrev KeptHas : (Error → Type 0) → Option Kept → Type 0
+abbrev KeptHas : (Error → Type 0) → Option RetryState → Type 0
 KeptHas P None = Unit {0}
 KeptHas P (Some kept) = P kept.failure.error
 
 -- the error of the failure that a decision keeps, or that it answers, has a property
-abbrev ResultHas : (Error → Type 0) → Result Kept Error → Type 0
+abbrev ResultHas : (Error → Type 0) → Result RetryState Error → Type 0
 ResultHas P (Ok kept) = P kept.failure.error
 ResultHas P (Err error) = P error
 
 -- a property that follows from another
-kept_has : (P Q : Error → Type 0) (kept : Option Kept) → ((error : Error) → P error → Q error) → KeptHas P kept → KeptHas Q kept
+kept_has : (P Q : Error → Type 0) (kept : Option RetryState) → ((error : Error) → P error → Q error) → KeptHas P kept → KeptHas Q kept
 kept_has P Q None then_has has = tt
 kept_has P Q (Some kept) then_has has = then_has kept.failure.error has
 
 module _ (P : Error → Type 0) where
   -- a property of the kept error and of the new one is one of what is kept of both
-  after_has : (kept : Option Kept) (failure : Failure) (number : Option ℤ) → KeptHas P kept → P failure.error → P (after kept failure number).failure.error
+  after_has : (kept : Option RetryState) (failure : Failure) (number : Option ℤ) → KeptHas P kept → P failure.error → P (after kept failure number).failure.error
   unfolding after after_further
   after_has None failure number has new = new
   after_has (Some kept) failure number has new = by_test (stays kept.failure failure)
@@ -197,13 +197,13 @@ module _ (P : Error → Type 0) where
       by_test false = new
 
   -- a server that is avoided changes no failure
-  avoiding_has : (sharded : Bool) (address : Address) (kept : Kept) → P kept.failure.error → P (avoiding sharded address kept).failure.error
+  avoiding_has : (sharded : Bool) (address : Address) (kept : RetryState) → P kept.failure.error → P (avoiding sharded address kept).failure.error
   unfolding avoiding
   avoiding_has true address kept has = has
   avoiding_has false address kept has = has
 
   -- so it is after the decision
-  decide_has : (kept : Option Kept) (failure : Failure) (number : Option ℤ) (address : Address) (own : Retryability) (sharded : Bool) → KeptHas P kept
+  decide_has : (kept : Option RetryState) (failure : Failure) (number : Option ℤ) (address : Address) (own : Retryability) (sharded : Bool) → KeptHas P kept
       → P (reworded failure.error) → ResultHas P (decide kept failure number address own sharded)
   unfolding decide
   decide_has kept failure number address own sharded has new = by_test (may_be_retried (told failure) number own)
@@ -216,7 +216,7 @@ module _ (P : Error → Type 0) where
       by_test false = holds
 
   -- and after what is decided in an operation
-  decided_has : {A : Type 0} (trial : Trial A) (sharded : Bool) (kept : Option Kept) (failing : Failing) (now : AttemptState) (result : Result Kept Error) → KeptHas P kept
+  decided_has : {A : Type 0} (trial : Trial A) (sharded : Bool) (kept : Option RetryState) (failing : AttemptFailure) (now : AttemptState) (result : Result RetryState Error) → KeptHas P kept
       → P (reworded failing.failure.error) → decided trial sharded kept failing now ≡ result → ResultHas P result
   decided_has trial sharded kept failing now result has new is =
       subst (ResultHas P) is (decide_has kept failing.failure (number_before now.held) failing.address trial.own sharded has new)
@@ -224,22 +224,22 @@ module _ (P : Error → Type 0) where
 -- what each end of an attempt needs
 module _ {A : Type 0} (on : Grounds A) (before now : ℕ) (items : List Answered) (error : Error) where
   -- want of memory
-  memory_needs : kind_of error ≡ kind.Memory → EndNeeds on before now items (Some (failure_of error))
+  memory_needs : kind_of error ≡ kind.Memory → EndNeeds on before now items (Some (outline_of error))
   memory_needs is = inl (subst (KindNeeds on before now items (labels_of error)) (sym is) tt)
 
   -- want of memory, where the numbers are at their end
-  memory_at_last : kind_of error ≡ kind.Memory → KindAtLast on.meaning.refused (kind_of error)
-  memory_at_last is = subst (KindAtLast on.meaning.refused) (sym is) tt
+  memory_at_last : kind_of error ≡ kind.Memory → KindAtLast on.spec.refused (kind_of error)
+  memory_at_last is = subst (KindAtLast on.spec.refused) (sym is) tt
 
   -- a session that a connection does not take
-  sessions_needs : on.setup ≡ None → kind_of error ≡ kind.SessionsNotSupported → EndNeeds on before now items (Some (failure_of error))
+  sessions_needs : on.setup ≡ None → kind_of error ≡ kind.SessionsNotSupported → EndNeeds on before now items (Some (outline_of error))
   sessions_needs none is = inl (subst (KindNeeds on before now items (labels_of error)) (sym is) none)
 
   -- a command without a frame
-  unframed_needs : (session : Option (List ℕ)) (number : Option ℤ) → TellsUnframed on.meaning session number (kind_of error) → EndNeeds on before now items (Some (failure_of error))
+  unframed_needs : (session : Option (List ℕ)) (number : Option ℤ) → TellsUnframed on.spec session number (kind_of error) → EndNeeds on before now items (Some (outline_of error))
   unframed_needs session number tells = inl (by_kind (kind_of error) tells)
     where
-      by_kind : (why : ErrorKind) → TellsUnframed on.meaning session number why → KindNeeds on before now items (labels_of error) why
+      by_kind : (why : ErrorKind) → TellsUnframed on.spec session number why → KindNeeds on before now items (labels_of error) why
       by_kind (kind.InvalidArgument message) tells = tells
       by_kind (kind.BsonSerialization refusal) tells = elim tells [
         | inl refused ↦ inl refused
@@ -249,7 +249,7 @@ module _ {A : Type 0} (on : Grounds A) (before now : ℕ) (items : List Answered
       by_kind _ tells = absurd tells
 
   -- no number was left
-  end_needs : AtEnd on.number (kind_of error) → EndNeeds on before now items (Some (failure_of error))
+  end_needs : AtEnd on.number (kind_of error) → EndNeeds on before now items (Some (outline_of error))
   end_needs tells = inl (by_kind (kind_of error) tells)
     where
       by_kind : (why : ErrorKind) → AtEnd on.number why → KindNeeds on before now items (labels_of error) why
@@ -258,22 +258,22 @@ module _ {A : Type 0} (on : Grounds A) (before now : ℕ) (items : List Answered
       by_kind _ tells = absurd tells
 
   -- no number was left, where the numbers are at their end
-  end_at_last : AtEnd on.number (kind_of error) → KindAtLast on.meaning.refused (kind_of error)
+  end_at_last : AtEnd on.number (kind_of error) → KindAtLast on.spec.refused (kind_of error)
   end_at_last tells = by_kind (kind_of error) tells
     where
-      by_kind : (why : ErrorKind) → AtEnd on.number why → KindAtLast on.meaning.refused why
+      by_kind : (why : ErrorKind) → AtEnd on.number why → KindAtLast on.spec.refused why
       by_kind (kind.Internal message) tells = tt
       by_kind kind.Memory tells = tt
       by_kind _ tells = absurd tells
 
-module _ {A : Type 0} (meaning : Meaning A) (places : List Place) (own : Retryability) (store : StoreTells) (link : LinkState) where
+module _ {A : Type 0} (spec : OperationSpec A) (places : List Place) (own : Retryability) (store : StoreTells) (link : LinkState) where
   -- the operation as its attempts see it
   abbrev trial : Trial A
-  trial = trial_of meaning places own
+  trial = trial_of spec places own
 
   -- what its end is judged by
   abbrev on : Grounds A
-  on = record { meaning = meaning; own = own; setup = setup_of link; number = next_number store }
+  on = record { spec = spec; own = own; setup = setup_of link; number = next_number store }
 
   -- what it holds at a moment
   abbrev StandsAt : AttemptState → Type 0
@@ -281,19 +281,19 @@ module _ {A : Type 0} (meaning : Meaning A) (places : List Place) (own : Retryab
 
   -- the next session's number is at its end, and each send would have one
   record AtLast : Type 0 where
-    draws : DrawsNumbers meaning.sessions own (setup_of link)
+    draws : DrawsNumbers spec.sessions own (setup_of link)
     last : IsLast (next_number store)
 
   -- what an end by an error needs
   abbrev Needs : ℕ → ℕ → List Answered → Error → Type 0
-  Needs before now items error = EndNeeds on before now items (Some (failure_of error))
+  Needs before now items error = EndNeeds on before now items (Some (outline_of error))
 
   -- an error that may end the operation where the numbers are at their end
   abbrev Lasts : Error → Type 0
-  Lasts error = KindAtLast meaning.refused (kind_of error)
+  Lasts error = KindAtLast spec.refused (kind_of error)
 
   -- one attempt
-  module _ (past : Option Kept) (mid : AttemptState) (setup_is : (setup_of mid.link) ≡ (setup_of link)) (stands : StandsAt mid) where
+  module _ (past : Option RetryState) (mid : AttemptState) (setup_is : (setup_of mid.link) ≡ (setup_of link)) (stands : StandsAt mid) where
     -- each connection has the description of the setup
     conn_is : {avoid : List Address} (now : LinkState) (address : Address) (conn : Conn) → Connects avoid mid.link now address conn → IsOf (setup_of link) conn.description
     conn_is now address conn connects = is_of (setup_of link) (setup_of connects.mid) address conn (connects.selects.calls.setup ∙ setup_is) connects.checks_out.to
@@ -313,13 +313,13 @@ module _ {A : Type 0} (meaning : Meaning A) (places : List Place) (own : Retryab
 
       -- what is held then
       stands_ready : StandsAt ready
-      stands_ready = ready_stands store (setup_of link) meaning.sessions conn.description is_conn mid.store ready.store mid.held ready.held readies.holds stands
+      stands_ready = ready_stands store (setup_of link) spec.sessions conn.description is_conn mid.store ready.store mid.held ready.held readies.holds stands
 
       -- no number is drawn after the last one
-      draws_none : AtLast → mid.held.sent ≡ None → (numbered : Held) (number : Option ℤ) → DrawsNumber ready.held.sent turn ready.held numbered (Ok number) → ⊥
+      draws_none : AtLast → mid.held.sent ≡ None → (numbered : ExecutionSession) (number : Option ℤ) → DrawsNumber ready.held.sent turn ready.held numbered (Ok number) → ⊥
       draws_none at unsent numbered number draws =
-          let takes = draws_on meaning.sessions own (setup_of link) conn.description at.draws is_conn in
-          let holds = ready_holds store (setup_of link) meaning.sessions conn.description is_conn mid.store ready.store mid.held ready.held takes.0 unsent readies.holds in
+          let takes = draws_on spec.sessions own (setup_of link) conn.description at.draws is_conn in
+          let holds = ready_holds store (setup_of link) spec.sessions conn.description is_conn mid.store ready.store mid.held ready.held takes.0 unsent readies.holds in
           last_draws_none (next_number store) turn ready.held numbered number at.last takes.1 holds.0 holds.1 stands_ready.first draws
 
     module _ (now : AttemptState) (address : Address) (conn : Conn) (result : Result (List ℕ) LinkError) (sends : Sends trial past mid now address conn result) where
@@ -370,7 +370,7 @@ module _ {A : Type 0} (meaning : Meaning A) (places : List Place) (own : Retryab
           early = λ at unsent. (
             tt,
             ap (λ h. h.sent) fails.rest.held ∙ unsent,
-            subst (KindAtLast meaning.refused) (sym kind_is) (fault_at_last meaning.refused fails.fault),
+            subst (KindAtLast spec.refused) (sym kind_is) (fault_at_last spec.refused fails.fault),
           );
         }
 
@@ -400,7 +400,7 @@ module _ {A : Type 0} (meaning : Meaning A) (places : List Place) (own : Retryab
         let conn = fails.conn in
         let sends = fails.sends in
         let read = fails.is.is in
-        let spells : SpellsEnd meaning (failure_of (reworded error)) fails.reply = record {
+        let spells : SpellsEnd spec (outline_of (reworded error)) fails.reply = record {
           bare = read.bare;
           reads = read.reads;
           turn = on_connection own conn.description;
@@ -416,20 +416,20 @@ module _ {A : Type 0} (meaning : Meaning A) (places : List Place) (own : Retryab
 
     -- an attempt that failed in a phase
     fails_in : (now : AttemptState) (address : Address) (phase : FailurePhase) (error : Error) → FailsIn trial past mid now address phase error → Fails now (reworded error)
-    fails_in now address Establishment error fails = not_connected now address error fails
+    fails_in now address ConnectionEstablishment error fails = not_connected now address error fails
     fails_in now address Execution error fails = elim fails [
       | inl lost ↦ loses_exchange now address error lost
       | inr spelled ↦ spells_failure now address error spelled
     ]
 
     -- the attempt ended the operation
-    record Finishes (now : AttemptState) (ended : Option causes.Failure) : Type 0 where
+    record Finishes (now : AttemptState) (ended : Option causes.ErrorOutline) : Type 0 where
       more : List Answered
       adds : Adds mid.link now.link more
       needs : EndNeeds on mid.link.faults now.link.faults more ended
       early : AtLast → mid.held.sent ≡ None → EndAtLast on more ended
 
-    finishes_error : (now : AttemptState) (error : Error) → Fails now error → Finishes now (Some (failure_of error))
+    finishes_error : (now : AttemptState) (error : Error) → Fails now error → Finishes now (Some (outline_of error))
     finishes_error now error fails = record {
       more = fails.more;
       adds = fails.adds;
@@ -451,17 +451,17 @@ module _ {A : Type 0} (meaning : Meaning A) (places : List Place) (own : Retryab
     selection_adds now error selected = calls_add Select _ _ mid.link now.link (Err (Fault selected.fault selected.own)) selected.selects.calls
 
     -- no server was selected
-    finishes_unselected : (now : AttemptState) (error : Error) → NotSelected past mid now error → Finishes now (Some (failure_of error))
+    finishes_unselected : (now : AttemptState) (error : Error) → NotSelected past mid now error → Finishes now (Some (outline_of error))
     finishes_unselected now error selected =
         let is = fault_error selected.fault selected.own may.None error selected.is in record {
           more = answer.Fault Select selected.fault selected.own ∷ [];
           adds = selection_adds now error selected;
           needs = fault_end on mid.link.faults now.link.faults Select selected.own selected.selects.calls.cause.0 selected.fault error is.0 is.1;
-          early = λ at unsent. (tt, subst (KindAtLast meaning.refused) (sym is.0) (fault_at_last meaning.refused selected.fault));
+          early = λ at unsent. (tt, subst (KindAtLast spec.refused) (sym is.0) (fault_at_last spec.refused selected.fault));
         }
 
     -- there was no memory before a session was lent
-    finishes_unready : (now : AttemptState) (error : Error) → EndsUnready past mid now error → Finishes now (Some (failure_of error))
+    finishes_unready : (now : AttemptState) (error : Error) → EndsUnready past mid now error → Finishes now (Some (outline_of error))
     finishes_unready now error ends =
         let counted = early_counted mid.link now.link ends.asks in record {
           more = counted.items;
@@ -471,7 +471,7 @@ module _ {A : Type 0} (meaning : Meaning A) (places : List Place) (own : Retryab
         }
 
     -- there was no memory after the command went out
-    finishes_sent : (now : AttemptState) (error : Error) → EndsSent trial past mid now error → Finishes now (Some (failure_of error))
+    finishes_sent : (now : AttemptState) (error : Error) → EndsSent trial past mid now error → Finishes now (Some (outline_of error))
     finishes_sent now error ends = record {
       more = noted Exchange reply_noted ends.result;
       adds = sends_add now ends.address ends.conn ends.result ends.sends;
@@ -485,17 +485,17 @@ module _ {A : Type 0} (meaning : Meaning A) (places : List Place) (own : Retryab
       refused_adds = subst (λ l. Adds mid.link l []) (sym same) (ready_adds ready address conn readies)
 
       -- a session is held, and the connection takes none
-      finishes_sessionless : NoSessions conn.description ready.held now.held error → Finishes now (Some (failure_of error))
+      finishes_sessionless : NoSessions conn.description ready.held now.held error → Finishes now (Some (outline_of error))
       finishes_sessionless refused =
           let none = sessionless (setup_of link) conn.description ready.held.session (is_conn ready address conn readies) (stands_ready ready address conn readies).takes refused.none in record {
             more = [];
             adds = refused_adds;
             needs = sessions_needs on mid.link.faults now.link.faults [] error none refused.is.kind_is;
-            early = λ at unsent. absurd (none_draws meaning.sessions own (subst (DrawsNumbers meaning.sessions own) none at.draws));
+            early = λ at unsent. absurd (none_draws spec.sessions own (subst (DrawsNumbers spec.sessions own) none at.draws));
           }
 
       -- there was no number
-      finishes_unnumbered : NoNumber past (on_connection own conn.description) ready.held now.held error → Finishes now (Some (failure_of error))
+      finishes_unnumbered : NoNumber past (on_connection own conn.description) ready.held now.held error → Finishes now (Some (outline_of error))
       finishes_unnumbered refused =
           let tells = unnumbered_at_end (next_number store) (on_connection own conn.description) ready.held now.held error (stands_ready ready address conn readies).first refused.draws in record {
             more = [];
@@ -505,7 +505,7 @@ module _ {A : Type 0} (meaning : Meaning A) (places : List Place) (own : Retryab
           }
 
       -- there was no frame
-      finishes_unframed : NoFrame meaning past (on_connection own conn.description) ready.held now.held error → Finishes now (Some (failure_of error))
+      finishes_unframed : NoFrame spec past (on_connection own conn.description) ready.held now.held error → Finishes now (Some (outline_of error))
       finishes_unframed refused = record {
         more = [];
         adds = refused_adds;
@@ -514,7 +514,7 @@ module _ {A : Type 0} (meaning : Meaning A) (places : List Place) (own : Retryab
       }
 
     -- the command was refused before it went out
-    finishes_refused : (now : AttemptState) (error : Error) → EndsRefused trial past mid now error → Finishes now (Some (failure_of error))
+    finishes_refused : (now : AttemptState) (error : Error) → EndsRefused trial past mid now error → Finishes now (Some (outline_of error))
     finishes_refused now error ends = elim ends.refused [
       | inl none ↦ finishes_sessionless now ends.ready ends.address ends.conn ends.readies ends.link error none
       | inr other ↦ elim other [
@@ -524,7 +524,7 @@ module _ {A : Type 0} (meaning : Meaning A) (places : List Place) (own : Retryab
     ]
 
     -- the attempt ended the operation at once
-    finishes_ended : (now : AttemptState) (error : Error) → EndsAtOnce trial past mid now error → Finishes now (Some (failure_of error))
+    finishes_ended : (now : AttemptState) (error : Error) → EndsAtOnce trial past mid now error → Finishes now (Some (outline_of error))
     finishes_ended now error ends = elim ends [
       | inl unready ↦ finishes_unready now error unready
       | inr other ↦ elim other [
@@ -534,7 +534,7 @@ module _ {A : Type 0} (meaning : Meaning A) (places : List Place) (own : Retryab
     ]
 
   -- an operation has come so far
-  record SoFar (kept : Option Kept) (now : AttemptState) : Type 0 where
+  record SoFar (kept : Option RetryState) (now : AttemptState) : Type 0 where
     items : List Answered
     adds : Adds link now.link items
     stands : StandsAt now
@@ -546,7 +546,7 @@ module _ {A : Type 0} (meaning : Meaning A) (places : List Place) (own : Retryab
   begins count = record { items = []; adds = adds_nothing link; stands = stands_at_first store (setup_of link); needs = tt; early = λ at. (tt, refl, tt) }
 
   -- one more failure, and what is decided after it
-  module _ (sharded : Bool) (kept : Option Kept) (mid now : AttemptState) (far : SoFar kept mid) (failing : Failing) (past : Option Kept) (tries : Tries trial past mid now (Failed failing)) where
+  module _ (sharded : Bool) (kept : Option RetryState) (mid now : AttemptState) (far : SoFar kept mid) (failing : AttemptFailure) (past : Option RetryState) (tries : Tries trial past mid now (Failed failing)) where
     -- what the failure needs
     failed : Fails past mid far.adds.setup far.stands now (reworded failing.failure.error)
     failed = fails_in past mid far.adds.setup far.stands now failing.address failing.failure.phase failing.failure.error tries
@@ -561,25 +561,25 @@ module _ {A : Type 0} (meaning : Meaning A) (places : List Place) (own : Retryab
 
     -- an error that was kept before has its needs still
     older : (error : Error) → Needs link.faults mid.link.faults far.items error → NeedsNow error
-    older error needs = end_before on far.items failed.more link.faults mid.link.faults now.link.faults (Some (failure_of error)) failed.adds.later needs
+    older error needs = end_before on far.items failed.more link.faults mid.link.faults now.link.faults (Some (outline_of error)) failed.adds.later needs
 
     -- the new error has its needs too
     newer : NeedsNow (reworded failing.failure.error)
-    newer = end_after on far.items failed.more link.faults mid.link.faults now.link.faults (Some (failure_of (reworded failing.failure.error))) far.adds.later failed.needs
+    newer = end_after on far.items failed.more link.faults mid.link.faults now.link.faults (Some (outline_of (reworded failing.failure.error))) far.adds.later failed.needs
 
     -- so has what is decided
-    decided_needs : (result : Result Kept Error) → decided trial sharded kept failing now ≡ result → ResultHas NeedsNow result
+    decided_needs : (result : Result RetryState Error) → decided trial sharded kept failing now ≡ result → ResultHas NeedsNow result
     decided_needs result is =
         decided_has NeedsNow trial sharded kept failing now result (kept_has (Needs link.faults mid.link.faults far.items) NeedsNow kept older far.needs) newer is
 
     -- where the numbers are at their end, nothing was exchanged, and what is decided may be the end
-    record Early (result : Result Kept Error) : Type 0 where
+    record Early (result : Result RetryState Error) : Type 0 where
       items_are : AllEarly items
       unsent : now.held.sent ≡ None
       lasts : ResultHas Lasts result
 
     -- it is so after the decision
-    decided_early : (result : Result Kept Error) → decided trial sharded kept failing now ≡ result → AtLast → Early result
+    decided_early : (result : Result RetryState Error) → decided trial sharded kept failing now ≡ result → AtLast → Early result
     decided_early result is at =
         let was = far.early at in
         let here = failed.early at was.1 in record {
@@ -589,7 +589,7 @@ module _ {A : Type 0} (meaning : Meaning A) (places : List Place) (own : Retryab
         }
 
     -- a decision that allows a further attempt
-    goes_further : (retry : Kept) → decided trial sharded kept failing now ≡ Ok retry → SoFar (Some retry) now
+    goes_further : (retry : RetryState) → decided trial sharded kept failing now ≡ Ok retry → SoFar (Some retry) now
     goes_further retry is = record {
       items = items;
       adds = adds_twice link mid.link now.link far.items failed.more far.adds failed.adds;
@@ -599,7 +599,7 @@ module _ {A : Type 0} (meaning : Meaning A) (places : List Place) (own : Retryab
     }
 
   -- each moment that an operation reaches
-  reaches_far : (count : ℕ) (sharded : Bool) (failures : List Failing) (kept : Option Kept) (now : AttemptState) → Reaches trial sharded (first_state store link count) failures kept now → SoFar kept now
+  reaches_far : (count : ℕ) (sharded : Bool) (failures : List AttemptFailure) (kept : Option RetryState) (now : AttemptState) → Reaches trial sharded (first_state store link count) failures kept now → SoFar kept now
   reaches_far count sharded [] kept now reaches = subst (λ k. SoFar k now) (sym reaches.0) (subst (SoFar None) (sym reaches.1) (begins count))
   reaches_far count sharded (failing ∷ failures) kept now reaches =
       let mid = reaches.1.1.0 in
@@ -610,20 +610,20 @@ module _ {A : Type 0} (meaning : Meaning A) (places : List Place) (own : Retryab
       subst (λ k. SoFar k now) (sym reaches.1.0) (goes_further sharded earlier mid now far failing earlier fails.tries reaches.0 fails.decides)
 
   -- an end at a moment has its cause
-  abbrev CausedAt : AttemptState → Option causes.Failure → Type 0
+  abbrev CausedAt : AttemptState → Option causes.ErrorOutline → Type 0
   CausedAt now ended = EndsCaused on link now.link ended
 
   -- the numbers are at their end
-  at_last : (draws : DrawsNumbers meaning.sessions own (setup_of link)) → IsLast (next_number store) → AtLast
+  at_last : (draws : DrawsNumbers spec.sessions own (setup_of link)) → IsLast (next_number store) → AtLast
   at_last draws last = record { draws = draws; last = last }
 
-  module _ (sharded : Bool) (kept : Option Kept) (mid now : AttemptState) (far : SoFar kept mid) where
+  module _ (sharded : Bool) (kept : Option RetryState) (mid now : AttemptState) (far : SoFar kept mid) where
     -- the last attempt ended the operation so
-    abbrev FinishesAt : Option causes.Failure → Type 0
+    abbrev FinishesAt : Option causes.ErrorOutline → Type 0
     FinishesAt ended = Finishes kept mid far.adds.setup far.stands now ended
 
     -- the end is of the last attempt
-    caused_new : (ended : Option causes.Failure) → FinishesAt ended → CausedAt now ended
+    caused_new : (ended : Option causes.ErrorOutline) → FinishesAt ended → CausedAt now ended
     caused_new ended finishes =
         let adds = adds_twice link mid.link now.link far.items finishes.more far.adds finishes.adds in record {
           items = far.items ++ finishes.more;
@@ -637,15 +637,15 @@ module _ {A : Type 0} (meaning : Meaning A) (places : List Place) (own : Retryab
         }
 
     -- the end is the failure that is kept
-    caused_kept : (more : List Answered) → Adds mid.link now.link more → AllEarly more → (retry : Kept) → kept ≡ Some retry
-        → CausedAt now (Some (failure_of retry.failure.error))
+    caused_kept : (more : List Answered) → Adds mid.link now.link more → AllEarly more → (retry : RetryState) → kept ≡ Some retry
+        → CausedAt now (Some (outline_of retry.failure.error))
     caused_kept more added early retry is =
         let adds = adds_twice link mid.link now.link far.items more far.adds added in
         let needs = subst (KeptHas (Needs link.faults mid.link.faults far.items)) is far.needs in record {
           items = far.items ++ more;
           noted = adds.noted;
           never_falls = adds.later;
-          needs = end_before on far.items more link.faults mid.link.faults now.link.faults (Some (failure_of retry.failure.error)) added.later needs;
+          needs = end_before on far.items more link.faults mid.link.faults now.link.faults (Some (outline_of retry.failure.error)) added.later needs;
           at_last = λ draws last. let was = far.early (at_last draws last) in (early_twice far.items more was.0 early, subst (KeptHas Lasts) is was.2);
         }
 
@@ -654,19 +654,19 @@ module _ {A : Type 0} (meaning : Meaning A) (places : List Place) (own : Retryab
     CausedBy result = CausedAt now (end_of result)
 
     -- the failure that is kept, else the error of an end
-    kept_or_new : (error : Error) (more : List Answered) (result : Result A Error) → Adds mid.link now.link more → AllEarly more → FinishesAt (Some (failure_of error))
+    kept_or_new : (error : Error) (more : List Answered) (result : Result A Error) → Adds mid.link now.link more → AllEarly more → FinishesAt (Some (outline_of error))
         → EndsWith {A = A} kept (Unselected error) result → CausedBy result
     kept_or_new error more result added early finishes ends = by_kept kept refl ends
       where
-        by_kept : (found : Option Kept) → kept ≡ found → EndsWith {A = A} found (Unselected error) result → CausedBy result
-        by_kept None is ends = subst CausedBy (sym ends) (caused_new (Some (failure_of error)) finishes)
+        by_kept : (found : Option RetryState) → kept ≡ found → EndsWith {A = A} found (Unselected error) result → CausedBy result
+        by_kept None is ends = subst CausedBy (sym ends) (caused_new (Some (outline_of error)) finishes)
         by_kept (Some retry) is ends = subst CausedBy (sym ends) (caused_kept more added early retry is)
 
     -- nothing may be repeated, and the failure that is kept is the end
     kept_stopped : (result : Result A Error) → Adds mid.link now.link [] → EndsWith {A = A} kept Stopped result → CausedBy result
     kept_stopped result added ends = by_kept kept refl ends
       where
-        by_kept : (found : Option Kept) → kept ≡ found → EndsWith {A = A} found Stopped result → CausedBy result
+        by_kept : (found : Option RetryState) → kept ≡ found → EndsWith {A = A} found Stopped result → CausedBy result
         by_kept None is ends = absurd ends
         by_kept (Some retry) is ends = subst CausedBy (sym ends) (caused_kept [] added tt retry is)
 
@@ -680,11 +680,11 @@ module _ {A : Type 0} (meaning : Meaning A) (places : List Place) (own : Retryab
     caused_last Stopped result tries ends =
         kept_stopped result (ready_adds kept mid far.adds.setup far.stands now tries.1.address tries.1.conn tries.1.readies) ends
     caused_last (Ended error) result tries ends =
-        subst CausedBy (sym ends) (caused_new (Some (failure_of error)) (finishes_ended kept mid far.adds.setup far.stands now error tries))
+        subst CausedBy (sym ends) (caused_new (Some (outline_of error)) (finishes_ended kept mid far.adds.setup far.stands now error tries))
 
     -- the last failure may not be followed by another attempt
-    caused_refused : (failing : Failing) (past : Option Kept) (error : Error) → Tries trial past mid now (Failed failing)
-        → (decided trial sharded kept failing now ≡ Err error) ⊎ (kind_of error ≡ kind.Memory) → CausedAt now (Some (failure_of error))
+    caused_refused : (failing : AttemptFailure) (past : Option RetryState) (error : Error) → Tries trial past mid now (Failed failing)
+        → (decided trial sharded kept failing now ≡ Err error) ⊎ (kind_of error ≡ kind.Memory) → CausedAt now (Some (outline_of error))
     caused_refused failing past error tries refused =
         let fails = failed sharded kept mid now far failing past tries in
         let adds = adds_twice link mid.link now.link far.items fails.more far.adds fails.adds in
@@ -720,13 +720,13 @@ module _ {A : Type 0} (meaning : Meaning A) (places : List Place) (own : Retryab
     ]
 
 -- an operation has its cause
-pub executes_caused : {A : Type 0} (meaning : Meaning A) (places : List Place) (before now : Moment) (count count_now : ℕ) (result : Result A Error)
-    → Executes meaning places before now count count_now result → Caused meaning before now (end_of result)
-executes_caused meaning places before now count count_now result executes =
-    let own = meaning.own before.client.options in
+pub executes_caused : {A : Type 0} (spec : OperationSpec A) (places : List Place) (before now : Moment) (count count_now : ℕ) (result : Result A Error)
+    → Executes spec places before now count count_now result → Caused spec before now (end_of result)
+executes_caused spec places before now count count_now result executes =
+    let own = spec.own before.client.options in
     let link = besides_out before.link in
-    let turns = executes.turns in
-    let far = reaches_far meaning places own before.store link count executes.sharded turns.failures turns.kept turns.mid turns.reaches in
-    let caused = caused_ends meaning places own before.store link executes.sharded turns.kept turns.mid executes.last far result turns.ends in
-    let ends = subst (λ l. EndsCaused (grounds meaning before) link l (end_of result)) (sym executes.link_is) caused in
+    let attempts = executes.attempts in
+    let far = reaches_far spec places own before.store link count executes.sharded attempts.failures attempts.kept attempts.mid attempts.reaches in
+    let caused = caused_ends spec places own before.store link executes.sharded attempts.kept attempts.mid executes.last far result attempts.ends in
+    let ends = subst (λ l. EndsCaused (grounds spec before) link l (end_of result)) (sym executes.link_is) caused in
     record { items = ends.items; noted = ends.noted; never_falls = ends.never_falls; needs = ends.needs; at_last = ends.at_last }

@@ -14,14 +14,14 @@ use Rattle.driver_link.specs.Retried.{CountsOne, IsGentleItem, IsNewNumber, one_
 use Rattle.driver_link.proofs.Replying.{IsOneInsert}
 use Rattle.driver_link.proofs.ReplyingUnnumbered.{IsOneUnnumbered}
 use Rattle.driver_link.proofs.Retrying.{MayBeSent, may_again, may_answered, may_first, only_inserted}
+use Rattle.driver_session.specs.Pool.{Pool}
+use Rattle.driver_session.specs.StoreTells.{DrawnApart, DrawnApartIn, LendsSession, StoreTells}
+use Rattle.driver_session.specs.Session.{Session}
+use Rattle.driver_session.proofs.PoolTells.{lends_told}
 use Rattle.driver_exec.specs.BetweenCalls.{Between, SentUpTo, Sound}
 use Rattle.driver_exec.specs.Gentle.{IsLossy}
-use Rattle.driver_exec.specs.Pool.{Pool}
-use Rattle.driver_exec.specs.StoreTells.{DrawnApart, DrawnApartIn, LendsSession, StoreTells}
-use Rattle.driver_exec.specs.Session.{Session}
 use Rattle.driver_exec.specs.Writing.{insert_send, placed_write}
 use Rattle.driver_exec.proofs.Knowing.{lends_holds}
-use Rattle.driver_exec.proofs.PoolTells.{lends_told}
 use Rattle.driver_exec.proofs.Written.{numbered_new, unnumbered_insert}
 
 -- a send of a write may go out

@@ -8,25 +8,25 @@ use Rattle.driver_error.specs.LabelTexts.{has_label}
 use Rattle.driver_link.specs.declared.fault.LinkError.TheVariants.{Fault}
 use Rattle.driver_link.specs.declared.machine.Place.{Place}
 use Rattle.driver_link.specs.declared.options.Address.{Address}
+use Rattle.driver_link.specs.LinkState.{LinkState, server_run}
+use Rattle.driver_session.specs.declared.retryability.Retryability.{Retryability}
+use Rattle.driver_session.specs.declared.retryability.Retryability.TheVariants as may
+use Rattle.driver_session.specs.StoreTells.{Draws, LendsAsBefore, StoreTells}
+use Rattle.driver_session.specs.Session.{MayRaise, Numbers, Session}
+use Rattle.driver_session.proofs.Drawing.{draws_lending, draws_staying, draws_taking, draws_twice}
+use Rattle.driver_session.proofs.Lending.{lends_staying, lends_turning}
+use Rattle.driver_ops.specs.Operations.{OperationSpec, plain_send}
 use Rattle.driver_exec.specs.declared.attempt_end.Attempt.{Attempt}
 use Rattle.driver_exec.specs.declared.attempt_end.Attempt.TheVariants.{Done, Ended, Failed, Stopped, Unselected}
-use Rattle.driver_exec.specs.declared.attempt_end.Failing.{Failing}
-use Rattle.driver_exec.specs.declared.retry.Failure.{Failure}
-use Rattle.driver_exec.specs.declared.retryability.Retryability.{Retryability}
-use Rattle.driver_exec.specs.declared.retryability.Retryability.TheVariants as may
+use Rattle.driver_exec.specs.declared.attempt_end.AttemptFailure.{AttemptFailure}
+use Rattle.driver_exec.specs.declared.failure.Failure.{Failure}
 use Rattle.driver_exec.specs.Attempting.{AttemptState, EndsAtOnce, EndsRefused, Trial, Tries, besides_out, on_connection, trial_of}
 use Rattle.driver_exec.specs.Executing.{Ends, EndsWith, Executes, Reaches, first_state}
-use Rattle.driver_exec.specs.Holding.{DrawsNumber, DrawsSession, GivesBack, GivesNumber, Held, number_before}
+use Rattle.driver_exec.specs.Holding.{DrawsNumber, DrawsSession, GivesBack, GivesNumber, ExecutionSession, number_before}
 use Rattle.driver_exec.specs.Moment.{Moment}
-use Rattle.driver_exec.specs.Operations.{Meaning, plain_send}
-use Rattle.driver_exec.specs.StoreTells.{Draws, LendsAsBefore, StoreTells}
 use Rattle.driver_exec.specs.Resending.{Borrows, EndsWithReading, SendsOneCommand, SentWithin}
-use Rattle.driver_exec.specs.Retry.{Kept, after, avoiding, decide, may_be_retried, may_be_sent, told}
-use Rattle.driver_exec.specs.Session.{MayRaise, Numbers, Session}
-use Rattle.driver_link.specs.LinkState.{LinkState, server_run}
+use Rattle.driver_exec.specs.Retry.{RetryState, after, avoiding, decide, may_be_retried, may_be_sent, told}
 use Rattle.driver_exec.proofs.Attempts.{may_raise, stays}
-use Rattle.driver_exec.proofs.Drawing.{draws_lending, draws_staying, draws_taking, draws_twice}
-use Rattle.driver_exec.proofs.Lending.{lends_staying, lends_turning}
 use Rattle.driver_exec.proofs.Executing.{AtMostOne, attempts_left, decided_fewer, one_left}
 use Rattle.driver_exec.proofs.Trying.{both_true, early_counted, selected_counted}
 use Rattle.driver_exec.proofs.Resends.{none_sent}
@@ -40,7 +40,7 @@ retried_sent failure number may.Write is = (both_true (has_label (labels_of fail
 retried_sent failure number may.Read is = absurd (let e : false ≡ true = is in cc)
 retried_sent failure number may.None is = absurd (let e : false ≡ true = is in cc)
 
-decided_sent : (kept : Option Kept) (failure : Failure) (number : Option ℤ) (address : Address) (own : Retryability) (sharded : Bool) (retry : Kept)
+decided_sent : (kept : Option RetryState) (failure : Failure) (number : Option ℤ) (address : Address) (own : Retryability) (sharded : Bool) (retry : RetryState)
     → decide kept failure number address own sharded ≡ Ok retry → may_be_sent failure.phase number ≡ true
 unfolding decide
 decided_sent kept failure number address own sharded retry is = by_test (may_be_retried (told failure) number own) refl is
@@ -49,14 +49,14 @@ decided_sent kept failure number address own sharded retry is = by_test (may_be_
         → (if may then Ok (avoiding sharded address (after kept (told failure) number)) else Err (after kept (told failure) number).failure.error) ≡ Ok retry
         → may_be_sent failure.phase number ≡ true
     by_test true test is = retried_sent (told failure) number own test
-    by_test false test is = absurd (let e : ◌≡◌ {A = Result Kept Error} (Err (after kept (told failure) number).failure.error) (Ok retry) = is in cc)
+    by_test false test is = absurd (let e : ◌≡◌ {A = Result RetryState Error} (Err (after kept (told failure) number).failure.error) (Ok retry) = is in cc)
 
 module _ {A : Type 0} (trial : Trial A) (sharded : Bool) (store : StoreTells) (link : LinkState) where
   -- where an operation has come so far
-  reaches_course : (count : ℕ) (failures : List Failing) (kept : Option Kept) (now : AttemptState) → Reaches trial sharded (first_state store link count) failures kept now
+  reaches_course : (count : ℕ) (failures : List AttemptFailure) (kept : Option RetryState) (now : AttemptState) → Reaches trial sharded (first_state store link count) failures kept now
       → CourseAt trial store link (length failures) now × MayGoOn now.held.sent
   reaches_course count [] kept now reaches =
-      subst (λ s. CourseAt trial store link 0 s × MayGoOn s.held.sent) (sym reaches.1) (starts trial.meaning trial.places store (server_run link), tt)
+      subst (λ s. CourseAt trial store link 0 s × MayGoOn s.held.sent) (sym reaches.1) (starts trial.spec trial.places store (server_run link), tt)
   reaches_course count (failing ∷ failures) kept now reaches =
       let mid = reaches.1.1.0 in
       let rest = reaches.1.1.1 in
@@ -69,11 +69,11 @@ module _ {A : Type 0} (trial : Trial A) (sharded : Bool) (store : StoreTells) (l
       )
 
   -- how many attempts there were
-  record Few (failures : List Failing) (kept : Option Kept) : Type 0 where
+  record Few (failures : List AttemptFailure) (kept : Option RetryState) : Type 0 where
     once : AtMostOne kept
     left : length failures + attempts_left kept ≤ 2
 
-  reaches_few : (count : ℕ) (failures : List Failing) (kept : Option Kept) (now : AttemptState) → Reaches trial sharded (first_state store link count) failures kept now → Few failures kept
+  reaches_few : (count : ℕ) (failures : List AttemptFailure) (kept : Option RetryState) (now : AttemptState) → Reaches trial sharded (first_state store link count) failures kept now → Few failures kept
   reaches_few count [] kept now reaches = subst (Few []) (sym reaches.0) (record { once = tt; left = omega arith })
   reaches_few count (failing ∷ failures) kept now reaches =
       let mid = reaches.1.1.0 in
@@ -85,15 +85,15 @@ module _ {A : Type 0} (trial : Trial A) (sharded : Bool) (store : StoreTells) (l
       subst (Few (failing ∷ failures)) (sym reaches.1.0) (record { once = fewer.once; left = omega (arith, few.left, fewer.fewer) })
 
   -- the last attempt
-  module _ (most : ℕ) (few : most ≤ 1) (kept : Option Kept) (mid now : AttemptState) (goes : MayGoOn mid.held.sent) (course : CourseAt trial store link most mid) where
+  module _ (most : ℕ) (few : most ≤ 1) (kept : Option RetryState) (mid now : AttemptState) (goes : MayGoOn mid.held.sent) (course : CourseAt trial store link most mid) where
     over_course : CourseAt trial store link (suc most) now → OverAt trial store link (suc most) now
-    over_course done = course_over trial.meaning trial.places store (server_run link) (suc most) now.store (server_run now.link) now.held.session now.held.sent done
+    over_course done = course_over trial.spec trial.places store (server_run link) (suc most) now.store (server_run now.link) now.held.session now.held.sent done
 
     more_course : CourseAt trial store link most now → OverAt trial store link (suc most) now
-    more_course done = over_course (one_more trial.meaning trial.places store (server_run link) most now.store (server_run now.link) now.held.session now.held.sent done)
+    more_course done = over_course (one_more trial.spec trial.places store (server_run link) most now.store (server_run now.link) now.held.session now.held.sent done)
 
     -- there was no number, and what is held is as before
-    undrawn_same : (ready now : Held) (turn : Retryability) (error : Error) → DrawsNumber ready.sent turn ready now (Err error) → now ≡ ready
+    undrawn_same : (ready now : ExecutionSession) (turn : Retryability) (error : Error) → DrawsNumber ready.sent turn ready now (Err error) → now ≡ ready
     undrawn_same ready now turn error draws = by_sent ready.sent refl draws
       where
         err_ok : (number : Option ℤ) → ◌≡◌ {A = Result (Option ℤ) Error} (Err error) (Ok number) → ⊥
@@ -114,12 +114,12 @@ module _ {A : Type 0} (trial : Trial A) (sharded : Bool) (store : StoreTells) (l
         by_sent None is draws = draws.is ∙ ap (λ s. record ready { session = s }) (by_turn turn ready.session draws.session draws.draws)
 
     -- the command was refused before it went out
-    at_ready : (ready : AttemptState) → now.link ≡ ready.link → now.store ≡ ready.store → (held : Held) → now.held ≡ held
-        → Over trial.meaning trial.places store (server_run link) most ready.store (server_run ready.link) held.session held.sent → OverAt trial store link most now
+    at_ready : (ready : AttemptState) → now.link ≡ ready.link → now.store ≡ ready.store → (held : ExecutionSession) → now.held ≡ held
+        → Over trial.spec trial.places store (server_run link) most ready.store (server_run ready.link) held.session held.sent → OverAt trial store link most now
     at_ready ready link_is store_is held held_is over =
-        subst (λ l. Over trial.meaning trial.places store (server_run link) most now.store (server_run l) now.held.session now.held.sent) (sym link_is)
-        (subst (λ s. Over trial.meaning trial.places store (server_run link) most s (server_run ready.link) now.held.session now.held.sent) (sym store_is)
-        (subst (λ h. Over trial.meaning trial.places store (server_run link) most ready.store (server_run ready.link) h.session h.sent) (sym held_is) over))
+        subst (λ l. Over trial.spec trial.places store (server_run link) most now.store (server_run l) now.held.session now.held.sent) (sym link_is)
+        (subst (λ s. Over trial.spec trial.places store (server_run link) most s (server_run ready.link) now.held.session now.held.sent) (sym store_is)
+        (subst (λ h. Over trial.spec trial.places store (server_run link) most ready.store (server_run ready.link) h.session h.sent) (sym held_is) over))
 
     more_over : OverAt trial store link most now → OverAt trial store link (suc most) now
     more_over over = record {
@@ -128,8 +128,8 @@ module _ {A : Type 0} (trial : Trial A) (sharded : Bool) (store : StoreTells) (l
     }
 
     ready_over : (ready : AttemptState) → CourseAt trial store link most ready
-        → Over trial.meaning trial.places store (server_run link) most ready.store (server_run ready.link) ready.held.session ready.held.sent
-    ready_over ready done = course_over trial.meaning trial.places store (server_run link) most ready.store (server_run ready.link) ready.held.session ready.held.sent done
+        → Over trial.spec trial.places store (server_run link) most ready.store (server_run ready.link) ready.held.session ready.held.sent
+    ready_over ready done = course_over trial.spec trial.places store (server_run link) most ready.store (server_run ready.link) ready.held.session ready.held.sent done
 
     -- a number was drawn, and nothing went out under it
     any_number : (store_now : StoreTells) (number : Option ℤ) (session : Option Session) → HoldsFrom store store_now (Some number) session → HoldsLast store store_now None session
@@ -147,14 +147,14 @@ module _ {A : Type 0} (trial : Trial A) (sharded : Bool) (store : StoreTells) (l
         by_number (Some number) fits = may_raise holds.lent session fits.1
 
     abbrev OverReady : AttemptState → Option Session → Option (Option ℤ) → Type 0
-    OverReady ready session sent = Over trial.meaning trial.places store (server_run link) most ready.store (server_run ready.link) session sent
+    OverReady ready session sent = Over trial.spec trial.places store (server_run link) most ready.store (server_run ready.link) session sent
 
-    unframed_ready : (ready : AttemptState) (turn : Retryability) (number : Option ℤ) (numbered : Held) → DrawsNumber ready.held.sent turn ready.held numbered (Ok number)
+    unframed_ready : (ready : AttemptState) (turn : Retryability) (number : Option ℤ) (numbered : ExecutionSession) → DrawsNumber ready.held.sent turn ready.held numbered (Ok number)
         → CourseAt trial store link most ready → OverReady ready numbered.session numbered.sent
     unframed_ready ready turn number numbered draws done = by_sent ready.held.sent refl
       where
-        is_drawn : Drawn trial.meaning trial.places store (server_run link) ready.held numbered number ready.store
-        is_drawn = drawn trial.meaning trial.places store (server_run link) ready.store turn ready.held numbered number done.holds draws
+        is_drawn : Drawn trial.spec trial.places store (server_run link) ready.held numbered number ready.store
+        is_drawn = drawn trial.spec trial.places store (server_run link) ready.store turn ready.held numbered number done.holds draws
 
         by_sent : (sent : Option (Option ℤ)) → ready.held.sent ≡ sent → OverReady ready numbered.session numbered.sent
         by_sent None is = subst (OverReady ready numbered.session) (sym (is_drawn.same_sent ∙ is)) (record {
@@ -171,7 +171,7 @@ module _ {A : Type 0} (trial : Trial A) (sharded : Bool) (store : StoreTells) (l
             let same = subst (λ s. DrawsNumber s turn ready.held numbered (Ok number)) is draws in
             subst (λ h. OverReady ready h.session h.sent) (sym same.0) (ready_over ready done)
 
-    refused_over : (past : Option Kept) (error : Error) → EndsRefused trial past mid now error → OverAt trial store link most now
+    refused_over : (past : Option RetryState) (error : Error) → EndsRefused trial past mid now error → OverAt trial store link most now
     refused_over past error refused =
         let ready = refused.ready in
         let done = ready_course trial store link most mid ready refused.address refused.conn refused.readies course in
@@ -185,12 +185,12 @@ module _ {A : Type 0} (trial : Trial A) (sharded : Bool) (store : StoreTells) (l
           ]
         ]
 
-    ended_over : (past : Option Kept) (error : Error) → EndsAtOnce trial past mid now error → OverAt trial store link (suc most) now
+    ended_over : (past : Option RetryState) (error : Error) → EndsAtOnce trial past mid now error → OverAt trial store link (suc most) now
     ended_over past error ends = elim ends [
       | inl unready ↦ more_course
-          (subst (λ h. Course trial.meaning trial.places store (server_run link) most now.store (server_run now.link) h.session h.sent) (sym unready.held)
-          (store_stays trial.meaning trial.places store (server_run link) most mid.store now.store (server_run now.link) mid.held.session mid.held.sent unready.store
-          (counted trial.meaning trial.places store (server_run link) most mid.store (server_run mid.link) (server_run now.link) mid.held.session mid.held.sent (early_counted mid.link now.link unready.asks).server course)))
+          (subst (λ h. Course trial.spec trial.places store (server_run link) most now.store (server_run now.link) h.session h.sent) (sym unready.held)
+          (store_stays trial.spec trial.places store (server_run link) most mid.store now.store (server_run now.link) mid.held.session mid.held.sent unready.store
+          (counted trial.spec trial.places store (server_run link) most mid.store (server_run mid.link) (server_run now.link) mid.held.session mid.held.sent (early_counted mid.link now.link unready.asks).server course)))
       | inr other ↦ elim other [
         | inl refused ↦ more_over (refused_over past error refused)
         | inr sent ↦ over_at trial store link past most mid goes course now sent.address sent.conn sent.result sent.sends
@@ -199,12 +199,12 @@ module _ {A : Type 0} (trial : Trial A) (sharded : Bool) (store : StoreTells) (l
 
     abbrev LastAt : Result A Error → Type 0
     LastAt result = OverAt trial store link (suc most) now
-        × EndsWithReading trial.meaning trial.places (server_run link) (server_run now.link) (id_of now.held.session) (number_of now.held.sent) result
+        × EndsWithReading trial.spec trial.places (server_run link) (server_run now.link) (id_of now.held.session) (number_of now.held.sent) result
 
     err_last : (error : Error) (result : Result A Error) → result ≡ Err error → OverAt trial store link (suc most) now → LastAt result
     err_last error result is over = subst LastAt (sym is) (over, tt)
 
-    tried_last : (past : Option Kept) (attempt : Attempt A) (result : Result A Error) → Tries trial past mid now attempt → EndsWith kept attempt result → LastAt result
+    tried_last : (past : Option RetryState) (attempt : Attempt A) (result : Result A Error) → Tries trial past mid now attempt → EndsWith kept attempt result → LastAt result
     tried_last past (Done output) result tries ends =
         subst LastAt (sym ends) (
           over_at trial store link past most mid goes course now tries.address tries.conn (Ok tries.reply) tries.sends,
@@ -216,7 +216,7 @@ module _ {A : Type 0} (trial : Trial A) (sharded : Bool) (store : StoreTells) (l
         over : OverAt trial store link (suc most) now
         over = more_course (only_link trial store link most mid now tries.rest (selected_counted mid.link now.link (Err (Fault tries.fault tries.own)) tries.selects).server course)
 
-        by_kept : (kept : Option Kept) → EndsWith {A = A} kept (Unselected error) result → LastAt result
+        by_kept : (kept : Option RetryState) → EndsWith {A = A} kept (Unselected error) result → LastAt result
         by_kept None ends = err_last error result ends over
         by_kept (Some retry) ends = err_last retry.failure.error result ends over
     tried_last past Stopped result tries ends = by_kept kept ends
@@ -224,7 +224,7 @@ module _ {A : Type 0} (trial : Trial A) (sharded : Bool) (store : StoreTells) (l
         over : OverAt trial store link (suc most) now
         over = more_course (ready_course trial store link most mid now tries.1.address tries.1.conn tries.1.readies course)
 
-        by_kept : (kept : Option Kept) → EndsWith {A = A} kept Stopped result → LastAt result
+        by_kept : (kept : Option RetryState) → EndsWith {A = A} kept Stopped result → LastAt result
         by_kept None ends = absurd ends
         by_kept (Some retry) ends = err_last retry.failure.error result ends over
     tried_last past (Ended error) result tries ends = err_last error result ends (ended_over past error tries)
@@ -234,9 +234,9 @@ module _ {A : Type 0} (trial : Trial A) (sharded : Bool) (store : StoreTells) (l
     most : ℕ
     few : most ≤ 2
     over : OverAt trial store link most now
-    ends : EndsWithReading trial.meaning trial.places (server_run link) (server_run now.link) (id_of now.held.session) (number_of now.held.sent) result
+    ends : EndsWithReading trial.spec trial.places (server_run link) (server_run now.link) (id_of now.held.session) (number_of now.held.sent) result
 
-  finishes : (count : ℕ) (failures : List Failing) (kept : Option Kept) (mid now : AttemptState) (result : Result A Error) → Reaches trial sharded (first_state store link count) failures kept mid
+  finishes : (count : ℕ) (failures : List AttemptFailure) (kept : Option RetryState) (mid now : AttemptState) (result : Result A Error) → Reaches trial sharded (first_state store link count) failures kept mid
       → Ends trial sharded kept mid now result → Finished now result
   finishes count failures kept mid now result reaches ends =
       let came = reaches_course count failures kept mid reaches in
@@ -252,8 +252,8 @@ module _ {A : Type 0} (trial : Trial A) (sharded : Bool) (store : StoreTells) (l
             most = length failures;
             few = omega (arith, few.left);
             over = subst (OverAt trial store link (length failures)) (sym limit.same)
-                (course_over trial.meaning trial.places store (server_run link) (length failures) mid.store (server_run mid.link) mid.held.session mid.held.sent came.0);
-            ends = subst (λ r. EndsWithReading trial.meaning trial.places (server_run link) (server_run now.link) (id_of now.held.session) (number_of now.held.sent) r) (sym limit.answers) tt;
+                (course_over trial.spec trial.places store (server_run link) (length failures) mid.store (server_run mid.link) mid.held.session mid.held.sent came.0);
+            ends = subst (λ r. EndsWithReading trial.spec trial.places (server_run link) (server_run now.link) (id_of now.held.session) (number_of now.held.sent) r) (sym limit.answers) tt;
           }
           | inr refused ↦
               let left = one_left kept few.once refused.goes_on in
@@ -262,8 +262,8 @@ module _ {A : Type 0} (trial : Trial A) (sharded : Bool) (store : StoreTells) (l
               record {
                 most = suc (length failures);
                 few = omega arith;
-                over = course_over trial.meaning trial.places store (server_run link) (suc (length failures)) now.store (server_run now.link) now.held.session now.held.sent done;
-                ends = subst (λ r. EndsWithReading trial.meaning trial.places (server_run link) (server_run now.link) (id_of now.held.session) (number_of now.held.sent) r) (sym refused.answers) tt;
+                over = course_over trial.spec trial.places store (server_run link) (suc (length failures)) now.store (server_run now.link) now.held.session now.held.sent done;
+                ends = subst (λ r. EndsWithReading trial.spec trial.places (server_run link) (server_run now.link) (id_of now.held.session) (number_of now.held.sent) r) (sym refused.answers) tt;
               }
         ]
       ]
@@ -299,19 +299,19 @@ borrows_draws store now (Some id) number borrows =
     (draws_taking borrows.lent now borrows.back borrows.back_at borrows.takes)
 
 -- an operation as a whole
-module _ {A : Type 0} (meaning : Meaning A) (places : List Place) (before now : Moment) (count count_now : ℕ) (result : Result A Error)
-    (executes : Executes meaning places before now count count_now result) where
+module _ {A : Type 0} (spec : OperationSpec A) (places : List Place) (before now : Moment) (count count_now : ℕ) (result : Result A Error)
+    (executes : Executes spec places before now count count_now result) where
   abbrev trial : Trial A
-  trial = trial_of meaning places (meaning.own before.client.options)
+  trial = trial_of spec places (spec.own before.client.options)
 
   done : Finished trial executes.sharded before.store (besides_out before.link) executes.last result
-  done = finishes trial executes.sharded before.store (besides_out before.link) count executes.turns.failures executes.turns.kept executes.turns.mid executes.last result executes.turns.reaches executes.turns.ends
+  done = finishes trial executes.sharded before.store (besides_out before.link) count executes.attempts.failures executes.attempts.kept executes.attempts.mid executes.last result executes.attempts.reaches executes.attempts.ends
 
   -- the server is that of the last attempt
   server_is : server_run now.link ≡ server_run executes.last.link
   server_is = ap server_run executes.link_is
 
-  pub executes_works : SendsOneCommand meaning places before now result
+  pub executes_works : SendsOneCommand spec places before now result
   executes_works = record {
     session = id_of executes.last.held.session;
     number = number_of executes.last.held.sent;
@@ -320,7 +320,7 @@ module _ {A : Type 0} (meaning : Meaning A) (places : List Place) (before now : 
         let sent = done.over.sends body asked in
         subst (λ server. SentWithin 2 (server_run before.link) server (plain_send (id_of executes.last.held.session) (number_of executes.last.held.sent) body)) (sym server_is)
         (record { count = sent.count; within = omega (arith, sent.within, done.few); once = sent.once; sends = sent.sends });
-    ends = subst (λ server. EndsWithReading meaning places (server_run before.link) server (id_of executes.last.held.session) (number_of executes.last.held.sent) result) (sym server_is) done.ends;
+    ends = subst (λ server. EndsWithReading spec places (server_run before.link) server (id_of executes.last.held.session) (number_of executes.last.held.sent) result) (sym server_is) done.ends;
   }
 
   pub executes_lends : LendsAsBefore before.store now.store

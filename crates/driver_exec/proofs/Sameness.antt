@@ -8,19 +8,19 @@ use Rattle.driver_link.specs.declared.fault.LinkError.{LinkError}
 use Rattle.driver_link.specs.declared.machine.Place.{Place}
 use Rattle.driver_link.specs.declared.options.Address.{Address}
 use Rattle.driver_link.specs.declared.options.Conn.{Conn}
+use Rattle.driver_link.specs.LinkState.{LinkState}
+use Rattle.driver_session.specs.declared.retryability.Retryability.{Retryability}
+use Rattle.driver_ops.specs.Operations.{OperationSpec, SameSpec, TellsUnframed}
 use Rattle.driver_exec.specs.declared.attempt_end.Attempt.{Attempt}
 use Rattle.driver_exec.specs.declared.attempt_end.Attempt.TheVariants.{Done, Ended, Failed, Stopped, Unselected}
-use Rattle.driver_exec.specs.declared.retry.FailurePhase.{FailurePhase}
-use Rattle.driver_exec.specs.declared.retry.FailurePhase.TheVariants.{Establishment, Execution}
-use Rattle.driver_exec.specs.declared.retryability.Retryability.{Retryability}
+use Rattle.driver_exec.specs.declared.failure.FailurePhase.{FailurePhase}
+use Rattle.driver_exec.specs.declared.failure.FailurePhase.TheVariants.{ConnectionEstablishment, Execution}
 use Rattle.driver_exec.specs.Attempting.{EndsAtOnce, Exchanges, FailsIn, Readies, AttemptState, Sends, Trial, Tries, asks_session, trial_of}
 use Rattle.driver_exec.specs.Holding.{HoldsSession, needs_session}
-use Rattle.driver_exec.specs.Operations.{Meaning, MeansTheSame, TellsUnframed}
-use Rattle.driver_exec.specs.Retry.{Kept}
-use Rattle.driver_link.specs.LinkState.{LinkState}
+use Rattle.driver_exec.specs.Retry.{RetryState}
 use Rattle.driver_exec.proofs.Trying.{answers_same, framed_same, same_back}
 
-module _ {A : Type 0} (old now : Meaning A) (same : MeansTheSame old now) (places : List Place) (own : Retryability) where
+module _ {A : Type 0} (old now : OperationSpec A) (same : SameSpec old now) (places : List Place) (own : Retryability) where
   unframed_same : (session : Option (List ℕ)) (number : Option ℤ) (why : ErrorKind) → TellsUnframed now session number why → TellsUnframed old session number why
   unframed_same session number (kind.InvalidArgument message) tells = (same.refused (kind.InvalidArgument message)).1 tells
   unframed_same session number (kind.BsonSerialization fault) tells = elim tells [
@@ -36,7 +36,7 @@ module _ {A : Type 0} (old now : Meaning A) (same : MeansTheSame old now) (place
   abbrev was : Trial A
   was = trial_of old places own
 
-  readies_same : {past : Option Kept} (before after : AttemptState) (address : Address) (conn : Conn) → Readies told past before after address conn → Readies was past before after address conn
+  readies_same : {past : Option RetryState} (before after : AttemptState) (address : Address) (conn : Conn) → Readies told past before after address conn → Readies was past before after address conn
   readies_same before after address conn readies = record {
     connects = readies.connects;
     holds = subst (λ sessions. HoldsSession (needs_session (asks_session sessions conn.description) before.held) before.store after.store before.held after.held (Ok tt)) same.sessions
@@ -53,7 +53,7 @@ module _ {A : Type 0} (old now : Meaning A) (same : MeansTheSame old now) (place
     exchanges = exchanges.exchanges;
   }
 
-  sends_same : (past : Option Kept) (before after : AttemptState) (address : Address) (conn : Conn) (result : Result (List ℕ) LinkError) → Sends told past before after address conn result
+  sends_same : (past : Option RetryState) (before after : AttemptState) (address : Address) (conn : Conn) (result : Result (List ℕ) LinkError) → Sends told past before after address conn result
       → Sends was past before after address conn result
   sends_same past before after address conn result sends = record {
     ready = sends.ready;
@@ -69,9 +69,9 @@ module _ {A : Type 0} (old now : Meaning A) (same : MeansTheSame old now) (place
     counted = sends.counted;
   }
 
-  fails_same : (past : Option Kept) (before after : AttemptState) (address : Address) (phase : FailurePhase) (error : Error) → FailsIn told past before after address phase error
+  fails_same : (past : Option RetryState) (before after : AttemptState) (address : Address) (phase : FailurePhase) (error : Error) → FailsIn told past before after address phase error
       → FailsIn was past before after address phase error
-  fails_same past before after address Establishment error fails = record {
+  fails_same past before after address ConnectionEstablishment error fails = record {
     mid = fails.mid;
     selects = fails.selects;
     fault = fails.fault;
@@ -104,7 +104,7 @@ module _ {A : Type 0} (old now : Meaning A) (same : MeansTheSame old now) (place
     })
   ]
 
-  ends_same : (past : Option Kept) (before after : AttemptState) (error : Error) → EndsAtOnce told past before after error → EndsAtOnce was past before after error
+  ends_same : (past : Option RetryState) (before after : AttemptState) (error : Error) → EndsAtOnce told past before after error → EndsAtOnce was past before after error
   ends_same past before after error ends = elim ends [
     | inl unready ↦ inl unready
     | inr other ↦ elim other [
@@ -134,7 +134,7 @@ module _ {A : Type 0} (old now : Meaning A) (same : MeansTheSame old now) (place
     ]
   ]
 
-  pub tries_same : (past : Option Kept) (before after : AttemptState) (attempt : Attempt A) → Tries told past before after attempt → Tries was past before after attempt
+  pub tries_same : (past : Option RetryState) (before after : AttemptState) (attempt : Attempt A) → Tries told past before after attempt → Tries was past before after attempt
   tries_same past before after (Done output) tries = record {
     address = tries.address;
     conn = tries.conn;

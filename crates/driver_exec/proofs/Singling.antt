@@ -6,13 +6,13 @@ use Rattle.bson_lite.specs.Spelling.{Spells}
 use Rattle.driver_error.specs.declared.error.Error.{Error}
 use Rattle.driver_link.specs.declared.machine.Place.{Place}
 use Rattle.driver_link.specs.declared.machine.PlacedWrite.{PlacedWrite}
+use Rattle.driver_ops.specs.InsertSpec.{AsksInsert, insert_spec}
+use Rattle.driver_ops.specs.Operations.{OperationSpec}
 use Rattle.driver_exec.specs.Causes.{end_of}
 use Rattle.driver_exec.specs.Executing.{Executes}
-use Rattle.driver_exec.specs.InsertMeaning.{AsksInsert, insert_meaning}
 use Rattle.driver_exec.specs.Keeping.{KeepsInvariant, OkHasEntries}
 use Rattle.driver_exec.specs.Moment.{Moment}
 use Rattle.driver_exec.specs.OperationCauses.{Caused}
-use Rattle.driver_exec.specs.Operations.{Meaning}
 use Rattle.driver_exec.specs.Resending.{SendsOneCommand}
 use Rattle.driver_exec.specs.Singles.{BecomesSingle, CausedSingle, ExecutesSingle}
 use Rattle.driver_exec.specs.Writing.{Wrote, insert_asked}
@@ -30,18 +30,18 @@ made_asks {bytes = bytes} write is_namespace is_bytes spelled =
     of_insert (λ n b. AsksInsert n b (write.place ∷ []) (insert_asked write)) (sym is_namespace) (sym is_bytes) (asks_write write bytes spelled)
 
 -- the form of an error changes nothing of what the operation left
-pub works_single : {A : Type 0} (meaning : Meaning A) (places : List Place) (before now : Moment) (executed result : Result A Error) → BecomesSingle executed result
-    → SendsOneCommand meaning places before now executed → SendsOneCommand meaning places before now result
-works_single meaning places before now (Ok output) result becomes works = subst (SendsOneCommand meaning places before now) (sym becomes) works
-works_single meaning places before now (Err error) (Ok output) becomes works = absurd becomes
-works_single meaning places before now (Err error) (Err now_error) becomes works =
+pub works_single : {A : Type 0} (spec : OperationSpec A) (places : List Place) (before now : Moment) (executed result : Result A Error) → BecomesSingle executed result
+    → SendsOneCommand spec places before now executed → SendsOneCommand spec places before now result
+works_single spec places before now (Ok output) result becomes works = subst (SendsOneCommand spec places before now) (sym becomes) works
+works_single spec places before now (Err error) (Ok output) becomes works = absurd becomes
+works_single spec places before now (Err error) (Err now_error) becomes works =
     record { session = works.session; number = works.number; borrows = works.borrows; sends = works.sends; ends = tt }
 
 -- what the insert of a write leaves, in the form of a single write's
 pub record InsertsSingle (write : PlacedWrite) (bytes : List ℕ) (before now : Moment) (count count_now : ℕ) (result : Result (Unit {0}) Error) : Type 0 where
-  pub single : ExecutesSingle (insert_meaning write.written.namespace bytes) (write.place ∷ []) before now count count_now result
-  pub caused : CausedSingle (insert_meaning write.written.namespace bytes) before now result
-  pub one_command : SendsOneCommand (insert_meaning write.written.namespace bytes) (write.place ∷ []) before now result
+  pub single : ExecutesSingle (insert_spec write.written.namespace bytes) (write.place ∷ []) before now count count_now result
+  pub caused : CausedSingle (insert_spec write.written.namespace bytes) before now result
+  pub one_command : SendsOneCommand (insert_spec write.written.namespace bytes) (write.place ∷ []) before now result
   pub wrote : Wrote before now write (end_of result)
   pub keeps : KeepsInvariant before now write
   pub stands : OkHasEntries before now write (end_of result)
@@ -49,30 +49,30 @@ pub record InsertsSingle (write : PlacedWrite) (bytes : List ℕ) (before now : 
 -- it is so where its operation was executed, and this is the operation's result in that form
 pub inserts_single : {made : Namespace} {held bytes : List ℕ} {before now : Moment} {count count_now : ℕ} {executed found : Result (Unit {0}) Error} (write : PlacedWrite)
     (result : Result (Unit {0}) Error) → made ≡ write.written.namespace → held ≡ bytes → Spells write.written.document bytes
-    → Executes (insert_meaning made held) (write.place ∷ []) before now count count_now executed
-    → Caused {A = Unit {0}} (insert_meaning made held) before now (end_of executed)
-    → SendsOneCommand (insert_meaning made held) (write.place ∷ []) before now executed
+    → Executes (insert_spec made held) (write.place ∷ []) before now count count_now executed
+    → Caused {A = Unit {0}} (insert_spec made held) before now (end_of executed)
+    → SendsOneCommand (insert_spec made held) (write.place ∷ []) before now executed
     → executed ≡ found → BecomesSingle found result → InsertsSingle write bytes before now count count_now result
 inserts_single {bytes = bytes} {before = before} {now = now} {count = count} {count_now = count_now} {executed = executed} write result is_namespace is_bytes spelled executes caused one_command is found =
-    let meaning = insert_meaning {A = Unit {0}} write.written.namespace bytes in
+    let spec = insert_spec {A = Unit {0}} write.written.namespace bytes in
     let places = write.place ∷ [] in
     let asked = asks_write write bytes spelled in
     let becomes = subst (λ r. BecomesSingle r result) (sym is) found in
-    let works = works_single meaning places before now executed result becomes
-    (of_insert (λ n b. SendsOneCommand (insert_meaning n b) places before now executed) is_namespace is_bytes one_command) in
-    let wrote = works_wrote meaning places write asked (insert_reads write.written.namespace bytes) before now result works in record {
+    let works = works_single spec places before now executed result becomes
+    (of_insert (λ n b. SendsOneCommand (insert_spec n b) places before now executed) is_namespace is_bytes one_command) in
+    let wrote = works_wrote spec places write asked (insert_reads write.written.namespace bytes) before now result works in record {
       single = record {
         executed = executed;
-        executes = of_insert (λ n b. Executes (insert_meaning n b) places before now count count_now executed) is_namespace is_bytes executes;
+        executes = of_insert (λ n b. Executes (insert_spec n b) places before now count count_now executed) is_namespace is_bytes executes;
         becomes = becomes;
       };
       caused = record {
         executed = executed;
-        caused = of_insert (λ n b. Caused {A = Unit {0}} (insert_meaning n b) before now (end_of executed)) is_namespace is_bytes caused;
+        caused = of_insert (λ n b. Caused {A = Unit {0}} (insert_spec n b) before now (end_of executed)) is_namespace is_bytes caused;
         becomes = becomes;
       };
       one_command = works;
       wrote = wrote;
-      keeps = works_keeps meaning places before now result works write asked;
+      keeps = works_keeps spec places before now result works write asked;
       stands = wrote_ends before now write (end_of result) wrote;
     }

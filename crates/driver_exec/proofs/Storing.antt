@@ -5,38 +5,38 @@ use Rattle.driver_error.specs.declared.error.Error.{Error}
 use Rattle.driver_link.specs.declared.fault.LinkError.{LinkError}
 use Rattle.driver_link.specs.declared.options.Address.{Address}
 use Rattle.driver_link.specs.declared.options.Conn.{Conn}
+use Rattle.driver_session.specs.StoreTells.{DrawnApart, Draws, StoreTells}
+use Rattle.driver_session.specs.Session.{Session}
+use Rattle.driver_session.proofs.Drawing.{apart_before, draws_lending, draws_refl, draws_staying, draws_taking}
 use Rattle.driver_exec.specs.declared.attempt_end.Attempt.{Attempt}
 use Rattle.driver_exec.specs.declared.attempt_end.Attempt.TheVariants.{Done, Ended, Failed, Stopped, Unselected}
-use Rattle.driver_exec.specs.declared.retry.FailurePhase.{FailurePhase}
-use Rattle.driver_exec.specs.declared.retry.FailurePhase.TheVariants.{Establishment, Execution}
+use Rattle.driver_exec.specs.declared.failure.FailurePhase.{FailurePhase}
+use Rattle.driver_exec.specs.declared.failure.FailurePhase.TheVariants.{ConnectionEstablishment, Execution}
 use Rattle.driver_exec.specs.Attempting.{FailsIn, Readies, AttemptState, Sends, Trial, Tries, asks_session}
 use Rattle.driver_exec.specs.Executing.{Ends}
-use Rattle.driver_exec.specs.Holding.{GivesBack, Held, HoldsSession, needs_session}
-use Rattle.driver_exec.specs.StoreTells.{DrawnApart, Draws, StoreTells}
-use Rattle.driver_exec.specs.Retry.{Kept}
-use Rattle.driver_exec.specs.Session.{Session}
-use Rattle.driver_exec.proofs.Drawing.{apart_before, draws_lending, draws_refl, draws_staying, draws_taking}
+use Rattle.driver_exec.specs.Holding.{GivesBack, ExecutionSession, HoldsSession, needs_session}
+use Rattle.driver_exec.specs.Retry.{RetryState}
 
 -- a store that is as it was drew nothing
 draws_same : (store now : StoreTells) → now ≡ store → Draws store now
 draws_same store now same = subst (Draws store) (sym same) (draws_refl store)
 
 -- a session is lent where one is needed
-holds_draws : (needed : Bool) (store now : StoreTells) (held held_now : Held) → HoldsSession needed store now held held_now (Ok tt) → Draws store now
+holds_draws : (needed : Bool) (store now : StoreTells) (held held_now : ExecutionSession) → HoldsSession needed store now held held_now (Ok tt) → Draws store now
 holds_draws false store now held held_now holds = draws_same store now holds.0
 holds_draws true store now held held_now holds = draws_lending store now holds.at holds.session holds.lends
 
 module _ {A : Type 0} (trial : Trial A) (mid now : AttemptState) where
-  readies_draws : {past : Option Kept} (address : Address) (conn : Conn) → Readies trial past mid now address conn → Draws mid.store now.store
+  readies_draws : {past : Option RetryState} (address : Address) (conn : Conn) → Readies trial past mid now address conn → Draws mid.store now.store
   readies_draws address conn readies =
-      holds_draws (needs_session (asks_session trial.meaning.sessions conn.description) mid.held) mid.store now.store mid.held now.held readies.holds
+      holds_draws (needs_session (asks_session trial.spec.sessions conn.description) mid.held) mid.store now.store mid.held now.held readies.holds
 
-module _ {A : Type 0} (trial : Trial A) (past : Option Kept) (mid now : AttemptState) where
+module _ {A : Type 0} (trial : Trial A) (past : Option RetryState) (mid now : AttemptState) where
   sends_draws : (address : Address) (conn : Conn) (result : Result (List ℕ) LinkError) → Sends trial past mid now address conn result → Draws mid.store now.store
   sends_draws address conn result sends = subst (Draws mid.store) (sym sends.store_is) (readies_draws trial mid sends.ready address conn sends.readies)
 
   fails_draws : (address : Address) (phase : FailurePhase) (error : Error) → FailsIn trial past mid now address phase error → Draws mid.store now.store
-  fails_draws address Establishment error fails = draws_same mid.store now.store fails.rest.store
+  fails_draws address ConnectionEstablishment error fails = draws_same mid.store now.store fails.rest.store
   fails_draws address Execution error fails = elim fails [
     | inl lost ↦ sends_draws address lost.conn _ lost.sends
     | inr says ↦ sends_draws address says.conn _ says.sends
@@ -61,7 +61,7 @@ module _ {A : Type 0} (trial : Trial A) (past : Option Kept) (mid now : AttemptS
 
 -- and before the end of an operation
 module _ {A : Type 0} (trial : Trial A) (mid now : AttemptState) where
-  pub ends_apart : (sharded : Bool) (kept : Option Kept) (result : Result A Error) → Ends trial sharded kept mid now result → DrawnApart now.store → DrawnApart mid.store
+  pub ends_apart : (sharded : Bool) (kept : Option RetryState) (result : Result A Error) → Ends trial sharded kept mid now result → DrawnApart now.store → DrawnApart mid.store
   ends_apart sharded kept result ends apart = elim ends [
     | inl last ↦ apart_before mid.store now.store (tries_draws trial kept mid now last.attempt last.tries) apart
     | inr other ↦ elim other [

@@ -6,31 +6,34 @@ use Rattle.driver_error.specs.declared.kind.ErrorKind.TheVariants as kind
 use Rattle.driver_error.specs.Error.{IsAlone}
 use Rattle.driver_error.specs.LabelTexts.{no_labels}
 use Rattle.driver_link.specs.declared.fault.Answered.{Answered}
+use Rattle.driver_link.specs.declared.fault.LinkCall.{LinkCall}
 use Rattle.driver_link.specs.declared.fault.LinkCall.TheVariants.{CheckOut, Select}
 use Rattle.driver_link.specs.declared.fault.LinkError.{LinkError}
 use Rattle.driver_link.specs.declared.fault.LinkError.TheVariants.{Fault, Memory}
 use Rattle.driver_link.specs.declared.machine.Place.{Place}
 use Rattle.driver_link.specs.declared.options.Address.{Address}
 use Rattle.driver_link.specs.declared.options.Conn.{Conn}
-use Rattle.driver_link.specs.Counting.{OnlyCounts}
+use Rattle.driver_link.specs.Counting.{Listed, OnlyCounts, check_out_fault, checked_out, select_fault, selected}
 use Rattle.driver_link.specs.Faults.{HasLinkCause}
 use Rattle.driver_link.specs.Framed.{Framed}
-use Rattle.driver_link.specs.LinkCalls.{ChecksInConnection, ChecksOutConnection, ExchangesFrame, SelectsServer}
-use Rattle.driver_link.specs.LinkState.{GainsAll, GainsAnswer, HandsBack, LinkState, noted, nothing_noted, server_run, setup_of}
+use Rattle.driver_link.specs.LinkCalls.{CallsLink, ChecksInConnection, ChecksOutConnection, ExchangesFrame, SelectsServer}
+use Rattle.driver_link.specs.LinkState.{GainsAll, GainsAnswer, HandsBack, LinkState, TellsFrame, noted, nothing_noted, server_run, setup_of}
 use Rattle.driver_link.proofs.Handing.{handed_back_last, same_number}
+use Rattle.driver_link.specs.ServerRun.{ServerRun}
+use Rattle.driver_session.specs.declared.retryability.Retryability.{Retryability}
+use Rattle.driver_session.specs.StoreTells.{StoreTells}
+use Rattle.driver_ops.specs.declared.command.Command.{Command}
+use Rattle.driver_ops.specs.Operations.{GivesFrame, IsBuilt, IsFramed, OperationSpec, SameSpec, ReadsAnswer}
 use Rattle.driver_exec.specs.declared.attempt_end.Attempt.{Attempt}
 use Rattle.driver_exec.specs.declared.attempt_end.Attempt.TheVariants.{Ended, Failed, Stopped, Unselected}
-use Rattle.driver_exec.specs.declared.retryability.Retryability.{Retryability}
-use Rattle.driver_exec.specs.Attempting.{AsksEarly, AttemptState, Comes, Connects, Exchanging, FailsIn, LosesExchange, NotConnected, ReadsAnswer, Readies, Selects, Sending, Sends, SpellsFailure, Trial, Tries, asked_for, asks_session, attempt_state, avoided, besides_out, is_nothing, may_use, on_connection, stops, trial_of}
+use Rattle.driver_exec.specs.Attempting.{AsksEarly, AttemptState, Connects, FailsIn, LosesExchange, NotConnected, Readies, Selects, Sends, SpellsFailure, Trial, Tries, asked_for, asks_session, avoided, besides_out, is_nothing, may_use, on_connection, stops, trial_of}
 use Rattle.driver_exec.specs.Causes.{AllEarly}
-use Rattle.driver_exec.specs.Failing.{EndsLost, EndsRead, EndsUnconnected, EndsUnselected}
-use Rattle.driver_exec.specs.Holding.{Held, HoldsSession, needs_session}
-use Rattle.driver_exec.specs.declared.command.Command.{Command}
-use Rattle.driver_exec.specs.Operations.{GivesFrame, IsBuilt, IsFramed, Meaning, MeansTheSame}
-use Rattle.driver_exec.specs.StoreTells.{StoreTells}
-use Rattle.driver_exec.specs.Retry.{Kept}
+use Rattle.driver_exec.specs.Holding.{ExecutionSession, HoldsSession, needs_session}
+use Rattle.driver_exec.specs.Retry.{RetryState}
 use Rattle.driver_exec.proofs.Attempts.{check_out_counts, counts_twice, select_counts}
 use Rattle.driver_exec.proofs.Causes.{notes_since}
+use Rattle.driver_exec.specs.inside.Attempting.{Comes, Exchanging, Sending, attempt_state}
+use Rattle.driver_exec.specs.inside.Failures.{EndsLost, EndsRead, EndsUnconnected, EndsUnselected}
 
 -- only calls of the link were counted, and nothing was exchanged
 pub record OnlyCounted (link now : LinkState) : Type 0 where
@@ -65,19 +68,24 @@ check_out_early (Ok given) = tt
 check_out_early (Err (Fault fault own)) = tt
 check_out_early (Err Memory) = tt
 
+-- a call that is counted, besides what is out
+calls_besides : {A : Type 0} (which : LinkCall) (next : ServerRun → ServerRun) (fault : ServerRun → Option Listed) (link now : LinkState) (result : Result A LinkError)
+    → CallsLink which next fault link now result → CallsLink which next fault (besides_out link) (besides_out now) result
+calls_besides which next fault link now result calls = record {
+  counts = calls.counts;
+  setup = calls.setup;
+  answers = calls.answers;
+  frames = calls.frames;
+  over = calls.over;
+  cause = calls.cause;
+}
+
 -- a selection asks for a server outside these
 pub asks_avoided : (given avoid : List Address) (link now : LinkState) (result : Result Address LinkError) → given ≡ avoid
     → SelectsServer link now (asked_for given) result → Selects avoid (besides_out link) (besides_out now) result
 asks_avoided given avoid link now result is selects =
     subst (λ a. Selects a (besides_out link) (besides_out now) result) is (record {
-      calls = record {
-        counts = selects.calls.counts;
-        setup = selects.calls.setup;
-        answers = selects.calls.answers;
-        frames = selects.calls.frames;
-        over = selects.calls.over;
-        cause = selects.calls.cause;
-      };
+      calls = calls_besides Select selected select_fault link now result selects.calls;
       asked = selects.asked;
       addresses = selects.addresses;
       connections = selects.connections;
@@ -88,14 +96,7 @@ asks_avoided given avoid link now result is selects =
 pub checks_besides : (link now : LinkState) (address : Address) (result : Result Conn LinkError) → ChecksOutConnection link now address result
     → ChecksOutConnection (besides_out link) (besides_out now) address result
 checks_besides link now address result checks = record {
-  calls = record {
-    counts = checks.calls.counts;
-    setup = checks.calls.setup;
-    answers = checks.calls.answers;
-    frames = checks.calls.frames;
-    over = checks.calls.over;
-    cause = checks.calls.cause;
-  };
+  calls = calls_besides CheckOut checked_out check_out_fault link now result checks.calls;
   to = checks.to;
   connections = checks.connections;
   out = untold result;
@@ -113,8 +114,7 @@ exchanges_besides link now conn frame places result exchanges = record {
   steps = exchanges.steps;
   setup = exchanges.setup;
   answers = exchanges.answers;
-  frames = exchanges.frames;
-  over = exchanges.over;
+  given = given_besides result exchanges.given;
   rest = record {
     asked = exchanges.rest.asked;
     addresses = exchanges.rest.addresses;
@@ -123,6 +123,12 @@ exchanges_besides link now conn frame places result exchanges = record {
   };
   cause = exchanges.cause;
 }
+  where
+    given_besides : (result : Result (List ℕ) LinkError) → TellsFrame link now frame conn.number result
+        → TellsFrame (besides_out link) (besides_out now) frame conn.number result
+    given_besides (Ok reply) given = given
+    given_besides (Err (Fault fault own)) given = given
+    given_besides (Err Memory) given = given
 
 -- a connection that is handed back changes nothing besides what is out
 pub handed_besides : (link now : LinkState) (conn : Conn) → ChecksInConnection link now conn → besides_out now ≡ besides_out link
@@ -173,7 +179,7 @@ early_counted link now asks = elim asks [
 ]
 
 -- it told the same before
-pub same_back : {A : Type 0} (old now : Meaning A) → MeansTheSame old now → MeansTheSame now old
+pub same_back : {A : Type 0} (old now : OperationSpec A) → SameSpec old now → SameSpec now old
 same_back old now same = record {
   name = sym same.name;
   commands = λ command. ((same.commands command).1, (same.commands command).0);
@@ -186,7 +192,7 @@ same_back old now same = record {
 }
 
 -- a command and a frame of such an operation
-module _ {A : Type 0} (old now : Meaning A) (same : MeansTheSame old now) where
+module _ {A : Type 0} (old now : OperationSpec A) (same : SameSpec old now) where
   built_same : (statements : ℕ) (command : Command) → IsBuilt old statements command → IsBuilt now statements command
   built_same statements command built = record {
     name = built.name ∙ sym same.name;
@@ -207,7 +213,7 @@ module _ {A : Type 0} (old now : Meaning A) (same : MeansTheSame old now) where
       record { framed = framed_same session number frame gives.framed; reads = λ places body asked. gives.reads places body ((same.asked places body).1 asked) }
 
 -- an operation tells before and now the same
-module _ {A : Type 0} (old now : Meaning A) (same : MeansTheSame old now) where
+module _ {A : Type 0} (old now : OperationSpec A) (same : SameSpec old now) where
   pub answers_same : (reply : List ℕ) (answer : Result A Error) → ReadsAnswer now reply answer → ReadsAnswer old reply answer
   answers_same reply (Ok output) reads = record { response = reads.response; done = reads.done; reads = (same.answers reads.response.body (Ok output)).1 reads.reads }
   answers_same reply (Err error) reads = elim reads [
@@ -230,7 +236,7 @@ module _ {A : Type 0} (old now : Meaning A) (same : MeansTheSame old now) where
       record { answer = comes.answer; reads = answers_same reply comes.answer comes.reads; ends = comes.ends }
   comes_same turn version address (Err failure) attempt comes = comes
 
-  pub exchanging_same : (places : List Place) (link link_now : LinkState) (turn : Retryability) (conn : Conn) (address : Address) (held held_now : Held) (attempt : Attempt A)
+  pub exchanging_same : (places : List Place) (link link_now : LinkState) (turn : Retryability) (conn : Conn) (address : Address) (held held_now : ExecutionSession) (attempt : Attempt A)
       → Exchanging now places link link_now turn conn address held held_now attempt → Exchanging old places link link_now turn conn address held held_now attempt
   exchanging_same places link link_now turn conn address held held_now attempt exchanging = record {
     result = exchanging.result;
@@ -244,12 +250,12 @@ module _ {A : Type 0} (old now : Meaning A) (same : MeansTheSame old now) where
     comes = comes_same turn conn.description.max_wire_version address exchanging.result attempt exchanging.comes;
   }
 
-module _ {A : Type 0} (meaning : Meaning A) (places : List Place) (own : Retryability) (past : Option Kept) where
+module _ {A : Type 0} (spec : OperationSpec A) (places : List Place) (own : Retryability) (past : Option RetryState) where
   abbrev trial : Trial A
-  trial = trial_of meaning places own
+  trial = trial_of spec places own
 
   -- no server was selected
-  pub unselected_tries : (store : StoreTells) (link now : LinkState) (held : Held) (count : ℕ) (failure : LinkError) (attempt : Attempt A)
+  pub unselected_tries : (store : StoreTells) (link now : LinkState) (held : ExecutionSession) (count : ℕ) (failure : LinkError) (attempt : Attempt A)
       → Selects (avoided past) (besides_out link) (besides_out now) (Err failure) → EndsUnselected failure attempt → Tries trial past (attempt_state store link held count) (attempt_state store now held count) attempt
   unselected_tries store link now held count (Fault fault labels) (Unselected error) selects is =
       record { fault = fault; own = labels; selects = selects; is = is; rest = record { store = refl; held = refl; count = refl } }
@@ -261,7 +267,7 @@ module _ {A : Type 0} (meaning : Meaning A) (places : List Place) (own : Retryab
   unselected_tries store link now held count Memory _ selects ends = absurd ends
 
   -- no connection was had
-  pub unconnected_tries : (store : StoreTells) (link mid now : LinkState) (held : Held) (count : ℕ) (address : Address) (failure : LinkError) (attempt : Attempt A)
+  pub unconnected_tries : (store : StoreTells) (link mid now : LinkState) (held : ExecutionSession) (count : ℕ) (address : Address) (failure : LinkError) (attempt : Attempt A)
       → Selects (avoided past) (besides_out link) mid (Ok address) → ChecksOutConnection mid (besides_out now) address (Err failure) → EndsUnconnected own address failure attempt
       → Tries trial past (attempt_state store link held count) (attempt_state store now held count) attempt
   unconnected_tries store link mid now held count address (Fault fault labels) (Failed failing) selects checks ends =
@@ -282,19 +288,19 @@ module _ {A : Type 0} (meaning : Meaning A) (places : List Place) (own : Retryab
   unconnected_tries store link mid now held count address (Fault fault labels) _ selects checks ends = absurd ends
   unconnected_tries store link mid now held count address Memory _ selects checks ends = absurd ends
 
-  module _ (store store_now : StoreTells) (before link : LinkState) (held ready : Held) (count : ℕ) (address : Address) (conn : Conn) (connects : Connects (avoided past) (besides_out before) (besides_out link) address conn) where
+  module _ (store store_now : StoreTells) (before link : LinkState) (held ready : ExecutionSession) (count : ℕ) (address : Address) (conn : Conn) (connects : Connects (avoided past) (besides_out before) (besides_out link) address conn) where
     -- a session was asked for where both sides take one
-    pub holds_asked : (asked : Bool) (given result : Result (Unit {0}) Error) → asked ≡ asks_session meaning.sessions conn.description → given ≡ result
+    pub holds_asked : (asked : Bool) (given result : Result (Unit {0}) Error) → asked ≡ asks_session spec.sessions conn.description → given ≡ result
         → HoldsSession (needs_session asked held) store store_now held ready given
-        → HoldsSession (needs_session (asks_session meaning.sessions conn.description) held) store store_now held ready result
+        → HoldsSession (needs_session (asks_session spec.sessions conn.description) held) store store_now held ready result
     holds_asked asked given result is_asked is_given holds =
         subst (λ a. HoldsSession (needs_session a held) store store_now held ready result) is_asked
         (subst (λ r. HoldsSession (needs_session asked held) store store_now held ready r) is_given holds)
 
     -- there was no memory for a session
-    pub unready_tries : (error : Error) → HoldsSession (needs_session (asks_session meaning.sessions conn.description) held) store store_now held ready (Err error)
+    pub unready_tries : (error : Error) → HoldsSession (needs_session (asks_session spec.sessions conn.description) held) store store_now held ready (Err error)
         → Tries trial past (attempt_state store before held count) (attempt_state store_now link ready count) (Ended error)
-    unready_tries error holds = by_need (needs_session (asks_session meaning.sessions conn.description) held) holds
+    unready_tries error holds = by_need (needs_session (asks_session spec.sessions conn.description) held) holds
       where
         ok_err : ◌≡◌ {A = Result (Unit {0}) Error} (Ok tt) (Err error) → ⊥
         ok_err same = cc
@@ -303,7 +309,7 @@ module _ {A : Type 0} (meaning : Meaning A) (places : List Place) (own : Retryab
         by_need false holds = absurd (ok_err (sym holds.2))
         by_need true holds = inl (record { asks = asks_connection (avoided past) (besides_out before) connects.mid (besides_out link) address (Ok conn) connects.selects connects.checks_out; store = holds.0; held = holds.1; count = refl; why = holds.2 })
 
-    module _ (holds : HoldsSession (needs_session (asks_session meaning.sessions conn.description) held) store store_now held ready (Ok tt)) where
+    module _ (holds : HoldsSession (needs_session (asks_session spec.sessions conn.description) held) store store_now held ready (Ok tt)) where
       readied : Readies trial past (attempt_state store before held count) (attempt_state store_now link ready count) address conn
       readied = record { connects = connects; holds = holds; count = refl }
 
@@ -325,7 +331,7 @@ module _ {A : Type 0} (meaning : Meaning A) (places : List Place) (own : Retryab
       pub stopped_tries : is_some past ≡ true → may_use ready conn.description ≡ true → is_nothing (on_connection own conn.description) ≡ true → Tries trial past (attempt_state store before held count) (attempt_state store_now link ready count) Stopped
       stopped_tries is allowed nothing = (is, record { address = address; conn = conn; readies = readied; allowed = allowed; nothing = nothing })
 
-      module _ (allowed : may_use ready conn.description ≡ true) (goes : stops (is_some past) (on_connection own conn.description) ≡ false) (link_now : LinkState) (held_now : Held) (count_now : ℕ) where
+      module _ (allowed : may_use ready conn.description ≡ true) (goes : stops (is_some past) (on_connection own conn.description) ≡ false) (link_now : LinkState) (held_now : ExecutionSession) (count_now : ℕ) where
         abbrev turn : Retryability
         turn = on_connection own conn.description
 
@@ -339,7 +345,7 @@ module _ {A : Type 0} (meaning : Meaning A) (places : List Place) (own : Retryab
         came = attempt_state store_now link_now held_now count_now
 
         -- the command's reply was read
-        read_tries : (reply : List ℕ) (answer : Result A Error) (attempt : Attempt A) → Sends trial past began came address conn (Ok reply) → ReadsAnswer meaning reply answer
+        read_tries : (reply : List ℕ) (answer : Result A Error) (attempt : Attempt A) → Sends trial past began came address conn (Ok reply) → ReadsAnswer spec reply answer
             → EndsRead turn version address answer attempt → Tries trial past began came attempt
         read_tries reply (Ok output) attempt sends reads ends =
             subst (λ a. Tries trial past began came a) (sym ends) (record { address = address; conn = conn; reply = reply; sends = sends; reads = reads })
@@ -377,12 +383,12 @@ module _ {A : Type 0} (meaning : Meaning A) (places : List Place) (own : Retryab
         lost_tries (Fault fault labels) _ sends ends = absurd ends
         lost_tries Memory _ sends ends = absurd ends
 
-        came_tries : (result : Result (List ℕ) LinkError) (attempt : Attempt A) → Sends trial past began came address conn result → Comes meaning turn version address result attempt
+        came_tries : (result : Result (List ℕ) LinkError) (attempt : Attempt A) → Sends trial past began came address conn result → Comes spec turn version address result attempt
             → Tries trial past began came attempt
         came_tries (Ok reply) attempt sends comes = read_tries reply comes.answer attempt sends comes.reads comes.ends
         came_tries (Err failure) attempt sends comes = lost_tries failure attempt sends comes
 
-        sending_tries : (attempt : Attempt A) → Sending meaning places (besides_out link) (besides_out link_now) turn conn address ready held_now count count_now attempt → Tries trial past began came attempt
+        sending_tries : (attempt : Attempt A) → Sending spec places (besides_out link) (besides_out link_now) turn conn address ready held_now count count_now attempt → Tries trial past began came attempt
         sending_tries attempt sending = elim sending [
           | inl none ↦ subst (λ a. Tries trial past began came a) (sym none.ends) (inr (inl (record {
             ready = attempt_state store_now link ready count;
@@ -422,6 +428,6 @@ module _ {A : Type 0} (meaning : Meaning A) (places : List Place) (own : Retryab
         ]
 
         -- the command of an attempt on its connection
-        pub sent_tries : (found : Retryability) (attempt : Attempt A) → found ≡ turn → Sending meaning places (besides_out link) (besides_out link_now) found conn address ready held_now count count_now attempt
+        pub sent_tries : (found : Retryability) (attempt : Attempt A) → found ≡ turn → Sending spec places (besides_out link) (besides_out link_now) found conn address ready held_now count count_now attempt
             → Tries trial past began came attempt
-        sent_tries found attempt is sending = sending_tries attempt (subst (λ t. Sending meaning places (besides_out link) (besides_out link_now) t conn address ready held_now count count_now attempt) is sending)
+        sent_tries found attempt is sending = sending_tries attempt (subst (λ t. Sending spec places (besides_out link) (besides_out link_now) t conn address ready held_now count count_now attempt) is sending)

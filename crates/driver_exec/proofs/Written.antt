@@ -24,17 +24,18 @@ use Rattle.driver_link.proofs.Orderly.{orderly_again, orderly_new}
 use Rattle.driver_link.proofs.Placing.{AllPlaces}
 use Rattle.driver_link.proofs.Replying.{IsOneInsert}
 use Rattle.driver_link.proofs.ReplyingUnnumbered.{IsOneUnnumbered, told_only}
-use Rattle.driver_exec.specs.declared.pool.IdleSession.{IdleSession}
+use Rattle.driver_link.specs.Apart.{AllApart}
+use Rattle.driver_session.specs.declared.pool.IdleSession.{IdleSession}
+use Rattle.driver_session.specs.Pool.{Pool, is_lent, taken_back}
+use Rattle.driver_session.specs.Session.{Session}
+use Rattle.driver_session.proofs.PoolTells.{TurnsPool, same_told, turns_told}
+use Rattle.driver_ops.specs.Inserts.{is_done_reply}
+use Rattle.driver_ops.proofs.Standing.{done_stands, error_not_done, failed_not_done}
 use Rattle.driver_exec.specs.BetweenCalls.{AllBelow, Between, FitsIdle, Knows, NoneOf, SentUpTo, Sound}
-use Rattle.driver_exec.specs.Causes.{Failure}
-use Rattle.driver_exec.specs.Inserts.{is_done_reply}
+use Rattle.driver_exec.specs.Causes.{ErrorOutline}
 use Rattle.driver_exec.specs.Moment.{Moment}
-use Rattle.driver_exec.specs.Pool.{AllApart, Pool, is_lent, taken_back}
 use Rattle.driver_exec.specs.Resending.{Borrowed, Borrows, SendsTold, SentTimes}
-use Rattle.driver_exec.specs.Session.{Session}
 use Rattle.driver_exec.specs.Writing.{DoneLast, EndsWritten, WasDoneLast, WritesLast, Wrote, insert_send, placed_write}
-use Rattle.driver_exec.proofs.PoolTells.{TurnsPool, same_told, turns_told}
-use Rattle.driver_exec.proofs.Standing.{done_stands, error_not_done, failed_not_done}
 use Rattle.driver_exec.proofs.Knowing.{Holding, joined_holds, lends_holds, number_raised, taken_between}
 
 -- the one write of an insert's send
@@ -268,14 +269,14 @@ record Lending (now : Pool) (trace : List Send) (session back : Session) : Type 
 -- what such a pool holds between
 lending : (pool now : Pool) (out_at back_at : ℕ) (session back : Session) (trace : List Send) → TurnsPool pool now out_at back_at session back
     → AllApart now.drawn → Between pool trace → Lending now trace session back
-lending pool now out_at back_at session back trace turns apart between =
-    let same : now.drawn ≡ turns.mid.drawn = ap (λ p. p.drawn) turns.takes ∙ drawn_back turns.back_by back back_at turns.mid in
+lending pool now out_at back_at session back trace attempts apart between =
+    let same : now.drawn ≡ attempts.mid.drawn = ap (λ p. p.drawn) attempts.takes ∙ drawn_back attempts.back_by back back_at attempts.mid in
     record {
-      pool = turns.mid;
-      caller = turns.back_by;
+      pool = attempts.mid;
+      caller = attempts.back_by;
       moment = back_at;
-      holds = lends_holds pool turns.mid turns.out_by out_at session trace turns.lends (subst AllApart same apart) between;
-      now_is = turns.takes;
+      holds = lends_holds pool attempts.mid attempts.out_by out_at session trace attempts.lends (subst AllApart same apart) between;
+      now_is = attempts.takes;
     }
 
 -- what holds once the session came back
@@ -481,11 +482,11 @@ module _ (made : ℕ) (before now : Moment) (pool pool_now : Pool) (run run_now 
   stands_of session None earlier borrows once last = unnumbered_stands session (subst (DoneLast run run_now (insert_send session None write)) (once refl) last)
 
   -- the same of what the insert of a write leaves
-  pub wrote_leaves : (ended : Option Failure) (wrote : Wrote before now write ended) → Left made wrote.session wrote.number write pool_now run.server run_now.server
+  pub wrote_leaves : (ended : Option ErrorOutline) (wrote : Wrote before now write ended) → Left made wrote.session wrote.number write pool_now run.server run_now.server
   wrote_leaves ended wrote = left_of wrote.session wrote.number wrote.sends.count wrote.borrows wrote.sends.once wrote.sends.sends
 
   -- where it was done its entry stands
-  pub wrote_stands : (ended : Option Failure) (wrote : Wrote before now write ended) → ended ≡ None → Stands wrote.session wrote.number write run_now.server.log
+  pub wrote_stands : (ended : Option ErrorOutline) (wrote : Wrote before now write ended) → ended ≡ None → Stands wrote.session wrote.number write run_now.server.log
   wrote_stands ended wrote done =
       let last : WritesLast (server_run before.link) (server_run now.link) wrote.session wrote.number write
       = subst (EndsWritten (server_run before.link) (server_run now.link) wrote.session wrote.number write) done wrote.ends in

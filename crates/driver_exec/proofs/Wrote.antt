@@ -11,17 +11,16 @@ use Rattle.driver_link.specs.declared.machine.PlacedWrite.{PlacedWrite}
 use Rattle.driver_link.specs.declared.machine.Send.{Send}
 use Rattle.driver_link.specs.LinkState.{server_run}
 use Rattle.driver_link.specs.ServerRun.{IsReply, ServerRun, run_answer}
-use Rattle.driver_exec.specs.Attempting.{ReadsOutput}
+use Rattle.driver_ops.specs.InsertSpec.{AsksInsert, insert_spec}
+use Rattle.driver_ops.specs.Inserts.{is_done_reply}
+use Rattle.driver_ops.specs.Operations.{OperationSpec, ReadsOutput}
+use Rattle.driver_ops.proofs.InsertReading.{output_done}
+use Rattle.driver_ops.proofs.Responding.{spells_one}
 use Rattle.driver_exec.specs.Causes.{end_of}
-use Rattle.driver_exec.specs.InsertMeaning.{AsksInsert, insert_meaning}
-use Rattle.driver_exec.specs.Inserts.{is_done_reply}
 use Rattle.driver_exec.specs.Keeping.{ReadsDone}
 use Rattle.driver_exec.specs.Moment.{Moment}
-use Rattle.driver_exec.specs.Operations.{Meaning}
 use Rattle.driver_exec.specs.Resending.{AnsweredLast, EndsWithReading, LastAnswer, SendsOneCommand}
 use Rattle.driver_exec.specs.Writing.{DoneLast, EndsWritten, WasDoneLast, Wrote, insert_asked, insert_send}
-use Rattle.driver_exec.proofs.Attempts.{spells_one}
-use Rattle.driver_exec.proofs.InsertReading.{output_done}
 
 -- the insert asks for its write
 pub asks_write : (write : PlacedWrite) (bytes : List ℕ) → Spells write.written.document bytes
@@ -29,12 +28,12 @@ pub asks_write : (write : PlacedWrite) (bytes : List ℕ) → Spells write.writt
 asks_write write bytes spelled = record { document = write.written.document; place = write.place; spelled = spelled; alone = refl; is = refl }
 
 -- and reads only a reply that tells that it was done
-pub insert_reads : (namespace : Namespace) (bytes : List ℕ) → ReadsDone {A = Unit {0}} (insert_meaning namespace bytes)
+pub insert_reads : (namespace : Namespace) (bytes : List ℕ) → ReadsDone {A = Unit {0}} (insert_spec namespace bytes)
 insert_reads namespace bytes = λ reply output reads. output_done namespace bytes reply output reads
 
-module _ {A : Type 0} (meaning : Meaning A) (places : List Place) (write : PlacedWrite) (asked : meaning.asked places (insert_asked write)) (reads_done : ReadsDone meaning) where
+module _ {A : Type 0} (spec : OperationSpec A) (places : List Place) (write : PlacedWrite) (asked : spec.asked places (insert_asked write)) (reads_done : ReadsDone spec) where
   -- a reply that was read tells of an insert that was done
-  done_last : (told now : ServerRun) (send : Send) (earlier : ℕ) (reply : List ℕ) (output : A) → ReadsOutput meaning reply output → LastAnswer told now send earlier reply
+  done_last : (told now : ServerRun) (send : Send) (earlier : ℕ) (reply : List ℕ) (output : A) → ReadsOutput spec reply output → LastAnswer told now send earlier reply
       → DoneLast told now send earlier
   done_last told now send earlier reply output reads last = of_answer (run_answer last.mid send) refl last.reply
     where
@@ -49,14 +48,14 @@ module _ {A : Type 0} (meaning : Meaning A) (places : List Place) (write : Place
         rest = last.rest;
       }
 
-  was_done : (link now : Option ServerRun) (send : Send) (earlier : ℕ) (reply : List ℕ) (output : A) → ReadsOutput meaning reply output → AnsweredLast link now send earlier reply
+  was_done : (link now : Option ServerRun) (send : Send) (earlier : ℕ) (reply : List ℕ) (output : A) → ReadsOutput spec reply output → AnsweredLast link now send earlier reply
       → WasDoneLast link now send earlier
   was_done None now send earlier reply output reads last = last
   was_done (Some told) None send earlier reply output reads last = absurd last
   was_done (Some told) (Some now) send earlier reply output reads last = done_last told now send earlier reply output reads last
 
   ends_written : (link now : Option ServerRun) (session : Option (List ℕ)) (number : Option ℤ) (result : Result A Error)
-      → EndsWithReading meaning places link now session number result → EndsWritten link now session number write (end_of result)
+      → EndsWithReading spec places link now session number result → EndsWritten link now session number write (end_of result)
   ends_written link now session number (Ok output) last = record {
     earlier = last.earlier;
     within = last.within;
@@ -66,7 +65,7 @@ module _ {A : Type 0} (meaning : Meaning A) (places : List Place) (write : Place
   ends_written link now session number (Err error) last = tt
 
   -- what the insert of the write leaves
-  pub works_wrote : (before now : Moment) (result : Result A Error) → SendsOneCommand meaning places before now result → Wrote before now write (end_of result)
+  pub works_wrote : (before now : Moment) (result : Result A Error) → SendsOneCommand spec places before now result → Wrote before now write (end_of result)
   works_wrote before now result works = record {
     session = works.session;
     number = works.number;

@@ -3,7 +3,7 @@
 use Rattle.std.specs.Prelude.{◌≡◌, ℕ, ◌+◌, ℤ, Bool, true, false, ◌&&◌, List, [], Option, None, Some, is_some, ◌⊎◌, Result, Ok, Err, if◌then◌else◌}
 use Rattle.driver_error.specs.declared.error.Error.{Error}
 use Rattle.driver_error.specs.declared.kind.ErrorKind.TheVariants as kind
-use Rattle.driver_error.specs.Error.{HasResponse, IsAlone, kind_of}
+use Rattle.driver_error.specs.Error.{IsAlone, kind_of}
 use Rattle.driver_error.specs.LabelTexts.{no_labels}
 use Rattle.driver_link.specs.declared.fault.LinkError.{LinkError}
 use Rattle.driver_link.specs.declared.fault.LinkError.TheVariants.{Fault}
@@ -18,19 +18,17 @@ use Rattle.driver_link.specs.Framed.{Framed}
 use Rattle.driver_link.specs.LinkCalls.{ChecksOutConnection, ExchangesFrame, SelectsServer}
 use Rattle.driver_link.specs.LinkState.{LinkState}
 use Rattle.driver_link.specs.Reads.{Reads}
+use Rattle.driver_session.specs.declared.retryability.Retryability.{Retryability}
+use Rattle.driver_session.specs.declared.retryability.Retryability.TheVariants as may
+use Rattle.driver_session.specs.StoreTells.{StoreTells}
+use Rattle.driver_ops.specs.Operations.{IsFramed, OperationSpec, TellsUnframed, plain_send, ReadsAnswer}
 use Rattle.driver_exec.specs.declared.attempt_end.Attempt.{Attempt}
 use Rattle.driver_exec.specs.declared.attempt_end.Attempt.TheVariants.{Done, Ended, Failed, Stopped, Unselected}
-use Rattle.driver_exec.specs.declared.response.CommandResponse.{CommandResponse}
-use Rattle.driver_exec.specs.declared.retry.FailurePhase.{FailurePhase}
-use Rattle.driver_exec.specs.declared.retry.FailurePhase.TheVariants.{Establishment, Execution}
-use Rattle.driver_exec.specs.declared.retryability.Retryability.{Retryability}
-use Rattle.driver_exec.specs.declared.retryability.Retryability.TheVariants as may
-use Rattle.driver_exec.specs.Failing.{EndsLost, EndsRead, IsFaultOf, IsLabelledRead, IsVersioned}
-use Rattle.driver_exec.specs.Holding.{DrawsNumber, Held, HoldsSession, held_after_failure, held_id, needs_session, number_before}
-use Rattle.driver_exec.specs.Operations.{IsFramed, Meaning, TellsUnframed, plain_send}
-use Rattle.driver_exec.specs.Responses.{ReadsResponse}
-use Rattle.driver_exec.specs.Retry.{Kept}
-use Rattle.driver_exec.specs.StoreTells.{StoreTells}
+use Rattle.driver_exec.specs.declared.failure.FailurePhase.{FailurePhase}
+use Rattle.driver_exec.specs.declared.failure.FailurePhase.TheVariants.{ConnectionEstablishment, Execution}
+use Rattle.driver_exec.specs.Failures.{IsFaultOf, IsLabelledRead, IsVersioned}
+use Rattle.driver_exec.specs.Holding.{DrawsNumber, ExecutionSession, HoldsSession, held_after_failure, held_id, needs_session}
+use Rattle.driver_exec.specs.Retry.{RetryState}
 
 -- what a link tells besides the connections that are out
 abbrev pub besides_out : LinkState → LinkState
@@ -41,23 +39,19 @@ besides_out link = record link { out = None }
 pub record AttemptState : Type 0 where
   pub store : StoreTells
   pub link : LinkState
-  pub held : Held
+  pub held : ExecutionSession
   pub count : ℕ
 
 -- an operation as its attempts see it: what it tells, the places of its writes, and what of it may be repeated by its own
 -- rules
 pub record Trial (A : Type 0) : Type 1 where
-  pub meaning : Meaning A
+  pub spec : OperationSpec A
   pub places : List Place
   pub own : Retryability
 
--- the same from its parts
-abbrev pub attempt_state : StoreTells → LinkState → Held → ℕ → AttemptState
-attempt_state store link held count = record { store = store; link = besides_out link; held = held; count = count }
-
 -- an operation by what it tells, the places of its writes, and what of it may be repeated by its own rules
-abbrev pub trial_of : {A : Type 0} → Meaning A → List Place → Retryability → Trial A
-trial_of meaning places own = record { meaning = meaning; places = places; own = own }
+abbrev pub trial_of : {A : Type 0} → OperationSpec A → List Place → Retryability → Trial A
+trial_of spec places own = record { spec = spec; places = places; own = own }
 
 -- what of an operation may be repeated on a connection: a write where that takes such writes
 abbrev pub on_connection : Retryability → Description → Retryability
@@ -74,7 +68,7 @@ abbrev pub stops : Bool → Retryability → Bool
 stops again turn = again && is_nothing turn
 
 -- the servers that a selection is asked to avoid, which is by what is kept of the failures before
-abbrev pub avoided : Option Kept → List Address
+abbrev pub avoided : Option RetryState → List Address
 avoided None = []
 avoided (Some kept) = kept.deprioritized
 
@@ -93,7 +87,7 @@ pub record OnlyLink (before now : AttemptState) : Type 0 where
   pub count : now.count ≡ before.count
 
 -- no server was selected: the fault has its own labels alone
-pub record NotSelected (kept : Option Kept) (before now : AttemptState) (error : Error) : Type 0 where
+pub record NotSelected (kept : Option RetryState) (before now : AttemptState) (error : Error) : Type 0 where
   pub fault : LinkFault
   pub own : List (List ℕ)
   pub selects : Selects (avoided kept) before.link now.link (Err (Fault fault own))
@@ -101,7 +95,7 @@ pub record NotSelected (kept : Option Kept) (before now : AttemptState) (error :
   pub rest : OnlyLink before now
 
 -- a server was selected, and no connection to it was had
-pub record NotConnected {A : Type 0} (trial : Trial A) (kept : Option Kept) (before now : AttemptState) (address : Address) (error : Error) : Type 0 where
+pub record NotConnected {A : Type 0} (trial : Trial A) (kept : Option RetryState) (before now : AttemptState) (address : Address) (error : Error) : Type 0 where
   pub mid : LinkState
   pub selects : Selects (avoided kept) before.link mid (Ok address)
   pub fault : LinkFault
@@ -121,123 +115,53 @@ abbrev pub asks_session : Bool → Description → Bool
 asks_session sessions description = sessions && description.supports_sessions
 
 -- a session that is held needs a connection which takes sessions
-abbrev pub may_use : Held → Description → Bool
+abbrev pub may_use : ExecutionSession → Description → Bool
 may_use held description = if is_some held.session then description.supports_sessions else true
 
 -- a connection was had, and a session where one is needed
-pub record Readies {A : Type 0} (trial : Trial A) (kept : Option Kept) (before now : AttemptState) (address : Address) (conn : Conn) : Type 0 where
+pub record Readies {A : Type 0} (trial : Trial A) (kept : Option RetryState) (before now : AttemptState) (address : Address) (conn : Conn) : Type 0 where
   pub connects : Connects (avoided kept) before.link now.link address conn
-  pub holds : HoldsSession (needs_session (asks_session trial.meaning.sessions conn.description) before.held) before.store now.store before.held now.held (Ok tt)
+  pub holds : HoldsSession (needs_session (asks_session trial.spec.sessions conn.description) before.held) before.store now.store before.held now.held (Ok tt)
   pub count : now.count ≡ before.count
 
 -- a command went out over a connection under a session and a number, where there are such, with this result of the
 -- exchange: the frame was the built command with the executor's fields, and it reads as the send of what was asked
-pub record Exchanges {A : Type 0} (meaning : Meaning A) (places : List Place) (link now : LinkState) (conn : Conn) (session : Option (List ℕ)) (number : Option ℤ) (result : Result (List ℕ) LinkError) : Type 0 where
+pub record Exchanges {A : Type 0} (spec : OperationSpec A) (places : List Place) (link now : LinkState) (conn : Conn) (session : Option (List ℕ)) (number : Option ℤ) (result : Result (List ℕ) LinkError) : Type 0 where
   pub frame : Framed
-  pub framed : IsFramed meaning session number frame
-  pub reads : (body : SendBody) → meaning.asked places body → Reads frame places (plain_send session number body)
+  pub framed : IsFramed spec session number frame
+  pub reads : (body : SendBody) → spec.asked places body → Reads frame places (plain_send session number body)
   pub exchanges : ExchangesFrame link now conn frame places result
 
 -- what is held after an exchange
-abbrev pub held_after : Result (List ℕ) LinkError → Held → Held
+abbrev pub held_after : Result (List ℕ) LinkError → ExecutionSession → ExecutionSession
 held_after (Ok reply) held = held
 held_after (Err failure) held = held_after_failure failure held
 
 -- the command went out on a connection, under the number of the send before or a first one, and was counted; a further
 -- attempt sends it only where it may be repeated there
-pub record Sends {A : Type 0} (trial : Trial A) (kept : Option Kept) (before now : AttemptState) (address : Address) (conn : Conn) (result : Result (List ℕ) LinkError) : Type 0 where
+pub record Sends {A : Type 0} (trial : Trial A) (kept : Option RetryState) (before now : AttemptState) (address : Address) (conn : Conn) (result : Result (List ℕ) LinkError) : Type 0 where
   pub ready : AttemptState
   pub readies : Readies trial kept before ready address conn
   pub allowed : may_use ready.held conn.description ≡ true
   pub goes : stops (is_some kept) (on_connection trial.own conn.description) ≡ false
-  pub numbered : Held
+  pub numbered : ExecutionSession
   pub number : Option ℤ
   pub draws : DrawsNumber ready.held.sent (on_connection trial.own conn.description) ready.held numbered (Ok number)
-  pub exchanges : Exchanges trial.meaning trial.places ready.link now.link conn (held_id numbered) number result
+  pub exchanges : Exchanges trial.spec trial.places ready.link now.link conn (held_id numbered) number result
   pub store_is : now.store ≡ ready.store
   pub held_is : now.held ≡ held_after result (record numbered { sent = Some number })
   pub counted : now.count ≡ ready.count + 1
 
--- the error that an operation reads in a reply whose command was done, with the reply in it
-pub record ReadsError {A : Type 0} (meaning : Meaning A) (bytes : List ℕ) (error : Error) : Type 0 where
-  pub response : CommandResponse
-  pub done : ReadsResponse bytes (Ok response)
-  pub bare : Error
-  pub reads : meaning.answers response.body (Err bare)
-  pub kept : HasResponse (Some bytes) bare error
-
--- the output that an operation reads in a reply whose command was done
-pub record ReadsOutput {A : Type 0} (meaning : Meaning A) (bytes : List ℕ) (output : A) : Type 0 where
-  pub response : CommandResponse
-  pub done : ReadsResponse bytes (Ok response)
-  pub reads : meaning.answers response.body (Ok output)
-
--- what a reply comes to: the output that the operation reads in it, the error that the reply or the operation spells, or want
--- of memory
-abbrev pub ReadsAnswer : {A : Type 0} → Meaning A → List ℕ → Result A Error → Type 0
-ReadsAnswer meaning bytes (Ok output) = ReadsOutput meaning bytes output
-ReadsAnswer meaning bytes (Err error) = ReadsResponse bytes (Err error) ⊎ (ReadsError meaning bytes error ⊎ (kind_of error ≡ kind.Memory))
-
--- what comes of an exchange's result: its reply was read, or the exchange failed
-pub record ComesOfReply {A : Type 0} (meaning : Meaning A) (turn : Retryability) (version : Option ℤ) (address : Address) (reply : List ℕ) (attempt : Attempt A) : Type 0 where
-  pub answer : Result A Error
-  pub reads : ReadsAnswer meaning reply answer
-  pub ends : EndsRead turn version address answer attempt
-
-abbrev pub Comes : {A : Type 0} → Meaning A → Retryability → Option ℤ → Address → Result (List ℕ) LinkError → Attempt A → Type 0
-Comes meaning turn version address (Ok reply) attempt = ComesOfReply meaning turn version address reply attempt
-Comes meaning turn version address (Err failure) attempt = EndsLost turn version address failure attempt
-
--- one exchange under what is held over a connection, and what came of it
-pub record Exchanging {A : Type 0} (meaning : Meaning A) (places : List Place) (link link_now : LinkState) (turn : Retryability) (conn : Conn) (address : Address) (held held_now : Held)
-    (attempt : Attempt A) : Type 0 where
-  pub result : Result (List ℕ) LinkError
-  pub exchanges : Exchanges meaning places link link_now conn (held_id held) (number_before held) result
-  pub held_is : held_now ≡ held_after result held
-  pub comes : Comes meaning turn conn.description.max_wire_version address result attempt
-
--- there was no number, or no frame under it, and nothing went out
-pub record EndsUnnumbered {A : Type 0} (link link_now : LinkState) (turn : Retryability) (held held_now : Held) (count count_now : ℕ) (attempt : Attempt A) : Type 0 where
-  pub error : Error
-  pub draws : DrawsNumber held.sent turn held held_now (Err error)
-  pub link_is : link_now ≡ link
-  pub uncounted : count_now ≡ count
-  pub ends : attempt ≡ Ended error
-
-pub record EndsUnframed {A : Type 0} (meaning : Meaning A) (link link_now : LinkState) (turn : Retryability) (held held_now : Held) (count count_now : ℕ) (attempt : Attempt A) : Type 0 where
-  pub error : Error
-  pub number : Option ℤ
-  pub draws : DrawsNumber held.sent turn held held_now (Ok number)
-  pub why : TellsUnframed meaning (held_id held_now) number (kind_of error)
-  pub link_is : link_now ≡ link
-  pub uncounted : count_now ≡ count
-  pub ends : attempt ≡ Ended error
-
--- the command went out under its number
-pub record SendsOut {A : Type 0} (meaning : Meaning A) (places : List Place) (link link_now : LinkState) (turn : Retryability) (conn : Conn) (address : Address) (held held_now : Held)
-    (count count_now : ℕ) (attempt : Attempt A) : Type 0 where
-  pub numbered : Held
-  pub number : Option ℤ
-  pub draws : DrawsNumber held.sent turn held numbered (Ok number)
-  pub exchanging : Exchanging meaning places link link_now turn conn address (record numbered { sent = Some number }) held_now attempt
-  pub counted : count_now ≡ count + 1
-
--- the command of an attempt
-abbrev pub Sending : {A : Type 0} → Meaning A → List Place → LinkState → LinkState → Retryability → Conn → Address → Held → Held → ℕ → ℕ → Attempt A → Type 0
-Sending meaning places link link_now turn conn address held held_now count count_now attempt =
-    EndsUnnumbered link link_now turn held held_now count count_now attempt
-    ⊎ (EndsUnframed meaning link link_now turn held held_now count count_now attempt ⊎ SendsOut meaning places link link_now turn conn address held held_now count count_now attempt)
-
 -- the attempt's reply was read
-pub record IsAnswered {A : Type 0} (trial : Trial A) (kept : Option Kept) (before now : AttemptState) (output : A) : Type 0 where
+pub record IsAnswered {A : Type 0} (trial : Trial A) (kept : Option RetryState) (before now : AttemptState) (output : A) : Type 0 where
   pub address : Address
   pub conn : Conn
   pub reply : List ℕ
   pub sends : Sends trial kept before now address conn (Ok reply)
-  pub reads : ReadsAnswer trial.meaning reply (Ok output)
+  pub reads : ReadsAnswer trial.spec reply (Ok output)
 
 -- the exchange of the attempt's command failed
-pub record LosesExchange {A : Type 0} (trial : Trial A) (kept : Option Kept) (before now : AttemptState) (address : Address) (error : Error) : Type 0 where
+pub record LosesExchange {A : Type 0} (trial : Trial A) (kept : Option RetryState) (before now : AttemptState) (address : Address) (error : Error) : Type 0 where
   pub conn : Conn
   pub fault : LinkFault
   pub own : List (List ℕ)
@@ -245,25 +169,25 @@ pub record LosesExchange {A : Type 0} (trial : Trial A) (kept : Option Kept) (be
   pub is : IsVersioned (IsFaultOf fault own (on_connection trial.own conn.description)) conn.description.max_wire_version error
 
 -- an error that was read in a reply, with the labels of the table
-pub record IsReadIn {A : Type 0} (meaning : Meaning A) (bytes : List ℕ) (turn : Retryability) (error : Error) : Type 0 where
+pub record IsReadIn {A : Type 0} (spec : OperationSpec A) (bytes : List ℕ) (turn : Retryability) (error : Error) : Type 0 where
   pub bare : Error
-  pub reads : ReadsAnswer meaning bytes (Err bare)
+  pub reads : ReadsAnswer spec bytes (Err bare)
   pub labelled : IsLabelledRead turn bare error
 
 -- the reply to the attempt's command spelled an error
-pub record SpellsFailure {A : Type 0} (trial : Trial A) (kept : Option Kept) (before now : AttemptState) (address : Address) (error : Error) : Type 0 where
+pub record SpellsFailure {A : Type 0} (trial : Trial A) (kept : Option RetryState) (before now : AttemptState) (address : Address) (error : Error) : Type 0 where
   pub conn : Conn
   pub reply : List ℕ
   pub sends : Sends trial kept before now address conn (Ok reply)
-  pub is : IsVersioned (IsReadIn trial.meaning reply (on_connection trial.own conn.description)) conn.description.max_wire_version error
+  pub is : IsVersioned (IsReadIn trial.spec reply (on_connection trial.own conn.description)) conn.description.max_wire_version error
 
 -- an attempt failed in a phase
-abbrev pub FailsIn : {A : Type 0} → Trial A → Option Kept → AttemptState → AttemptState → Address → FailurePhase → Error → Type 0
-FailsIn trial kept before now address Establishment error = NotConnected trial kept before now address error
+abbrev pub FailsIn : {A : Type 0} → Trial A → Option RetryState → AttemptState → AttemptState → Address → FailurePhase → Error → Type 0
+FailsIn trial kept before now address ConnectionEstablishment error = NotConnected trial kept before now address error
 FailsIn trial kept before now address Execution error = LosesExchange trial kept before now address error ⊎ SpellsFailure trial kept before now address error
 
 -- a connection was had that what is held may use, and nothing may be repeated on it
-pub record Stops {A : Type 0} (trial : Trial A) (kept : Option Kept) (before now : AttemptState) : Type 0 where
+pub record Stops {A : Type 0} (trial : Trial A) (kept : Option RetryState) (before now : AttemptState) : Type 0 where
   pub address : Address
   pub conn : Conn
   pub readies : Readies trial kept before now address conn
@@ -288,7 +212,7 @@ abbrev pub AsksEarly : List Address → LinkState → LinkState → Type 0
 AsksEarly avoid link now = SelectionFails avoid link now ⊎ AsksConnection avoid link now
 
 -- there was no memory before a session was lent
-pub record EndsUnready (kept : Option Kept) (before now : AttemptState) (error : Error) : Type 0 where
+pub record EndsUnready (kept : Option RetryState) (before now : AttemptState) (error : Error) : Type 0 where
   pub asks : AsksEarly (avoided kept) before.link now.link
   pub store : now.store ≡ before.store
   pub held : now.held ≡ before.held
@@ -296,25 +220,25 @@ pub record EndsUnready (kept : Option Kept) (before now : AttemptState) (error :
   pub why : kind_of error ≡ kind.Memory
 
 -- a session is held, and the connection takes none; the error tells so and nothing else
-pub record NoSessions (description : Description) (ready now : Held) (error : Error) : Type 0 where
+pub record NoSessions (description : Description) (ready now : ExecutionSession) (error : Error) : Type 0 where
   pub none : may_use ready description ≡ false
   pub same : now ≡ ready
   pub is : IsAlone kind.SessionsNotSupported no_labels error
 
 -- there was no number
-pub record NoNumber (kept : Option Kept) (turn : Retryability) (ready now : Held) (error : Error) : Type 0 where
+pub record NoNumber (kept : Option RetryState) (turn : Retryability) (ready now : ExecutionSession) (error : Error) : Type 0 where
   pub goes : stops (is_some kept) turn ≡ false
   pub draws : DrawsNumber ready.sent turn ready now (Err error)
 
 -- there was no frame under the number
-pub record NoFrame {A : Type 0} (meaning : Meaning A) (kept : Option Kept) (turn : Retryability) (ready now : Held) (error : Error) : Type 0 where
+pub record NoFrame {A : Type 0} (spec : OperationSpec A) (kept : Option RetryState) (turn : Retryability) (ready now : ExecutionSession) (error : Error) : Type 0 where
   pub goes : stops (is_some kept) turn ≡ false
   pub number : Option ℤ
   pub draws : DrawsNumber ready.sent turn ready now (Ok number)
-  pub why : TellsUnframed meaning (held_id now) number (kind_of error)
+  pub why : TellsUnframed spec (held_id now) number (kind_of error)
 
 -- a connection was had, and the command was refused before it went out
-pub record EndsRefused {A : Type 0} (trial : Trial A) (kept : Option Kept) (before now : AttemptState) (error : Error) : Type 0 where
+pub record EndsRefused {A : Type 0} (trial : Trial A) (kept : Option RetryState) (before now : AttemptState) (error : Error) : Type 0 where
   pub ready : AttemptState
   pub address : Address
   pub conn : Conn
@@ -323,10 +247,10 @@ pub record EndsRefused {A : Type 0} (trial : Trial A) (kept : Option Kept) (befo
   pub store : now.store ≡ ready.store
   pub count : now.count ≡ ready.count
   pub refused : NoSessions conn.description ready.held now.held error
-      ⊎ (NoNumber kept (on_connection trial.own conn.description) ready.held now.held error ⊎ NoFrame trial.meaning kept (on_connection trial.own conn.description) ready.held now.held error)
+      ⊎ (NoNumber kept (on_connection trial.own conn.description) ready.held now.held error ⊎ NoFrame trial.spec kept (on_connection trial.own conn.description) ready.held now.held error)
 
 -- the command went out, and there was no memory for what came of it
-pub record EndsSent {A : Type 0} (trial : Trial A) (kept : Option Kept) (before now : AttemptState) (error : Error) : Type 0 where
+pub record EndsSent {A : Type 0} (trial : Trial A) (kept : Option RetryState) (before now : AttemptState) (error : Error) : Type 0 where
   pub address : Address
   pub conn : Conn
   pub result : Result (List ℕ) LinkError
@@ -334,11 +258,11 @@ pub record EndsSent {A : Type 0} (trial : Trial A) (kept : Option Kept) (before 
   pub why : kind_of error ≡ kind.Memory
 
 -- the operation ends at once
-abbrev pub EndsAtOnce : {A : Type 0} → Trial A → Option Kept → AttemptState → AttemptState → Error → Type 0
+abbrev pub EndsAtOnce : {A : Type 0} → Trial A → Option RetryState → AttemptState → AttemptState → Error → Type 0
 EndsAtOnce trial kept before now error = EndsUnready kept before now error ⊎ (EndsRefused trial kept before now error ⊎ EndsSent trial kept before now error)
 
 -- one attempt, by what is kept of the failures before and how it ended; only one that is not the first stops
-abbrev pub Tries : {A : Type 0} → Trial A → Option Kept → AttemptState → AttemptState → Attempt A → Type 0
+abbrev pub Tries : {A : Type 0} → Trial A → Option RetryState → AttemptState → AttemptState → Attempt A → Type 0
 Tries trial kept before now (Done output) = IsAnswered trial kept before now output
 Tries trial kept before now (Failed failing) = FailsIn trial kept before now failing.address failing.failure.phase failing.failure.error
 Tries trial kept before now (Unselected error) = NotSelected kept before now error

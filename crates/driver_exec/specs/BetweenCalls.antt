@@ -1,18 +1,14 @@
 -- What holds between the calls of one client's plain writes: what the sends so far say of the pool of sessions,
 -- and the invariant of the trace.
-use Rattle.std.specs.Prelude.{◌≡◌, ℕ, ℤ, ◌<◌, ◌≤ℤ◌, List, [], ◌∷◌, map, ◌⊎◌, Some, slice_get}
+use Rattle.std.specs.Prelude.{◌≡◌, ℕ, ℤ, ◌<◌, ◌≤ℤ◌, List, [], ◌∷◌, map, Some, slice_get}
 use Rattle.driver_link.specs.declared.machine.PlacedWrite.{PlacedWrite}
 use Rattle.driver_link.specs.declared.machine.Send.{Send}
 use Rattle.driver_link.specs.declared.machine.Server.{Server}
 use Rattle.driver_link.specs.Cases.{writes_of}
 use Rattle.driver_link.specs.Settled.{Has, IsOrderly, IsSettled, IsUnder}
-use Rattle.driver_exec.specs.declared.pool.IdleSession.{IdleSession}
-use Rattle.driver_exec.specs.Pool.{NotAmong, Pool}
-
--- an id is one of these
-abbrev pub Among : List ℕ → List (List ℕ) → Type 0
-Among id [] = ⊥
-Among id (other ∷ ids) = (id ≡ other) ⊎ Among id ids
+use Rattle.driver_link.specs.Apart.{NotAmong}
+use Rattle.driver_session.specs.declared.pool.IdleSession.{IdleSession}
+use Rattle.driver_session.specs.Pool.{Pool, Among}
 
 -- each send of a session has a number at most this one
 abbrev pub SentUpTo : List ℕ → ℤ → List Send → Type 0

@@ -1,8 +1,5 @@
--- Why a call ended as it did, by what the link answered in it, over any link and any store.
-use Rattle.std.specs.Prelude.{◌≡◌, ℕ, ℤ, pos, Bool, true, false, List, [], ◌∷◌, Option, None, Some, ◌⊎◌, Result, Ok, Err}
-use Rattle.bson_lite.specs.declared.fault.EncodeFault.{EncodeFault}
-use Rattle.bson_lite.specs.declared.namespace.Namespace.{Namespace}
-use Rattle.bson_lite.specs.Spelling.{refusal}
+-- Words on ends and on what a link answered: replies, early faults, the number of the session that is lent next.
+use Rattle.std.specs.Prelude.{◌≡◌, ℕ, ℤ, pos, List, [], ◌∷◌, Option, None, Some, ◌⊎◌, Result, Ok, Err}
 use Rattle.driver_error.specs.declared.error.Error.{Error}
 use Rattle.driver_error.specs.declared.kind.ErrorKind.TheVariants as kind
 use Rattle.driver_error.specs.Error.{ErrorKind, kind_of, labels_of}
@@ -10,14 +7,10 @@ use Rattle.driver_error.specs.LabelTexts.{LabelSet}
 use Rattle.driver_link.specs.declared.fault.Answered.{Answered}
 use Rattle.driver_link.specs.declared.fault.Answered.TheVariants as answer
 use Rattle.driver_link.specs.declared.fault.LinkCall.TheVariants.{Exchange}
-use Rattle.driver_link.specs.declared.fault.LinkFault.{LinkFault}
-use Rattle.driver_link.specs.declared.fault.LinkFault.TheVariants.{Io, PoolCleared}
-use Rattle.driver_exec.specs.declared.pool.IdleSession.{IdleSession}
-use Rattle.driver_exec.specs.Fields.{IsSixteen}
-use Rattle.driver_exec.specs.Inserts.{insert_body}
-use Rattle.driver_exec.specs.Session.{last_number}
-use Rattle.driver_exec.specs.Pool.{Pool}
-use Rattle.driver_exec.specs.StoreTells.{StoreTells}
+use Rattle.driver_session.specs.declared.pool.IdleSession.{IdleSession}
+use Rattle.driver_session.specs.Session.{last_number}
+use Rattle.driver_session.specs.Pool.{Pool}
+use Rattle.driver_session.specs.StoreTells.{StoreTells}
 
 -- one of the replies has a property
 abbrev pub HasReply : (List ℕ → Type 0) → List Answered → Type 0
@@ -25,22 +18,12 @@ HasReply P [] = ⊥
 HasReply P (answer.Reply bytes ∷ items) = P bytes ⊎ HasReply P items
 HasReply P (answer.Fault call fault labels ∷ items) = HasReply P items
 
--- the network failed, or the connections were given up
-abbrev pub is_network : LinkFault → Bool
-is_network (Io io) = true
-is_network (PoolCleared message) = true
-is_network other = false
-
 -- nothing was exchanged: all that was answered is a fault of an earlier call
 abbrev pub AllEarly : List Answered → Type 0
 AllEarly [] = Unit {0}
 AllEarly (answer.Reply bytes ∷ items) = ⊥
 AllEarly (answer.Fault Exchange fault own ∷ items) = ⊥
 AllEarly (answer.Fault call fault own ∷ items) = AllEarly items
-
--- nothing is refused
-abbrev pub never : ErrorKind → Type 0
-never why = ⊥
 
 -- the number is the last one, where it is told
 abbrev pub MayBeLast : Option ℤ → Type 0
@@ -53,17 +36,18 @@ IsLast None = ⊥
 IsLast (Some number) = number ≡ last_number
 
 -- what an error tells of itself: its kind and its own labels
-pub record Failure : Type 0 where
+pub record ErrorOutline : Type 0 where
   pub kind : ErrorKind
   pub labels : LabelSet
 
-abbrev pub failure_of : Error → Failure
-failure_of error = record { kind = kind_of error; labels = labels_of error }
+-- what an error tells of itself
+abbrev pub outline_of : Error → ErrorOutline
+outline_of error = record { kind = kind_of error; labels = labels_of error }
 
 -- how a call ended: nothing after an Ok, else what its error tells
-abbrev pub end_of : {A : Type 0} → Result A Error → Option Failure
+abbrev pub end_of : {A : Type 0} → Result A Error → Option ErrorOutline
 end_of (Ok given) = None
-end_of (Err error) = Some (failure_of error)
+end_of (Err error) = Some (outline_of error)
 
 -- where a session's number is at its end, an error tells so, but for the faults of calls before a command goes
 -- out, for what a build is refused with, and for want of memory
@@ -78,11 +62,6 @@ KindAtLast early (kind.Internal message) = Unit {0}
 KindAtLast early kind.Memory = Unit {0}
 KindAtLast early _ = ⊥
 
--- the body of an insert into this namespace, under this session and number, has no spelling
-pub record BodyRefused (namespace : Namespace) (session : Option (List ℕ)) (number : Option ℤ) (fault : EncodeFault) : Type 0 where
-  pub sixteen : IsSixteen session
-  pub is : refusal (insert_body namespace session number) ≡ Some fault
-
 -- the number of the session that a check-out lends
 abbrev pub lent_number : List IdleSession → ℤ
 lent_number [] = pos 0
@@ -93,5 +72,6 @@ abbrev pub number_in : Option Pool → Option ℤ
 number_in None = None
 number_in (Some pool) = Some (lent_number pool.idle)
 
+-- the number of the session that a store lends next, where it tells its pool
 abbrev pub next_number : StoreTells → Option ℤ
 next_number store = number_in store.pool

@@ -1,6 +1,6 @@
 -- What a client holds.
-use Rattle.driver_exec.specs.declared.client.Client.{Client}
 use Rattle.driver_link.specs.declared.options.ClientOptions.{ClientOptions}
+use Rattle.driver_exec.specs.declared.client.Client.{Client}
 
 -- the options of its making
 abbrev pub options_of : {S : Type 0} → Client S → ClientOptions

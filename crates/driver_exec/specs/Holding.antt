@@ -7,54 +7,55 @@ use Rattle.driver_error.specs.declared.kind.ErrorKind.TheVariants as kind
 use Rattle.driver_error.specs.Error.{kind_of}
 use Rattle.driver_link.specs.declared.fault.LinkError.{LinkError}
 use Rattle.driver_link.specs.declared.fault.LinkError.TheVariants.{Fault, Memory}
-use Rattle.driver_exec.specs.declared.retryability.Retryability.{Retryability}
-use Rattle.driver_exec.specs.declared.retryability.Retryability.TheVariants.{Write}
-use Rattle.driver_exec.specs.Causes.{is_network}
-use Rattle.driver_exec.specs.Session.{Numbers, Session}
-use Rattle.driver_exec.specs.StoreTells.{LendsSession, StoreTells, TakesSession}
+use Rattle.driver_link.specs.Failures.{is_network}
+use Rattle.driver_session.specs.declared.retryability.Retryability.{Retryability}
+use Rattle.driver_session.specs.declared.retryability.Retryability.TheVariants.{Write}
+use Rattle.driver_session.specs.Session.{Numbers, Session}
+use Rattle.driver_session.specs.StoreTells.{LendsSession, StoreTells, TakesSession}
 
 -- the session that it was lent, if it was; and the number of the send before, which may be none, once there was one
-pub record Held : Type 0 where
+pub record ExecutionSession : Type 0 where
   pub session : Option Session
   pub sent : Option (Option ℤ)
 
 -- an operation that has not begun
-abbrev pub holds_nothing : Held
+abbrev pub holds_nothing : ExecutionSession
 holds_nothing = record { session = None; sent = None }
 
 -- the number of the send before, where there was one with a number
-abbrev pub number_before : Held → Option ℤ
+abbrev pub number_before : ExecutionSession → Option ℤ
 number_before held = unwrap_or held.sent None
 
 -- the id of the session that is held
-abbrev pub held_id : Held → Option (List ℕ)
+abbrev pub held_id : ExecutionSession → Option (List ℕ)
 held_id held = option_map (λ session. session.id) held.session
 
--- the same, once the network failed under its session
+-- a session, once the network failed under it
 abbrev pub dirty_session : Session → Session
 dirty_session session = record session { dirty = true }
 
-abbrev pub dirty_held : Held → Held
+-- what is held, once the network failed under its session
+abbrev pub dirty_held : ExecutionSession → ExecutionSession
 dirty_held held = record held { session = option_map dirty_session held.session }
 
 -- what is held after an exchange that failed: a fault of the network makes the session dirty
-abbrev pub held_after_failure : LinkError → Held → Held
+abbrev pub held_after_failure : LinkError → ExecutionSession → ExecutionSession
 held_after_failure (Fault fault own) held = if is_network fault then dirty_held held else held
 held_after_failure Memory held = held
 
 -- a session is lent where one is asked for, none is held, and nothing was sent yet
-abbrev pub needs_session : Bool → Held → Bool
+abbrev pub needs_session : Bool → ExecutionSession → Bool
 needs_session asked held = asked && is_none held.session && is_none held.sent
 
 -- a session was lent and is held
-pub record HoldsLent (store now : StoreTells) (held held_now : Held) : Type 0 where
+pub record HoldsLent (store now : StoreTells) (held held_now : ExecutionSession) : Type 0 where
   pub at : ℕ
   pub session : Session
   pub lends : LendsSession store now at session
   pub is : held_now ≡ record held { session = Some session }
 
 -- a session was lent where one is needed, or there was no memory for it; else nothing changed
-abbrev pub HoldsSession : Bool → StoreTells → StoreTells → Held → Held → Result (Unit {0}) Error → Type 0
+abbrev pub HoldsSession : Bool → StoreTells → StoreTells → ExecutionSession → ExecutionSession → Result (Unit {0}) Error → Type 0
 HoldsSession false store now held held_now result = (now ≡ store) × (held_now ≡ held) × (result ≡ Ok tt)
 HoldsSession true store now held held_now (Ok given) = HoldsLent store now held held_now
 HoldsSession true store now held held_now (Err error) = (now ≡ store) × (held_now ≡ held) × (kind_of error ≡ kind.Memory)
@@ -78,13 +79,13 @@ DrawsSession Write (Some session) now result = DrawsFrom session now result
 DrawsSession turn session now result = (now ≡ session) × (result ≡ Ok None)
 
 -- the same for what is held
-pub record DrawsFirst (turn : Retryability) (held held_now : Held) (result : Result (Option ℤ) Error) : Type 0 where
+pub record DrawsFirst (turn : Retryability) (held held_now : ExecutionSession) (result : Result (Option ℤ) Error) : Type 0 where
   pub session : Option Session
   pub draws : DrawsSession turn held.session session result
   pub is : held_now ≡ record held { session = session }
 
 -- the number of the next send: that of the send before, else a first one
-abbrev pub DrawsNumber : Option (Option ℤ) → Retryability → Held → Held → Result (Option ℤ) Error → Type 0
+abbrev pub DrawsNumber : Option (Option ℤ) → Retryability → ExecutionSession → ExecutionSession → Result (Option ℤ) Error → Type 0
 DrawsNumber (Some before) turn held held_now result = (held_now ≡ held) × (result ≡ Ok before)
 DrawsNumber None turn held held_now result = DrawsFirst turn held held_now result
 

@@ -8,13 +8,13 @@ use Rattle.driver_link.specs.Settled.{Has}
 use Rattle.driver_link.specs.Statements.{entry_of}
 use Rattle.driver_link.specs.LinkState.{server_run}
 use Rattle.driver_link.specs.ServerRun.{ServerRun}
+use Rattle.driver_link.specs.Apart.{AllApart}
+use Rattle.driver_session.specs.Pool.{Pool}
+use Rattle.driver_ops.specs.Inserts.{is_done_reply}
+use Rattle.driver_ops.specs.Operations.{OperationSpec, ReadsOutput}
 use Rattle.driver_exec.specs.BetweenCalls.{Between, Sound}
-use Rattle.driver_exec.specs.Attempting.{ReadsOutput}
-use Rattle.driver_exec.specs.Causes.{Failure}
-use Rattle.driver_exec.specs.Inserts.{is_done_reply}
-use Rattle.driver_exec.specs.Operations.{Meaning}
+use Rattle.driver_exec.specs.Causes.{ErrorOutline}
 use Rattle.driver_exec.specs.Moment.{Moment}
-use Rattle.driver_exec.specs.Pool.{AllApart, Pool}
 use Rattle.driver_exec.specs.Writing.{placed_write}
 
 -- what stands before a call: the write's place is of this call, nothing is lent, the sends so far are sound, and the ids
@@ -36,6 +36,7 @@ KeepsTold (Some pool) (Some pool_now) (Some run) (Some run_now) write =
     (made : ℕ) → StandsBefore made pool pool_now run write → StandsAfter made pool_now run_now
 KeepsTold pool pool_now run run_now write = Unit {0}
 
+-- the same of two moments
 abbrev pub KeepsInvariant : Moment → Moment → PlacedWrite → Type 0
 KeepsInvariant before now write = KeepsTold before.store.pool now.store.pool (server_run before.link) (server_run now.link) write
 
@@ -47,8 +48,8 @@ pub record HasEntry (write : PlacedWrite) (log : List Entry) : Type 0 where
   pub has : Has log (entry_of session number (placed_write write) result)
 
 -- an operation reads only a reply that tells of an insert that was done
-abbrev pub ReadsDone : {A : Type 0} → Meaning A → Type 0
-ReadsDone {A} meaning = (bytes : List ℕ) (output : A) (reads : ReadsOutput meaning bytes output) → is_done_reply reads.response.body ≡ true
+abbrev pub ReadsDone : {A : Type 0} → OperationSpec A → Type 0
+ReadsDone {A} spec = (bytes : List ℕ) (output : A) (reads : ReadsOutput spec bytes output) → is_done_reply reads.response.body ≡ true
 
 -- its entry stands after its call
 abbrev pub IsWritten : Option Pool → Option Pool → Option ServerRun → Option ServerRun → PlacedWrite → Type 0
@@ -57,6 +58,6 @@ IsWritten (Some pool) (Some pool_now) (Some run) (Some run_now) write =
 IsWritten pool pool_now run run_now write = Unit {0}
 
 -- where the call was done its entry stands
-abbrev pub OkHasEntries : Moment → Moment → PlacedWrite → Option Failure → Type 0
+abbrev pub OkHasEntries : Moment → Moment → PlacedWrite → Option ErrorOutline → Type 0
 OkHasEntries before now write None = IsWritten before.store.pool now.store.pool (server_run before.link) (server_run now.link) write
 OkHasEntries before now write (Some why) = Unit {0}

@@ -5,8 +5,8 @@ use Rattle.driver_error.specs.declared.labels.TheConstants.{RETRYABLE_WRITE_ERRO
 use Rattle.driver_error.specs.Error.{labels_of}
 use Rattle.driver_error.specs.LabelTexts.{LabelSet, with_label}
 use Rattle.driver_error.specs.Predicates.{is_network_error}
-use Rattle.driver_exec.specs.declared.retryability.Retryability.{Retryability}
-use Rattle.driver_exec.specs.declared.retryability.Retryability.TheVariants.{Write}
+use Rattle.driver_session.specs.declared.retryability.Retryability.{Retryability}
+use Rattle.driver_session.specs.declared.retryability.Retryability.TheVariants.{Write}
 
 -- outside transactions a failure of the network gains the label that lets a write be tried again, where the
 -- operation is a write that may be; all other failures have the labels that they had

@@ -1,5 +1,5 @@
 -- The failure of a numbered write at a deployment that takes no transaction numbers.
-use Rattle.std.specs.Prelude.{◌≡◌, ℕ, nat_eq, pos, Bool, ◌&&◌, List, codes, Option, None, Some, if◌then◌else◌}
+use Rattle.std.specs.Prelude.{ℕ, nat_eq, pos, Bool, ◌&&◌, List, codes, if◌then◌else◌}
 use Rattle.std.specs.List.{starts_with}
 use Rattle.std.specs.Ordering.{int_eq}
 use Rattle.driver_error.specs.declared.command.CommandError.{CommandError}
@@ -32,8 +32,3 @@ reworded_kind why = why
 -- the error with its command's message for the caller, where it gets one; all else of it stays
 unfoldable pub reworded : Error → Error
 reworded error = with_kind (reworded_kind (kind_of error)) error
-
--- a kind that is reworded, or one that stays
-abbrev pub MayReword : ErrorKind → Option ErrorKind → Type 0
-MayReword old None = reworded_kind old ≡ old
-MayReword old (Some now) = now ≡ reworded_kind old

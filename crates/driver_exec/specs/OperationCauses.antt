@@ -15,13 +15,14 @@ use Rattle.driver_link.specs.declared.fault.LinkFault.TheVariants as fault
 use Rattle.driver_link.specs.declared.machine.Setup.{Setup}
 use Rattle.driver_link.specs.Faults.{Rose}
 use Rattle.driver_link.specs.LinkState.{GainsAll, LinkState, setup_of}
-use Rattle.driver_exec.specs.declared.retryability.Retryability.{Retryability}
-use Rattle.driver_exec.specs.declared.retryability.Retryability.TheVariants as may
-use Rattle.driver_exec.specs.Attempting.{ReadsAnswer, on_connection}
-use Rattle.driver_exec.specs.Causes.{AllEarly, Failure, HasReply, IsLast, KindAtLast, MayBeLast, is_network, next_number}
+use Rattle.driver_link.specs.Failures.{is_network}
+use Rattle.driver_session.specs.declared.retryability.Retryability.{Retryability}
+use Rattle.driver_session.specs.declared.retryability.Retryability.TheVariants as may
+use Rattle.driver_ops.specs.Operations.{OperationSpec, ReadsAnswer}
+use Rattle.driver_exec.specs.Attempting.{on_connection}
+use Rattle.driver_exec.specs.Causes.{AllEarly, ErrorOutline, HasReply, IsLast, KindAtLast, MayBeLast, next_number}
 use Rattle.driver_exec.specs.LabelTable.{labels_outside_transactions}
 use Rattle.driver_exec.specs.OldDeployment.{reworded_kind}
-use Rattle.driver_exec.specs.Operations.{Meaning}
 use Rattle.driver_exec.specs.Moment.{Moment}
 
 -- the labels of the error of a fault: a failure of the network has the label that lets a write be tried again beside the
@@ -47,35 +48,36 @@ HasFault own setup fault labels (answer.Fault call found given ∷ items) =
 
 -- a reply spells this error for an operation: its kind is the one that is read, in words for the caller, and its labels are
 -- those of what is read, with that of the table where the network failed
-pub record SpellsEnd {A : Type 0} (meaning : Meaning A) (why : Failure) (bytes : List ℕ) : Type 0 where
+pub record SpellsEnd {A : Type 0} (spec : OperationSpec A) (why : ErrorOutline) (bytes : List ℕ) : Type 0 where
   pub bare : Error
-  pub reads : ReadsAnswer meaning bytes (Err bare)
+  pub reads : ReadsAnswer spec bytes (Err bare)
   pub turn : Retryability
   pub kind_is : why.kind ≡ reworded_kind (kind_of bare)
   pub labels_are : why.labels ≡ labels_outside_transactions turn bare
 
 -- an operation's command has no spelling, under some session and number
-pub record Unspelled {A : Type 0} (meaning : Meaning A) (fault : EncodeFault) : Type 0 where
+pub record Unspelled {A : Type 0} (spec : OperationSpec A) (fault : EncodeFault) : Type 0 where
   pub session : Option (List ℕ)
   pub number : Option ℤ
-  pub is : meaning.unspelled session number fault
+  pub is : spec.unspelled session number fault
 
 -- an operation reads a reply
-abbrev pub IsRead : {A : Type 0} → Meaning A → List ℕ → Type 0
-IsRead {A} meaning bytes = (output : A) × ReadsAnswer meaning bytes (Ok output)
+abbrev pub IsRead : {A : Type 0} → OperationSpec A → List ℕ → Type 0
+IsRead {A} spec bytes = (output : A) × ReadsAnswer spec bytes (Ok output)
 
 -- what an end is judged by: what the operation tells, what it may repeat by its own rules, what the link tells of its setup,
 -- and the number of the session that is lent next
 pub record Grounds (A : Type 0) : Type 1 where
-  pub meaning : Meaning A
+  pub spec : OperationSpec A
   pub own : Retryability
   pub setup : Option Setup
   pub number : Option ℤ
 
-abbrev pub grounds : {A : Type 0} → Meaning A → Moment → Grounds A
-grounds meaning before = record {
-  meaning = meaning;
-  own = meaning.own before.client.options;
+-- what the end of an operation that begins at a moment is judged by
+abbrev pub grounds : {A : Type 0} → OperationSpec A → Moment → Grounds A
+grounds spec before = record {
+  spec = spec;
+  own = spec.own before.client.options;
   setup = setup_of before.link;
   number = next_number before.store;
 }
@@ -86,8 +88,8 @@ KindNeeds on before now items labels (kind.Io io) = Rose before now × HasFault 
 KindNeeds on before now items labels (kind.ConnectionPoolCleared message) = Rose before now × HasFault on.own on.setup (fault.PoolCleared message) labels items
 KindNeeds on before now items labels (kind.ServerSelection message) = Rose before now × HasFault on.own on.setup (fault.Selection message) labels items
 KindNeeds on before now items labels (kind.Authentication message) = Rose before now × HasFault on.own on.setup (fault.Authentication message) labels items
-KindNeeds on before now items labels (kind.InvalidArgument message) = on.meaning.refused (kind.InvalidArgument message)
-KindNeeds on before now items labels (kind.BsonSerialization fault) = on.meaning.refused (kind.BsonSerialization fault) ⊎ Unspelled on.meaning fault
+KindNeeds on before now items labels (kind.InvalidArgument message) = on.spec.refused (kind.InvalidArgument message)
+KindNeeds on before now items labels (kind.BsonSerialization fault) = on.spec.refused (kind.BsonSerialization fault) ⊎ Unspelled on.spec fault
 KindNeeds on before now items labels (kind.Internal message) = MayBeLast on.number
 KindNeeds on before now items labels kind.SessionsNotSupported = on.setup ≡ None
 KindNeeds on before now items labels kind.Memory = Unit {0}
@@ -95,9 +97,9 @@ KindNeeds on before now items labels _ = ⊥
 
 -- what an end needs: an Ok comes only after a reply that the operation reads, and an error by its kind or after a reply that
 -- spells it
-abbrev pub EndNeeds : {A : Type 0} → Grounds A → ℕ → ℕ → List Answered → Option Failure → Type 0
-EndNeeds on before now items None = HasReply (IsRead on.meaning) items
-EndNeeds on before now items (Some why) = KindNeeds on before now items why.labels why.kind ⊎ HasReply (SpellsEnd on.meaning why) items
+abbrev pub EndNeeds : {A : Type 0} → Grounds A → ℕ → ℕ → List Answered → Option ErrorOutline → Type 0
+EndNeeds on before now items None = HasReply (IsRead on.spec) items
+EndNeeds on before now items (Some why) = KindNeeds on before now items why.labels why.kind ⊎ HasReply (SpellsEnd on.spec why) items
 
 -- each send has a number: the operation takes a session and may repeat its write, and the link tells that its connections
 -- take sessions and retryable writes
@@ -107,18 +109,18 @@ DrawsNumbers sessions may.Write (Some setup) =
 DrawsNumbers sessions own setup = ⊥
 
 -- where the next session's number is at its end nothing is exchanged, and an error tells so, but for what was found before
-abbrev pub EndAtLast : {A : Type 0} → Grounds A → List Answered → Option Failure → Type 0
+abbrev pub EndAtLast : {A : Type 0} → Grounds A → List Answered → Option ErrorOutline → Type 0
 EndAtLast on items None = ⊥
-EndAtLast on items (Some why) = AllEarly items × KindAtLast on.meaning.refused why.kind
+EndAtLast on items (Some why) = AllEarly items × KindAtLast on.spec.refused why.kind
 
 -- an end with its cause: what the link answered in between, and a count of faults that never falls
-pub record EndsCaused {A : Type 0} (on : Grounds A) (link now : LinkState) (ended : Option Failure) : Type 0 where
+pub record EndsCaused {A : Type 0} (on : Grounds A) (link now : LinkState) (ended : Option ErrorOutline) : Type 0 where
   pub items : List Answered
   pub noted : GainsAll link.answers now.answers items
   pub never_falls : link.faults ≤ now.faults
   pub needs : EndNeeds on link.faults now.faults items ended
-  pub at_last : DrawsNumbers on.meaning.sessions on.own on.setup → IsLast on.number → EndAtLast on items ended
+  pub at_last : DrawsNumbers on.spec.sessions on.own on.setup → IsLast on.number → EndAtLast on items ended
 
 -- an operation that began at a moment ended so
-abbrev pub Caused : {A : Type 0} → Meaning A → Moment → Moment → Option Failure → Type 0
-Caused meaning before now ended = EndsCaused (grounds meaning before) before.link now.link ended
+abbrev pub Caused : {A : Type 0} → OperationSpec A → Moment → Moment → Option ErrorOutline → Type 0
+Caused spec before now ended = EndsCaused (grounds spec before) before.link now.link ended

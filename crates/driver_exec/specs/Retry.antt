@@ -10,16 +10,16 @@ use Rattle.driver_error.specs.Error.{kind_of, labels_of}
 use Rattle.driver_error.specs.LabelTexts.{has_label}
 use Rattle.driver_error.specs.Predicates.{is_server_error, is_read_retryable, is_write_retryable}
 use Rattle.driver_link.specs.declared.options.Address.{Address}
-use Rattle.driver_exec.specs.declared.retry.Failure.{Failure}
-use Rattle.driver_exec.specs.declared.retry.FailurePhase.{FailurePhase}
-use Rattle.driver_exec.specs.declared.retry.FailurePhase.TheVariants.{Establishment, Execution}
-use Rattle.driver_exec.specs.declared.retryability.Retryability.{Retryability}
+use Rattle.driver_session.specs.declared.retryability.Retryability.{Retryability}
+use Rattle.driver_session.specs.declared.retryability.Retryability.TheVariants.{Write}
+use Rattle.driver_exec.specs.declared.failure.Failure.{Failure}
+use Rattle.driver_exec.specs.declared.failure.FailurePhase.{FailurePhase}
+use Rattle.driver_exec.specs.declared.failure.FailurePhase.TheVariants.{ConnectionEstablishment, Execution}
 use Rattle.driver_exec.specs.OldDeployment.{reworded}
-use Rattle.driver_exec.specs.declared.retryability.Retryability.TheVariants.{Write}
 
 -- what is kept from failed attempts: the number of the next retry, how many there may be, a failure, the first
 -- transaction number, and the servers to be avoided, the oldest first
-pub record Kept : Type 0 where
+pub record RetryState : Type 0 where
   pub attempt : ℕ
   pub limit : ℕ
   pub failure : Failure
@@ -28,7 +28,7 @@ pub record Kept : Type 0 where
 
 -- a write may go out where there was no connection, or a number was sent
 abbrev pub may_be_sent : FailurePhase → Option ℤ → Bool
-may_be_sent Establishment number = true
+may_be_sent ConnectionEstablishment number = true
 may_be_sent Execution number = is_some number
 
 -- a failure after which the operation may be tried again: the error itself, and not one below it, has the label
@@ -44,9 +44,10 @@ tells_writes_performed error = not (contains_label NO_WRITES_PERFORMED.now error
 
 -- without a connection no write was performed
 abbrev pub tells_in : FailurePhase → Error → Bool
-tells_in Establishment error = false
+tells_in ConnectionEstablishment error = false
 tells_in Execution error = tells_writes_performed error
 
+-- a failure indicates that writes were performed
 unfoldable pub indicates_writes_performed : Failure → Bool
 indicates_writes_performed failure = tells_in failure.phase failure.error
 
@@ -54,6 +55,7 @@ indicates_writes_performed failure = tells_in failure.phase failure.error
 unfoldable pub stays : Failure → Failure → Bool
 stays kept new = indicates_writes_performed kept && not (indicates_writes_performed new)
 
+-- of a kept failure and a new one the one that is kept
 abbrev pub failure_kept : Failure → Failure → Failure
 failure_kept kept new = if stays kept new then kept else new
 
@@ -75,19 +77,20 @@ abbrev pub one_more : ℕ → ℕ
 one_more attempt = min (attempt + 1) (2 ^ 32 - 1)
 
 -- the first failure makes the first attempt to retry, of one
-abbrev pub after_first : Failure → Option ℤ → Kept
+abbrev pub after_first : Failure → Option ℤ → RetryState
 after_first failure number = record { attempt = 1; limit = 1; failure = failure; number = number; deprioritized = [] }
 
 -- each further failure makes one more
-unfoldable pub after_further : Kept → Failure → Option ℤ → Kept
+unfoldable pub after_further : RetryState → Failure → Option ℤ → RetryState
 after_further kept failure number = record kept { attempt = one_more kept.attempt; failure = failure_kept kept.failure failure; number = number_kept kept.number number }
 
-unfoldable pub after : Option Kept → Failure → Option ℤ → Kept
+-- what is kept after a failure
+unfoldable pub after : Option RetryState → Failure → Option ℤ → RetryState
 after None failure number = after_first failure number
 after (Some kept) failure number = after_further kept failure number
 
 -- on a sharded link the server that failed is avoided
-unfoldable pub avoiding : Bool → Address → Kept → Kept
+unfoldable pub avoiding : Bool → Address → RetryState → RetryState
 avoiding sharded address kept = if sharded then record kept { deprioritized = with_server address kept.deprioritized } else kept
 
 -- the failure in words for the caller
@@ -96,16 +99,17 @@ told failure = record failure { error = reworded failure.error }
 
 -- the next retry after a failure in words for the caller, or the error of the failure that is kept where it may not be
 -- tried again
-abbrev pub decide_told : Option Kept → Failure → Option ℤ → Address → Retryability → Bool → Result Kept Error
+abbrev pub decide_told : Option RetryState → Failure → Option ℤ → Address → Retryability → Bool → Result RetryState Error
 decide_told kept failure number address retryability sharded =
     if may_be_retried failure number retryability
     then Ok (avoiding sharded address (after kept failure number))
     else Err (after kept failure number).failure.error
 
-unfoldable pub decide : Option Kept → Failure → Option ℤ → Address → Retryability → Bool → Result Kept Error
+-- the same, once the failure is in words for the caller
+unfoldable pub decide : Option RetryState → Failure → Option ℤ → Address → Retryability → Bool → Result RetryState Error
 decide kept failure number address retryability sharded = decide_told kept (told failure) number address retryability sharded
 
 -- a call gives what is decided, or want of memory
-abbrev pub Decides : Result Kept Error → Result Kept Error → Type 0
+abbrev pub Decides : Result RetryState Error → Result RetryState Error → Type 0
 Decides decision (Ok retry) = decision ≡ Ok retry
 Decides decision (Err error) = (decision ≡ Err error) ⊎ (kind_of error ≡ Memory)

@@ -10,9 +10,9 @@ use Rattle.driver_link.specs.declared.machine.SendCommand.TheVariants as command
 use Rattle.driver_link.specs.Counting.{KeepsServer}
 use Rattle.driver_link.specs.LinkState.{server_run}
 use Rattle.driver_link.specs.ServerRun.{ServerRun, run_after, run_answer}
-use Rattle.driver_exec.specs.Causes.{Failure}
-use Rattle.driver_exec.specs.Inserts.{insert_write, is_done_reply}
-use Rattle.driver_exec.specs.Operations.{plain_send}
+use Rattle.driver_ops.specs.Inserts.{insert_write, is_done_reply}
+use Rattle.driver_ops.specs.Operations.{plain_send}
+use Rattle.driver_exec.specs.Causes.{ErrorOutline}
 use Rattle.driver_exec.specs.Moment.{Moment}
 use Rattle.driver_exec.specs.Resending.{Borrows, SendsTold, SentWithin}
 
@@ -37,6 +37,7 @@ pub record DoneLast (told now : ServerRun) (send : Send) (earlier : ℕ) : Type 
   pub done : is_done_reply reply ≡ true
   pub rest : KeepsServer (run_after mid send) now
 
+-- the same for a link that may tell its server
 abbrev pub WasDoneLast : Option ServerRun → Option ServerRun → Send → ℕ → Type 0
 WasDoneLast None now send earlier = now ≡ None
 WasDoneLast (Some told) None send earlier = ⊥
@@ -49,13 +50,14 @@ pub record WritesLast (link now : Option ServerRun) (session : Option (List ℕ)
   pub once : number ≡ None → earlier ≡ 0
   pub done : WasDoneLast link now (insert_send session number write) earlier
 
-abbrev pub EndsWritten : Option ServerRun → Option ServerRun → Option (List ℕ) → Option ℤ → PlacedWrite → Option Failure → Type 0
+-- an insert that ended without a failure was done
+abbrev pub EndsWritten : Option ServerRun → Option ServerRun → Option (List ℕ) → Option ℤ → PlacedWrite → Option ErrorOutline → Type 0
 EndsWritten link now session number write None = WritesLast link now session number write
 EndsWritten link now session number write (Some why) = Unit {0}
 
 -- the insert of a write: its one send went out at most twice, and at most once without a number, under a session that was
 -- borrowed, if any; and it is done only after a reply that tells so
-pub record Wrote (before now : Moment) (write : PlacedWrite) (ended : Option Failure) : Type 0 where
+pub record Wrote (before now : Moment) (write : PlacedWrite) (ended : Option ErrorOutline) : Type 0 where
   pub session : Option (List ℕ)
   pub number : Option ℤ
   pub borrows : Borrows before.store now.store session number

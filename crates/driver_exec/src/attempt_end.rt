@@ -2,13 +2,14 @@
 ghost use Rattle.std.specs.Prelude.{◌≡◌, Err};
 ghost use Rattle.driver_exec.specs.declared.attempt_end.Attempt.TheVariants.{Failed};
 ghost use Rattle.driver_error.specs.Error.{kind_of};
-ghost use Rattle.driver_exec.specs.Failing.{EndsLost, EndsRead, EndsUnconnected, EndsUnselected, FaultError, IsLabelledBy, is_memory};
+ghost use Rattle.driver_exec.specs.Failures.{is_memory};
+ghost use Rattle.driver_exec.specs.inside.Failures.{EndsLost, EndsRead, EndsUnconnected, EndsUnselected, FaultError, IsLabelledBy};
 
+use crate::failure::{Failure, FailurePhase};
 use crate::labels::add_labels;
-use crate::retry::{Failure, FailurePhase};
-use crate::retryability::Retryability;
 use driver_error::{Error, ErrorKind};
 use driver_link::{Address, LinkError};
+use driver_session::Retryability;
 use std::alloc::Global;
 
 /// How an attempt ended.
@@ -16,7 +17,7 @@ pub(crate) enum Attempt<T> {
     /// Its reply was read.
     Done(T),
     /// It failed, and a decision says what comes then.
-    Failed(Failing),
+    Failed(AttemptFailure),
     /// No server was selected.
     Unselected(Error),
     /// A further attempt met a connection on which nothing of the operation may be repeated.
@@ -26,7 +27,7 @@ pub(crate) enum Attempt<T> {
 }
 
 /// A failure of an attempt, with the address of its server.
-pub(crate) struct Failing {
+pub(crate) struct AttemptFailure {
     pub failure: Failure,
     pub address: Address,
 }
@@ -78,7 +79,7 @@ fn fails_at<T>(error: Error, phase: FailurePhase, address: Address) -> Attempt<T
     ensures { result ≡ Failed
         (record { failure = record { error = error; phase = phase }; address = address }) }
 {
-    Attempt::Failed(Failing {
+    Attempt::Failed(AttemptFailure {
         failure: Failure { error, phase },
         address,
     })
@@ -104,7 +105,7 @@ pub(crate) fn unconnected<T>(
     ensures { EndsUnconnected own address failure result }
 {
     match fault_error(alloc, failure, own) {
-        Ok(error) => fails_at(error, FailurePhase::Establishment, address),
+        Ok(error) => fails_at(error, FailurePhase::ConnectionEstablishment, address),
         Err(error) => Attempt::Ended(error),
     }
 }

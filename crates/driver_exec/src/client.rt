@@ -2,14 +2,13 @@
 ghost use Rattle.std.specs.Prelude.{◌≡◌, IfErr, IfOk, OnErr};
 ghost use Rattle.driver_error.specs.Error.{kind_of};
 ghost use Rattle.driver_error.specs.declared.kind.ErrorKind.TheVariants.{Memory};
+ghost use Rattle.driver_session.specs.StoreTells.{DrawsObjectId, LendsSession, TakesSession};
 ghost use Rattle.driver_exec.specs.Client.{options_of, store_of};
-ghost use Rattle.driver_exec.specs.StoreTells.{DrawsObjectId, LendsSession, TakesSession};
 
-use crate::session::ServerSession;
-use crate::store::SessionStore;
 use bson_lite::ObjectId;
 use driver_error::Result;
 use driver_link::ClientOptions;
+use driver_session::{ServerSession, SessionStore};
 use std::alloc::Global;
 
 /// A client over a store of sessions.

@@ -2,31 +2,32 @@
 ghost use Rattle.std.specs.Prelude.{◌≡◌, ◌≤◌, ◌+◌, IsSome};
 ghost use Rattle.driver_link.specs.declared.machine.PlacedWrite.{PlacedWrite};
 ghost use Rattle.driver_link.specs.declared.machine.SendBody.{SendBody};
-ghost use Rattle.driver_exec.specs.Attempting.{attempt_state, trial_of};
+ghost use Rattle.driver_exec.specs.Attempting.{trial_of};
 ghost use Rattle.driver_exec.specs.Causes.{end_of};
 ghost use Rattle.driver_exec.specs.Client.{options_of, store_of};
-ghost use Rattle.driver_exec.specs.Executing.{Executes, IsLastError, Turns, kept_or, limit_reached};
+ghost use Rattle.driver_exec.specs.Executing.{Executes, Attempts, limit_reached};
 ghost use Rattle.driver_exec.specs.Holding.{holds_nothing};
 ghost use Rattle.driver_exec.specs.Keeping.{KeepsInvariant, OkHasEntries, ReadsDone};
-ghost use Rattle.driver_exec.specs.Moment.{moment_of};
+ghost use Rattle.driver_exec.specs.Moment.{DrawsInOrder, KeepsLent, moment_of};
 ghost use Rattle.driver_exec.specs.OperationCauses.{Caused};
 ghost use Rattle.driver_exec.specs.Resending.{SendsOneCommand};
 ghost use Rattle.driver_exec.specs.Retry.{Decides, decide};
-ghost use Rattle.driver_exec.specs.StoreTells.{Draws, LendsAsBefore};
 ghost use Rattle.driver_exec.specs.Writing.{insert_asked};
+ghost use Rattle.driver_exec.specs.inside.Attempting.{attempt_state};
+ghost use Rattle.driver_exec.specs.inside.Executing.{IsLastError, kept_or};
 
-use crate::attempt_end::{Attempt, Failing};
+use crate::attempt_end::{Attempt, AttemptFailure};
 use crate::client::Client;
-use crate::held::{Held, check_in_session};
-use crate::operation::Operation;
+use crate::execution_session::{ExecutionSession, check_in_session};
+use crate::failure::FailurePhase;
 use crate::outside::Outside;
-use crate::retry::{FailurePhase, Retry};
-use crate::retryability::Retryability;
+use crate::retry::Retry;
 use crate::steps::Steps;
-use crate::store::SessionStore;
 use crate::try_once::try_once;
 use driver_error::{Error, Result};
 use driver_link::{Clock, Link, Place};
+use driver_ops::Operation;
+use driver_session::{Retryability, SessionStore};
 use rand_core::Rng;
 use std::alloc::Global;
 use std::sync::ledger::Ledger;
@@ -44,28 +45,32 @@ pub fn execute_operation<O: Operation, S: SessionStore, L: Link, K: Clock, R: Rn
     outside: &mut Outside<L, K, R>,
     sends: &mut Steps<Q>,
 ) -> Result<O::Output>
-    requires { (body : SendBody) × (O.meaning op.old).asked places.now body }
-    ensures executes { Executes (O.meaning op.old) places.now
+    requires { (body : SendBody) × (O.spec op.old).asked places.now body }
+    ensures executes { Executes (O.spec op.old) places.now
         (moment_of S.tells L.tells K.tells R.stream client.old outside.old)
         (moment_of S.tells L.tells K.tells R.stream client.new outside.new)
         sends.old sends.new result }
-    ensures one_command { SendsOneCommand (O.meaning op.old) places.now
+    ensures one_command { SendsOneCommand (O.spec op.old) places.now
         (moment_of S.tells L.tells K.tells R.stream client.old outside.old)
         (moment_of S.tells L.tells K.tells R.stream client.new outside.new)
         result }
-    ensures keeps { (write : PlacedWrite) → (O.meaning op.old).asked places.now (insert_asked write) →
+    ensures keeps { (write : PlacedWrite) → (O.spec op.old).asked places.now (insert_asked write) →
         KeepsInvariant
         (moment_of S.tells L.tells K.tells R.stream client.old outside.old)
         (moment_of S.tells L.tells K.tells R.stream client.new outside.new)
         write }
-    ensures stands { (write : PlacedWrite) → (O.meaning op.old).asked places.now (insert_asked write) →
-        ReadsDone (O.meaning op.old) → OkHasEntries
+    ensures stands { (write : PlacedWrite) → (O.spec op.old).asked places.now (insert_asked write) →
+        ReadsDone (O.spec op.old) → OkHasEntries
         (moment_of S.tells L.tells K.tells R.stream client.old outside.old)
         (moment_of S.tells L.tells K.tells R.stream client.new outside.new)
         write (end_of result) }
-    ensures lent { LendsAsBefore (S.tells (store_of client.old)) (S.tells (store_of client.new)) }
-    ensures drawn { Draws (S.tells (store_of client.old)) (S.tells (store_of client.new)) }
-    ensures caused { Caused (O.meaning op.old)
+    ensures lent { KeepsLent
+        (moment_of S.tells L.tells K.tells R.stream client.old outside.old)
+        (moment_of S.tells L.tells K.tells R.stream client.new outside.new) }
+    ensures drawn { DrawsInOrder
+        (moment_of S.tells L.tells K.tells R.stream client.old outside.old)
+        (moment_of S.tells L.tells K.tells R.stream client.new outside.new) }
+    ensures caused { Caused (O.spec op.old)
         (moment_of S.tells L.tells K.tells R.stream client.old outside.old)
         (moment_of S.tells L.tells K.tells R.stream client.new outside.new)
         (end_of result) }
@@ -73,13 +78,15 @@ pub fn execute_operation<O: Operation, S: SessionStore, L: Link, K: Clock, R: Rn
     ensures sends { sends.new ≤ sends.old + 2 }
 {
     let sharded = outside.link.is_sharded();
-    let (held, result) = turns(alloc, client, outside, op, places, sharded, sends);
+    let (held, result) = execute_operation_with_retry(
+        alloc, client, outside, op, places, sharded, sends,
+    );
     check_in_session(client, &mut outside.clock, held);
     result
 }
 
 /// The attempts of an operation, and what it then holds.
-fn turns<O: Operation, S: SessionStore, L: Link, K: Clock, R, Q: Ledger>(
+fn execute_operation_with_retry<O: Operation, S: SessionStore, L: Link, K: Clock, R, Q: Ledger>(
     alloc: Global,
     client: &mut Client<S>,
     outside: &mut Outside<L, K, R>,
@@ -87,10 +94,10 @@ fn turns<O: Operation, S: SessionStore, L: Link, K: Clock, R, Q: Ledger>(
     places: &[Place],
     sharded: bool,
     sends: &mut Steps<Q>,
-) -> (Held, Result<O::Output>)
-    requires { (body : SendBody) × (O.meaning op.old).asked places.now body }
-    ensures turns { Turns
-        (trial_of (O.meaning op.old) places.now ((O.meaning op.old).own (options_of client.old))) sharded
+) -> (ExecutionSession, Result<O::Output>)
+    requires { (body : SendBody) × (O.spec op.old).asked places.now body }
+    ensures attempts { Attempts
+        (trial_of (O.spec op.old) places.now ((O.spec op.old).own (options_of client.old))) sharded
         (attempt_state (S.tells (store_of client.old)) (L.tells outside.old.link) holds_nothing sends.old)
         (attempt_state (S.tells (store_of client.new)) (L.tells outside.new.link) result.0 sends.new)
         result.1 }
@@ -100,9 +107,9 @@ fn turns<O: Operation, S: SessionStore, L: Link, K: Clock, R, Q: Ledger>(
     ensures sends { sends.new ≤ sends.old + 2 }
 {
     let own = op.retryability(client.options());
-    let mut held = Held::nothing();
+    let mut held = ExecutionSession::nothing();
     let mut kept: Option<Retry> = None;
-    'turns: loop {
+    'attempts: loop {
         if limit_reached(&kept) {
             return (held, Err(last_error(kept)));
         }
@@ -175,16 +182,16 @@ fn kept_or(kept: Option<Retry>, error: Error) -> Error
 fn decide(
     alloc: Global,
     kept: Option<Retry>,
-    failing: Failing,
+    failing: AttemptFailure,
     number: Option<i64>,
     own: Retryability,
     sharded: bool,
 ) -> Result<Retry>
     ensures { Decides (decide kept failing.failure number failing.address own sharded) result }
 {
-    let Failing { failure, address } = failing;
+    let AttemptFailure { failure, address } = failing;
     match failure.phase {
-        FailurePhase::Establishment => Retry::for_connection_establishment_failure(
+        FailurePhase::ConnectionEstablishment => Retry::for_connection_establishment_failure(
             alloc,
             kept,
             failure.error,

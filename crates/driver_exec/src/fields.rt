@@ -1,16 +1,16 @@
 //! The fields that the executor appends to a built command.
 ghost use Rattle.std.specs.Prelude.{◌≡◌, ◌++◌, IfOk, OnOk, length};
 ghost use Rattle.std.specs.Option.{option_copied};
-ghost use Rattle.driver_exec.specs.Fields.{IsSixteen, session_document, session_field, number_field, executor_fields, with_fields};
+ghost use Rattle.driver_ops.specs.Fields.{IsSixteen, session_document, session_field, number_field, executor_fields, with_fields};
 
-use crate::command::Command;
 use bson_lite::{Binary, Bson, Bytes, Document, TryClone};
 use driver_link::keys;
+use driver_ops::Command;
 use std::alloc::{AllocError, Global};
 
 /// Appends the session, its transaction number and the database, in this order, of which the first two may
 /// be missing.
-#[tactic(auto, unfolding(crate::specs::Fields::executor_fields))]
+#[tactic(auto, unfolding(driver_ops::specs::Fields::executor_fields))]
 pub(crate) fn append_fields(
     alloc: Global,
     command: &mut Command,
@@ -28,7 +28,7 @@ pub(crate) fn append_fields(
 }
 
 /// Appends the field that names the session, if there is one.
-#[tactic(auto, unfolding(crate::specs::Fields::session_field))]
+#[tactic(auto, unfolding(driver_ops::specs::Fields::session_field))]
 fn push_session(
     alloc: Global,
     body: &mut Document,
@@ -44,7 +44,7 @@ fn push_session(
 }
 
 /// Appends the field of the transaction number, if there is one.
-#[tactic(auto, unfolding(crate::specs::Fields::number_field))]
+#[tactic(auto, unfolding(driver_ops::specs::Fields::number_field))]
 fn push_number(body: &mut Document, number: Option<i64>) -> Result<(), AllocError>
     ensures { OnOk result (body.new ≡ body.old ++ number_field number) }
 {
@@ -55,7 +55,7 @@ fn push_number(body: &mut Document, number: Option<i64>) -> Result<(), AllocErro
 }
 
 /// The document that names a session.
-#[tactic(auto, unfolding(crate::specs::Fields::session_document))]
+#[tactic(auto, unfolding(driver_ops::specs::Fields::session_document))]
 fn session_document(alloc: Global, session: &[u8; 16]) -> Result<Document, AllocError>
     ensures document { IfOk result (λ named. named ≡ session_document session.now) }
     ensures sixteen { length session.now ≡ 16 }

@@ -3,8 +3,8 @@ ghost use Rattle.std.specs.Prelude.{◌≡◌, OnOk, OnErr};
 ghost use Rattle.driver_error.specs.Error.{labels_of, KeepsAllButLabels};
 ghost use Rattle.driver_exec.specs.LabelTable.{labels_outside_transactions};
 
-use crate::retryability::Retryability;
 use driver_error::{Error, RETRYABLE_WRITE_ERROR};
+use driver_session::Retryability;
 use std::alloc::{AllocError, Global};
 
 /// Adds the labels that a failure gains outside transactions: a failure of the network says that the write

@@ -1,6 +1,7 @@
 //! The failure of a numbered write at a deployment that takes no transaction numbers, in words for the caller.
 ghost use Rattle.std.specs.Prelude.{◌≡◌, IfOk};
-ghost use Rattle.driver_exec.specs.OldDeployment.{no_retryable_writes, refuses_numbers, reworded, MayReword};
+ghost use Rattle.driver_exec.specs.OldDeployment.{no_retryable_writes, refuses_numbers, reworded};
+ghost use Rattle.driver_exec.specs.inside.OldDeployment.{MayReword};
 
 use bson_lite::{Text, TryClone};
 use driver_error::{CommandError, Error, ErrorKind};

@@ -1,35 +1,19 @@
 //! Whether an operation that failed is tried again, and which of its failures is kept.
-ghost use Rattle.std.specs.Prelude.{◌≡◌, nat_lt, [], IfOk, OnOk};
+ghost use Rattle.std.specs.Prelude.{◌≡◌, nat_lt, IfOk, OnOk};
 ghost use Rattle.std.specs.List.{list_any};
-ghost use Rattle.driver_exec.specs.Retry.{Decides, decide, told, after, avoiding, tells_writes_performed, may_be_retried, may_be_sent, indicates_writes_performed, failure_kept, stays, is_server, with_server, after_first, after_further, number_kept};
-ghost use Rattle.driver_exec.specs.declared.retry.FailurePhase.TheVariants.{Establishment, Execution};
+ghost use Rattle.driver_exec.specs.Retry.{Decides, decide, after, avoiding, is_server, with_server, after_first, after_further, number_kept};
+ghost use Rattle.driver_exec.specs.declared.failure.FailurePhase.TheVariants.{ConnectionEstablishment, Execution};
 
-use crate::old_deployment::reworded;
-use crate::retryability::Retryability;
+use crate::failure::{Failure, FailurePhase, failure_kept, may_be_retried, told};
 use bson_lite::{List, TryClone};
-use driver_error::{Error, NO_WRITES_PERFORMED, RETRYABLE_WRITE_ERROR, Result};
+use driver_error::{Error, Result};
 use driver_link::Address;
+use driver_session::Retryability;
 use std::alloc::{AllocError, Global};
 use std::marker::Model;
 
 /// How many retries an operation has.
 pub const RETRY_LIMIT: u32 = 1;
-
-/// When an attempt failed.
-#[derive(Clone, Copy, Debug, PartialEq, Eq)]
-pub enum FailurePhase {
-    /// Before there was a connection.
-    Establishment,
-    /// While the command ran on a connection.
-    Execution,
-}
-
-/// An error that ended an attempt, with its phase.
-#[derive(Drop)]
-pub struct Failure {
-    pub error: Error,
-    pub phase: FailurePhase,
-}
 
 /// What an operation keeps from its failed attempts: the number of the next retry, how many there may be,
 /// the failure that is answered where they end, the first transaction number, and the servers to be avoided.
@@ -45,9 +29,9 @@ pub struct Retry {
 impl Model for Retry {
     ghost use Rattle.std.specs.Coded.{codes};
     ghost use Rattle.driver_error.specs.contracts.error.Error as error_contract;
-    ghost use Rattle.driver_exec.specs.Retry.{Kept};
+    ghost use Rattle.driver_exec.specs.Retry.{RetryState};
 
-    ghost Value = { Kept };
+    ghost Value = { RetryState };
 
     ghost coded = { Prim.hlevel (codes, error_contract.the_row.coded) };
 
@@ -73,12 +57,12 @@ impl Retry {
         sharded: bool,
     ) -> Result<Retry>
         ensures { Decides
-            (decide kept (record { error = failure; phase = Establishment }) number address.now retryability
-            sharded) result }
+            (decide kept (record { error = failure; phase = ConnectionEstablishment })
+            number address.now retryability sharded) result }
     {
         let failure = Failure {
             error: failure,
-            phase: FailurePhase::Establishment,
+            phase: FailurePhase::ConnectionEstablishment,
         };
         after_failure(alloc, kept, failure, number, address, retryability, sharded)
     }
@@ -95,8 +79,8 @@ impl Retry {
         sharded: bool,
     ) -> Result<Retry>
         ensures { Decides
-            (decide kept (record { error = failure; phase = Execution }) number address.now retryability
-            sharded) result }
+            (decide kept (record { error = failure; phase = Execution })
+            number address.now retryability sharded) result }
     {
         let failure = Failure {
             error: failure,
@@ -184,17 +168,6 @@ fn after_failure(
     }
 }
 
-/// The failure in words for the caller.
-fn told(alloc: Global, failure: Failure) -> std::result::Result<Failure, AllocError>
-    ensures { IfOk result (λ now. now ≡ told failure) }
-{
-    let Failure { error, phase } = failure;
-    Ok(Failure {
-        error: reworded(alloc, error)?,
-        phase,
-    })
-}
-
 /// What is kept after a failure.
 #[tactic(auto, unfolding(crate::specs::Retry::after))]
 fn after(alloc: Global, kept: Option<Retry>, failure: Failure, number: Option<i64>) -> Retry
@@ -234,68 +207,6 @@ fn avoiding(
         number,
         deprioritized,
     })
-}
-
-/// Whether the operation may be tried again after this failure.
-#[tactic(auto, unfolding(crate::specs::Retry::may_be_retried))]
-fn may_be_retried(failure: &Failure, number: Option<i64>, retryability: Retryability) -> bool
-    ensures { result ≡ may_be_retried failure.now number retryability }
-{
-    match retryability {
-        Retryability::Write => {
-            failure.error.has_own_label(RETRYABLE_WRITE_ERROR) && may_be_sent(failure.phase, number)
-        }
-        _ => false,
-    }
-}
-
-/// Whether a write that failed in this phase may be sent.
-fn may_be_sent(phase: FailurePhase, number: Option<i64>) -> bool
-    ensures { result ≡ may_be_sent phase number }
-{
-    match phase {
-        FailurePhase::Establishment => true,
-        FailurePhase::Execution => number.is_some(),
-    }
-}
-
-/// Whether a failure tells that writes may have been performed.
-#[tactic(auto, unfolding(crate::specs::Retry::indicates_writes_performed))]
-fn indicates_writes_performed(failure: &Failure) -> bool
-    ensures { result ≡ indicates_writes_performed failure.now }
-{
-    match failure.phase {
-        FailurePhase::Establishment => false,
-        FailurePhase::Execution => tells_writes_performed(&failure.error),
-    }
-}
-
-#[tactic(auto, unfolding(crate::specs::Retry::tells_writes_performed))]
-fn tells_writes_performed(error: &Error) -> bool
-    ensures { result ≡ tells_writes_performed error.now }
-{
-    !error.contains_label(NO_WRITES_PERFORMED)
-        && (error.is_server_error() || error.is_read_retryable() || error.is_write_retryable())
-}
-
-/// Whether the kept failure stays beside a new one.
-#[tactic(auto, unfolding(crate::specs::Retry::stays))]
-fn stays(kept: &Failure, new: &Failure) -> bool
-    ensures { result ≡ stays kept.now new.now }
-{
-    indicates_writes_performed(kept) && !indicates_writes_performed(new)
-}
-
-/// Of the kept failure and a new one that which is kept.
-fn failure_kept(kept: Failure, new: Failure) -> Failure
-    ensures { result ≡ failure_kept kept new }
-{
-    if stays(&kept, &new) {
-        drop(new);
-        return kept;
-    }
-    drop(kept);
-    new
 }
 
 /// The first number that was drawn.

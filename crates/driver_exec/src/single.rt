@@ -1,25 +1,23 @@
 //! Single writes: operations whose errors take the form of a single write's.
 ghost use Rattle.std.specs.Prelude.{◌≡◌, ◌≤◌, ◌+◌, ◌∷◌, []};
 ghost use Rattle.bson_lite.specs.Spelling.{Spells};
+ghost use Rattle.driver_ops.specs.InsertSpec.{insert_spec};
 ghost use Rattle.driver_exec.specs.Causes.{end_of};
-ghost use Rattle.driver_exec.specs.Client.{store_of};
-ghost use Rattle.driver_exec.specs.InsertMeaning.{insert_meaning};
 ghost use Rattle.driver_exec.specs.Keeping.{KeepsInvariant, OkHasEntries};
-ghost use Rattle.driver_exec.specs.Moment.{moment_of};
+ghost use Rattle.driver_exec.specs.Moment.{DrawsInOrder, KeepsLent, moment_of};
 ghost use Rattle.driver_exec.specs.Resending.{SendsOneCommand};
 ghost use Rattle.driver_exec.specs.Singles.{CausedSingle, ExecutesSingle};
-ghost use Rattle.driver_exec.specs.StoreTells.{Draws, LendsAsBefore};
 ghost use Rattle.driver_exec.specs.Writing.{Wrote};
 
 use crate::client::Client;
 use crate::execute::execute_operation;
-use crate::insert::Insert;
 use crate::outside::Outside;
 use crate::steps::Steps;
-use crate::store::SessionStore;
 use bson_lite::Bytes;
 use driver_error::{Result, convert_insert_many_error};
 use driver_link::{Clock, Link, PlacedWrite};
+use driver_ops::Insert;
+use driver_session::SessionStore;
 use rand_core::Rng;
 use std::alloc::Global;
 use std::sync::ledger::Ledger;
@@ -37,16 +35,16 @@ pub fn insert_single<S: SessionStore, L: Link, K: Clock, R: Rng, Q: Ledger>(
 ) -> Result<()>
     requires { Spells write.now.written.document bytes }
     ensures single { ExecutesSingle
-        (insert_meaning write.now.written.namespace bytes) (write.now.place ∷ [])
+        (insert_spec write.now.written.namespace bytes) (write.now.place ∷ [])
         (moment_of S.tells L.tells K.tells R.stream client.old outside.old)
         (moment_of S.tells L.tells K.tells R.stream client.new outside.new)
         sends.old sends.new result }
-    ensures caused { CausedSingle (insert_meaning write.now.written.namespace bytes)
+    ensures caused { CausedSingle (insert_spec write.now.written.namespace bytes)
         (moment_of S.tells L.tells K.tells R.stream client.old outside.old)
         (moment_of S.tells L.tells K.tells R.stream client.new outside.new)
         result }
     ensures one_command { SendsOneCommand
-        (insert_meaning write.now.written.namespace bytes) (write.now.place ∷ [])
+        (insert_spec write.now.written.namespace bytes) (write.now.place ∷ [])
         (moment_of S.tells L.tells K.tells R.stream client.old outside.old)
         (moment_of S.tells L.tells K.tells R.stream client.new outside.new)
         result }
@@ -62,8 +60,12 @@ pub fn insert_single<S: SessionStore, L: Link, K: Clock, R: Rng, Q: Ledger>(
         (moment_of S.tells L.tells K.tells R.stream client.old outside.old)
         (moment_of S.tells L.tells K.tells R.stream client.new outside.new)
         write.now (end_of result) }
-    ensures lent { LendsAsBefore (S.tells (store_of client.old)) (S.tells (store_of client.new)) }
-    ensures drawn { Draws (S.tells (store_of client.old)) (S.tells (store_of client.new)) }
+    ensures lent { KeepsLent
+        (moment_of S.tells L.tells K.tells R.stream client.old outside.old)
+        (moment_of S.tells L.tells K.tells R.stream client.new outside.new) }
+    ensures drawn { DrawsInOrder
+        (moment_of S.tells L.tells K.tells R.stream client.old outside.old)
+        (moment_of S.tells L.tells K.tells R.stream client.new outside.new) }
     ensures call { outside.new.call ≡ outside.old.call }
     ensures sends { sends.new ≤ sends.old + 2 }
 {

@@ -7,7 +7,6 @@ use Rattle.driver_link.specs.declared.fault.LinkError.{LinkError}
 use Rattle.driver_link.specs.declared.fault.LinkError.TheVariants.{Fault, Memory}
 use Rattle.driver_link.specs.declared.fault.LinkFault.{LinkFault}
 use Rattle.driver_link.specs.declared.fault.LinkFault.TheVariants.{Io, Selection, Authentication}
-use Rattle.driver_link.specs.declared.machine.Schedule.{Schedule}
 use Rattle.driver_link.specs.declared.keys.TheConstants.{SELECTION_FAILURE, REAUTHENTICATION_FAILURE}
 use Rattle.driver_link.specs.ServerRun.{ServerRun}
 
@@ -36,6 +35,7 @@ one_more count = min (count + 1) (2 ^ 64 - 1)
 abbrev pub select_fault : ServerRun → Option Listed
 select_fault told = fault_where (is_listed told.schedule.selects told.counts.selects) (Selection SELECTION_FAILURE.now) [] None
 
+-- a selection more was counted
 abbrev pub selected : ServerRun → ServerRun
 selected told = record told { counts = record told.counts { selects = one_more told.counts.selects } }
 
@@ -43,6 +43,7 @@ selected told = record told { counts = record told.counts { selects = one_more t
 abbrev pub support_fault : ServerRun → Option Listed
 support_fault told = fault_where (is_listed told.schedule.supports told.counts.supports) (Selection SELECTION_FAILURE.now) [] None
 
+-- a question for transactions more was counted
 abbrev pub supported : ServerRun → ServerRun
 supported told = record told { counts = record told.counts { supports = one_more told.counts.supports } }
 
@@ -52,6 +53,7 @@ check_out_fault told =
     fault_where (is_listed told.schedule.overloaded_check_outs told.counts.check_outs) (Io ConnectionRefused) overload_labels
     (fault_where (is_listed told.schedule.check_outs told.counts.check_outs) (Io ConnectionRefused) [] None)
 
+-- a check-out more was counted
 abbrev pub checked_out : ServerRun → ServerRun
 checked_out told = record told { counts = record told.counts { check_outs = one_more told.counts.check_outs } }
 
@@ -60,6 +62,7 @@ abbrev pub reauthentication_fault : ServerRun → Option Listed
 reauthentication_fault told =
     fault_where (is_listed told.schedule.reauthentications told.counts.reauthentications) (Authentication REAUTHENTICATION_FAILURE.now) [] None
 
+-- an authentication more was counted
 abbrev pub reauthenticated : ServerRun → ServerRun
 reauthenticated told = record told { counts = record told.counts { reauthentications = one_more told.counts.reauthentications } }
 
@@ -78,13 +81,8 @@ pub record KeepsServer (old now : ServerRun) : Type 0 where
   pub setup : now.setup ≡ old.setup
   pub schedule : now.schedule ≡ old.schedule
 
+-- the same of a link that may tell its server
 abbrev pub OnlyCounts : Option ServerRun → Option ServerRun → Type 0
 OnlyCounts None now = now ≡ None
 OnlyCounts (Some told) None = ⊥
 OnlyCounts (Some told) (Some now) = KeepsServer told now
-
--- no selection and no check-out is listed to fail
-pub record FailsNothing (schedule : Schedule) : Type 0 where
-  pub selects : schedule.selects ≡ []
-  pub check_outs : schedule.check_outs ≡ []
-  pub overloaded : schedule.overloaded_check_outs ≡ []

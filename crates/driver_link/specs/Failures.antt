@@ -1,4 +1,5 @@
 -- The errors that failures of a link become.
+use Rattle.std.specs.Prelude.{Bool, true, false}
 use Rattle.driver_error.specs.declared.error.Error.{Error}
 use Rattle.driver_error.specs.declared.kind.ErrorKind.TheVariants as kind
 use Rattle.driver_error.specs.Conversions.{IsMade}
@@ -20,3 +21,9 @@ fault_kind (Authentication message) = kind.Authentication message
 abbrev pub BecomesError : LinkError → Error → Type 0
 BecomesError (Fault fault labels) error = IsMade (fault_kind fault) (label_set labels) error
 BecomesError Memory error = IsAlone kind.Memory no_labels error
+
+-- the network failed, or the connections to a server were given up
+abbrev pub is_network : LinkFault → Bool
+is_network (Io io) = true
+is_network (PoolCleared message) = true
+is_network other = false

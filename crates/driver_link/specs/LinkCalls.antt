@@ -12,7 +12,7 @@ use Rattle.driver_link.specs.declared.options.Conn.{Conn}
 use Rattle.driver_link.specs.Counting.{Counts, Listed, selected, select_fault, supported, support_fault, checked_out, check_out_fault, reauthenticated, reauthentication_fault}
 use Rattle.driver_link.specs.Faults.{HasLinkCause}
 use Rattle.driver_link.specs.Framed.{Framed}
-use Rattle.driver_link.specs.LinkState.{LinkState, GainsAll, GainsAnswer, MayGain, HandsBack, noted, nothing_noted, reply_noted, server_run, setup_of}
+use Rattle.driver_link.specs.LinkState.{LinkState, GainsAll, GainsAnswer, MayGain, HandsBack, TellsFrame, noted, nothing_noted, reply_noted, server_run, setup_of}
 use Rattle.driver_link.specs.Reads.{Reads}
 use Rattle.driver_link.specs.ServerRun.{ServerRun, TakesStep}
 
@@ -67,8 +67,7 @@ pub record ExchangesFrame (link now : LinkState) (conn : Conn) (frame : Framed) 
   pub steps : (send : Send) → Reads frame places send → TakesStep (server_run link) (server_run now) send result
   pub setup : setup_of now ≡ setup_of link
   pub answers : GainsAll link.answers now.answers (noted Exchange reply_noted result)
-  pub frames : MayGain link.frames now.frames frame result
-  pub over : MayGain link.over now.over conn.number result
+  pub given : TellsFrame link now frame conn.number result
   pub rest : KeepsConnections link now
   pub cause : HasLinkCause link.faults now.faults result
 
@@ -77,7 +76,7 @@ pub record Reauthenticates (link now : LinkState) (result : Result (Unit {0}) Li
   pub calls : CallsLink Reauthenticate reauthenticated reauthentication_fault link now result
   pub rest : KeepsConnections link now
 
--- a connection is handed back: it is out no more, and nothing else changes
+-- a connection is handed back: the newest of its number is out no more, and nothing else changes
 pub record ChecksInConnection (link now : LinkState) (conn : Conn) : Type 0 where
   pub out : HandsBack link.out now.out conn.number
   pub rest : now ≡ record link { out = now.out }

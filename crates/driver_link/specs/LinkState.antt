@@ -18,9 +18,9 @@ pub data Making : Type 0 where
   Described : Setup → Making
   Served : ServerRun → Making
 
--- what a link tells: what is behind it, what its calls answered, the frames that it was given and for each the number of
--- its connection, what each selection asked and answered, the connections that were checked out and those of them that
--- are out, each list the oldest first; and how many of its answers were faults
+-- what a link tells: what is behind it, what its calls answered, the frames that it was given, the numbers of the
+-- connections that they went over, what each selection asked, what it answered, the connections that were checked out and
+-- those of them that are out, each list the oldest first; and how many of its answers were faults
 pub record LinkState : Type 0 where
   pub making : Making
   pub answers : Option (List Answered)
@@ -43,10 +43,11 @@ abbrev pub run_in : Making → Option ServerRun
 run_in (Served run) = Some run
 run_in other = None
 
--- the same of a link
+-- the setup that a link tells
 abbrev pub setup_of : LinkState → Option Setup
 setup_of link = setup_in link.making
 
+-- the server that a link tells
 abbrev pub server_run : LinkState → Option ServerRun
 server_run link = run_in link.making
 
@@ -67,6 +68,20 @@ MayGain None now item result = now ≡ None
 MayGain (Some told) now item (Ok given) = now ≡ Some (told ++ item ∷ [])
 MayGain (Some told) now item (Err (Fault fault labels)) = now ≡ Some (told ++ item ∷ [])
 MayGain (Some told) now item (Err Memory) = (now ≡ Some told) ⊎ (now ≡ Some (told ++ item ∷ []))
+
+-- the told frames gain one, and the numbers of their connections too
+abbrev pub GainsFrame : LinkState → LinkState → Framed → ℕ → Type 0
+GainsFrame link now frame number = GainsAll link.frames now.frames (frame ∷ []) × GainsAll link.over now.over (number ∷ [])
+
+-- both are as before
+abbrev pub KeepsFrames : LinkState → LinkState → Type 0
+KeepsFrames link now = (now.frames ≡ link.frames) × (now.over ≡ link.over)
+
+-- an exchange tells its frame together with the number of its connection; after want of memory it may tell neither
+abbrev pub TellsFrame : {A : Type 0} → LinkState → LinkState → Framed → ℕ → Result A LinkError → Type 0
+TellsFrame link now frame number (Ok given) = GainsFrame link now frame number
+TellsFrame link now frame number (Err (Fault fault labels)) = GainsFrame link now frame number
+TellsFrame link now frame number (Err Memory) = KeepsFrames link now ⊎ GainsFrame link now frame number
 
 -- what a call adds to the answers: a fault is noted, and of an exchange its reply too
 abbrev pub noted : {A : Type 0} → LinkCall → (A → List Answered) → Result A LinkError → List Answered
@@ -93,7 +108,7 @@ without_newest number [] = []
 without_newest number (conn ∷ out) =
     if has_number number out then conn ∷ without_newest number out else if conn.number == number then out else conn ∷ out
 
--- a connection of this number is out no more
+-- the newest connection of this number, where one is out, is out no more
 abbrev pub HandsBack : Option (List Conn) → Option (List Conn) → ℕ → Type 0
 HandsBack None now number = now ≡ None
 HandsBack (Some out) now number = now ≡ Some (without_newest number out)

@@ -1,6 +1,6 @@
 //! How a call of a link can fail, and what a link tells of its answers.
 ghost use Rattle.std.specs.Prelude.{◌≡◌};
-ghost use Rattle.driver_link.specs.Failures.{fault_kind};
+ghost use Rattle.driver_link.specs.Failures.{fault_kind, is_network};
 
 use bson_lite::{Bytes, List, Text, TryClone};
 use driver_error::{Error, ErrorKind, IoKind};
@@ -15,6 +15,15 @@ pub enum LinkFault {
     /// No server was found.
     Selection(Text),
     Authentication(Text),
+}
+
+impl LinkFault {
+    /// Whether the network failed, or the connections to a server were given up.
+    pub fn is_network(&self) -> bool
+        ensures { result ≡ is_network self.now }
+    {
+        matches!(self, LinkFault::Io(_) | LinkFault::PoolCleared(_))
+    }
 }
 
 impl TryClone for LinkFault {

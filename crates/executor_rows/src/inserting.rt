@@ -4,10 +4,11 @@ ghost use Rattle.bson_lite.specs.Spelling.{Spells};
 
 use bson_lite::{Bson, Bytes, Document, Namespace, Text, encode};
 use driver_error::{Error, ErrorKind, IoKind, RETRYABLE_WRITE_ERROR, Result};
-use driver_exec::{Client, Outside, PlainStore, Steps, insert_single};
+use driver_exec::{Client, Outside, Steps, insert_single};
 use driver_link::{
     ClientOptions, CountingIds, Description, Link, MemClock, Place, PlacedWrite, WriteKind, Written,
 };
+use driver_session::PlainStore;
 use rand_core::SeedableRng;
 use rand_pcg::Pcg32;
 use std::alloc::{AllocError, Global};

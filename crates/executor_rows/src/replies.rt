@@ -1,6 +1,6 @@
 //! What no clause shows: that replies are read with ample memory, by bytes of the BSON layout.
 use driver_error::{Error, ErrorKind, Result};
-use driver_exec::{CommandResponse, read_response};
+use driver_ops::{CommandResponse, read_response};
 use std::alloc::Global;
 
 /// `{ok: 1}`

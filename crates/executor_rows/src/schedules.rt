@@ -7,11 +7,12 @@ use crate::inserting::SERVER;
 use bson_lite::{Bson, Document, List, Namespace, Text};
 use driver_actions::{Answer, Call, Outcome, SingleAnswer, SingleWrite, run_calls};
 use driver_error::{Error, ErrorKind, IoKind, RETRYABLE_WRITE_ERROR};
-use driver_exec::{Client, Outside, PlainStore};
+use driver_exec::{Client, Outside};
 use driver_link::{
     ClientOptions, CountingIds, Entry, Item, MemClock, Schedule, Scheduled, Server, Setup,
     WriteKind, Written,
 };
+use driver_session::PlainStore;
 use model_server::ModelServer;
 use rand_core::SeedableRng;
 use rand_pcg::Pcg32;

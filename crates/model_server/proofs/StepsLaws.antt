@@ -1,15 +1,18 @@
 -- A step of the model server is one exchange of the machine.
-use Rattle.std.proofs.Common.{◌≡◌, ℕ, List, [], Option, None, Some, Err, Ok, refl, sym, ap, subst, ◌∙◌}
+use Rattle.std.proofs.Common.{◌≡◌, ℕ, List, [], Option, None, Some, Err, Ok, inl, refl, sym, ap, subst, ◌∙◌}
+use Rattle.std.specs.Prelude.{Result}
 use Rattle.driver_error.specs.declared.kind.IoKind.TheVariants.{ConnectionReset}
 use Rattle.driver_link.specs.declared.fault.LinkError.{LinkError}
-use Rattle.driver_link.specs.declared.fault.LinkError.TheVariants.{Fault}
+use Rattle.driver_link.specs.declared.fault.LinkError.TheVariants.{Fault, Memory}
 use Rattle.driver_link.specs.declared.fault.LinkFault.TheVariants.{Io}
 use Rattle.driver_link.specs.declared.machine.Send.{Send}
 use Rattle.driver_link.specs.Cursors.{Reply}
 use Rattle.driver_link.specs.Exchange.{answered, next_step}
+use Rattle.driver_link.specs.Framed.{Framed}
+use Rattle.driver_link.specs.LinkState.{TellsFrame}
 use Rattle.driver_link.specs.ServerRun.{IsReply, TakesStep}
 use Rattle.model_server.specs.Meets.{IsSpelled}
-use Rattle.model_server.specs.ModelState.{ModelState, Stepped, server_run_of}
+use Rattle.model_server.specs.ModelState.{ModelState, Stepped, model_tells, server_run_of}
 
 is_reply : (found : Option Reply) (bytes : List ℕ) → IsSpelled found (Some bytes) → IsReply found bytes
 is_reply None bytes spelled = spelled
@@ -43,3 +46,9 @@ was_reset old middle now send other bytes failure same none stepped counted is =
           (subst (IsSpelled (answered old.server send (next_step old.schedule old.server))) none stepped.reply),
       (refl, refl),
     ))
+
+-- the model server tells no frames, before an exchange and after it
+pub tells_no_frame : (old now : ModelState) (frame : Framed) (number : ℕ) (result : Result (List ℕ) LinkError) → TellsFrame (model_tells old) (model_tells now) frame number result
+tells_no_frame old now frame number (Ok reply) = (refl, refl)
+tells_no_frame old now frame number (Err (Fault fault labels)) = (refl, refl)
+tells_no_frame old now frame number (Err Memory) = inl (refl, refl)

@@ -51,14 +51,13 @@ impl Link for ModelServer {
         &mut self,
         alloc: Global,
         criteria: Option<&SelectionCriteria>,
-        deprioritized: &[Address],
+        _deprioritized: &[Address],
     ) -> Result<Address, LinkError>
         ensures told { SelectsServer (model_tells self.old) (model_tells self.new)
-            (record { criteria = option_copied criteria.entry; deprioritized = deprioritized.now }) result }
+            (record { criteria = option_copied criteria.entry; deprioritized = _deprioritized.now }) result }
         ensures selects { IfOk result (λ address. address ≡ address_for (option_copied criteria.entry)) }
         ensures faults { self.new.faults ≡ faults_after self.old.faults result }
     {
-        let _ = deprioritized;
         self.count_select(alloc)?;
         Ok(address_for(alloc, criteria)?)
     }
@@ -96,16 +95,15 @@ impl Link for ModelServer {
     fn exchange(
         &mut self,
         alloc: Global,
-        conn: &Conn,
+        _conn: &Conn,
         frame: &Frame,
         places: &[Place],
     ) -> Result<Bytes, LinkError>
         requires { (send : Sent) × Reads frame.now places.now send }
         ensures told { ExchangesFrame (model_tells self.old) (model_tells self.new)
-            conn.now frame.now places.now result }
+            _conn.now frame.now places.now result }
         ensures faults { self.new.faults ≡ faults_after self.old.faults result }
     {
-        let _ = conn;
         let Some(send) = read_send(alloc, frame, places)? else {
             unreachable!()
         };

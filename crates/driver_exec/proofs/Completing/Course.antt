@@ -19,23 +19,23 @@ use Rattle.driver_link.specs.Exchange.{exchanged}
 use Rattle.driver_link.specs.LinkState.{server_run, setup_of}
 use Rattle.driver_link.specs.Retried.{IsGentleItem}
 use Rattle.driver_link.specs.ServerRun.{ServerRun}
+use Rattle.driver_session.specs.Session.{Session, last_number}
+use Rattle.driver_session.specs.StoreTells.{DrawnApart, LendsSession, StoreTells}
+use Rattle.driver_ops.specs.InsertSpec.{insert_spec, own_of_insert}
+use Rattle.driver_ops.specs.Inserts.{BodyRefused}
 use Rattle.driver_exec.specs.declared.attempt_end.Attempt.{Attempt}
 use Rattle.driver_exec.specs.declared.attempt_end.Attempt.TheVariants.{Done, Ended, Failed, Stopped, Unselected}
-use Rattle.driver_exec.specs.declared.attempt_end.Failing.{Failing}
-use Rattle.driver_exec.specs.declared.retry.FailurePhase.{FailurePhase}
+use Rattle.driver_exec.specs.declared.attempt_end.AttemptFailure.{AttemptFailure}
+use Rattle.driver_exec.specs.declared.failure.FailurePhase.{FailurePhase}
 use Rattle.driver_exec.specs.Attempting.{AttemptState, EndsAtOnce, FailsIn, Stops, Tries, besides_out, is_nothing}
-use Rattle.driver_exec.specs.Causes.{BodyRefused}
-use Rattle.driver_exec.specs.Executing.{Ends, EndsWith, Reaches, Turns, decided, first_state, limit_reached}
+use Rattle.driver_exec.specs.Executing.{Ends, EndsWith, Reaches, Attempts, decided, first_state, limit_reached}
 use Rattle.driver_exec.specs.Gentle.{IsGentlePart, IsLossy}
 use Rattle.driver_exec.specs.Holding.{number_before}
-use Rattle.driver_exec.specs.InsertMeaning.{insert_meaning, own_of_insert}
 use Rattle.driver_exec.specs.Moment.{Moment}
 use Rattle.driver_exec.specs.OldDeployment.{reworded}
 use Rattle.driver_exec.specs.OperationCauses.{DrawsNumbers}
-use Rattle.driver_exec.specs.Retry.{Kept, after_first, avoiding}
-use Rattle.driver_exec.specs.Session.{Session, last_number}
+use Rattle.driver_exec.specs.Retry.{RetryState, after_first, avoiding}
 use Rattle.driver_exec.specs.Singles.{BecomesSingle, ExecutesSingle}
-use Rattle.driver_exec.specs.StoreTells.{DrawnApart, LendsSession, StoreTells}
 use Rattle.driver_exec.specs.Writing.{insert_asked, insert_send}
 use Rattle.driver_exec.proofs.Executing.{avoids}
 use Rattle.driver_exec.proofs.HeldSessions.{draws_on, not_both}
@@ -50,18 +50,18 @@ module _ (known : KnownInsert) where
 
   module _ (count : ℕ) (told_now : ServerRun) (gentle : IsGentlePart (DrawsNumbers true own (setup_of link)) told told_now) where
     -- where an operation stands between its attempts: it has not begun, or its one exchange was lost
-    record LostOnce (retry : Kept) (now : AttemptState) : Type 0 where
+    record LostOnce (retry : RetryState) (now : AttemptState) : Type 0 where
       lost : Lost known told_now gentle told now
       attempt : retry.attempt ≡ 1
       limit : retry.limit ≡ 1
 
     -- the same by what is kept
-    abbrev SoFar : Option Kept → AttemptState → Type 0
+    abbrev SoFar : Option RetryState → AttemptState → Type 0
     SoFar None now = now ≡ first_state store link count
     SoFar (Some retry) now = LostOnce retry now
 
     -- a further attempt does not fail
-    again_none : (retry : Kept) (mid : AttemptState) (once : LostOnce retry mid) (now : AttemptState) (last : ServerRun) → server_run now.link ≡ Some last → IsBefore last told_now → DrawnApart now.store
+    again_none : (retry : RetryState) (mid : AttemptState) (once : LostOnce retry mid) (now : AttemptState) (last : ServerRun) → server_run now.link ≡ Some last → IsBefore last told_now → DrawnApart now.store
         → (address : Address) (phase : FailurePhase) (error : Error) → FailsIn (trial known) (Some retry) mid now address phase error → ⊥
     again_none retry mid once now last now_is later apart address phase error fails =
         let first = once.lost in
@@ -71,9 +71,9 @@ module _ (known : KnownInsert) where
 
     module _ (sharded : Bool) where
       -- after the exchange that was lost there is a further attempt, of one
-      module _ (now : AttemptState) (failing : Failing) (lost : Lost known told_now gentle told now) (labelled : has_label (labels_of (reworded failing.failure.error)) RETRYABLE_WRITE_ERROR.now ≡ true) where
+      module _ (now : AttemptState) (failing : AttemptFailure) (lost : Lost known told_now gentle told now) (labelled : has_label (labels_of (reworded failing.failure.error)) RETRYABLE_WRITE_ERROR.now ≡ true) where
         -- what is kept of the failure
-        abbrev kept_first : Kept
+        abbrev kept_first : RetryState
         kept_first = after_first (record failing.failure { error = reworded failing.failure.error }) (number_before now.held)
 
         -- the decision allows the attempt
@@ -82,7 +82,7 @@ module _ (known : KnownInsert) where
             (ap (λ h. is_some (number_before h)) lost.held_is)
 
         -- so it stands between its attempts
-        first_retry : (retry : Kept) → decided (trial known) sharded None failing now ≡ Ok retry → LostOnce retry now
+        first_retry : (retry : RetryState) → decided (trial known) sharded None failing now ≡ Ok retry → LostOnce retry now
         first_retry retry decides =
             let is : avoiding sharded failing.address kept_first ≡ retry = cc (sym first_decides ∙ decides) in
             let same = avoids sharded failing.address kept_first in
@@ -98,7 +98,7 @@ module _ (known : KnownInsert) where
       first_fails now last now_is later apart address phase error fails = fails_well known told_now gentle None told (first_state store link count) (first_prepared known count) now last now_is later apart address phase error fails
 
       -- and where the operation stands after it
-      fails_far : (kept : Option Kept) (mid now : AttemptState) (last : ServerRun) → SoFar kept mid → server_run now.link ≡ Some last → IsBefore last told_now → DrawnApart now.store → (failing : Failing) (retry : Kept)
+      fails_far : (kept : Option RetryState) (mid now : AttemptState) (last : ServerRun) → SoFar kept mid → server_run now.link ≡ Some last → IsBefore last told_now → DrawnApart now.store → (failing : AttemptFailure) (retry : RetryState)
           → FailsIn (trial known) kept mid now failing.address failing.failure.phase failing.failure.error → decided (trial known) sharded kept failing now ≡ Ok retry → LostOnce retry now
       fails_far None mid now last far now_is later apart failing retry fails decides =
           let error = failing.failure.error in
@@ -109,7 +109,7 @@ module _ (known : KnownInsert) where
           absurd (again_none earlier mid far now last now_is later apart failing.address failing.failure.phase failing.failure.error fails)
 
       -- each moment that an operation reaches is not before the first one
-      reaches_leads : (failures : List Failing) (kept : Option Kept) (now : AttemptState) → Reaches (trial known) sharded (first_state store link count) failures kept now → Leads told link now.link
+      reaches_leads : (failures : List AttemptFailure) (kept : Option RetryState) (now : AttemptState) → Reaches (trial known) sharded (first_state store link count) failures kept now → Leads told link now.link
       reaches_leads [] kept now reaches = subst (λ s. Leads told link s.link) (sym reaches.1) (leads_same told link link_is)
       reaches_leads (failing ∷ failures) kept now reaches =
           let mid = reaches.1.1.0 in
@@ -119,7 +119,7 @@ module _ (known : KnownInsert) where
           (fails_lead (trial known) rest.0 (insert_asked write) (asked known) came.moment mid now came.is failing.address failing.failure.phase failing.failure.error rest.1.1.tries)
 
       -- what it has come to there
-      reaches_far : (failures : List Failing) (kept : Option Kept) (now : AttemptState) (last : ServerRun) → Reaches (trial known) sharded (first_state store link count) failures kept now
+      reaches_far : (failures : List AttemptFailure) (kept : Option RetryState) (now : AttemptState) (last : ServerRun) → Reaches (trial known) sharded (first_state store link count) failures kept now
           → server_run now.link ≡ Some last → IsBefore last told_now → DrawnApart now.store → SoFar kept now
       reaches_far [] kept now last reaches now_is later apart = subst (λ k. SoFar k now) (sym reaches.0) reaches.1
       reaches_far (failing ∷ failures) kept now last reaches now_is later apart =
@@ -133,7 +133,7 @@ module _ (known : KnownInsert) where
           subst (λ k. SoFar k now) (sym reaches.1.0) (fails_far rest.0 mid now last far now_is later apart failing reaches.0 rest.1.1.tries rest.1.1.decides)
 
       -- the last attempt
-      module _ (failures : List Failing) (kept : Option Kept) (mid now : AttemptState) (reaches : Reaches (trial known) sharded (first_state store link count) failures kept mid)
+      module _ (failures : List AttemptFailure) (kept : Option RetryState) (mid now : AttemptState) (reaches : Reaches (trial known) sharded (first_state store link count) failures kept mid)
           (now_is : server_run now.link ≡ Some told_now) (apart_mid : DrawnApart mid.store) (apart : DrawnApart now.store) where
         -- the link leads there
         came_last : Leads told link mid.link
@@ -153,7 +153,7 @@ module _ (known : KnownInsert) where
         prepares : Leads came_last.moment mid.link now.link → Prepares
         prepares more = by_kept kept (far_last more)
           where
-            by_kept : (found : Option Kept) → SoFar found mid → Prepares
+            by_kept : (found : Option RetryState) → SoFar found mid → Prepares
             by_kept None far = record { moment = told; prepared = subst (IsPrepared known told) (sym far) (first_prepared known count) }
             by_kept (Some retry) far = record { moment = far.lost.moment; prepared = again_prepared known told_now gentle told mid far.lost }
 
@@ -162,7 +162,7 @@ module _ (known : KnownInsert) where
         quiet_memory error result is memory = subst EndsQuietly (sym is) memory
 
         -- the write may be repeated on a further connection
-        stops_none : {past : Option Kept} (retry : Kept) → LostOnce retry mid → Stops (trial known) past mid now → ⊥
+        stops_none : {past : Option RetryState} (retry : RetryState) → LostOnce retry mid → Stops (trial known) past mid now → ⊥
         stops_none retry once stops =
             let lost = once.lost in
             let is = is_conn known lost.moment mid (again_prepared known told_now gentle told mid lost) now stops.address stops.conn stops.readies in
@@ -170,17 +170,17 @@ module _ (known : KnownInsert) where
             not_both (sym stops.nothing ∙ ap is_nothing takes.1)
 
         -- so the attempt does not stop
-        stopped_quiet : {past : Option Kept} (result : Result (Unit {0}) Error) → Stops (trial known) past mid now → EndsWith {A = Unit {0}} kept Stopped result → EndsQuietly result
+        stopped_quiet : {past : Option RetryState} (result : Result (Unit {0}) Error) → Stops (trial known) past mid now → EndsWith {A = Unit {0}} kept Stopped result → EndsQuietly result
         stopped_quiet result stops ends =
             let more = (connects_lead came_last.moment mid.link now.link stops.address stops.conn came_last.is stops.readies.connects).leads in
             by_kept kept (far_last more) ends
           where
-            by_kept : (found : Option Kept) → SoFar found mid → EndsWith {A = Unit {0}} found Stopped result → EndsQuietly result
+            by_kept : (found : Option RetryState) → SoFar found mid → EndsWith {A = Unit {0}} found Stopped result → EndsQuietly result
             by_kept None far ends = absurd ends
             by_kept (Some retry) far ends = absurd (stops_none retry far stops)
 
         -- where it ends at once memory ran out
-        ended_quiet : (past : Option Kept) (error : Error) → EndsAtOnce (trial known) past mid now error → kind_of error ≡ kind.Memory
+        ended_quiet : (past : Option RetryState) (error : Error) → EndsAtOnce (trial known) past mid now error → kind_of error ≡ kind.Memory
         ended_quiet past error ends = elim ends [
           | inl unready ↦ unready.why
           | inr other ↦ elim other [
@@ -193,7 +193,7 @@ module _ (known : KnownInsert) where
         ]
 
         -- each end of the last attempt is quiet
-        last_quiet : (past : Option Kept) (attempt : Attempt (Unit {0})) (result : Result (Unit {0}) Error) → Tries (trial known) past mid now attempt → EndsWith kept attempt result → EndsQuietly result
+        last_quiet : (past : Option RetryState) (attempt : Attempt (Unit {0})) (result : Result (Unit {0}) Error) → Tries (trial known) past mid now attempt → EndsWith kept attempt result → EndsQuietly result
         last_quiet past (Done output) result tries ends = subst EndsQuietly (sym ends) tt
         last_quiet past (Failed failing) result tries ends = absurd ends
         last_quiet past (Unselected error) result tries ends =
@@ -203,20 +203,20 @@ module _ (known : KnownInsert) where
         last_quiet past (Ended error) result tries ends = quiet_memory error result ends (ended_quiet past error tries)
 
         -- the limit is not reached
-        limit_none : (retry : Kept) → kept ≡ Some retry → limit_reached kept ≡ true → now ≡ mid → ⊥
+        limit_none : (retry : RetryState) → kept ≡ Some retry → limit_reached kept ≡ true → now ≡ mid → ⊥
         limit_none retry is reached same =
             let more = subst (λ s. Leads came_last.moment mid.link s.link) (sym same) (leads_same came_last.moment mid.link came_last.is) in
             let once = subst (λ k. SoFar k mid) is (far_last more) in
             not_both (sym reached ∙ ap limit_reached is ∙ ap (λ n. nat_lt n retry.attempt) once.limit ∙ ap (λ n. nat_lt 1 n) once.attempt)
 
         -- a failure is not refused a further attempt
-        refused_none : (failing : Failing) (error : Error) → FailsIn (trial known) kept mid now failing.address failing.failure.phase failing.failure.error
+        refused_none : (failing : AttemptFailure) (error : Error) → FailsIn (trial known) kept mid now failing.address failing.failure.phase failing.failure.error
             → decided (trial known) sharded kept failing now ≡ Err error → ⊥
         refused_none failing error fails refuses =
             let more = fails_lead (trial known) kept (insert_asked write) (asked known) came_last.moment mid now came_last.is failing.address failing.failure.phase failing.failure.error fails in
             by_kept kept (far_last more) fails refuses
           where
-            by_kept : (found : Option Kept) → SoFar found mid → FailsIn (trial known) found mid now failing.address failing.failure.phase failing.failure.error → decided (trial known) sharded found failing now ≡ Err error → ⊥
+            by_kept : (found : Option RetryState) → SoFar found mid → FailsIn (trial known) found mid now failing.address failing.failure.phase failing.failure.error → decided (trial known) sharded found failing now ≡ Err error → ⊥
             by_kept None far fails refuses =
                 let begun = subst (λ s. FailsIn (trial known) None s now failing.address failing.failure.phase failing.failure.error) far fails in
                 let well = first_fails now told_now now_is (before_refl told_now) apart failing.address failing.failure.phase failing.failure.error begun in
@@ -239,10 +239,10 @@ module _ (known : KnownInsert) where
 
   -- the attempts of an insert whose part of the schedule is gentle end well
   gentle_turns : (count : ℕ) (told_now : ServerRun) (gentle : IsGentlePart (DrawsNumbers true own (setup_of link)) told told_now) (sharded : Bool) (last : AttemptState)
-      → server_run last.link ≡ Some told_now → DrawnApart last.store → (result : Result (Unit {0}) Error) → Turns (trial known) sharded (first_state store link count) last result → EndsQuietly result
-  gentle_turns count told_now gentle sharded last last_is apart result turns =
-      let apart_mid = ends_apart (trial known) turns.mid last sharded turns.kept result turns.ends apart in
-      ends_quietly count told_now gentle sharded turns.failures turns.kept turns.mid last turns.reaches last_is apart_mid apart result turns.ends
+      → server_run last.link ≡ Some told_now → DrawnApart last.store → (result : Result (Unit {0}) Error) → Attempts (trial known) sharded (first_state store link count) last result → EndsQuietly result
+  gentle_turns count told_now gentle sharded last last_is apart result attempts =
+      let apart_mid = ends_apart (trial known) attempts.mid last sharded attempts.kept result attempts.ends apart in
+      ends_quietly count told_now gentle sharded attempts.failures attempts.kept attempts.mid last attempts.reaches last_is apart_mid apart result attempts.ends
 
 -- the form of an error of a single write
 single_quiet : (executed result : Result (Unit {0}) Error) → BecomesSingle executed result → EndsQuietly executed → EndsQuietly result
@@ -265,7 +265,7 @@ pub gentle_ends : (write : PlacedWrite) (bytes : List ℕ) (spelled : Spells wri
     → (not_last : (at : ℕ) (lent : StoreTells) (session : Session) → LendsSession before.store lent at session → session.number ≡ last_number → ⊥)
     → (count count_now : ℕ) (result : Result (Unit {0}) Error) → DrawnApart now.store
     → IsGentlePart (DrawsNumbers true (own_of_insert before.client.options) (setup_of before.link)) told told_now
-    → ExecutesSingle (insert_meaning write.written.namespace bytes) (write.place ∷ []) before now count count_now result → EndsQuietly result
+    → ExecutesSingle (insert_spec write.written.namespace bytes) (write.place ∷ []) before now count count_now result → EndsQuietly result
 gentle_ends write bytes spelled before now told told_now link_is now_is Ready ready_answers ready_again first_ready bare_ready unspelled not_last count count_now result drawn gentle single =
     let executes = single.executes in
     let last = executes.last in
@@ -288,5 +288,5 @@ gentle_ends write bytes spelled before now told told_now link_is now_is Ready re
       unspelled = unspelled;
       not_last = not_last;
     } in
-    let quiet = gentle_turns known count told_now gentle executes.sharded last last_is apart single.executed executes.turns in
+    let quiet = gentle_turns known count told_now gentle executes.sharded last last_is apart single.executed executes.attempts in
     single_quiet single.executed result single.becomes quiet

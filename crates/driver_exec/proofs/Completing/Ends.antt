@@ -21,22 +21,22 @@ use Rattle.driver_link.specs.declared.machine.Setup.{Setup}
 use Rattle.driver_link.specs.declared.options.Address.{Address}
 use Rattle.driver_link.specs.Cursors.{Reply}
 use Rattle.driver_link.specs.Exchange.{after_picks, answered, reply, traced}
-use Rattle.driver_exec.specs.declared.retry.Failure.{Failure}
-use Rattle.driver_exec.specs.declared.retry.FailurePhase.{FailurePhase}
-use Rattle.driver_exec.specs.declared.retry.FailurePhase.TheVariants.{Establishment, Execution}
-use Rattle.driver_exec.specs.declared.retryability.Retryability.{Retryability}
-use Rattle.driver_exec.specs.declared.retryability.Retryability.TheVariants as may
+use Rattle.driver_link.specs.Failures.{is_network}
+use Rattle.driver_session.specs.declared.retryability.Retryability.{Retryability}
+use Rattle.driver_session.specs.declared.retryability.Retryability.TheVariants as may
+use Rattle.driver_session.specs.Session.{Session}
+use Rattle.driver_session.specs.StoreTells.{StoreTells}
+use Rattle.driver_session.proofs.Ids.{equal_bytes}
+use Rattle.driver_ops.proofs.InsertReading.{IsPlainDone}
+use Rattle.driver_exec.specs.declared.failure.Failure.{Failure}
+use Rattle.driver_exec.specs.declared.failure.FailurePhase.{FailurePhase}
+use Rattle.driver_exec.specs.declared.failure.FailurePhase.TheVariants.{ConnectionEstablishment, Execution}
 use Rattle.driver_exec.specs.Attempting.{held_after}
-use Rattle.driver_exec.specs.Causes.{is_network}
 use Rattle.driver_exec.specs.Gentle.{IsLossy}
-use Rattle.driver_exec.specs.Holding.{DrawsSession, Held, HoldsSession, dirty_held, dirty_session, needs_session}
+use Rattle.driver_exec.specs.Holding.{DrawsSession, ExecutionSession, HoldsSession, dirty_held, dirty_session, needs_session}
 use Rattle.driver_exec.specs.OldDeployment.{reworded}
 use Rattle.driver_exec.specs.OperationCauses.{DrawsNumbers}
-use Rattle.driver_exec.specs.Retry.{Kept, after, after_first, avoiding, decide, may_be_retried, may_be_sent}
-use Rattle.driver_exec.specs.Session.{Session}
-use Rattle.driver_exec.specs.StoreTells.{StoreTells}
-use Rattle.driver_exec.proofs.Ids.{equal_bytes}
-use Rattle.driver_exec.proofs.InsertReading.{IsPlainDone}
+use Rattle.driver_exec.specs.Retry.{RetryState, after, after_first, avoiding, decide, may_be_retried, may_be_sent}
 
 -- an Ok, or want of memory
 abbrev pub EndsQuietly : {A : Type 0} → Result A Error → Type 0
@@ -71,7 +71,7 @@ pub err_ok : (error : Error) (number : Option ℤ) → ◌≡◌ {A = Result (Op
 err_ok error number is = cc
 
 -- what is kept is no error
-pub ok_err : (retry : Kept) (error : Error) → ◌≡◌ {A = Result Kept Error} (Ok retry) (Err error) → ⊥
+pub ok_err : (retry : RetryState) (error : Error) → ◌≡◌ {A = Result RetryState Error} (Ok retry) (Err error) → ⊥
 ok_err retry error is = cc
 
 -- the label that lets a write be tried again
@@ -87,7 +87,7 @@ unfolding may_be_retried
 retries failure number labelled some = ap (λ b. b && may_be_sent failure.phase number) labelled ∙ by_phase failure.phase
   where
     by_phase : (phase : FailurePhase) → may_be_sent phase number ≡ true
-    by_phase Establishment = refl
+    by_phase ConnectionEstablishment = refl
     by_phase Execution = some
 
 -- so the decision after a first failure allows one
@@ -107,7 +107,7 @@ own_write sessions may.Read setup draws = absurd draws
 own_write sessions may.None setup draws = absurd draws
 
 -- a session that is held, and a number that was drawn from it
-pub record HasNumber (held : Held) (number : Option ℤ) : Type 0 where
+pub record HasNumber (held : ExecutionSession) (number : Option ℤ) : Type 0 where
   pub session : Session
   pub value : ℤ
   pub session_is : held.session ≡ Some session
@@ -122,7 +122,7 @@ pub no_none : may.None ≡ may.Write → ⊥
 no_none is = cc
 
 -- what is held after an exchange was lost under a session and a number
-pub lost_held : (held : Held) (number : Option ℤ) (has : HasNumber held number) (fault : LinkFault) (own : List (List ℕ)) → fault ≡ Io ConnectionReset
+pub lost_held : (held : ExecutionSession) (number : Option ℤ) (has : HasNumber held number) (fault : LinkFault) (own : List (List ℕ)) → fault ≡ Io ConnectionReset
     → held_after (Err (Fault fault own)) (record held { sent = Some number }) ≡ record { session = Some (dirty_session has.session); sent = Some (Some has.value) }
 lost_held held number has fault own is =
     ap (λ f. if is_network f then dirty_held (record held { sent = Some number }) else record held { sent = Some number }) is
@@ -136,11 +136,11 @@ undrawn may.Read now result draws = draws
 undrawn may.None now result draws = draws
 
 -- what is held before a further attempt
-abbrev pub held_again : Session → ℤ → Held
+abbrev pub held_again : Session → ℤ → ExecutionSession
 held_again session number = record { session = Some session; sent = Some (Some number) }
 
 -- it is lent no session
-pub same_again : (session : Session) (number : ℤ) (before now : StoreTells) (ready : Held) (asks : Bool)
+pub same_again : (session : Session) (number : ℤ) (before now : StoreTells) (ready : ExecutionSession) (asks : Bool)
     → HoldsSession (needs_session asks (held_again session number)) before now (held_again session number) ready (Ok tt) → ready ≡ held_again session number
 same_again session number before now ready true holds = holds.1
 same_again session number before now ready false holds = holds.1

@@ -18,21 +18,21 @@ use Rattle.driver_link.specs.Exchange.{exchanged, next_step, step_at}
 use Rattle.driver_link.specs.LinkState.{server_run, setup_of}
 use Rattle.driver_link.specs.Retried.{IsGentleItem}
 use Rattle.driver_link.specs.ServerRun.{IsReply, ServerRun, TakesStep, run_after, run_answer}
-use Rattle.driver_exec.specs.declared.retry.FailurePhase.{FailurePhase}
-use Rattle.driver_exec.specs.declared.retry.FailurePhase.TheVariants.{Establishment, Execution}
-use Rattle.driver_exec.specs.declared.retryability.Retryability.TheVariants as may
+use Rattle.driver_session.specs.declared.retryability.Retryability.TheVariants as may
+use Rattle.driver_session.specs.Session.{Session}
+use Rattle.driver_session.specs.StoreTells.{DrawnApart}
+use Rattle.driver_ops.proofs.InsertReading.{IsPlainDone, plain_read}
+use Rattle.driver_exec.specs.declared.failure.FailurePhase.{FailurePhase}
+use Rattle.driver_exec.specs.declared.failure.FailurePhase.TheVariants.{ConnectionEstablishment, Execution}
 use Rattle.driver_exec.specs.Attempting.{AttemptState, FailsIn, LosesExchange, NotConnected, NotSelected, Sends, SpellsFailure, asks_session, held_after, on_connection}
-use Rattle.driver_exec.specs.Failing.{is_memory}
+use Rattle.driver_exec.specs.Failures.{is_memory}
 use Rattle.driver_exec.specs.Gentle.{IsGentlePart, IsLossy, IsOfPart}
 use Rattle.driver_exec.specs.Holding.{HoldsSession, dirty_session, held_id, needs_session}
 use Rattle.driver_exec.specs.OldDeployment.{reworded}
 use Rattle.driver_exec.specs.OperationCauses.{DrawsNumbers, labels_after}
-use Rattle.driver_exec.specs.Retry.{Kept}
-use Rattle.driver_exec.specs.Session.{Session}
-use Rattle.driver_exec.specs.StoreTells.{DrawnApart}
+use Rattle.driver_exec.specs.Retry.{RetryState}
 use Rattle.driver_exec.specs.Writing.{insert_asked, insert_send}
 use Rattle.driver_exec.proofs.HeldSessions.{draws_on, not_both}
-use Rattle.driver_exec.proofs.InsertReading.{IsPlainDone, plain_read}
 use Rattle.driver_exec.proofs.Moments.{IsBefore, LeadsCalling, after_before, before_twice, checks_well, longer_after, one_moment, selects_lead, selects_well}
 use Rattle.driver_exec.proofs.OperationCausing.{fault_error, reworded_is}
 use Rattle.driver_exec.proofs.Completing.Ends.{lossy_none, none_some, has_own_label, HasNumber, lost_held, held_again, same_again}
@@ -73,7 +73,7 @@ module _ (known : KnownInsert) where
     }
 
     -- an attempt of the part
-    module _ (past : Option Kept) (moment : ServerRun) (mid : AttemptState) (prepared : IsPrepared known moment mid) (now : AttemptState) (last : ServerRun) (now_is : server_run now.link ≡ Some last) (later : IsBefore last told_now)
+    module _ (past : Option RetryState) (moment : ServerRun) (mid : AttemptState) (prepared : IsPrepared known moment mid) (now : AttemptState) (last : ServerRun) (now_is : server_run now.link ≡ Some last) (later : IsBefore last told_now)
         (apart : DrawnApart now.store) where
       -- its selection does not fail
       pub unselected_none : (error : Error) → NotSelected past mid now error → ⊥
@@ -229,7 +229,7 @@ module _ (known : KnownInsert) where
 
       -- an attempt of the part fails only so
       pub fails_well : (address : Address) (phase : FailurePhase) (error : Error) → FailsIn (trial known) past mid now address phase error → LosesWell error
-      fails_well address Establishment error fails = absurd (unconnected_none address error fails)
+      fails_well address ConnectionEstablishment error fails = absurd (unconnected_none address error fails)
       fails_well address Execution error fails = elim fails [
         | inl lost ↦ loses_well address error lost
         | inr says ↦ absurd (spelled_none address error says)

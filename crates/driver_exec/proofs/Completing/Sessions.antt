@@ -17,19 +17,19 @@ use Rattle.driver_link.specs.Exchange.{exchanged}
 use Rattle.driver_link.specs.LinkState.{LinkState, server_run, setup_of}
 use Rattle.driver_link.specs.Retried.{IsGentleItem}
 use Rattle.driver_link.specs.ServerRun.{ServerRun}
-use Rattle.driver_exec.specs.declared.retryability.Retryability.{Retryability}
-use Rattle.driver_exec.specs.declared.retryability.Retryability.TheVariants as may
+use Rattle.driver_session.specs.declared.retryability.Retryability.{Retryability}
+use Rattle.driver_session.specs.declared.retryability.Retryability.TheVariants as may
+use Rattle.driver_session.specs.Session.{Numbers, Session, TellsEnd, last_number}
+use Rattle.driver_session.specs.StoreTells.{DrawnApart, LendsSession, StoreTells}
+use Rattle.driver_ops.specs.InsertSpec.{AsksInsert, insert_spec}
+use Rattle.driver_ops.specs.Operations.{TellsUnframed}
+use Rattle.driver_ops.specs.Inserts.{BodyRefused}
 use Rattle.driver_exec.specs.Attempting.{AttemptState, EndsRefused, Readies, Trial, asks_session, may_use, on_connection, trial_of}
-use Rattle.driver_exec.specs.Causes.{BodyRefused}
 use Rattle.driver_exec.specs.Executing.{first_state}
 use Rattle.driver_exec.specs.Gentle.{IsLossy}
-use Rattle.driver_exec.specs.Holding.{DrawsNumber, DrawsSession, GivesNumber, Held, HoldsSession, held_id, holds_nothing, needs_session}
-use Rattle.driver_exec.specs.InsertMeaning.{AsksInsert, insert_meaning}
+use Rattle.driver_exec.specs.Holding.{DrawsNumber, DrawsSession, GivesNumber, ExecutionSession, HoldsSession, held_id, holds_nothing, needs_session}
 use Rattle.driver_exec.specs.OperationCauses.{DrawsNumbers}
-use Rattle.driver_exec.specs.Operations.{TellsUnframed}
-use Rattle.driver_exec.specs.Retry.{Kept}
-use Rattle.driver_exec.specs.Session.{Numbers, Session, TellsEnd, last_number}
-use Rattle.driver_exec.specs.StoreTells.{DrawnApart, LendsSession, StoreTells}
+use Rattle.driver_exec.specs.Retry.{RetryState}
 use Rattle.driver_exec.specs.Writing.{insert_asked, insert_send}
 use Rattle.driver_exec.proofs.HeldSessions.{IsOf, draws_on, is_of, not_both}
 use Rattle.driver_exec.proofs.Moments.{IsBefore, LeadsCalling, before_refl, connects_lead}
@@ -69,25 +69,25 @@ module _ (known : KnownInsert) where
 
   -- the insert as its attempts see it
   abbrev pub trial : Trial (Unit {0})
-  trial = trial_of (insert_meaning write.written.namespace bytes) (write.place ∷ []) own
+  trial = trial_of (insert_spec write.written.namespace bytes) (write.place ∷ []) own
 
   -- what it asks for
   pub asked : AsksInsert write.written.namespace bytes (write.place ∷ []) (insert_asked write)
   asked = record { document = write.written.document; place = write.place; spelled = spelled; alone = refl; is = refl }
 
   -- what may go out under what was drawn
-  pub record MayGo (server : Server) (description : Description) (turn : Retryability) (held : Held) (number : Option ℤ) : Type 0 where
+  pub record MayGo (server : Server) (description : Description) (turn : Retryability) (held : ExecutionSession) (number : Option ℤ) : Type 0 where
     pub ready : Ready (insert_send (held_id held) number write) server
     pub numbers : description.supports_sessions ≡ true → turn ≡ may.Write → HasNumber held number
 
   -- what is so once a connection was had
-  pub record IsReadied (server : Server) (description : Description) (held : Held) : Type 0 where
+  pub record IsReadied (server : Server) (description : Description) (held : ExecutionSession) : Type 0 where
     pub allowed : may_use held description ≡ false → ⊥
-    pub unnumbered : (turn : Retryability) (now : Held) (error : Error) → DrawsNumber held.sent turn held now (Err error) → kind_of error ≡ kind.Memory
-    pub numbered : (turn : Retryability) (now : Held) (number : Option ℤ) → DrawsNumber held.sent turn held now (Ok number) → MayGo server description turn now number
+    pub unnumbered : (turn : Retryability) (now : ExecutionSession) (error : Error) → DrawsNumber held.sent turn held now (Err error) → kind_of error ≡ kind.Memory
+    pub numbered : (turn : Retryability) (now : ExecutionSession) (number : Option ℤ) → DrawsNumber held.sent turn held now (Ok number) → MayGo server description turn now number
 
   -- a send under an id and a number that are equal to these may go out
-  ready_of : (server : Server) (held : Held) (number : Option ℤ) (id : Option (List ℕ)) (value : Option ℤ) → held_id held ≡ id → number ≡ value
+  ready_of : (server : Server) (held : ExecutionSession) (number : Option ℤ) (id : Option (List ℕ)) (value : Option ℤ) → held_id held ≡ id → number ≡ value
       → Ready (insert_send id value write) server → Ready (insert_send (held_id held) number write) server
   ready_of server held number id value id_is number_is ready =
       subst (λ i. Ready (insert_send i number write) server) (sym id_is) (subst (λ n. Ready (insert_send id n write) server) (sym number_is) ready)
@@ -109,7 +109,7 @@ module _ (known : KnownInsert) where
   module _ (at : ℕ) (lent : StoreTells) (session : Session) (lends : LendsSession store lent at session) (apart : DrawnApart lent) (description : Description)
       (supports : description.supports_sessions ≡ true) where
     -- what is held before a first number
-    abbrev held_first : Option Session → Held
+    abbrev held_first : Option Session → ExecutionSession
     held_first back = record { session = back; sent = None }
 
     -- the session is not at its last number
@@ -130,7 +130,7 @@ module _ (known : KnownInsert) where
     lent_unnumbered may.None back error draws = absurd (err_ok error None draws.1)
 
     -- no number is drawn of it
-    lent_plain : (turn : Retryability) (back : Option Session) (now : Held) (number : Option ℤ) → (turn ≡ may.Write → ⊥) → now ≡ held_first back → back ≡ Some session
+    lent_plain : (turn : Retryability) (back : Option Session) (now : ExecutionSession) (number : Option ℤ) → (turn ≡ may.Write → ⊥) → now ≡ held_first back → back ≡ Some session
         → ◌≡◌ {A = Result (Option ℤ) Error} (Ok number) (Ok None) → MayGo told.server description turn now number
     lent_plain turn back now number no_write is same none =
         let number_is : number ≡ None = cc none in record {
@@ -139,7 +139,7 @@ module _ (known : KnownInsert) where
         }
 
     -- the number that is drawn, or none
-    lent_numbered : (turn : Retryability) (back : Option Session) (now : Held) (number : Option ℤ) → now ≡ held_first back → DrawsSession turn (Some session) back (Ok number)
+    lent_numbered : (turn : Retryability) (back : Option Session) (now : ExecutionSession) (number : Option ℤ) → now ≡ held_first back → DrawsSession turn (Some session) back (Ok number)
         → MayGo told.server description turn now number
     lent_numbered may.Write back now number is draws = by_next draws.numbered draws.next draws.numbers draws.gives (is ∙ ap held_first draws.is)
       where
@@ -164,7 +164,7 @@ module _ (known : KnownInsert) where
     }
 
   -- a first attempt had its connection
-  first_readied : (lent : StoreTells) (ready : Held) (description : Description)
+  first_readied : (lent : StoreTells) (ready : ExecutionSession) (description : Description)
       → HoldsSession (needs_session (asks_session true description) holds_nothing) store lent holds_nothing ready (Ok tt) → DrawnApart lent → IsReadied told.server description ready
   first_readied lent ready description holds apart = by_asked description.supports_sessions refl holds
     where
@@ -192,7 +192,7 @@ module _ (known : KnownInsert) where
     pub is : server_run mid.link ≡ Some moment
     pub after : IsBefore told moment
     pub setup : setup_of mid.link ≡ setup_of link
-    pub readied : (ready : Held) (store_now : StoreTells) (description : Description) → IsOf (setup_of link) description
+    pub readied : (ready : ExecutionSession) (store_now : StoreTells) (description : Description) → IsOf (setup_of link) description
         → HoldsSession (needs_session (asks_session true description) mid.held) mid.store store_now mid.held ready (Ok tt) → DrawnApart store_now → IsReadied moment.server description ready
 
   -- it is so before the first attempt
@@ -205,7 +205,7 @@ module _ (known : KnownInsert) where
   }
 
   -- there is a frame, unless memory runs out
-  frame_memory : (session : Option (List ℕ)) (number : Option ℤ) (why : ErrorKind) → TellsUnframed trial.meaning session number why → why ≡ kind.Memory
+  frame_memory : (session : Option (List ℕ)) (number : Option ℤ) (why : ErrorKind) → TellsUnframed trial.spec session number why → why ≡ kind.Memory
   frame_memory session number (kind.InvalidArgument message) tells = absurd tells
   frame_memory session number (kind.BsonSerialization fault) tells = elim tells [ inl none ↦ absurd none | inr refused ↦ absurd (unspelled session number fault refused) ]
   frame_memory session number kind.Memory tells = refl
@@ -214,7 +214,7 @@ module _ (known : KnownInsert) where
   -- an attempt
   module _ (moment : ServerRun) (mid : AttemptState) (prepared : IsPrepared moment mid) where
     -- a connection was had
-    module _ {past : Option Kept} (ready : AttemptState) (address : Address) (conn : Conn) (readies : Readies trial past mid ready address conn) where
+    module _ {past : Option RetryState} (ready : AttemptState) (address : Address) (conn : Conn) (readies : Readies trial past mid ready address conn) where
       -- its description is that of the setup
       pub is_conn : IsOf (setup_of link) conn.description
       is_conn = is_of (setup_of link) (setup_of readies.connects.mid) address conn (readies.connects.selects.calls.setup ∙ prepared.setup) readies.connects.checks_out.to
@@ -228,7 +228,7 @@ module _ (known : KnownInsert) where
       readied_at apart = prepared.readied ready.held ready.store conn.description is_conn readies.holds apart
 
     -- the operation ends at once only for want of memory
-    pub refused_memory : (past : Option Kept) (now : AttemptState) (error : Error) → DrawnApart now.store → EndsRefused trial past mid now error → kind_of error ≡ kind.Memory
+    pub refused_memory : (past : Option RetryState) (now : AttemptState) (error : Error) → DrawnApart now.store → EndsRefused trial past mid now error → kind_of error ≡ kind.Memory
     refused_memory past now error apart refused =
         let here = readied_at refused.ready refused.address refused.conn refused.readies (subst DrawnApart refused.store apart) in elim refused.refused [
           | inl none ↦ absurd (here.allowed none.none)

@@ -1,9 +1,9 @@
 -- Each call keeps what holds of the run so far.
 use Rattle.std.proofs.Common.{◌≤◌, length, refl, sym, ap, subst, ◌∙◌, arith}
+use Rattle.driver_session.proofs.Drawing.{draws_refl, draws_twice}
+use Rattle.driver_session.proofs.Lending.{lends_refl, lends_twice}
 use Rattle.driver_exec.specs.Client.{store_of}
 use Rattle.driver_exec.specs.Moment.{moment_of}
-use Rattle.driver_exec.proofs.Drawing.{draws_refl, draws_twice}
-use Rattle.driver_exec.proofs.Lending.{lends_refl, lends_twice}
 use Rattle.driver_actions.proofs.Ending.{began_before, causes_more, causes_start, ended_more, ended_start}
 use Rattle.driver_actions.proofs.Moving.{fresh_replayed, keeps_refl, keeps_twice}
 use Rattle.driver_actions.proofs.run.run_calls.Goals as goal
@@ -11,26 +11,22 @@ use Rattle.driver_actions.proofs.run.run_calls.Goals as goal
 pub calls-init : goal.calls-init
 calls-init g c =
     let is = c.in_ok-run.ensures.new in
-    let store = g.S.SessionStore.tells (store_of c.args.client.now) in
     let at = moment_of g.S.SessionStore.tells g.L.Link.tells g.K.Clock.tells g.R.Rng.stream c.args.client.now c.args.outside.now in
     record {
       within = subst (λ run. run.made ≤ length c.args.calls.now) (sym is) (omega arith);
       room = ap (λ run. run.room) is;
-      options = refl;
+      client = refl;
       stands = λ begins. c.in_ok-run.ensures.stands c.args.calls.now _ begins.new begins.fresh;
       ended = λ begins. ended_start _ _ c.args.calls.now _ is;
       replayed = fresh_replayed at;
       making = keeps_refl at;
-      drawn = draws_refl store;
-      lent = lends_refl store;
+      drawn = draws_refl at.store;
+      lent = lends_refl at.store;
       causes = causes_start _ _ c.args.calls.now _ is;
     }
 
 pub calls-preserved : goal.calls-preserved
 calls-preserved g c =
-    let store = g.S.SessionStore.tells (store_of c.args.client.now) in
-    let store_mid = g.S.SessionStore.tells (store_of c.calls.client) in
-    let store_now = g.S.SessionStore.tells (store_of c.make.new.client) in
     let first = moment_of g.S.SessionStore.tells g.L.Link.tells g.K.Clock.tells g.R.Rng.stream c.args.client.now c.args.outside.now in
     let mid = moment_of g.S.SessionStore.tells g.L.Link.tells g.K.Clock.tells g.R.Rng.stream c.calls.client c.calls.outside in
     let now = moment_of g.S.SessionStore.tells g.L.Link.tells g.K.Clock.tells g.R.Rng.stream c.make.new.client c.make.new.outside in
@@ -39,15 +35,15 @@ calls-preserved g c =
     record {
       within = omega (arith, ap (λ run. run.made) made.makes.appended, c.made.ensures, c.calls-test.true);
       room = ap (λ run. run.room) made.makes.appended ∙ before.room;
-      options = made.options ∙ before.options;
+      client = made.client ∙ before.client;
       stands = λ begins. made.stands (before.stands (began_before first mid now made.drawn begins)) begins.apart;
       ended = λ begins.
           let began = began_before first mid now made.drawn begins in
           ended_more c.calls.run c.make.new.self c.args.calls.now first mid now before.within (made.complete (before.stands began) begins.apart) (before.ended began);
       replayed = λ fresh. made.replayed (before.replayed fresh);
       making = keeps_twice first mid now before.making made.making;
-      drawn = draws_twice store store_mid store_now before.drawn made.drawn;
-      lent = lends_twice store store_mid store_now before.lent made.lent;
+      drawn = draws_twice first.store mid.store now.store before.drawn made.drawn;
+      lent = lends_twice first.store mid.store now.store before.lent made.lent;
       causes = causes_more c.calls.run c.make.new.self c.args.calls.now first mid now before.within made.makes before.causes;
     }
 

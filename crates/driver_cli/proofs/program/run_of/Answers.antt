@@ -1,9 +1,9 @@
 -- The run of a script.
 use Rattle.std.proofs.Common.{refl, ap, ◌∙◌}
-use Rattle.driver_exec.specs.Pool.{empty_pool}
-use Rattle.driver_cli.specs.Ended.{new_model, store_tells}
 use Rattle.driver_link.specs.MemClock.{clock_tells}
 use Rattle.model_server.specs.ModelState.{model_tells}
+use Rattle.driver_session.specs.Pool.{empty_pool}
+use Rattle.driver_cli.specs.Ended.{new_model, store_tells}
 use Rattle.driver_cli.proofs.Made.{run_made}
 use Rattle.driver_cli.proofs.program.run_of.Goals as goal
 
@@ -19,5 +19,5 @@ returns c =
     })
     (record { store = refl; link = refl; options = refl }) c.requires c.deliver_each.new.server _
     made.drawn made.main made.complete made.replayed made.making
-    c.as_slice.ensures (made.options ∙ c.new-client.ensures.options) c.bound_drawn.ensures
+    c.as_slice.ensures (ap (λ client. client.options) made.client ∙ c.new-client.ensures.options) c.bound_drawn.ensures
     c.in_ok-deliver_each.ensures c.as_slice-2.ensures

@@ -1,6 +1,5 @@
 -- The operation's attempts, and the session that came back, tell what it left and the cause of its end.
 use Rattle.std.proofs.Common.{refl, ap, ◌∙◌}
-use Rattle.driver_exec.specs.Attempting.{attempt_state}
 use Rattle.driver_exec.specs.Causes.{end_of}
 use Rattle.driver_exec.specs.Client.{store_of}
 use Rattle.driver_exec.proofs.KeepingCalls.{works_keeps, wrote_ends}
@@ -8,37 +7,38 @@ use Rattle.driver_exec.proofs.OperationCausing.{executes_caused}
 use Rattle.driver_exec.proofs.Wrote.{works_wrote}
 use Rattle.driver_exec.proofs.Resending.{executes_draws, executes_lends, executes_works}
 use Rattle.driver_exec.proofs.execute.execute_operation.Goals as goal
+use Rattle.driver_exec.specs.inside.Attempting.{attempt_state}
 
 pub returns-clause-executes : goal.returns-clause-executes
 returns-clause-executes g c = record {
   sharded = c.is_sharded-sharded.result;
   sharded_is = c.is_sharded-sharded.ensures;
-  last = attempt_state (g.S.SessionStore.tells (store_of c.turns-held.new.client)) (g.L.Link.tells c.turns-held.new.outside.link) c.turns-held.result.0 c.turns-held.new.sends;
-  turns = c.turns-held.ensures.turns;
+  last = attempt_state (g.S.SessionStore.tells (store_of c.execute_operation_with_retry-held.new.client)) (g.L.Link.tells c.execute_operation_with_retry-held.new.outside.link) c.execute_operation_with_retry-held.result.0 c.execute_operation_with_retry-held.new.sends;
+  attempts = c.execute_operation_with_retry-held.ensures.attempts;
   link_is = refl;
-  out = c.turns-held.ensures.out;
+  out = c.execute_operation_with_retry-held.ensures.out;
   count_is = refl;
   comes_back = c.check_in_session.ensures.takes;
-  client_is = ap (λ options. record { options = options }) (c.check_in_session.ensures.options ∙ c.turns-held.ensures.options);
+  client_is = ap (λ options. record { options = options }) (c.check_in_session.ensures.options ∙ c.execute_operation_with_retry-held.ensures.options);
 }
 
 pub returns-clause-one_command : goal.returns-clause-one_command
-returns-clause-one_command g c = executes_works (g.O.Operation.meaning c.args.op.now) c.args.places.now _ _ c.args.sends.now c.turns-held.new.sends c.turns-held.result.1 (returns-clause-executes g c)
+returns-clause-one_command g c = executes_works (g.O.Operation.spec c.args.op.now) c.args.places.now _ _ c.args.sends.now c.execute_operation_with_retry-held.new.sends c.execute_operation_with_retry-held.result.1 (returns-clause-executes g c)
 
 pub returns-clause-caused : goal.returns-clause-caused
-returns-clause-caused g c = executes_caused (g.O.Operation.meaning c.args.op.now) c.args.places.now _ _ c.args.sends.now c.turns-held.new.sends c.turns-held.result.1 (returns-clause-executes g c)
+returns-clause-caused g c = executes_caused (g.O.Operation.spec c.args.op.now) c.args.places.now _ _ c.args.sends.now c.execute_operation_with_retry-held.new.sends c.execute_operation_with_retry-held.result.1 (returns-clause-executes g c)
 
 pub returns-clause-lent : goal.returns-clause-lent
-returns-clause-lent g c = executes_lends (g.O.Operation.meaning c.args.op.now) c.args.places.now _ _ c.args.sends.now c.turns-held.new.sends c.turns-held.result.1 (returns-clause-executes g c)
+returns-clause-lent g c = executes_lends (g.O.Operation.spec c.args.op.now) c.args.places.now _ _ c.args.sends.now c.execute_operation_with_retry-held.new.sends c.execute_operation_with_retry-held.result.1 (returns-clause-executes g c)
 
 pub returns-clause-drawn : goal.returns-clause-drawn
-returns-clause-drawn g c = executes_draws (g.O.Operation.meaning c.args.op.now) c.args.places.now _ _ c.args.sends.now c.turns-held.new.sends c.turns-held.result.1 (returns-clause-executes g c)
+returns-clause-drawn g c = executes_draws (g.O.Operation.spec c.args.op.now) c.args.places.now _ _ c.args.sends.now c.execute_operation_with_retry-held.new.sends c.execute_operation_with_retry-held.result.1 (returns-clause-executes g c)
 
 pub returns-clause-keeps : goal.returns-clause-keeps
 returns-clause-keeps g c = λ write asked.
-    works_keeps (g.O.Operation.meaning c.args.op.now) c.args.places.now _ _ c.turns-held.result.1 (returns-clause-one_command g c) write asked
+    works_keeps (g.O.Operation.spec c.args.op.now) c.args.places.now _ _ c.execute_operation_with_retry-held.result.1 (returns-clause-one_command g c) write asked
 
 pub returns-clause-stands : goal.returns-clause-stands
 returns-clause-stands g c = λ write asked done.
-    wrote_ends _ _ write (end_of c.turns-held.result.1)
-    (works_wrote (g.O.Operation.meaning c.args.op.now) c.args.places.now write asked done _ _ c.turns-held.result.1 (returns-clause-one_command g c))
+    wrote_ends _ _ write (end_of c.execute_operation_with_retry-held.result.1)
+    (works_wrote (g.O.Operation.spec c.args.op.now) c.args.places.now write asked done _ _ c.execute_operation_with_retry-held.result.1 (returns-clause-one_command g c))

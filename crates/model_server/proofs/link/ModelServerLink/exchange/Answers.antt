@@ -1,7 +1,8 @@
 -- The send that was read is the one that the frame reads as.
 use Rattle.std.proofs.Common.{refl, rules, sym, ap, ◌∙◌}
+use Rattle.std.specs.Prelude.{Err}
 use Rattle.model_server.proofs.ReadLaws.{some_same}
-use Rattle.model_server.proofs.StepsLaws.{replied, was_reset}
+use Rattle.model_server.proofs.StepsLaws.{replied, tells_no_frame, was_reset}
 use Rattle.model_server.specs.ModelState.{server_run_of}
 use Rattle.model_server.proofs.link.ModelServerLink.exchange.Goals as goal
 
@@ -15,8 +16,7 @@ returns-in-Some-2-clause-told c = record {
       (some_same (sym c.in-Some.is ∙ c.in_ok-send.ensures send reads)) c.in-Some-2.is c.in_ok-reply.ensures.ok;
   setup = search rules;
   answers = search rules;
-  frames = refl;
-  over = refl;
+  given = (refl, refl);
   rest = record { asked = refl; addresses = refl; connections = refl; out = refl };
   cause = search rules;
 }
@@ -29,8 +29,7 @@ returns-in-None-clause-told c = record {
       (ap server_run_of c.count_fault.ensures.counted) c.reset.ensures;
   setup = search rules;
   answers = search rules;
-  frames = refl;
-  over = refl;
+  given = tells_no_frame c.args.self.now c.count_fault.new.self c.args.frame.now c.args._conn.now.number (Err c.reset.result);
   rest = record { asked = refl; addresses = refl; connections = refl; out = refl };
   cause = search rules;
 }

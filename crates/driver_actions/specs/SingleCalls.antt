@@ -1,0 +1,99 @@
+-- One call of a single write: the document as it is sent, its operation, and the answer that it tells.
+use Rattle.std.specs.Prelude.{◌≡◌, ℕ, ◌≤◌, List, [], ◌∷◌, length, Some, ◌⊎◌, Result, Ok, Err}
+use Rattle.bson_lite.specs.declared.bson.Bson.{Bson}
+use Rattle.bson_lite.specs.declared.bson.ObjectId.{ObjectId}
+use Rattle.bson_lite.specs.declared.document.Pair.{Pair}
+use Rattle.bson_lite.specs.declared.namespace.Namespace.{Namespace}
+use Rattle.bson_lite.specs.Fields.{value_of, id_key, with_id}
+use Rattle.bson_lite.specs.Spelling.{Spells}
+use Rattle.driver_error.specs.declared.error.Error.{Error}
+use Rattle.driver_error.specs.declared.kind.ErrorKind.TheVariants as kind
+use Rattle.driver_error.specs.Error.{kind_of}
+use Rattle.driver_link.specs.declared.machine.Place.{Place}
+use Rattle.driver_link.specs.declared.machine.PlacedWrite.{PlacedWrite}
+use Rattle.driver_link.specs.declared.machine.WriteKind.TheVariants as write_kind
+use Rattle.driver_link.specs.declared.machine.Written.{Written}
+use Rattle.driver_session.specs.StoreTells.{Draws, LendsAsBefore}
+use Rattle.driver_ops.specs.InsertSpec.{insert_spec}
+use Rattle.driver_exec.specs.Causes.{end_of}
+use Rattle.driver_exec.specs.Moment.{Moment}
+use Rattle.driver_exec.specs.Singles.{ExecutesSingle}
+use Rattle.driver_exec.specs.Writing.{Wrote}
+use Rattle.driver_actions.specs.declared.call.Answer.{Answer}
+use Rattle.driver_actions.specs.declared.call.Answer.TheVariants as answer
+use Rattle.driver_actions.specs.declared.call.Call.{Call}
+use Rattle.driver_actions.specs.declared.call.Call.TheVariants.{Single}
+use Rattle.driver_actions.specs.declared.call.SingleAnswer.{SingleAnswer}
+use Rattle.driver_actions.specs.declared.call.SingleAnswer.TheVariants.{Inserted}
+use Rattle.driver_actions.specs.Calls.{IsOwn, written}
+use Rattle.driver_actions.specs.Causes.{MayDrawId}
+use Rattle.driver_actions.specs.Inputs.{TellsInput}
+
+-- a document has an id, at its front where it had none
+pub record HasOwnId (given now : List (Pair Bson)) (value : Bson) : Type 0 where
+  pub id : ObjectId
+  pub twelve : length id.bytes ≡ 12
+  pub document : now ≡ with_id id given
+  pub found : value_of id_key now ≡ Some value
+
+-- a document has its id, and that is answered; an error tells of want of memory
+abbrev pub PutsId : List (Pair Bson) → List (Pair Bson) → Result Bson Error → Type 0
+PutsId given now (Ok value) = HasOwnId given now value
+PutsId given now (Err error) = kind_of error ≡ kind.Memory
+
+-- a write as it is sent for a caller's document, in bytes too, with the document's id
+pub record Owns (namespace : Namespace) (given : List (Pair Bson)) (place : Place) (write : PlacedWrite) (bytes : List ℕ) (id : Bson) : Type 0 where
+  pub place_is : write.place ≡ place
+  pub kind_is : write.written.kind ≡ write_kind.Insert
+  pub namespace_is : write.written.namespace ≡ namespace
+  pub document : HasOwnId given write.written.document id
+  pub spelled : Spells write.written.document bytes
+
+-- an answer tells the id of the document that was sent
+pub record TellsId (document : List (Pair Bson)) (given : SingleAnswer) : Type 0 where
+  pub id : Bson
+  pub found : value_of id_key document ≡ Some id
+  pub answer_is : given ≡ Inserted (record { inserted_id = id })
+
+-- an insert that was done tells the id, and an error of one is handed on
+abbrev pub TellsAnswer : List (Pair Bson) → Result (Unit {0}) Error → Result SingleAnswer Error → Type 0
+TellsAnswer document (Ok done) (Ok given) = TellsId document given
+TellsAnswer document (Ok done) (Err error) = ⊥
+TellsAnswer document (Err error) result = result ≡ Err error
+
+-- the insert of a write was executed, with two sends at most, once an id was drawn, if any
+pub record Inserts (before now : Moment) (write : PlacedWrite) (ended : Result (Unit {0}) Error) : Type 0 where
+  pub mid : Moment
+  pub draws : MayDrawId before mid
+  pub bytes : List ℕ
+  pub spelled : Spells write.written.document bytes
+  pub count : ℕ
+  pub executes : ExecutesSingle (insert_spec write.written.namespace bytes) (write.place ∷ []) mid now 0 count ended
+  pub twice : count ≤ 2
+  pub wrote : Wrote mid now write (end_of ended)
+  pub lent : LendsAsBefore mid.store now.store
+  pub drawn : Draws mid.store now.store
+
+-- a call's own write was inserted, or its insert failed
+pub record Made (before now : Moment) (given : Written) (place : Place) (result : Result SingleAnswer Error) : Type 0 where
+  pub write : PlacedWrite
+  pub placed : write.place ≡ place
+  pub own : IsOwn given write.written
+  pub ended : Result (Unit {0}) Error
+  pub inserts : Inserts before now write ended
+  pub tells : TellsAnswer write.written.document ended result
+
+-- nothing was asked or sent, though an id may have been drawn: the input is refused, or there was no memory
+pub record Unmade (before now : Moment) (given : Written) (error : Error) : Type 0 where
+  pub draws : MayDrawId before now
+  pub why : TellsInput given.namespace given.document (kind_of error)
+
+-- one call of a single write
+abbrev pub Makes : Moment → Moment → Written → Place → Result SingleAnswer Error → Type 0
+Makes before now given place (Ok answer) = Made before now given place (Ok answer)
+Makes before now given place (Err error) = Unmade before now given error ⊎ Made before now given place (Err error)
+
+-- one call of a list, by its number
+abbrev pub MakesCall : Moment → Moment → Call → ℕ → Result Answer Error → Type 0
+MakesCall before now (Single write) call (Ok (answer.Single given)) = Made before now (written write) (record { call = call; index = 0 }) (Ok given)
+MakesCall before now (Single write) call (Err error) = Makes before now (written write) (record { call = call; index = 0 }) (Err error)

@@ -1,0 +1,27 @@
+-- The failures so far, and what is kept of them.
+use Rattle.std.proofs.Common.{◌≡◌, ◌+◌, ◌≤◌}
+use Rattle.driver_ops.specs.Operations.{SameSpec}
+use Rattle.driver_exec.specs.Attempting.{trial_of}
+use Rattle.driver_exec.specs.Client.{options_of, store_of}
+use Rattle.driver_exec.specs.Holding.{holds_nothing}
+use Rattle.driver_exec.proofs.Executing.{AtMostOne, SoFar, attempts_left}
+use Rattle.driver_exec.proofs.execute.execute_operation_with_retry.Given as goal
+use Rattle.driver_exec.specs.inside.Attempting.{attempt_state}
+
+abbrev pub invariant-attempts : goal.invariant-attempts
+invariant-attempts g l = record {
+  far : SoFar (trial_of (g.O.Operation.spec l.fn.op) l.places ((g.O.Operation.spec l.fn.op).own (options_of l.fn.client))) l.sharded
+      (attempt_state (g.S.SessionStore.tells (store_of l.fn.client)) (g.L.Link.tells l.fn.outside.link) holds_nothing l.fn.sends)
+      l.kept
+      (attempt_state (g.S.SessionStore.tells (store_of l.client)) (g.L.Link.tells l.outside.link) l.held l.sends);
+  spec : SameSpec (g.O.Operation.spec l.fn.op) (g.O.Operation.spec l.op);
+  own : l.own ≡ (g.O.Operation.spec l.fn.op).own (options_of l.fn.client);
+  options : options_of l.client ≡ options_of l.fn.client;
+  out : (g.L.Link.tells l.outside.link).out ≡ (g.L.Link.tells l.fn.outside.link).out;
+  call : l.outside.call ≡ l.fn.outside.call;
+  once : AtMostOne l.kept;
+  few : l.sends + attempts_left l.kept ≤ l.fn.sends + 2;
+}
+
+abbrev pub decreases-attempts : goal.decreases-attempts
+decreases-attempts g l = attempts_left l.kept

@@ -1,0 +1,5 @@
+-- What the functions that no other crate calls say of themselves.
+pub mod Attempting
+pub mod Executing
+pub mod Failures
+pub mod OldDeployment

@@ -1,0 +1,73 @@
+-- The parts of an attempt, as the functions that make it say them.
+use Rattle.std.specs.Prelude.{◌≡◌, ℕ, ◌+◌, ℤ, List, Option, Some, ◌⊎◌, Result, Ok, Err}
+use Rattle.driver_error.specs.declared.error.Error.{Error}
+use Rattle.driver_error.specs.Error.{kind_of}
+use Rattle.driver_link.specs.declared.fault.LinkError.{LinkError}
+use Rattle.driver_link.specs.declared.machine.Place.{Place}
+use Rattle.driver_link.specs.declared.options.Address.{Address}
+use Rattle.driver_link.specs.declared.options.Conn.{Conn}
+use Rattle.driver_link.specs.LinkState.{LinkState}
+use Rattle.driver_session.specs.declared.retryability.Retryability.{Retryability}
+use Rattle.driver_session.specs.StoreTells.{StoreTells}
+use Rattle.driver_ops.specs.Operations.{OperationSpec, TellsUnframed, ReadsAnswer}
+use Rattle.driver_exec.specs.declared.attempt_end.Attempt.{Attempt}
+use Rattle.driver_exec.specs.declared.attempt_end.Attempt.TheVariants.{Ended}
+use Rattle.driver_exec.specs.Holding.{DrawsNumber, ExecutionSession, held_id, number_before}
+use Rattle.driver_exec.specs.Attempting.{besides_out, AttemptState, Exchanges, held_after}
+use Rattle.driver_exec.specs.inside.Failures.{EndsLost, EndsRead}
+
+-- the state of attempts, from what store and link tell, what is held and the count
+abbrev pub attempt_state : StoreTells → LinkState → ExecutionSession → ℕ → AttemptState
+attempt_state store link held count = record { store = store; link = besides_out link; held = held; count = count }
+
+-- what comes of an exchange's result: its reply was read, or the exchange failed
+pub record ComesOfReply {A : Type 0} (spec : OperationSpec A) (turn : Retryability) (version : Option ℤ) (address : Address) (reply : List ℕ) (attempt : Attempt A) : Type 0 where
+  pub answer : Result A Error
+  pub reads : ReadsAnswer spec reply answer
+  pub ends : EndsRead turn version address answer attempt
+
+-- what comes of an exchange, by its result
+abbrev pub Comes : {A : Type 0} → OperationSpec A → Retryability → Option ℤ → Address → Result (List ℕ) LinkError → Attempt A → Type 0
+Comes spec turn version address (Ok reply) attempt = ComesOfReply spec turn version address reply attempt
+Comes spec turn version address (Err failure) attempt = EndsLost turn version address failure attempt
+
+-- one exchange under what is held over a connection, and what came of it
+pub record Exchanging {A : Type 0} (spec : OperationSpec A) (places : List Place) (link link_now : LinkState) (turn : Retryability) (conn : Conn) (address : Address) (held held_now : ExecutionSession)
+    (attempt : Attempt A) : Type 0 where
+  pub result : Result (List ℕ) LinkError
+  pub exchanges : Exchanges spec places link link_now conn (held_id held) (number_before held) result
+  pub held_is : held_now ≡ held_after result held
+  pub comes : Comes spec turn conn.description.max_wire_version address result attempt
+
+-- there was no number, and nothing went out
+pub record EndsUnnumbered {A : Type 0} (link link_now : LinkState) (turn : Retryability) (held held_now : ExecutionSession) (count count_now : ℕ) (attempt : Attempt A) : Type 0 where
+  pub error : Error
+  pub draws : DrawsNumber held.sent turn held held_now (Err error)
+  pub link_is : link_now ≡ link
+  pub uncounted : count_now ≡ count
+  pub ends : attempt ≡ Ended error
+
+-- there was a number and no frame under it, and nothing went out
+pub record EndsUnframed {A : Type 0} (spec : OperationSpec A) (link link_now : LinkState) (turn : Retryability) (held held_now : ExecutionSession) (count count_now : ℕ) (attempt : Attempt A) : Type 0 where
+  pub error : Error
+  pub number : Option ℤ
+  pub draws : DrawsNumber held.sent turn held held_now (Ok number)
+  pub why : TellsUnframed spec (held_id held_now) number (kind_of error)
+  pub link_is : link_now ≡ link
+  pub uncounted : count_now ≡ count
+  pub ends : attempt ≡ Ended error
+
+-- the command went out under its number
+pub record SendsOut {A : Type 0} (spec : OperationSpec A) (places : List Place) (link link_now : LinkState) (turn : Retryability) (conn : Conn) (address : Address) (held held_now : ExecutionSession)
+    (count count_now : ℕ) (attempt : Attempt A) : Type 0 where
+  pub numbered : ExecutionSession
+  pub number : Option ℤ
+  pub draws : DrawsNumber held.sent turn held numbered (Ok number)
+  pub exchanging : Exchanging spec places link link_now turn conn address (record numbered { sent = Some number }) held_now attempt
+  pub counted : count_now ≡ count + 1
+
+-- the command of an attempt
+abbrev pub Sending : {A : Type 0} → OperationSpec A → List Place → LinkState → LinkState → Retryability → Conn → Address → ExecutionSession → ExecutionSession → ℕ → ℕ → Attempt A → Type 0
+Sending spec places link link_now turn conn address held held_now count count_now attempt =
+    EndsUnnumbered link link_now turn held held_now count count_now attempt
+    ⊎ (EndsUnframed spec link link_now turn held held_now count count_now attempt ⊎ SendsOut spec places link link_now turn conn address held held_now count count_now attempt)

@@ -1,0 +1,58 @@
+-- How an attempt ends by what a call of the link answered, as the functions that end it say.
+use Rattle.std.specs.Prelude.{◌≡◌, ℤ, Option, Result, Ok, Err}
+use Rattle.driver_error.specs.declared.error.Error.{Error}
+use Rattle.driver_error.specs.declared.kind.ErrorKind.TheVariants as kind
+use Rattle.driver_error.specs.Error.{kind_of}
+use Rattle.driver_link.specs.declared.fault.LinkError.{LinkError}
+use Rattle.driver_link.specs.declared.fault.LinkError.TheVariants.{Fault, Memory}
+use Rattle.driver_link.specs.declared.options.Address.{Address}
+use Rattle.driver_session.specs.declared.retryability.Retryability.{Retryability}
+use Rattle.driver_session.specs.declared.retryability.Retryability.TheVariants as may
+use Rattle.driver_exec.specs.declared.attempt_end.Attempt.{Attempt}
+use Rattle.driver_exec.specs.declared.attempt_end.Attempt.TheVariants.{Done, Ended, Failed, Unselected}
+use Rattle.driver_exec.specs.declared.attempt_end.AttemptFailure.{AttemptFailure}
+use Rattle.driver_exec.specs.declared.failure.FailurePhase.{FailurePhase}
+use Rattle.driver_exec.specs.declared.failure.FailurePhase.TheVariants.{ConnectionEstablishment, Execution}
+use Rattle.driver_exec.specs.Failures.{IsLabelled, IsFaultOf, IsVersioned, IsLabelledRead}
+
+-- an error that gained the labels of the table, or want of memory
+abbrev pub IsLabelledBy : Retryability → Error → Result Error Error → Type 0
+IsLabelledBy retryability old (Ok now) = IsLabelled retryability old now
+IsLabelledBy retryability old (Err error) = kind_of error ≡ kind.Memory
+
+-- the error of a failure of the link, or want of memory
+abbrev pub FaultError : LinkError → Retryability → Result Error Error → Type 0
+FaultError (Fault fault own) retryability (Ok error) = IsFaultOf fault own retryability error
+FaultError Memory retryability (Ok error) = ⊥
+FaultError failure retryability (Err error) = kind_of error ≡ kind.Memory
+
+-- a failure in a phase, at the server of an address, whose error has a property
+pub record IsFailing (phase : FailurePhase) (address : Address) (P : Error → Type 0) (failing : AttemptFailure) : Type 0 where
+  pub phase_is : failing.failure.phase ≡ phase
+  pub address_is : failing.address ≡ address
+  pub error : P failing.failure.error
+
+-- the end of an attempt that selected no server
+abbrev pub EndsUnselected : {A : Type 0} → LinkError → Attempt A → Type 0
+EndsUnselected (Fault fault own) (Unselected error) = IsFaultOf fault own may.None error
+EndsUnselected failure (Ended error) = kind_of error ≡ kind.Memory
+EndsUnselected failure attempt = ⊥
+
+-- the end of an attempt that had no connection to its server
+abbrev pub EndsUnconnected : {A : Type 0} → Retryability → Address → LinkError → Attempt A → Type 0
+EndsUnconnected own address (Fault fault labels) (Failed failing) = IsFailing ConnectionEstablishment address (IsFaultOf fault labels own) failing
+EndsUnconnected own address failure (Ended error) = kind_of error ≡ kind.Memory
+EndsUnconnected own address failure attempt = ⊥
+
+-- the end of an attempt whose exchange failed, on a connection of a wire version
+abbrev pub EndsLost : {A : Type 0} → Retryability → Option ℤ → Address → LinkError → Attempt A → Type 0
+EndsLost turn version address (Fault fault own) (Failed failing) = IsFailing Execution address (IsVersioned (IsFaultOf fault own turn) version) failing
+EndsLost turn version address failure (Ended error) = kind_of error ≡ kind.Memory
+EndsLost turn version address failure attempt = ⊥
+
+-- the end of an attempt whose reply was read
+abbrev pub EndsRead : {A : Type 0} → Retryability → Option ℤ → Address → Result A Error → Attempt A → Type 0
+EndsRead turn version address (Ok output) attempt = attempt ≡ Done output
+EndsRead turn version address (Err read) (Failed failing) = IsFailing Execution address (IsVersioned (IsLabelledRead turn read) version) failing
+EndsRead turn version address (Err read) (Ended error) = kind_of error ≡ kind.Memory
+EndsRead turn version address (Err read) attempt = ⊥

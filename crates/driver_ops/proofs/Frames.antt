@@ -1,0 +1,206 @@
+-- The frame of a command with the executor's fields reads as the send of what the command asks for.
+use Rattle.std.proofs.Common.{◌≡◌, ℕ, List, [], ◌∷◌, ◌++◌, length, refl, ap, rules, Bool, subst, sym, inl, inr}
+use Rattle.std.specs.Prelude.{ℤ, true, false, Some, None, Option, Result, Ok, Err, bytes_eq, if◌then◌else◌}
+use Rattle.std.specs.Option.{option_map}
+use denote.Hole.Carrier.{out}
+use Rattle.bson_lite.specs.declared.bson.Binary.{Binary}
+use Rattle.bson_lite.specs.declared.bson.Bson.{Bson}
+use Rattle.bson_lite.specs.declared.bson.Bson as bson
+use Rattle.bson_lite.specs.declared.document.Pair.{Pair}
+use Rattle.bson_lite.specs.Fields.{value_of}
+use Rattle.bson_lite.specs.Spelling.{refusal}
+use Rattle.driver_error.specs.declared.error.Error.{Error}
+use Rattle.driver_error.specs.Error.{ErrorKind, kind_of}
+use Rattle.driver_error.specs.declared.kind.ErrorKind.TheVariants as kind
+use Rattle.driver_link.specs.declared.keys.TheConstants.{AUTOCOMMIT, DATABASE, SESSION, START_TRANSACTION, TRANSACTION_NUMBER, UUID_SUBTYPE}
+use Rattle.driver_link.specs.declared.frame.Documents.{Documents}
+use Rattle.driver_link.specs.declared.machine.Place.{Place}
+use Rattle.driver_link.specs.declared.machine.SendBody.{SendBody}
+use Rattle.driver_link.specs.Asking.{asks, spelled}
+use Rattle.driver_link.specs.Commands.{flag, flag_value, goes_to, needed, optional, optional_value, sent_as, session_id_of, uuid_in}
+use Rattle.driver_link.specs.Framed.{Framed}
+use Rattle.driver_link.specs.Reads.{SpellSequences}
+use Rattle.driver_link.specs.Values.{text_of, int64_of, binary_of, document_of}
+use Rattle.driver_link.specs.Writes.{is_common}
+use Rattle.driver_session.proofs.Ids.{equal_bytes}
+use Rattle.driver_ops.specs.declared.command.Command.{Command}
+use Rattle.driver_ops.specs.Encoding.{TellsRefusal}
+use Rattle.driver_ops.specs.Fields.{AreCommon, Frames, IsFrameOf, IsPlain, IsSixteen, executor_fields, number_field, session_document, session_field, with_fields}
+use Rattle.driver_ops.specs.Operations.{BuildsFrame, IsBuilt, OperationSpec, ReadsAsAsked, TellsUnbuilt, TellsUnframed, plain_send}
+
+-- what values are as the fields of a command
+text_is : (text : List ℕ) → text_of (bson.String text) ≡ Some text
+unfolding bson.out-Bson out
+text_is text = refl
+
+int_is : (number : ℤ) → int64_of (bson.Int64 number) ≡ Some number
+unfolding bson.out-Bson out
+int_is number = refl
+
+binary_is : (binary : Binary) → binary_of (bson.Binary binary) ≡ Some binary
+unfolding bson.out-Bson out
+binary_is binary = refl
+
+document_is : (pairs : List (Pair Bson)) → document_of (bson.Document pairs) ≡ Some pairs
+document_is pairs = search (rules, bson.the_lemmas)
+
+uuid_is : (id : List ℕ) → length id ≡ 16 → uuid_in (record { subtype = UUID_SUBTYPE; bytes = id }) ≡ Some id
+unfolding uuid_in
+uuid_is id sixteen = rw sixteen
+
+id_is : (id : List ℕ) → length id ≡ 16 → session_id_of (bson.Document (session_document id)) ≡ Some id
+unfolding session_id_of session_document
+id_is id sixteen = rw (document_is (session_document id), binary_is (record { subtype = UUID_SUBTYPE; bytes = id })) (uuid_is id sixteen)
+
+differ : (value : Bson) → Some value ≡ None → ⊥
+differ value is = cc
+
+-- a key that a body does not have is found behind it
+skips : (key : List ℕ) (body fields : List (Pair Bson)) → value_of key body ≡ None → value_of key (body ++ fields) ≡ value_of key fields
+skips key [] fields none = refl
+skips key (pair ∷ body) fields none = by_test (bytes_eq pair.key key) (skips key body fields) none
+  where
+    by_test : (same : Bool) → (value_of key body ≡ None → value_of key (body ++ fields) ≡ value_of key fields)
+        → (if same then Some pair.value else value_of key body) ≡ None
+        → (if same then Some pair.value else value_of key (body ++ fields)) ≡ value_of key fields
+    by_test true rest none = absurd (differ pair.value none)
+    by_test false rest none = rest none
+
+-- what stands under the keys of the executor's fields
+database_in : (session : Option (List ℕ)) (number : Option ℤ) (database : List ℕ) → value_of DATABASE.now (executor_fields session number database) ≡ Some (bson.String database)
+unfolding executor_fields session_field number_field
+database_in None None database = refl
+database_in None (Some number) database = refl
+database_in (Some id) None database = refl
+database_in (Some id) (Some number) database = refl
+
+session_in : (session : Option (List ℕ)) (number : Option ℤ) (database : List ℕ)
+    → value_of SESSION.now (executor_fields session number database) ≡ option_map (λ id. bson.Document (session_document id)) session
+unfolding executor_fields session_field number_field
+session_in None None database = refl
+session_in None (Some number) database = refl
+session_in (Some id) None database = refl
+session_in (Some id) (Some number) database = refl
+
+number_in : (session : Option (List ℕ)) (number : Option ℤ) (database : List ℕ)
+    → value_of TRANSACTION_NUMBER.now (executor_fields session number database) ≡ option_map (λ one. bson.Int64 one) number
+unfolding executor_fields session_field number_field
+number_in None None database = refl
+number_in None (Some number) database = refl
+number_in (Some id) None database = refl
+number_in (Some id) (Some number) database = refl
+
+start_in : (session : Option (List ℕ)) (number : Option ℤ) (database : List ℕ) → value_of START_TRANSACTION.now (executor_fields session number database) ≡ None
+unfolding executor_fields session_field number_field
+start_in None None database = refl
+start_in None (Some number) database = refl
+start_in (Some id) None database = refl
+start_in (Some id) (Some number) database = refl
+
+autocommit_in : (session : Option (List ℕ)) (number : Option ℤ) (database : List ℕ) → value_of AUTOCOMMIT.now (executor_fields session number database) ≡ None
+unfolding executor_fields session_field number_field
+autocommit_in None None database = refl
+autocommit_in None (Some number) database = refl
+autocommit_in (Some id) None database = refl
+autocommit_in (Some id) (Some number) database = refl
+
+-- they are fields that stand in commands of every kind
+are_common : (session : Option (List ℕ)) (number : Option ℤ) (database : List ℕ) → AreCommon (executor_fields session number database)
+unfolding executor_fields session_field number_field is_common
+are_common None None database = (refl, tt)
+are_common None (Some number) database = (refl, (refl, tt))
+are_common (Some id) None database = (refl, (refl, tt))
+are_common (Some id) (Some number) database = (refl, (refl, (refl, tt)))
+
+-- a session and a number that may be missing are read again
+session_read : (session : Option (List ℕ)) → IsSixteen session
+    → optional_value session_id_of (option_map (λ id. bson.Document (session_document id)) session) ≡ Some session
+unfolding optional_value
+session_read None sixteen = refl
+session_read (Some id) sixteen = ap (λ found. option_map (λ one. Some one) found) (id_is id sixteen)
+
+number_read : (number : Option ℤ) → optional_value int64_of (option_map (λ one. bson.Int64 one) number) ≡ Some number
+unfolding optional_value
+number_read None = refl
+number_read (Some number) = ap (λ found. option_map (λ one. Some one) found) (int_is number)
+
+-- the executor's fields are found where the body before them has none of them
+module _ (body : List (Pair Bson)) (session : Option (List ℕ)) (number : Option ℤ) (database : List ℕ) (plain : IsPlain body) (sixteen : IsSixteen session) where
+  abbrev joined : List (Pair Bson)
+  joined = body ++ executor_fields session number database
+
+  behind : (key : List ℕ) → value_of key body ≡ None → value_of key joined ≡ value_of key (executor_fields session number database)
+  behind key none = skips key body (executor_fields session number database) none
+
+  database_of : needed text_of DATABASE.now joined ≡ Some database
+  unfolding needed
+  database_of = rw (behind DATABASE.now plain.1.1.1.1.1.1.1.1.0, database_in session number database) (text_is database)
+
+  goes : goes_to database joined ≡ true
+  unfolding goes_to
+  goes = rw database_of (equal_bytes database)
+
+  session_of : optional session_id_of SESSION.now joined ≡ Some session
+  session_of = rw (behind SESSION.now plain.0, session_in session number database) (session_read session sixteen)
+
+  number_of : optional int64_of TRANSACTION_NUMBER.now joined ≡ Some number
+  number_of = rw (behind TRANSACTION_NUMBER.now plain.1.0, number_in session number database) (number_read number)
+
+  start_of : flag true START_TRANSACTION.now joined ≡ Some false
+  unfolding flag_value
+  start_of = rw (behind START_TRANSACTION.now plain.1.1.1.0, start_in session number database) refl
+
+  autocommit_of : flag false AUTOCOMMIT.now joined ≡ Some false
+  unfolding flag_value
+  autocommit_of = rw (behind AUTOCOMMIT.now plain.1.1.1.1.0, autocommit_in session number database) refl
+
+  sent_is : (asked : SendBody) → sent_as joined asked ≡ Some (plain_send session number asked)
+  unfolding sent_as
+  sent_is asked = rw (session_of, number_of, start_of, autocommit_of)
+
+  spells : (sequences : List Documents) (places : List Place) (asked : SendBody) → asks database joined sequences places ≡ Some asked
+      → spelled database joined sequences places ≡ Some (plain_send session number asked)
+  unfolding spelled
+  spells sequences places asked is = rw (goes, is) (sent_is asked)
+
+-- the frame of a built command with the executor's fields
+pub reads_as_asked : {A : Type 0} (spec : OperationSpec A) (statements : ℕ) (session : Option (List ℕ)) (number : Option ℤ) (command whole : Command) (frame : Framed)
+    → IsSixteen session → IsBuilt spec statements command → whole ≡ with_fields session number command → IsFrameOf whole frame
+    → ReadsAsAsked spec session number frame
+reads_as_asked spec statements session number command whole frame sixteen built appended framed places body asked =
+    let asks = built.asks places body asked in
+    let made = subst (λ whole. IsFrameOf whole frame) appended framed in
+    record {
+      body = command.body ++ executor_fields session number command.database;
+      sequences = asks.sequences;
+      body_spelled = made.spelled;
+      sequences_spelled = subst (SpellSequences asks.sequences) (sym made.sequences) asks.spelled;
+      spelled = subst (λ database. spelled database (command.body ++ executor_fields session number command.database) asks.sequences places ≡ Some (plain_send session number body))
+          (sym made.database)
+          (spells command.body session number command.database built.plain sixteen asks.sequences places body (asks.asks _ (are_common session number command.database)));
+    }
+
+-- why there is no such frame
+pub unframed : {A : Type 0} (spec : OperationSpec A) (statements : ℕ) (session : Option (List ℕ)) (number : Option ℤ) (command whole : Command) (why : ErrorKind)
+    → IsSixteen session → IsBuilt spec statements command → whole ≡ with_fields session number command → TellsRefusal whole.body why → TellsUnframed spec session number why
+unframed spec statements session number command whole (kind.BsonSerialization fault) sixteen built appended tells =
+    inr (built.spelling session number fault sixteen (subst (λ whole. refusal whole.body ≡ Some fault) appended tells))
+unframed spec statements session number command whole kind.Memory sixteen built appended tells = tt
+unframed spec statements session number command whole _ sixteen built appended tells = absurd tells
+
+pub unbuilt : {A : Type 0} (spec : OperationSpec A) (session : Option (List ℕ)) (number : Option ℤ) (why : ErrorKind) → TellsUnbuilt spec why → TellsUnframed spec session number why
+unbuilt spec session number (kind.InvalidArgument message) tells = tells
+unbuilt spec session number (kind.BsonSerialization fault) tells = inl tells
+unbuilt spec session number kind.Memory tells = tt
+unbuilt spec session number _ tells = absurd tells
+
+-- a built command with the executor's fields, in bytes
+pub frames_builds : {A : Type 0} (spec : OperationSpec A) (statements : ℕ) (session : Option (List ℕ)) (number : Option ℤ) (command whole : Command) (result : Result Framed Error)
+    → IsSixteen session → IsBuilt spec statements command → whole ≡ with_fields session number command → Frames whole result → BuildsFrame spec session number result
+frames_builds spec statements session number command whole (Ok frame) sixteen built appended framed =
+    record {
+      framed = record { statements = statements; command = command; built = built; is = subst (λ w. IsFrameOf w frame) appended framed };
+      reads = reads_as_asked spec statements session number command whole frame sixteen built appended framed;
+    }
+frames_builds spec statements session number command whole (Err error) sixteen built appended tells =
+    unframed spec statements session number command whole (kind_of error) sixteen built appended tells

@@ -1,0 +1,5 @@
+pub mod Frames
+pub mod InsertReading
+pub mod Inserting
+pub mod Responding
+pub mod Standing

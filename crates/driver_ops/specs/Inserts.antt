@@ -1,0 +1,52 @@
+-- The insert command that the driver builds, and the replies that tell of an insert that was done.
+use Rattle.std.specs.Prelude.{◌≡◌, ℕ, ℤ, pos, Bool, true, false, ◌&&◌, List, [], ◌∷◌, ◌++◌, Option, None, Some}
+use Rattle.std.specs.Option.{option_and_then}
+use Rattle.std.specs.Ordering.{int_eq}
+use Rattle.bson_lite.specs.declared.bson.Bson.{Bson}
+use Rattle.bson_lite.specs.declared.bson.Bson as bson
+use Rattle.bson_lite.specs.declared.document.Pair.{Pair}
+use Rattle.bson_lite.specs.declared.namespace.Namespace.{Namespace}
+use Rattle.bson_lite.specs.Fields.{value_of, int_of}
+use Rattle.bson_lite.specs.declared.fault.EncodeFault.{EncodeFault}
+use Rattle.bson_lite.specs.Spelling.{refusal}
+use Rattle.driver_link.specs.declared.frame.Sequence.{Sequence}
+use Rattle.driver_link.specs.declared.keys.TheConstants.{INSERT, ORDERED, DOCUMENTS, OK, N}
+use Rattle.driver_link.specs.declared.machine.Place.{Place}
+use Rattle.driver_link.specs.declared.machine.PlacedWrite.{PlacedWrite}
+use Rattle.driver_link.specs.declared.machine.WriteKind.TheVariants as write_kind
+use Rattle.driver_link.specs.Writes.{write_on}
+use Rattle.driver_ops.specs.Fields.{executor_fields, field, IsSixteen}
+
+-- the body of the insert command, without the executor's fields
+unfoldable pub insert_command : Namespace → List (Pair Bson)
+insert_command namespace = field INSERT.now (bson.String namespace.coll) ∷ field ORDERED.now (bson.Boolean true) ∷ []
+
+-- the body of the insert command, with the executor's fields
+unfoldable pub insert_body : Namespace → Option (List ℕ) → Option ℤ → List (Pair Bson)
+insert_body namespace session number = insert_command namespace ++ executor_fields session number namespace.db
+
+-- the write that inserts a document
+abbrev pub insert_write : Namespace → List (Pair Bson) → Place → PlacedWrite
+insert_write namespace document place = record { place = place; written = write_on write_kind.Insert namespace document }
+
+-- the sequence of one document
+abbrev pub IsOneDocument : List Sequence → List ℕ → Type 0
+IsOneDocument sequences bytes = sequences ≡ record { name = DOCUMENTS.now; documents = bytes ∷ [] } ∷ []
+
+-- the number is one
+abbrev pub is_one : Option ℤ → Bool
+is_one None = false
+is_one (Some number) = int_eq number (pos 1)
+
+-- the whole number at a key
+abbrev pub int_at : List ℕ → List (Pair Bson) → Option ℤ
+int_at key document = option_and_then int_of (value_of key document)
+
+-- the reply to an insert of one document that was done
+unfoldable pub is_done_reply : List (Pair Bson) → Bool
+is_done_reply document = is_one (int_at OK.now document) && is_one (int_at N.now document)
+
+-- the body of an insert into this namespace, under this session and number, has no spelling
+pub record BodyRefused (namespace : Namespace) (session : Option (List ℕ)) (number : Option ℤ) (fault : EncodeFault) : Type 0 where
+  pub sixteen : IsSixteen session
+  pub is : refusal (insert_body namespace session number) ≡ Some fault

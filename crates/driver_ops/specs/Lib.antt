@@ -1,0 +1,10 @@
+pub mod Encoding
+pub mod Fields
+pub mod InsertAnswers
+pub mod InsertSpec
+pub mod Inserts
+pub mod Operations
+pub mod Readings
+pub mod Responses
+pub mod WriteReplies
+pub mod inside

@@ -1,0 +1,20 @@
+//! What the reply to an operation's command comes to.
+ghost use Rattle.driver_ops.specs.Operations.{SameSpec, ReadsAnswer};
+
+use crate::operation::Operation;
+use crate::response::{read_response, with_reply};
+use driver_error::Result;
+use std::alloc::Global;
+
+/// What a reply in these bytes comes to: the output that the operation reads in it; or the error that the reply or
+/// the operation spells, which keeps the reply where the bytes spell a document; or want of memory.
+pub fn read_answer<O: Operation>(alloc: Global, op: &mut O, reply: &[u8]) -> Result<O::Output>
+    ensures reads { ReadsAnswer (O.spec op.old) reply.now result }
+    ensures spec { SameSpec (O.spec op.old) (O.spec op.new) }
+{
+    let response = read_response(alloc, reply)?;
+    match op.read_reply(alloc, &response.body) {
+        Ok(output) => Ok(output),
+        Err(error) => Err(with_reply(alloc, error, reply, &response.body)),
+    }
+}

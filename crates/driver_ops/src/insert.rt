@@ -1,0 +1,215 @@
+//! The insert of one document: its command, and what the reply to it says.
+ghost use Rattle.std.specs.Prelude.{◌≡◌, IfOk};
+ghost use Rattle.driver_error.specs.declared.kind.ErrorKind.TheVariants.{InsertMany, InvalidResponse};
+ghost use Rattle.driver_error.specs.Conversions.{IsMade, IsNew};
+ghost use Rattle.driver_error.specs.LabelTexts.{no_labels};
+ghost use Rattle.driver_ops.specs.InsertAnswers.{AnswersFound, ReadsInsert, counts_one, errors_there, failures_of, insert_reply, is_unfailed, odd_insert_text};
+ghost use Rattle.driver_ops.specs.Inserts.{insert_command, IsOneDocument};
+ghost use Rattle.driver_ops.specs.inside.Readings.{Gives};
+ghost use Rattle.driver_ops.specs.InsertSpec.{insert_spec};
+
+use crate::command::Command;
+use crate::operation::Operation;
+use crate::reading::{Unread, int_at, labels_at};
+use crate::response::odd_reply;
+use crate::write_reply::{concern_in, write_errors_in};
+use bson_lite::{Bson, ByIndex, Bytes, Document, List, Namespace, Text, TryClone};
+use driver_error::{
+    Error, ErrorKind, IndexedWriteError, InsertManyError, Result, WriteConcernError,
+};
+use driver_link::{ClientOptions, CommandName, Description, Sequence, keys};
+use driver_session::Retryability;
+use std::alloc::{AllocError, Global};
+
+/// A reply tells of no insert of one document.
+const ODD_INSERT: &str = "the reply does not tell of one inserted document";
+
+/// The insert of one document, by its bytes, into a collection.
+#[derive(Drop)]
+pub struct Insert<'a> {
+    namespace: &'a Namespace,
+    document: Bytes,
+}
+
+impl<'a> Insert<'a> {
+    pub fn new(namespace: &'a Namespace, document: Bytes) -> Insert<'a>
+        ensures namespace { result.namespace.now ≡ namespace.now }
+        ensures document { result.document ≡ document }
+    {
+        Insert {
+            namespace,
+            document,
+        }
+    }
+}
+
+impl<'a> Operation for Insert<'a> {
+    type Output = ();
+
+    ghost spec = { λ insert. insert_spec insert.namespace.now insert.document };
+
+    ghost built = { λ insert. 1 };
+
+    #[tactic(auto, unfolding(driver_link::specs::CommandNames::named))]
+    fn name(&self) -> &'static str {
+        keys::INSERT
+    }
+
+    fn build(&mut self, alloc: Global, _description: &Description) -> Result<Command> {
+        Ok(Command {
+            name: CommandName::Insert,
+            database: self.namespace.db.try_clone(alloc)?,
+            body: insert_command(alloc, self.namespace)?,
+            sequences: one_sequence(alloc, self.document.try_clone(alloc)?)?,
+        })
+    }
+
+    fn statements(&self) -> usize {
+        1
+    }
+
+    fn retryability(&self, options: &ClientOptions) -> Retryability {
+        match options.retry_writes {
+            Some(false) => Retryability::None,
+            _ => Retryability::Write,
+        }
+    }
+
+    fn supports_sessions(&self) -> bool {
+        true
+    }
+
+    fn read_reply(&mut self, alloc: Global, reply: &Document) -> Result<()> {
+        read_insert_answer(alloc, reply)
+    }
+}
+
+/// The body of the command, field by field.
+#[tactic(auto, unfolding(crate::specs::Inserts::insert_command))]
+fn insert_command(alloc: Global, namespace: &Namespace) -> std::result::Result<Document, AllocError>
+    ensures { IfOk result (λ body. body ≡ insert_command namespace.now) }
+{
+    let mut body = Document::new(alloc);
+    body.push(keys::INSERT, Bson::String(namespace.coll.try_clone(alloc)?))?;
+    body.push(keys::ORDERED, Bson::Boolean(true))?;
+    Ok(body)
+}
+
+/// The one sequence of an insert command, with one document.
+fn one_sequence(alloc: Global, document: Bytes) -> std::result::Result<List<Sequence>, AllocError>
+    ensures { IfOk result (λ sequences. IsOneDocument sequences document) }
+{
+    let name = Text::from_str(alloc, keys::DOCUMENTS)?;
+    let mut documents = List::new(alloc);
+    documents.push(document)?;
+    let mut sequences = List::new(alloc);
+    sequences.push(Sequence { name, documents })?;
+    Ok(sequences)
+}
+
+/// The fields of a reply: the count of inserted documents, the write errors, the write concern error, the
+/// labels.
+#[derive(Drop)]
+pub(crate) struct InsertReply {
+    n: i64,
+    errors: List<IndexedWriteError>,
+    concern: Option<WriteConcernError>,
+    labels: List<Text>,
+}
+
+/// What a reply comes to: that the document was inserted, the failures that it tells of, or that it breaks
+/// its form.
+pub(crate) fn read_insert_answer(alloc: Global, reply: &Document) -> Result<()>
+    ensures { ReadsInsert reply.now result }
+{
+    match insert_reply(alloc, reply) {
+        Ok(found) => answer_of(alloc, found),
+        Err(Unread::Wrong) => Err(odd_insert(alloc)),
+        Err(Unread::Memory) => Err(Error::from_kind(ErrorKind::Memory)),
+    }
+}
+
+/// The fields, each in its form.
+#[tactic(auto, unfolding(crate::specs::InsertAnswers::insert_reply))]
+fn insert_reply(alloc: Global, reply: &Document) -> std::result::Result<InsertReply, Unread>
+    ensures { Gives result (insert_reply reply.now) }
+{
+    let n = int_at(reply, keys::N)?;
+    let errors = write_errors_in(alloc, reply)?;
+    let concern = concern_in(alloc, reply)?;
+    let labels = labels_at(alloc, reply)?;
+    Ok(InsertReply {
+        n,
+        errors,
+        concern,
+        labels,
+    })
+}
+
+/// The answer of a reply by its fields.
+fn answer_of(alloc: Global, found: InsertReply) -> Result<()>
+    ensures { AnswersFound found result }
+{
+    if !counts_one(found.n, found.errors.as_slice()) {
+        return Err(odd_insert(alloc));
+    }
+    if is_unfailed(&found) {
+        return Ok(());
+    }
+    Err(failed_insert(alloc, found))
+}
+
+/// Whether nothing failed.
+fn is_unfailed(found: &InsertReply) -> bool
+    ensures { result ≡ is_unfailed found.now }
+{
+    found.errors.is_empty() && found.concern.is_none()
+}
+
+/// Whether the counts are those of one document, which was inserted or not.
+fn counts_one(n: i64, errors: &[IndexedWriteError]) -> bool
+    ensures { result ≡ counts_one n errors.now }
+{
+    match errors {
+        [] => n == 1,
+        [error] => n == 0 && error.index == 0,
+        _ => false,
+    }
+}
+
+/// The error of the failures that a reply tells of.
+fn failed_insert(alloc: Global, found: InsertReply) -> Error
+    ensures { IsNew (InsertMany (failures_of found)) found.labels result }
+{
+    let InsertReply {
+        errors,
+        concern,
+        labels,
+        ..
+    } = found;
+    let failures = InsertManyError {
+        write_errors: errors_there(errors),
+        write_concern_error: concern,
+        inserted_ids: ByIndex::new(alloc),
+    };
+    Error::new(alloc, ErrorKind::InsertMany(failures), labels.as_slice())
+}
+
+/// The write errors, where there are some.
+fn errors_there(errors: List<IndexedWriteError>) -> Option<List<IndexedWriteError>>
+    ensures { result ≡ errors_there errors }
+{
+    if errors.is_empty() {
+        None
+    } else {
+        Some(errors)
+    }
+}
+
+/// The error of a reply that breaks its form.
+#[tactic(auto, unfolding(crate::specs::InsertAnswers::odd_insert_text))]
+fn odd_insert(alloc: Global) -> Error
+    ensures { IsMade (InvalidResponse odd_insert_text) no_labels result }
+{
+    odd_reply(alloc, ODD_INSERT)
+}

@@ -1,0 +1,156 @@
+//! What the reply to a command of writes tells of writes that failed and of a write concern that was not met.
+ghost use Rattle.std.specs.Prelude.{◌≡◌};
+ghost use Rattle.std.specs.Option.{option_copied};
+ghost use Rattle.driver_link.specs.Commands.{needed, optional};
+ghost use Rattle.driver_link.specs.Values.{document_of, text_of};
+ghost use Rattle.driver_ops.specs.Readings.{natural_of};
+ghost use Rattle.driver_ops.specs.inside.Readings.{Gives};
+ghost use Rattle.driver_ops.specs.WriteReplies.{concern_error_in, concern_error_of, concern_in, indexed_error_in, indexed_error_of, indexed_errors, indexed_errors_of, write_errors_in};
+
+use crate::reading::{CODE_NAME, Unread, code_at, labels_at, natural_of, text_at};
+use bson_lite::{Bson, Document, List, Text, TryClone};
+use driver_error::{IndexedWriteError, WriteConcernError};
+use driver_link::keys;
+use std::alloc::Global;
+
+/// What a server adds to an error, as a document.
+pub const ERROR_INFO: &str = "errInfo";
+
+/// The document of a value.
+fn document_of(value: &Bson) -> Option<&Document>
+    ensures { option_copied result ≡ document_of value.now }
+{
+    match value {
+        Bson::Document(document) => Some(document),
+        _ => None,
+    }
+}
+
+/// A document under a key, which may be missing.
+#[tactic(auto, unfolding(driver_link::specs::Commands::optional_value))]
+fn document_at(alloc: Global, document: &Document, key: &str) -> Result<Option<Document>, Unread>
+    ensures { Gives result (optional document_of key.now document.now) }
+{
+    match document.get(key) {
+        None => Ok(None),
+        Some(Bson::Document(found)) => Ok(Some(found.try_clone(alloc)?)),
+        Some(_) => Err(Unread::Wrong),
+    }
+}
+
+/// A text under a key, which may be missing.
+#[tactic(auto, unfolding(driver_link::specs::Commands::optional_value))]
+fn optional_text_at(alloc: Global, document: &Document, key: &str) -> Result<Option<Text>, Unread>
+    ensures { Gives result (optional text_of key.now document.now) }
+{
+    match document.get(key) {
+        None => Ok(None),
+        Some(Bson::String(text)) => Ok(Some(text.try_clone(alloc)?)),
+        Some(_) => Err(Unread::Wrong),
+    }
+}
+
+/// An index, which is needed.
+#[tactic(auto, unfolding(driver_link::specs::Commands::needed))]
+fn index_at(document: &Document, key: &str) -> Result<usize, Unread>
+    ensures { Gives result (needed natural_of key.now document.now) }
+{
+    let Some(value) = document.get(key) else {
+        return Err(Unread::Wrong);
+    };
+    match natural_of(value) {
+        Some(index) => Ok(index as usize),
+        None => Err(Unread::Wrong),
+    }
+}
+
+/// A write error by its fields.
+#[tactic(auto, unfolding(crate::specs::WriteReplies::indexed_error_in))]
+fn indexed_error_in(alloc: Global, document: &Document) -> Result<IndexedWriteError, Unread>
+    ensures { Gives result (indexed_error_in document.now) }
+{
+    let index = index_at(document, keys::INDEX)?;
+    let code = code_at(document, keys::CODE)?;
+    let code_name = optional_text_at(alloc, document, CODE_NAME)?;
+    let message = text_at(alloc, document, keys::ERROR_MESSAGE)?;
+    let details = document_at(alloc, document, ERROR_INFO)?;
+    Ok(IndexedWriteError {
+        index,
+        code,
+        code_name,
+        message,
+        details,
+    })
+}
+
+/// A value that is a write error.
+#[tactic(auto, unfolding(crate::specs::WriteReplies::indexed_error_of))]
+fn indexed_error_of(alloc: Global, value: &Bson) -> Result<IndexedWriteError, Unread>
+    ensures { Gives result (indexed_error_of value.now) }
+{
+    match document_of(value) {
+        Some(document) => indexed_error_in(alloc, document),
+        None => Err(Unread::Wrong),
+    }
+}
+
+/// Write errors, each in its form.
+#[tactic(auto, unfolding(crate::specs::WriteReplies::indexed_errors))]
+fn indexed_errors(alloc: Global, values: &[Bson]) -> Result<List<IndexedWriteError>, Unread>
+    ensures { Gives result (indexed_errors values.now) }
+{
+    let mut errors = List::new(alloc);
+    for value in values {
+        errors.push(indexed_error_of(alloc, value)?)?;
+    }
+    Ok(errors)
+}
+
+/// The write errors of a reply.
+#[tactic(auto, unfolding(crate::specs::WriteReplies::write_errors_in, crate::specs::WriteReplies::indexed_errors_of, driver_link::specs::Commands::optional_value))]
+pub(crate) fn write_errors_in(
+    alloc: Global,
+    reply: &Document,
+) -> Result<List<IndexedWriteError>, Unread>
+    ensures { Gives result (write_errors_in reply.now) }
+{
+    match reply.get(keys::WRITE_ERRORS) {
+        None => Ok(List::new(alloc)),
+        Some(Bson::Array(values)) => indexed_errors(alloc, values.as_slice()),
+        Some(_) => Err(Unread::Wrong),
+    }
+}
+
+/// A write concern error by its fields.
+#[tactic(auto, unfolding(crate::specs::WriteReplies::concern_error_in))]
+fn concern_error_in(alloc: Global, document: &Document) -> Result<WriteConcernError, Unread>
+    ensures { Gives result (concern_error_in document.now) }
+{
+    let code = code_at(document, keys::CODE)?;
+    let code_name = text_at(alloc, document, CODE_NAME)?;
+    let message = text_at(alloc, document, keys::ERROR_MESSAGE)?;
+    let details = document_at(alloc, document, ERROR_INFO)?;
+    let labels = labels_at(alloc, document)?;
+    Ok(WriteConcernError {
+        code,
+        code_name,
+        message,
+        details,
+        labels,
+    })
+}
+
+/// The write concern error of a reply, which may be missing.
+#[tactic(auto, unfolding(crate::specs::WriteReplies::concern_error_of, driver_link::specs::Commands::optional_value))]
+pub(crate) fn concern_in(
+    alloc: Global,
+    reply: &Document,
+) -> Result<Option<WriteConcernError>, Unread>
+    ensures { Gives result (concern_in reply.now) }
+{
+    match reply.get(keys::WRITE_CONCERN_ERROR) {
+        None => Ok(None),
+        Some(Bson::Document(document)) => Ok(Some(concern_error_in(alloc, document)?)),
+        Some(_) => Err(Unread::Wrong),
+    }
+}

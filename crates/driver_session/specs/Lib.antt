@@ -1,0 +1,4 @@
+pub mod Pool
+pub mod Session
+pub mod StoreTells
+pub mod inside
