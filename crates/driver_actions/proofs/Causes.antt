@@ -7,6 +7,7 @@ use Rattle.bson_lite.specs.declared.namespace.Namespace.{Namespace}
 use Rattle.driver_error.specs.declared.error.Error.{Error}
 use Rattle.driver_error.specs.Error.{kind_of}
 use Rattle.driver_ops.specs.InsertSpec.{insert_spec}
+use Rattle.driver_ops.specs.Targets.{in_collection}
 use Rattle.driver_exec.specs.Causes.{end_of, outline_of}
 use Rattle.driver_exec.specs.Moment.{Moment}
 use Rattle.driver_exec.specs.OperationCauses.{Caused}
@@ -42,12 +43,12 @@ becomes_err A (Err before) error becomes = becomes
 module _ (before mid now : Moment) (namespace sent : Namespace) (document : List (Pair Bson)) (bytes : List ℕ) (draws : MayDrawId before mid) (same : sent ≡ namespace)
     (accepted : IsAccepted namespace document) where
   -- its cause over the caller's namespace
-  renamed : (executed : Result (Unit {0}) Error) → Caused {A = Unit {0}} (insert_spec sent bytes) mid now (end_of executed)
-      → Caused {A = Unit {0}} (insert_spec namespace bytes) mid now (end_of executed)
-  renamed executed caused = subst (λ n. Caused {A = Unit {0}} (insert_spec n bytes) mid now (end_of executed)) same caused
+  renamed : (executed : Result (Unit {0}) Error) → Caused {A = Unit {0}} (insert_spec (in_collection sent) bytes) mid now (end_of executed)
+      → Caused {A = Unit {0}} (insert_spec (in_collection namespace) bytes) mid now (end_of executed)
+  renamed executed caused = subst (λ n. Caused {A = Unit {0}} (insert_spec (in_collection n) bytes) mid now (end_of executed)) same caused
 
   -- an insert that was done
-  pub caused_ok : (A : Type 0) (done : Unit {0}) (answer : A) → CausedSingle {A = Unit {0}} (insert_spec sent bytes) mid now (Ok done)
+  pub caused_ok : (A : Type 0) (done : Unit {0}) (answer : A) → CausedSingle {A = Unit {0}} (insert_spec (in_collection sent) bytes) mid now (Ok done)
       → WriteCaused {A = A} before now (InsertOne namespace document) (Ok answer)
   caused_ok A done answer single = record {
     caused = inr (record {
@@ -62,7 +63,7 @@ module _ (before mid now : Moment) (namespace sent : Namespace) (document : List
   }
 
   -- an insert that failed
-  pub caused_err : (A : Type 0) (error : Error) → CausedSingle {A = Unit {0}} (insert_spec sent bytes) mid now (Err error)
+  pub caused_err : (A : Type 0) (error : Error) → CausedSingle {A = Unit {0}} (insert_spec (in_collection sent) bytes) mid now (Err error)
       → WriteCaused {A = A} before now (InsertOne namespace document) (Err error)
   caused_err A error single = record {
     caused = inr (record {

@@ -19,7 +19,8 @@ use Rattle.driver_link.specs.ServerRun.{ServerRun}
 use Rattle.driver_session.specs.Pool.{Pool}
 use Rattle.driver_session.specs.Session.{Session, last_number}
 use Rattle.driver_session.specs.StoreTells.{DrawnApart, LendsSession, MayDrawObjectId, StoreTells}
-use Rattle.driver_ops.specs.Inserts.{insert_body, BodyRefused}
+use Rattle.driver_ops.specs.Fields.{SendContext}
+use Rattle.driver_ops.specs.Inserts.{BodyRefused, insert_body}
 use Rattle.driver_ops.specs.InsertSpec.{own_of_insert}
 use Rattle.driver_ops.proofs.InsertReading.{inserted_plain}
 use Rattle.driver_exec.specs.BetweenCalls.{Between, NumbersWithin, Sound}
@@ -112,10 +113,10 @@ module _ (made : ℕ) (before now : Moment) (namespace : Namespace) (document : 
         lent_goes sent.write made mid.store lent pool told.server mid_pool placed ready.sound ready.between at session number lends drawn is
 
     -- its command has a spelling
-    unspelled : (session : Option (List ℕ)) (number : Option ℤ) (fault : EncodeFault) → BodyRefused sent.write.written.namespace session number fault → ⊥
-    unspelled session number fault refused =
-        let spelled : refusal (insert_body sent.write.written.namespace session number) ≡ None
-        = ap (λ n. refusal (insert_body n session number)) sent.own.namespace ∙ valid.command session number refused.sixteen in
+    unspelled : (context : SendContext) (fault : EncodeFault) → BodyRefused sent.write.written.namespace context fault → ⊥
+    unspelled context fault refused =
+        let spelled : refusal (insert_body sent.write.written.namespace context) ≡ None
+        = ap (λ n. refusal (insert_body n context)) sent.own.namespace ∙ valid.command context refused.sixteen in
         let e : ◌≡◌ {A = Option EncodeFault} None (Some fault) = sym spelled ∙ refused.is in cc
 
     -- its session has a further number

@@ -14,7 +14,8 @@ use Rattle.driver_link.specs.declared.machine.Place.{Place}
 use Rattle.driver_link.specs.declared.machine.PlacedWrite.{PlacedWrite}
 use Rattle.driver_link.specs.declared.options.ClientOptions.{ClientOptions}
 use Rattle.driver_session.specs.StoreTells.{MayDrawObjectId, StoreTells}
-use Rattle.driver_ops.specs.Operations.{OperationSpec}
+use Rattle.driver_ops.specs.Operations.{Batch, OperationSpec}
+use Rattle.driver_ops.specs.SendKinds.{SendKind}
 use Rattle.driver_exec.specs.Moment.{Moment}
 use Rattle.driver_exec.specs.Singles.{ExecutesSingle}
 use Rattle.driver_actions.specs.declared.call.Call.{Call}
@@ -46,10 +47,10 @@ is_own namespace document place write bytes id owns =
     record { kind = owns.kind_is; namespace = owns.namespace_is; id = owns.document.id; twelve = owns.document.twelve; document = owns.document.document }
 
 -- a count that began at nothing
-pub from_none : {A : Type 0} (spec : OperationSpec A) (places : List Place) (before now : Moment) (from count : ℕ) (result : Result A Error) → from ≡ 0
-    → ExecutesSingle spec places before now from count result → ExecutesSingle spec places before now 0 count result
-from_none spec places before now from count result none executes =
-    subst (λ n. ExecutesSingle spec places before now n count result) none executes
+pub from_none : {A : Type 0} (spec : OperationSpec A) (batch : Batch) (which : SendKind) (before now : Moment) (from count : ℕ) (result : Result A Error) → from ≡ 0
+    → ExecutesSingle spec batch which before now from count result → ExecutesSingle spec batch which before now 0 count result
+from_none spec batch which before now from count result none executes =
+    subst (λ n. ExecutesSingle spec batch which before now n count result) none executes
 
 -- two sends more than none are two
 pub two_at_most : (from count : ℕ) → from ≡ 0 → count ≤ from + 2 → count ≤ 2

@@ -12,6 +12,7 @@ use Rattle.driver_error.specs.Conversions.{Converts}
 use Rattle.driver_error.specs.Error.{ErrorKind, kind_of}
 use Rattle.driver_session.specs.StoreTells.{MayDrawObjectId}
 use Rattle.driver_ops.specs.InsertSpec.{insert_spec}
+use Rattle.driver_ops.specs.Targets.{in_collection}
 use Rattle.driver_exec.specs.Causes.{ErrorOutline, end_of}
 use Rattle.driver_exec.specs.Moment.{Moment}
 use Rattle.driver_exec.specs.OperationCauses.{Caused}
@@ -69,7 +70,7 @@ pub record InsertCaused {A : Type 0} (before now : Moment) (namespace : Namespac
   pub executed : Result (Unit {0}) Error
   pub mid : Moment
   pub draws : MayDrawId before mid
-  pub caused : Caused {A = Unit {0}} (insert_spec namespace bytes) mid now (end_of executed)
+  pub caused : Caused {A = Unit {0}} (insert_spec (in_collection namespace) bytes) mid now (end_of executed)
   pub becomes : BecomesEnd executed result
 
 -- the operation of a write ended with its cause

@@ -1,7 +1,7 @@
 -- The main theorem for one list of calls: one outcome per call, no write twice in the log and every
 -- entry the caller's own, late arrivals included, and an Ok call's writes there once with the answer
 -- that the log spells.
-use Rattle.std.specs.Prelude.{◌≡◌, ℕ, ◌≤◌, ℤ, pos, ◌<ℤ◌, true, List, [], ◌∷◌, length, Option, None, Some, Result, Ok, Err, ◌⊎◌, slice_get}
+use Rattle.std.specs.Prelude.{◌≡◌, ℕ, ◌≤◌, pos, ◌<ℤ◌, true, List, [], ◌∷◌, length, Option, None, Some, Result, Ok, Err, ◌⊎◌, slice_get}
 use Rattle.std.specs.Option.{option_and_then}
 use Rattle.std.specs.Result.{result_ok}
 use Rattle.bson_lite.specs.declared.bson.Bson.{Bson}
@@ -21,7 +21,7 @@ use Rattle.driver_link.specs.LinkState.{server_run, setup_of}
 use Rattle.driver_link.specs.ServerRun.{IsFresh, ServerRun}
 use Rattle.driver_session.specs.Session.{last_number}
 use Rattle.driver_session.specs.StoreTells.{DrawnApart, IsNewStore}
-use Rattle.driver_ops.specs.Fields.{IsSixteen}
+use Rattle.driver_ops.specs.Fields.{IsSixteen, SendContext}
 use Rattle.driver_ops.specs.InsertSpec.{own_of_insert}
 use Rattle.driver_ops.specs.Inserts.{insert_body}
 use Rattle.driver_exec.specs.Gentle.{IsGentleTold}
@@ -58,7 +58,7 @@ EndsWell (Err error) = kind_of error ≡ kind.Memory
 -- calls came before it than a session has numbers
 pub record IsValidInsert (call : ℕ) (namespace : Namespace) (document : List (Pair Bson)) : Type 0 where
   pub accepted : IsAccepted namespace document
-  pub command : (session : Option (List ℕ)) (number : Option ℤ) → IsSixteen session → refusal (insert_body namespace session number) ≡ None
+  pub command : (context : SendContext) → IsSixteen context.session → refusal (insert_body namespace context) ≡ None
   pub number : pos call <ℤ last_number
 
 -- the call at a number of a list is valid

@@ -15,6 +15,9 @@ use Rattle.driver_link.specs.declared.machine.WriteKind.TheVariants as write_kin
 use Rattle.driver_link.specs.declared.machine.Written.{Written}
 use Rattle.driver_session.specs.StoreTells.{Draws, LendsAsBefore}
 use Rattle.driver_ops.specs.InsertSpec.{insert_spec}
+use Rattle.driver_ops.specs.Operations.{batch_of}
+use Rattle.driver_ops.specs.SendKinds.{first}
+use Rattle.driver_ops.specs.Targets.{in_collection}
 use Rattle.driver_exec.specs.Causes.{end_of}
 use Rattle.driver_exec.specs.Moment.{Moment}
 use Rattle.driver_exec.specs.Singles.{ExecutesSingle}
@@ -68,7 +71,7 @@ pub record Inserts (before now : Moment) (write : PlacedWrite) (ended : Result (
   pub bytes : List ℕ
   pub spelled : Spells write.written.document bytes
   pub count : ℕ
-  pub executes : ExecutesSingle (insert_spec write.written.namespace bytes) (write.place ∷ []) mid now 0 count ended
+  pub executes : ExecutesSingle (insert_spec (in_collection write.written.namespace) bytes) (batch_of (write.place ∷ []) 1) first mid now 0 count ended
   pub twice : count ≤ 2
   pub wrote : Wrote mid now write (end_of ended)
   pub lent : LendsAsBefore mid.store now.store

@@ -4,6 +4,7 @@ ghost use Rattle.bson_lite.specs.Spelling.{Spells};
 ghost use Rattle.driver_error.specs.Error.{kind_of};
 ghost use Rattle.driver_session.specs.StoreTells.{MayDrawObjectId};
 ghost use Rattle.driver_ops.specs.InsertSpec.{insert_spec};
+ghost use Rattle.driver_ops.specs.Targets.{in_collection};
 ghost use Rattle.driver_exec.specs.Client.{options_of, store_of};
 ghost use Rattle.driver_exec.specs.Moment.{Moment, moment_of};
 ghost use Rattle.driver_exec.specs.Singles.{CausedSingle};
@@ -78,7 +79,7 @@ fn insert_one<S: SessionStore, L: Link, K: Clock, R: Rng>(
     let own = own_write(alloc, client, namespace, document, place)?;
     let OwnWrite { write, bytes, id } = own;
     let blank = Blank::new(1);
-    insert_counted::<S, L, K, R, Brand>(alloc, client, outside, &write, bytes, blank)?;
+    insert_counted::<S, L, K, R, Brand>(alloc, client, outside, write, bytes, blank)?;
     Ok(SingleAnswer::Inserted(InsertOneResult { inserted_id: id }))
 }
 
@@ -88,19 +89,19 @@ fn insert_counted<S: SessionStore, L: Link, K: Clock, R: Rng, Q: Ledger>(
     alloc: Global,
     client: &mut Client<S>,
     outside: &mut Outside<L, K, R>,
-    write: &PlacedWrite,
+    write: PlacedWrite,
     bytes: Bytes,
     blank: Blank,
 ) -> Result<()>
     requires name { blank.name ≡ Q.name }
     requires parts { blank.parts ≡ Q.parts }
     requires some { 0 < blank.parts }
-    requires spelled { Spells write.now.written.document bytes }
+    requires spelled { Spells write.written.document bytes }
     ensures inserts { (before : Moment) →
         MayDrawId before (moment_of S.tells L.tells K.tells R.stream client.old outside.old) → Inserts before
         (moment_of S.tells L.tells K.tells R.stream client.new outside.new)
-        write.now result }
-    ensures caused { CausedSingle (insert_spec write.now.written.namespace bytes)
+        write result }
+    ensures caused { CausedSingle (insert_spec (in_collection write.written.namespace) bytes)
         (moment_of S.tells L.tells K.tells R.stream client.old outside.old)
         (moment_of S.tells L.tells K.tells R.stream client.new outside.new)
         result }

@@ -11,8 +11,9 @@ use Rattle.driver_link.specs.Counting.{OnlyCounts}
 use Rattle.driver_link.specs.LinkState.{LinkState, server_run}
 use Rattle.driver_session.specs.declared.retryability.Retryability.{Retryability}
 use Rattle.driver_session.specs.StoreTells.{StoreTells}
-use Rattle.driver_ops.specs.Operations.{plain_send, ReadsOutput}
-use Rattle.driver_exec.specs.declared.attempt_end.Attempt.TheVariants.{Failed}
+use Rattle.driver_ops.specs.Fields.{under}
+use Rattle.driver_ops.specs.Operations.{ReadsOutput, send_of}
+use Rattle.driver_exec.specs.declared.attempt_end.AttemptEnd.TheVariants.{Failed}
 use Rattle.driver_exec.specs.declared.attempt_end.AttemptFailure.{AttemptFailure}
 use Rattle.driver_exec.specs.declared.failure.FailurePhase.{FailurePhase}
 use Rattle.driver_exec.specs.declared.failure.FailurePhase.TheVariants.{ConnectionEstablishment, Execution}
@@ -26,15 +27,15 @@ use Rattle.driver_exec.proofs.Courses.{Course, Over, answered_course, answered_n
 
 module _ {A : Type 0} (trial : Trial A) (store : StoreTells) (link : LinkState) where
   abbrev pub CourseAt : ℕ → AttemptState → Type 0
-  CourseAt most now = Course trial.spec trial.places store (server_run link) most now.store (server_run now.link) now.held.session now.held.sent
+  CourseAt most now = Course trial.spec trial.batch store (server_run link) most now.store (server_run now.link) now.held.session now.held.sent
 
   abbrev pub OverAt : ℕ → AttemptState → Type 0
-  OverAt most now = Over trial.spec trial.places store (server_run link) most now.store (server_run now.link) now.held.session now.held.sent
+  OverAt most now = Over trial.spec trial.batch store (server_run link) most now.store (server_run now.link) now.held.session now.held.sent
 
   pub ready_course : {past : Option RetryState} (most : ℕ) (mid ready : AttemptState) (address : Address) (conn : Conn) → Readies trial past mid ready address conn → CourseAt most mid → CourseAt most ready
   ready_course most mid ready address conn readies course =
-      readied trial.spec trial.places store (server_run link) most mid.store ready.store (server_run ready.link) (asks_session trial.spec.sessions conn.description) mid.held ready.held readies.holds
-      (counted trial.spec trial.places store (server_run link) most mid.store (server_run mid.link) (server_run ready.link) mid.held.session mid.held.sent
+      readied trial.spec trial.batch store (server_run link) most mid.store ready.store (server_run ready.link) (asks_session trial.spec.sessions conn.description) mid.held ready.held readies.holds
+      (counted trial.spec trial.batch store (server_run link) most mid.store (server_run mid.link) (server_run ready.link) mid.held.session mid.held.sent
       (connected_counted mid.link ready.link address conn readies.connects).server course)
 
   -- nothing is sent until a session is there
@@ -48,9 +49,9 @@ module _ {A : Type 0} (trial : Trial A) (store : StoreTells) (link : LinkState) 
   -- calls of the link alone
   pub only_link : (most : ℕ) (mid now : AttemptState) → OnlyLink mid now → OnlyCounts (server_run mid.link) (server_run now.link) → CourseAt most mid → CourseAt most now
   only_link most mid now rest counts course =
-      subst (λ s. Course trial.spec trial.places store (server_run link) most s (server_run now.link) now.held.session now.held.sent) (sym rest.store)
-      (subst (λ h. Course trial.spec trial.places store (server_run link) most mid.store (server_run now.link) h.session h.sent) (sym rest.held)
-      (counted trial.spec trial.places store (server_run link) most mid.store (server_run mid.link) (server_run now.link) mid.held.session mid.held.sent counts course))
+      subst (λ s. Course trial.spec trial.batch store (server_run link) most s (server_run now.link) now.held.session now.held.sent) (sym rest.store)
+      (subst (λ h. Course trial.spec trial.batch store (server_run link) most mid.store (server_run now.link) h.session h.sent) (sym rest.held)
+      (counted trial.spec trial.batch store (server_run link) most mid.store (server_run mid.link) (server_run now.link) mid.held.session mid.held.sent counts course))
 
   module _ (past : Option RetryState) (most : ℕ) (mid : AttemptState) (goes : MayGoOn mid.held.sent) (course : CourseAt most mid) where
     -- an exchange of the command
@@ -71,39 +72,39 @@ module _ {A : Type 0} (trial : Trial A) (store : StoreTells) (link : LinkState) 
       came P p = subst (λ h. P now.store h) (sym sends.held_is) (subst (λ s. P s held_now) (sym sends.store_is) p)
 
       answered_at : (bytes : List ℕ) → result ≡ Ok bytes → CourseAt (suc most) now
-      answered_at bytes is = came (λ s h. Course trial.spec trial.places store (server_run link) (suc most) s (server_run now.link) h.session h.sent)
-          (answered_course trial.spec trial.places store (server_run link) most sends.ready.store sends.ready.link now.link sends.ready.held sends.numbered turn sends.number ready_goes
+      answered_at bytes is = came (λ s h. Course trial.spec trial.batch store (server_run link) (suc most) s (server_run now.link) h.session h.sent)
+          (answered_course trial.spec trial.batch store (server_run link) most sends.ready.store sends.ready.link now.link sends.ready.held sends.numbered turn sends.number ready_goes
           sends.draws ready_here conn result sends.exchanges bytes is)
 
       lost_at : (fault : LinkFault) (own : List (List ℕ)) → result ≡ Err (Fault fault own) → CourseAt (suc most) now
-      lost_at fault own is = came (λ s h. Course trial.spec trial.places store (server_run link) (suc most) s (server_run now.link) h.session h.sent)
-          (lost_course trial.spec trial.places store (server_run link) most sends.ready.store sends.ready.link now.link sends.ready.held sends.numbered turn sends.number ready_goes
+      lost_at fault own is = came (λ s h. Course trial.spec trial.batch store (server_run link) (suc most) s (server_run now.link) h.session h.sent)
+          (lost_course trial.spec trial.batch store (server_run link) most sends.ready.store sends.ready.link now.link sends.ready.held sends.numbered turn sends.number ready_goes
           sends.draws ready_here conn result sends.exchanges fault own is)
 
       pub over_at : OverAt (suc most) now
-      over_at = came (λ s h. Over trial.spec trial.places store (server_run link) (suc most) s (server_run now.link) h.session h.sent)
-          (sent_over trial.spec trial.places store (server_run link) most sends.ready.store sends.ready.link now.link sends.ready.held sends.numbered turn sends.number ready_goes
+      over_at = came (λ s h. Over trial.spec trial.batch store (server_run link) (suc most) s (server_run now.link) h.session h.sent)
+          (sent_over trial.spec trial.batch store (server_run link) most sends.ready.store sends.ready.link now.link sends.ready.held sends.numbered turn sends.number ready_goes
           sends.draws ready_here conn result sends.exchanges)
 
       pub reads_at : most ≤ 1 → (bytes : List ℕ) (output : A) → result ≡ Ok bytes → ReadsOutput trial.spec bytes output
-          → ReadsLast trial.spec trial.places (server_run link) (server_run now.link) (id_of now.held.session) (number_of now.held.sent) output
+          → ReadsLast trial.spec trial.batch (server_run link) (server_run now.link) (id_of now.held.session) (number_of now.held.sent) output
       reads_at few bytes output is reads = record {
         bytes = bytes;
         reads = reads;
         earlier = ready_here.count;
         within = omega (arith, ready_here.within);
         once = came (λ s h. number_of h.sent ≡ None → ready_here.count ≡ 0)
-            (first_alone trial.spec trial.places store (server_run link) most sends.ready.store sends.ready.link now.link sends.ready.held sends.numbered turn sends.number ready_goes
+            (first_alone trial.spec trial.batch store (server_run link) most sends.ready.store sends.ready.link now.link sends.ready.held sends.numbered turn sends.number ready_goes
             sends.draws ready_here conn result sends.exchanges);
-        answered = λ body asked. came (λ s h. AnsweredLast (server_run link) (server_run now.link) (plain_send (id_of h.session) (number_of h.sent) body) ready_here.count bytes)
-            (answered_now trial.spec trial.places store (server_run link) most sends.ready.store sends.ready.link now.link sends.ready.held sends.numbered turn sends.number ready_goes
+        answered = λ body asked. came (λ s h. AnsweredLast (server_run link) (server_run now.link) (send_of (under (id_of h.session) (number_of h.sent)) body) ready_here.count bytes)
+            (answered_now trial.spec trial.batch store (server_run link) most sends.ready.store sends.ready.link now.link sends.ready.held sends.numbered turn sends.number ready_goes
             sends.draws ready_here conn result sends.exchanges bytes is body asked);
       }
 
     -- an attempt that failed
     fails_in : (now : AttemptState) (address : Address) (phase : FailurePhase) (error : Error) → FailsIn trial past mid now address phase error → CourseAt (suc most) now
     fails_in now address ConnectionEstablishment error fails =
-        one_more trial.spec trial.places store (server_run link) most now.store (server_run now.link) now.held.session now.held.sent
+        one_more trial.spec trial.batch store (server_run link) most now.store (server_run now.link) now.held.session now.held.sent
         (only_link most mid now fails.rest
         (checked_counted mid.link fails.mid now.link address (Err (Fault fails.fault fails.own)) fails.selects fails.checks_out).server course)
     fails_in now address Execution error fails = elim fails [

@@ -6,7 +6,6 @@ use Rattle.driver_error.specs.declared.error.Error.{Error}
 use Rattle.driver_link.specs.declared.fault.LinkError.{LinkError}
 use Rattle.driver_link.specs.declared.fault.LinkError.TheVariants.{Fault, Memory}
 use Rattle.driver_link.specs.declared.fault.LinkFault.{LinkFault}
-use Rattle.driver_link.specs.declared.machine.Place.{Place}
 use Rattle.driver_link.specs.declared.machine.Send.{Send}
 use Rattle.driver_link.specs.declared.machine.SendBody.{SendBody}
 use Rattle.driver_link.specs.declared.options.Conn.{Conn}
@@ -19,7 +18,9 @@ use Rattle.driver_session.specs.declared.retryability.Retryability.TheVariants a
 use Rattle.driver_session.specs.StoreTells.{LendsSession, StoreTells}
 use Rattle.driver_session.specs.Session.{Numbers, Raises, Session}
 use Rattle.driver_session.proofs.Staying.{stays_then_lends, stays_twice}
-use Rattle.driver_ops.specs.Operations.{OperationSpec, plain_send}
+use Rattle.driver_ops.specs.Fields.{under}
+use Rattle.driver_ops.specs.Operations.{AsksFor, Batch, OperationSpec, send_of}
+use Rattle.driver_ops.specs.SendKinds.{SendKind}
 use Rattle.driver_exec.specs.Attempting.{Exchanges, held_after}
 use Rattle.driver_exec.specs.Holding.{DrawsNumber, DrawsSession, GivesNumber, ExecutionSession, HoldsSession, dirty_session, held_id, needs_session}
 use Rattle.driver_exec.specs.Resending.{AnsweredLast, IsNumbered, SentTimes, SentWithin}
@@ -28,22 +29,22 @@ use Rattle.driver_exec.proofs.Trying.{both_true}
 use Rattle.driver_exec.proofs.Resends.{answered_last, begins_unsent, none_sent, sent_answered, sent_counted, sent_lost, sent_maybe}
 use Rattle.driver_exec.proofs.Borrowing.{CountFits, HeldFrom, HoldsFrom, HoldsLast, MayGoOn, NumberFits, Unnumbered, id_of, lends_then_stays, number_of}
 
-module _ {A : Type 0} (spec : OperationSpec A) (places : List Place) (store : StoreTells) (link : Option ServerRun) where
+module _ {A : Type 0} (spec : OperationSpec A) (batch : Batch) (store : StoreTells) (link : Option ServerRun) where
   -- what was done so far, in at most so many attempts
   pub record Course (most : ℕ) (store_now : StoreTells) (link_now : Option ServerRun) (session : Option Session) (sent : Option (Option ℤ)) : Type 0 where
     pub count : ℕ
     pub within : count ≤ most
-    pub sends : (body : SendBody) → spec.asked places body → SentTimes link link_now (plain_send (id_of session) (number_of sent) body) count
+    pub sends : (body : SendBody) → AsksFor spec batch body → SentTimes link link_now (send_of (under (id_of session) (number_of sent)) body) count
     pub holds : HoldsFrom store store_now sent session
     pub fits : CountFits sent count
 
   -- what was done once the operation is over
   pub record Over (most : ℕ) (store_now : StoreTells) (link_now : Option ServerRun) (session : Option Session) (sent : Option (Option ℤ)) : Type 0 where
-    pub sends : (body : SendBody) → spec.asked places body → SentWithin most link link_now (plain_send (id_of session) (number_of sent) body)
+    pub sends : (body : SendBody) → AsksFor spec batch body → SentWithin most link link_now (send_of (under (id_of session) (number_of sent)) body)
     pub holds : HoldsLast store store_now (number_of sent) session
 
   pub starts : Course 0 store link None None
-  starts = record { count = 0; within = omega arith; sends = λ body asked. begins_unsent link (plain_send None None body); holds = (refl, tt); fits = refl }
+  starts = record { count = 0; within = omega arith; sends = λ body asked. begins_unsent link (send_of (under None None) body); holds = (refl, tt); fits = refl }
 
   -- calls that were only counted, and one attempt more
   pub counted : (most : ℕ) (store_now : StoreTells) (mid now : Option ServerRun) (session : Option Session) (sent : Option (Option ℤ)) → OnlyCounts mid now
@@ -51,7 +52,7 @@ module _ {A : Type 0} (spec : OperationSpec A) (places : List Place) (store : St
   counted most store_now mid now session sent counts course = record {
     count = course.count;
     within = course.within;
-    sends = λ body asked. sent_counted link mid now (plain_send (id_of session) (number_of sent) body) course.count (course.sends body asked) counts;
+    sends = λ body asked. sent_counted link mid now (send_of (under (id_of session) (number_of sent)) body) course.count (course.sends body asked) counts;
     holds = course.holds;
     fits = course.fits;
   }
@@ -67,7 +68,7 @@ module _ {A : Type 0} (spec : OperationSpec A) (places : List Place) (store : St
   lent_now most store_mid store_now link_now at session lends course = record {
     count = 0;
     within = omega arith;
-    sends = λ body asked. none_sent link link_now (plain_send None None body) (plain_send (Some session.id) None body) course.count course.fits (course.sends body asked);
+    sends = λ body asked. none_sent link link_now (send_of (under None None) body) (send_of (under (Some session.id) None) body) course.count course.fits (course.sends body asked);
     holds = record {
       at = at;
       lent = session;
@@ -277,12 +278,12 @@ module _ {A : Type 0} (spec : OperationSpec A) (places : List Place) (store : St
 
   -- the send is the one before, where there was one
   same_send : (mid : Option ServerRun) (session : Option (List ℕ)) (sent : Option (Option ℤ)) (number : Option ℤ) (count : ℕ) (body : SendBody)
-      → ((before : Option ℤ) → sent ≡ Some before → number ≡ before) → CountFits sent count → SentTimes link mid (plain_send session (number_of sent) body) count
-      → SentTimes link mid (plain_send session number body) count
+      → ((before : Option ℤ) → sent ≡ Some before → number ≡ before) → CountFits sent count → SentTimes link mid (send_of (under session (number_of sent)) body) count
+      → SentTimes link mid (send_of (under session number) body) count
   same_send mid session None number count body again fits sent =
-      subst (λ n. SentTimes link mid (plain_send session number body) n) (sym fits) (none_sent link mid (plain_send session None body) (plain_send session number body) count fits sent)
+      subst (λ n. SentTimes link mid (send_of (under session number) body) n) (sym fits) (none_sent link mid (send_of (under session None) body) (send_of (under session number) body) count fits sent)
   same_send mid session (Some before) number count body again fits sent =
-      subst (λ n. SentTimes link mid (plain_send session n body) count) (sym (again before refl)) sent
+      subst (λ n. SentTimes link mid (send_of (under session n) body) count) (sym (again before refl)) sent
 
   module _ (most : ℕ) (store_now : StoreTells) (mid : LinkState) (now : LinkState) (ready numbered : ExecutionSession) (turn : Retryability) (number : Option ℤ)
       (goes : MayGoOn ready.sent) (draws : DrawsNumber ready.sent turn ready numbered (Ok number)) (course : Course most store_now (server_run mid) ready.session ready.sent) where
@@ -293,34 +294,34 @@ module _ {A : Type 0} (spec : OperationSpec A) (places : List Place) (store : St
     is_drawn = drawn store_now turn ready numbered number course.holds draws
 
     -- the sends so far, as this one
-    so_far : (body : SendBody) → spec.asked places body → SentTimes link (server_run mid) (plain_send (id_of numbered.session) number body) course.count
-    so_far body asked = subst (λ id. SentTimes link (server_run mid) (plain_send id number body) course.count) (sym is_drawn.same_id)
+    so_far : (body : SendBody) → AsksFor spec batch body → SentTimes link (server_run mid) (send_of (under (id_of numbered.session) number) body) course.count
+    so_far body asked = subst (λ id. SentTimes link (server_run mid) (send_of (under id number) body) course.count) (sym is_drawn.same_id)
         (same_send (server_run mid) (id_of ready.session) ready.sent number course.count body is_drawn.again course.fits (course.sends body asked))
 
-    module _ (conn : Conn) (result : Result (List ℕ) LinkError) (exchanges : Exchanges spec places mid now conn (held_id numbered) number result) where
+    module _ {which : SendKind} (conn : Conn) (result : Result (List ℕ) LinkError) (exchanges : Exchanges spec which batch mid now conn (under (held_id numbered) number) result) where
       kept : HeldAfter held (held_after result held) store_now
       kept = after_exchange store_now held result is_drawn.holds
 
       -- a send that was answered or lost
-      sent_course : ((body : SendBody) → spec.asked places body → SentTimes link (server_run now) (plain_send (id_of numbered.session) number body) (suc course.count))
+      sent_course : ((body : SendBody) → AsksFor spec batch body → SentTimes link (server_run now) (send_of (under (id_of numbered.session) number) body) (suc course.count))
           → Course (suc most) store_now (server_run now) (held_after result held).session (held_after result held).sent
       sent_course sends = subst (λ s. Course (suc most) store_now (server_run now) (held_after result held).session s) (sym kept.sent) (record {
         count = suc course.count;
         within = omega (arith, course.within);
-        sends = λ body asked. subst (λ id. SentTimes link (server_run now) (plain_send id number body) (suc course.count)) (sym kept.id) (sends body asked);
+        sends = λ body asked. subst (λ id. SentTimes link (server_run now) (send_of (under id number) body) (suc course.count)) (sym kept.id) (sends body asked);
         holds = kept.holds;
         fits = fits_more ready.sent number course.count goes course.fits is_drawn.again;
       })
 
-      answered_sends : (bytes : List ℕ) → result ≡ Ok bytes → (body : SendBody) → spec.asked places body
-          → SentTimes link (server_run now) (plain_send (id_of numbered.session) number body) (suc course.count)
-      answered_sends bytes is body asked = sent_answered link (plain_send (id_of numbered.session) number body) course.count (server_run mid) (server_run now) bytes (so_far body asked)
-          (subst (λ r. TakesStep (server_run mid) (server_run now) (plain_send (id_of numbered.session) number body) r) is (exchanges.exchanges.steps _ (exchanges.reads body asked)))
+      answered_sends : (bytes : List ℕ) → result ≡ Ok bytes → (body : SendBody) → AsksFor spec batch body
+          → SentTimes link (server_run now) (send_of (under (id_of numbered.session) number) body) (suc course.count)
+      answered_sends bytes is body asked = sent_answered link (send_of (under (id_of numbered.session) number) body) course.count (server_run mid) (server_run now) bytes (so_far body asked)
+          (subst (λ r. TakesStep (server_run mid) (server_run now) (send_of (under (id_of numbered.session) number) body) r) is (exchanges.exchanges.steps _ (exchanges.reads body asked)))
 
-      lost_sends : (fault : LinkFault) (own : List (List ℕ)) → result ≡ Err (Fault fault own) → (body : SendBody) → spec.asked places body
-          → SentTimes link (server_run now) (plain_send (id_of numbered.session) number body) (suc course.count)
-      lost_sends fault own is body asked = sent_lost link (plain_send (id_of numbered.session) number body) course.count (server_run mid) (server_run now) fault own (so_far body asked)
-          (subst (λ r. TakesStep (server_run mid) (server_run now) (plain_send (id_of numbered.session) number body) r) is (exchanges.exchanges.steps _ (exchanges.reads body asked)))
+      lost_sends : (fault : LinkFault) (own : List (List ℕ)) → result ≡ Err (Fault fault own) → (body : SendBody) → AsksFor spec batch body
+          → SentTimes link (server_run now) (send_of (under (id_of numbered.session) number) body) (suc course.count)
+      lost_sends fault own is body asked = sent_lost link (send_of (under (id_of numbered.session) number) body) course.count (server_run mid) (server_run now) fault own (so_far body asked)
+          (subst (λ r. TakesStep (server_run mid) (server_run now) (send_of (under (id_of numbered.session) number) body) r) is (exchanges.exchanges.steps _ (exchanges.reads body asked)))
 
       pub answered_course : (bytes : List ℕ) → result ≡ Ok bytes → Course (suc most) store_now (server_run now) (held_after result held).session (held_after result held).sent
       answered_course bytes is = sent_course (answered_sends bytes is)
@@ -333,7 +334,7 @@ module _ {A : Type 0} (spec : OperationSpec A) (places : List Place) (store : St
       memory_over : result ≡ Err Memory → Over (suc most) store_now (server_run now) numbered.session (Some number)
       memory_over is = record {
         sends = λ body asked.
-            let send = plain_send (id_of numbered.session) number body in
+            let send = send_of (under (id_of numbered.session) number) body in
             let fits = fits_more ready.sent number course.count goes course.fits is_drawn.again in
             elim (sent_maybe link send course.count (server_run mid) (server_run now) (so_far body asked)
             (subst (λ r. TakesStep (server_run mid) (server_run now) send r) is (exchanges.exchanges.steps _ (exchanges.reads body asked)))) [
@@ -369,15 +370,15 @@ module _ {A : Type 0} (spec : OperationSpec A) (places : List Place) (store : St
 
       -- the reply answers the last send
       abbrev send_now : SendBody → Send
-      send_now body = plain_send (id_of (held_after result held).session) (number_of (held_after result held).sent) body
+      send_now body = send_of (under (id_of (held_after result held).session) (number_of (held_after result held).sent)) body
 
-      pub answered_now : (bytes : List ℕ) → result ≡ Ok bytes → (body : SendBody) → spec.asked places body → AnsweredLast link (server_run now) (send_now body) course.count bytes
+      pub answered_now : (bytes : List ℕ) → result ≡ Ok bytes → (body : SendBody) → AsksFor spec batch body → AnsweredLast link (server_run now) (send_now body) course.count bytes
       answered_now bytes is body asked =
-          let send = plain_send (id_of numbered.session) number body in
+          let send = send_of (under (id_of numbered.session) number) body in
           let last = answered_last link send course.count (server_run mid) (server_run now) bytes (so_far body asked)
           (subst (λ r. TakesStep (server_run mid) (server_run now) send r) is (exchanges.exchanges.steps _ (exchanges.reads body asked))) in
-          subst (λ id. AnsweredLast link (server_run now) (plain_send id (number_of (held_after result held).sent) body) course.count bytes) (sym kept.id)
-          (subst (λ sent. AnsweredLast link (server_run now) (plain_send (id_of numbered.session) (number_of sent) body) course.count bytes) (sym kept.sent) last)
+          subst (λ id. AnsweredLast link (server_run now) (send_of (under id (number_of (held_after result held).sent)) body) course.count bytes) (sym kept.id)
+          (subst (λ sent. AnsweredLast link (server_run now) (send_of (under (id_of numbered.session) (number_of sent)) body) course.count bytes) (sym kept.sent) last)
 
       -- without a number there was none before it
       pub first_alone : number_of (held_after result held).sent ≡ None → course.count ≡ 0

@@ -2,12 +2,12 @@
 use Rattle.std.proofs.Common.{◌≡◌, ℕ, ◌+◌, ◌-◌, ◌<◌, ◌≤◌, List, [], ◌∷◌, refl, sym, ap, subst, ◌∙◌, inl, inr, arith}
 use Rattle.std.specs.Prelude.{ℤ, Bool, true, false, if◌then◌else◌, Option, None, Some, Result, Ok, Err}
 use Rattle.driver_error.specs.declared.error.Error.{Error}
-use Rattle.driver_link.specs.declared.machine.Place.{Place}
 use Rattle.driver_link.specs.declared.options.Address.{Address}
 use Rattle.driver_session.specs.declared.retryability.Retryability.{Retryability}
-use Rattle.driver_ops.specs.Operations.{OperationSpec, SameSpec}
-use Rattle.driver_exec.specs.declared.attempt_end.Attempt.{Attempt}
-use Rattle.driver_exec.specs.declared.attempt_end.Attempt.TheVariants.{Done, Ended, Failed, Stopped, Unselected}
+use Rattle.driver_ops.specs.Operations.{Batch, OperationSpec, SameSpec}
+use Rattle.driver_ops.specs.SendKinds.{SendKind}
+use Rattle.driver_exec.specs.declared.attempt_end.AttemptEnd.{AttemptEnd}
+use Rattle.driver_exec.specs.declared.attempt_end.AttemptEnd.TheVariants.{Done, Ended, Failed, Stopped, Unfit, Unselected}
 use Rattle.driver_exec.specs.declared.attempt_end.AttemptFailure.{AttemptFailure}
 use Rattle.driver_exec.specs.declared.failure.Failure.{Failure}
 use Rattle.driver_exec.specs.Attempting.{AttemptState, Trial, Tries, trial_of}
@@ -15,7 +15,38 @@ use Rattle.driver_exec.proofs.Sameness.{tries_same}
 use borrow.Author.Tests.{ltb-false}
 use Rattle.driver_exec.specs.Executing.{EndsWith, Reaches, Attempts, decided, limit_reached}
 use Rattle.driver_exec.specs.Retry.{Decides, RetryState, after, after_first, after_further, avoiding, decide, decide_told, may_be_retried, one_more, told}
-use Rattle.driver_exec.specs.inside.Executing.{IsLastError, kept_or}
+use Rattle.driver_exec.specs.inside.Executing.{FailureOf, IsLastError, MayAnswer}
+
+-- an attempt that did not fail is its end
+end_is : {A : Type 0} (attempt end : AttemptEnd A) → FailureOf attempt (Err end) → end ≡ attempt
+end_is {A} (Failed failing) end is = absurd (let e : ◌≡◌ {A = Result AttemptFailure (AttemptEnd A)} (Err end) (Ok failing) = is in cc)
+end_is (Done output) end is = cc is
+end_is (Unselected error) end is = cc is
+end_is Stopped end is = cc is
+end_is Unfit end is = cc is
+end_is (Ended error) end is = cc is
+
+-- and one that failed has that failure
+pub failed_is : {A : Type 0} (attempt : AttemptEnd A) (failing : AttemptFailure) → FailureOf attempt (Ok failing) → attempt ≡ Failed failing
+failed_is {A} (Failed found) failing is = let same : failing ≡ found = cc is in ap (λ f. Failed f) (sym same)
+failed_is {A} (Done output) failing is = absurd (let e : ◌≡◌ {A = Result AttemptFailure (AttemptEnd A)} (Ok failing) (Err (Done output)) = is in cc)
+failed_is {A} (Unselected error) failing is = absurd (let e : ◌≡◌ {A = Result AttemptFailure (AttemptEnd A)} (Ok failing) (Err (Unselected error)) = is in cc)
+failed_is {A} Stopped failing is = absurd (let e : ◌≡◌ {A = Result AttemptFailure (AttemptEnd A)} (Ok failing) (Err Stopped) = is in cc)
+failed_is {A} Unfit failing is = absurd (let e : ◌≡◌ {A = Result AttemptFailure (AttemptEnd A)} (Ok failing) (Err Unfit) = is in cc)
+failed_is {A} (Ended error) failing is = absurd (let e : ◌≡◌ {A = Result AttemptFailure (AttemptEnd A)} (Ok failing) (Err (Ended error)) = is in cc)
+
+-- it may be answered
+pub may_answer : {A : Type 0} (trial : Trial A) (kept : Option RetryState) (mid now : AttemptState) (attempt end : AttemptEnd A) → Tries trial kept mid now attempt → FailureOf attempt (Err end)
+    → MayAnswer kept end
+may_answer {A} trial kept mid now attempt end tries is = subst (MayAnswer kept) (sym (end_is attempt end is)) (by_end attempt tries is)
+  where
+    by_end : (attempt : AttemptEnd A) → Tries trial kept mid now attempt → FailureOf attempt (Err end) → MayAnswer kept attempt
+    by_end (Failed failing) tries is = absurd (let e : ◌≡◌ {A = Result AttemptFailure (AttemptEnd A)} (Err end) (Ok failing) = is in cc)
+    by_end (Done output) tries is = tt
+    by_end (Unselected error) tries is = tt
+    by_end Stopped tries is = tries.0
+    by_end Unfit tries is = tries.0
+    by_end (Ended error) tries is = tt
 
 module _ {A : Type 0} (trial : Trial A) (sharded : Bool) (before : AttemptState) where
   -- an operation has come so far, and keeps this
@@ -42,36 +73,16 @@ module _ {A : Type 0} (trial : Trial A) (sharded : Bool) (before : AttemptState)
         }
 
     module _ (now : AttemptState) (goes_on : limit_reached kept ≡ false) where
-      last_of : (attempt : Attempt A) (result : Result A Error) → Tries trial kept mid now attempt → EndsWith kept attempt result
+      -- the last attempt did not fail
+      pub ends_last : (attempt end : AttemptEnd A) (result : Result A Error) → Tries trial kept mid now attempt → FailureOf attempt (Err end) → EndsWith kept end result
           → Attempts trial sharded before now result
-      last_of attempt result tries ends = record {
+      ends_last attempt end result tries is ends = record {
         failures = far.failures;
         kept = kept;
         mid = mid;
         reaches = far.reaches;
-        ends = inl (record { goes_on = goes_on; attempt = attempt; tries = tries; ends = ends });
+        ends = inl (record { goes_on = goes_on; attempt = attempt; tries = tries; ends = subst (λ e. EndsWith kept e result) (end_is attempt end is) ends });
       }
-
-      pub ends_done : (output : A) → Tries trial kept mid now (Done output) → Attempts trial sharded before now (Ok output)
-      ends_done output tries = last_of (Done output) (Ok output) tries refl
-
-      pub ends_ended : (error : Error) → Tries trial kept mid now (Ended error) → Attempts trial sharded before now (Err error)
-      ends_ended error tries = last_of (Ended error) (Err error) tries refl
-
-      pub ends_unselected : (error answer : Error) → Tries trial kept mid now (Unselected error) → answer ≡ kept_or kept error
-          → Attempts trial sharded before now (Err answer)
-      ends_unselected error answer tries is = last_of (Unselected error) (Err answer) tries (by_kept kept is)
-        where
-          by_kept : (kept : Option RetryState) → answer ≡ kept_or kept error → EndsWith {A = A} kept (Unselected error) (Err answer)
-          by_kept None is = ap (λ e. Err e) is
-          by_kept (Some retry) is = ap (λ e. Err e) is
-
-      pub ends_stopped : (answer : Error) → Tries trial kept mid now Stopped → IsLastError kept answer → Attempts trial sharded before now (Err answer)
-      ends_stopped answer tries last = last_of Stopped (Err answer) tries (by_kept kept last)
-        where
-          by_kept : (kept : Option RetryState) → IsLastError kept answer → EndsWith {A = A} kept Stopped (Err answer)
-          by_kept None last = absurd last
-          by_kept (Some retry) last = ap (λ e. Err e) last
 
       -- the decision allows no further attempt
       pub ends_refused : (failing : AttemptFailure) (error : Error) → Tries trial kept mid now (Failed failing) → Decides (decided trial sharded kept failing now) (Err error)
@@ -93,28 +104,44 @@ module _ {A : Type 0} (trial : Trial A) (sharded : Bool) (before : AttemptState)
       }
 
 -- one attempt of a turn, of the operation as it was
-pub tried : {A : Type 0} (old now : OperationSpec A) (same : SameSpec old now) (places : List Place) (found own : Retryability) (seen past : Option RetryState) (before after : AttemptState) (given attempt : Attempt A)
-    → found ≡ own → seen ≡ past → given ≡ attempt → Tries (trial_of now places found) seen before after given → Tries (trial_of old places own) past before after attempt
-tried old now same places found own seen past before after given attempt is_own is_again is_attempt tries =
-    tries_same old now same places own past before after attempt
-    (subst (λ a. Tries (trial_of now places own) past before after a) is_attempt
-    (subst (λ b. Tries (trial_of now places own) b before after given) is_again
-    (subst (λ o. Tries (trial_of now places o) seen before after given) is_own tries)))
+pub tried : {A : Type 0} (old now : OperationSpec A) (same : SameSpec old now) (batch : Batch) (which seen_kind : SendKind) (found own : Retryability) (seen past : Option RetryState) (before after : AttemptState)
+    (given attempt : AttemptEnd A) → seen_kind ≡ which → found ≡ own → seen ≡ past → given ≡ attempt → Tries (trial_of now batch seen_kind found) seen before after given
+    → Tries (trial_of old batch which own) past before after attempt
+tried old now same batch which seen_kind found own seen past before after given attempt is_kind is_own is_again is_attempt tries =
+    tries_same old now same batch which own past before after attempt
+    (subst (λ a. Tries (trial_of now batch which own) past before after a) is_attempt
+    (subst (λ b. Tries (trial_of now batch which own) b before after given) is_again
+    (subst (λ o. Tries (trial_of now batch which o) seen before after given) is_own
+    (subst (λ k. Tries (trial_of now batch k found) seen before after given) is_kind tries))))
 
 -- an operation that tells the same twice
 pub same_twice : {A : Type 0} (a b c : OperationSpec A) → SameSpec a b → SameSpec b c → SameSpec a c
 same_twice a b c first second = record {
   name = second.name ∙ first.name;
-  commands = λ command. (λ x. (second.commands command).0 ((first.commands command).0 x), λ x. (first.commands command).1 ((second.commands command).1 x));
-  asked = λ places body. (λ x. (second.asked places body).0 ((first.asked places body).0 x), λ x. (first.asked places body).1 ((second.asked places body).1 x));
-  refused = λ why. (λ x. (second.refused why).0 ((first.refused why).0 x), λ x. (first.refused why).1 ((second.refused why).1 x));
-  unspelled = λ session number fault. (
-    λ x. (second.unspelled session number fault).0 ((first.unspelled session number fault).0 x),
-    λ x. (first.unspelled session number fault).1 ((second.unspelled session number fault).1 x),
+  target = second.target ∙ first.target;
+  commands = λ which statements command. (
+    λ x. (second.commands which statements command).0 ((first.commands which statements command).0 x),
+    λ x. (first.commands which statements command).1 ((second.commands which statements command).1 x),
   );
-  own = λ options. second.own options ∙ first.own options;
+  bodies = λ statements places body. (
+    λ x. (second.bodies statements places body).0 ((first.bodies statements places body).0 x),
+    λ x. (first.bodies statements places body).1 ((second.bodies statements places body).1 x),
+  );
+  refused = λ description error. (
+    λ x. (second.refused description error).0 ((first.refused description error).0 x),
+    λ x. (first.refused description error).1 ((second.refused description error).1 x),
+  );
+  write_concern = λ which. second.write_concern which ∙ first.write_concern which;
+  read_concern = second.read_concern ∙ first.read_concern;
+  selection_criteria = λ which. second.selection_criteria which ∙ first.selection_criteria which;
   sessions = second.sessions ∙ first.sessions;
-  answers = λ reply result. (λ x. (second.answers reply result).0 ((first.answers reply result).0 x), λ x. (first.answers reply result).1 ((second.answers reply result).1 x));
+  retryability = λ options. second.retryability options ∙ first.retryability options;
+  backpressure = λ options. second.backpressure options ∙ first.backpressure options;
+  after_cluster_time = second.after_cluster_time ∙ first.after_cluster_time;
+  reads = λ pages result. (
+    λ x. (second.reads pages result).0 ((first.reads pages result).0 x),
+    λ x. (first.reads pages result).1 ((second.reads pages result).1 x),
+  );
 }
 
 -- there is one retry

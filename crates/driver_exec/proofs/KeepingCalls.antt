@@ -1,13 +1,12 @@
 -- What an operation that asks for an insert does to what stands between calls, read off what it leaves.
-use Rattle.std.proofs.Common.{◌≡◌, List, refl}
+use Rattle.std.proofs.Common.{◌≡◌, refl}
 use Rattle.std.specs.Prelude.{Option, None, Some, Result}
 use Rattle.driver_error.specs.declared.error.Error.{Error}
-use Rattle.driver_link.specs.declared.machine.Place.{Place}
 use Rattle.driver_link.specs.declared.machine.PlacedWrite.{PlacedWrite}
 use Rattle.driver_link.specs.LinkState.{server_run}
 use Rattle.driver_link.specs.ServerRun.{ServerRun}
 use Rattle.driver_session.specs.Pool.{Pool}
-use Rattle.driver_ops.specs.Operations.{OperationSpec}
+use Rattle.driver_ops.specs.Operations.{AsksFor, Batch, OperationSpec}
 use Rattle.driver_exec.specs.Causes.{ErrorOutline}
 use Rattle.driver_exec.specs.Keeping.{IsWritten, KeepsInvariant, KeepsTold, OkHasEntries}
 use Rattle.driver_exec.specs.Moment.{Moment}
@@ -16,9 +15,9 @@ use Rattle.driver_exec.specs.Writing.{Wrote, insert_asked}
 use Rattle.driver_exec.proofs.Written.{left_of, wrote_stands}
 
 -- it keeps it
-pub works_keeps : {A : Type 0} (spec : OperationSpec A) (places : List Place) (before now : Moment) (result : Result A Error)
-    → SendsOneCommand spec places before now result → (write : PlacedWrite) → spec.asked places (insert_asked write) → KeepsInvariant before now write
-works_keeps spec places before now result works write asked =
+pub works_keeps : {A : Type 0} (spec : OperationSpec A) (batch : Batch) (before now : Moment) (result : Result A Error)
+    → SendsOneCommand spec batch before now result → (write : PlacedWrite) → AsksFor spec batch (insert_asked write) → KeepsInvariant before now write
+works_keeps spec batch before now result works write asked =
     of_told before.store.pool now.store.pool (server_run before.link) (server_run now.link) refl refl refl refl
   where
     of_told : (pool pool_now : Option Pool) (run run_now : Option ServerRun) → before.store.pool ≡ pool → now.store.pool ≡ pool_now → server_run before.link ≡ run

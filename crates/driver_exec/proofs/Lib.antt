@@ -2,6 +2,7 @@ pub mod Attempted
 pub mod Attempts
 pub mod Borrowing
 pub mod Causes
+pub mod Commanding
 pub mod Completing
 pub mod Courses
 pub mod Executing

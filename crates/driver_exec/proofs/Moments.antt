@@ -20,7 +20,8 @@ use Rattle.driver_link.specs.LinkCalls.{CallsLink}
 use Rattle.driver_link.specs.LinkState.{LinkState, server_run, setup_of}
 use Rattle.driver_link.specs.ServerRun.{ServerRun, TakesStep, run_after}
 use Rattle.driver_link.proofs.Replaying.{exchanged_trace}
-use Rattle.driver_ops.specs.Operations.{plain_send}
+use Rattle.driver_ops.specs.Fields.{under}
+use Rattle.driver_ops.specs.Operations.{AsksFor, send_of}
 use Rattle.driver_exec.specs.declared.failure.FailurePhase.{FailurePhase}
 use Rattle.driver_exec.specs.declared.failure.FailurePhase.TheVariants.{ConnectionEstablishment, Execution}
 use Rattle.driver_exec.specs.Attempting.{AttemptState, Connects, FailsIn, NotConnected, Sends, Trial}
@@ -183,13 +184,13 @@ steps_lead a before now send result setup steps = by_result result steps
     by_result (Err Memory) steps = elim steps [ inl same ↦ stayed same | inr more ↦ moved more ]
 
 -- an attempt that failed
-module _ {A : Type 0} (trial : Trial A) (past : Option RetryState) (body : SendBody) (asked : trial.spec.asked trial.places body) (a : ServerRun) (mid now : AttemptState) (is : server_run mid.link ≡ Some a) where
+module _ {A : Type 0} (trial : Trial A) (past : Option RetryState) (body : SendBody) (asked : AsksFor trial.spec trial.batch body) (a : ServerRun) (mid now : AttemptState) (is : server_run mid.link ≡ Some a) where
   -- its command went out
   pub sends_lead : (address : Address) (conn : Conn) (result : Result (List ℕ) LinkError) → Sends trial past mid now address conn result → Leads a mid.link now.link
   sends_lead address conn result sends =
       let ready = sends.ready in
       let first = (connects_lead a mid.link ready.link address conn is sends.readies.connects).leads in
-      let send = plain_send (held_id sends.numbered) sends.number body in
+      let send = send_of (under (held_id sends.numbered) sends.number) body in
       let steps = subst (λ s. TakesStep s (server_run now.link) send result) first.is (sends.exchanges.exchanges.steps send (sends.exchanges.reads body asked)) in
       leads_twice a mid.link ready.link now.link first (steps_lead first.moment ready.link now.link send result sends.exchanges.exchanges.setup steps)
 

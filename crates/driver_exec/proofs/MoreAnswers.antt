@@ -71,7 +71,6 @@ module _ {A : Type 0} (on : Grounds A) (before now from to : ℕ) (items all : L
   kind_elsewhere labels (kind.ConnectionPoolCleared message) needs = (rises needs.0, faults (fault.PoolCleared message) labels needs.1)
   kind_elsewhere labels (kind.ServerSelection message) needs = (rises needs.0, faults (fault.Selection message) labels needs.1)
   kind_elsewhere labels (kind.Authentication message) needs = (rises needs.0, faults (fault.Authentication message) labels needs.1)
-  kind_elsewhere labels (kind.InvalidArgument message) needs = needs
   kind_elsewhere labels (kind.BsonSerialization refusal) needs = needs
   kind_elsewhere labels (kind.Internal message) needs = needs
   kind_elsewhere labels kind.SessionsNotSupported needs = needs
@@ -83,7 +82,7 @@ module _ {A : Type 0} (on : Grounds A) (before now from to : ℕ) (items all : L
   end_elsewhere None needs = replies (IsRead on.spec) needs
   end_elsewhere (Some why) needs = elim needs [
     | inl needs ↦ inl (kind_elsewhere why.labels why.kind needs)
-    | inr spelled ↦ inr (replies (SpellsEnd on.spec why) spelled)
+    | inr other ↦ elim other [ inl spelled ↦ inr (inl (replies (SpellsEnd on.spec why) spelled)) | inr refused ↦ inr (inr refused) ]
   ]
 
 module _ {A : Type 0} (on : Grounds A) (items more : List Answered) where

@@ -1,6 +1,6 @@
 -- Why an operation ended as it did, from its attempts and from what was decided after each.
 use Rattle.std.proofs.Common.{◌≡◌, ℕ, ◌≤◌, List, [], ◌∷◌, ◌++◌, refl, sym, ap, subst, ◌∙◌, inl, inr, arith}
-use Rattle.std.specs.Prelude.{ℤ, Bool, true, false, Option, None, Some, is_some, ◌⊎◌, Result, Ok, Err, if◌then◌else◌}
+use Rattle.std.specs.Prelude.{ℤ, Bool, true, false, Option, None, Some, IfSome, is_some, ◌⊎◌, Result, Ok, Err, if◌then◌else◌}
 use Rattle.driver_error.specs.declared.error.Error.{Error, out-Error, out-roll-Error}
 use Rattle.driver_error.specs.declared.kind.ErrorKind.TheVariants as kind
 use Rattle.driver_error.specs.declared.labels.TheConstants.{RETRYABLE_WRITE_ERROR}
@@ -30,9 +30,11 @@ use Rattle.driver_link.specs.ServerRun.{ServerRun}
 use Rattle.driver_session.specs.declared.retryability.Retryability.{Retryability}
 use Rattle.driver_session.specs.declared.retryability.Retryability.TheVariants as may
 use Rattle.driver_session.specs.StoreTells.{StoreTells}
-use Rattle.driver_ops.specs.Operations.{OperationSpec, TellsUnframed}
-use Rattle.driver_exec.specs.declared.attempt_end.Attempt.{Attempt}
-use Rattle.driver_exec.specs.declared.attempt_end.Attempt.TheVariants.{Done, Ended, Failed, Stopped, Unselected}
+use Rattle.driver_ops.specs.Fields.{SendContext, under}
+use Rattle.driver_ops.specs.Operations.{Batch, OperationSpec, Refuses, TellsUnframed, front}
+use Rattle.driver_ops.specs.SendKinds.{SendKind}
+use Rattle.driver_exec.specs.declared.attempt_end.AttemptEnd.{AttemptEnd}
+use Rattle.driver_exec.specs.declared.attempt_end.AttemptEnd.TheVariants.{Done, Ended, Failed, Stopped, Unfit, Unselected}
 use Rattle.driver_exec.specs.declared.attempt_end.AttemptFailure.{AttemptFailure}
 use Rattle.driver_exec.specs.declared.failure.Failure.{Failure}
 use Rattle.driver_exec.specs.declared.failure.FailurePhase.{FailurePhase}
@@ -144,11 +146,11 @@ module _ {A : Type 0} (on : Grounds A) (before now : ℕ) (which : LinkCall) (gi
       inl (subst (KindNeeds on before now (answer.Fault which found given ∷ []) (labels_of error)) (sym is) (fault_needs found (labels_of error) labels))
 
 -- a fault may be found where the numbers are at their end
-fault_at_last : (early : ErrorKind → Type 0) (found : LinkFault) → KindAtLast early (fault_kind found)
-fault_at_last early (fault.Io io) = tt
-fault_at_last early (fault.PoolCleared message) = tt
-fault_at_last early (fault.Selection message) = tt
-fault_at_last early (fault.Authentication message) = tt
+fault_at_last : (found : LinkFault) → KindAtLast (fault_kind found)
+fault_at_last (fault.Io io) = tt
+fault_at_last (fault.PoolCleared message) = tt
+fault_at_last (fault.Selection message) = tt
+fault_at_last (fault.Authentication message) = tt
 
 -- an error in words for the caller
 pub reworded_is : (error : Error) → (kind_of (reworded error) ≡ reworded_kind (kind_of error)) × (labels_of (reworded error) ≡ labels_of error)
@@ -228,25 +230,29 @@ module _ {A : Type 0} (on : Grounds A) (before now : ℕ) (items : List Answered
   memory_needs is = inl (subst (KindNeeds on before now items (labels_of error)) (sym is) tt)
 
   -- want of memory, where the numbers are at their end
-  memory_at_last : kind_of error ≡ kind.Memory → KindAtLast on.spec.refused (kind_of error)
-  memory_at_last is = subst (KindAtLast on.spec.refused) (sym is) tt
+  memory_at_last : kind_of error ≡ kind.Memory → KindAtLast (kind_of error)
+  memory_at_last is = subst (KindAtLast) (sym is) tt
 
   -- a session that a connection does not take
   sessions_needs : on.setup ≡ None → kind_of error ≡ kind.SessionsNotSupported → EndNeeds on before now items (Some (outline_of error))
   sessions_needs none is = inl (subst (KindNeeds on before now items (labels_of error)) (sym is) none)
 
-  -- a command without a frame
-  unframed_needs : (session : Option (List ℕ)) (number : Option ℤ) → TellsUnframed on.spec session number (kind_of error) → EndNeeds on before now items (Some (outline_of error))
-  unframed_needs session number tells = inl (by_kind (kind_of error) tells)
+  -- a built command without a frame
+  unspelled_needs : (context : SendContext) → TellsUnframed on.spec context (kind_of error) → EndNeeds on before now items (Some (outline_of error))
+  unspelled_needs context tells = inl (by_kind (kind_of error) tells)
     where
-      by_kind : (why : ErrorKind) → TellsUnframed on.spec session number why → KindNeeds on before now items (labels_of error) why
-      by_kind (kind.InvalidArgument message) tells = tells
-      by_kind (kind.BsonSerialization refusal) tells = elim tells [
-        | inl refused ↦ inl refused
-        | inr unspelled ↦ inr (record { session = session; number = number; is = unspelled })
-      ]
+      by_kind : (why : ErrorKind) → TellsUnframed on.spec context why → KindNeeds on before now items (labels_of error) why
+      by_kind (kind.BsonSerialization refusal) tells = record { context = context; is = tells }
       by_kind kind.Memory tells = tt
       by_kind _ tells = absurd tells
+
+  -- a build that was refused
+  refused_needs : (description : Description) → IsOf on.setup description → Refuses on.spec description error → EndNeeds on before now items (Some (outline_of error))
+  refused_needs description is refuses = inr (inr (record { description = description; told = told on.setup is; error = error; refuses = refuses; is = refl }))
+    where
+      told : (setup : Option Setup) → IsOf setup description → IfSome setup (λ found. description ≡ found.description)
+      told None is = tt
+      told (Some setup) is = is
 
   -- no number was left
   end_needs : AtEnd on.number (kind_of error) → EndNeeds on before now items (Some (outline_of error))
@@ -258,18 +264,18 @@ module _ {A : Type 0} (on : Grounds A) (before now : ℕ) (items : List Answered
       by_kind _ tells = absurd tells
 
   -- no number was left, where the numbers are at their end
-  end_at_last : AtEnd on.number (kind_of error) → KindAtLast on.spec.refused (kind_of error)
+  end_at_last : AtEnd on.number (kind_of error) → KindAtLast (kind_of error)
   end_at_last tells = by_kind (kind_of error) tells
     where
-      by_kind : (why : ErrorKind) → AtEnd on.number why → KindAtLast on.spec.refused why
+      by_kind : (why : ErrorKind) → AtEnd on.number why → KindAtLast why
       by_kind (kind.Internal message) tells = tt
       by_kind kind.Memory tells = tt
       by_kind _ tells = absurd tells
 
-module _ {A : Type 0} (spec : OperationSpec A) (places : List Place) (own : Retryability) (store : StoreTells) (link : LinkState) where
+module _ {A : Type 0} (spec : OperationSpec A) (batch : Batch) (which : SendKind) (own : Retryability) (store : StoreTells) (link : LinkState) where
   -- the operation as its attempts see it
   abbrev trial : Trial A
-  trial = trial_of spec places own
+  trial = trial_of spec batch which own
 
   -- what its end is judged by
   abbrev on : Grounds A
@@ -290,7 +296,7 @@ module _ {A : Type 0} (spec : OperationSpec A) (places : List Place) (own : Retr
 
   -- an error that may end the operation where the numbers are at their end
   abbrev Lasts : Error → Type 0
-  Lasts error = KindAtLast spec.refused (kind_of error)
+  Lasts error = KindAtLast (kind_of error)
 
   -- one attempt
   module _ (past : Option RetryState) (mid : AttemptState) (setup_is : (setup_of mid.link) ≡ (setup_of link)) (stands : StandsAt mid) where
@@ -326,7 +332,7 @@ module _ {A : Type 0} (spec : OperationSpec A) (places : List Place) (own : Retr
       -- what a command that went out noted
       sends_add : Adds mid.link now.link (noted Exchange reply_noted result)
       sends_add = adds_twice mid.link sends.ready.link now.link [] (noted Exchange reply_noted result) (ready_adds sends.ready address conn sends.readies)
-          (exchange_adds sends.ready.link now.link conn sends.exchanges.frame places result sends.exchanges.exchanges)
+          (exchange_adds sends.ready.link now.link conn sends.exchanges.frame (front batch) result sends.exchanges.exchanges)
 
       -- no command goes out where the numbers are at their end
       sends_not_at_last : AtLast → mid.held.sent ≡ None → ⊥
@@ -370,7 +376,7 @@ module _ {A : Type 0} (spec : OperationSpec A) (places : List Place) (own : Retr
           early = λ at unsent. (
             tt,
             ap (λ h. h.sent) fails.rest.held ∙ unsent,
-            subst (KindAtLast spec.refused) (sym kind_is) (fault_at_last spec.refused fails.fault),
+            subst (KindAtLast) (sym kind_is) (fault_at_last fails.fault),
           );
         }
 
@@ -410,7 +416,7 @@ module _ {A : Type 0} (spec : OperationSpec A) (places : List Place) (own : Retr
           more = answer.Reply fails.reply ∷ [];
           adds = sends_add now address conn (Ok fails.reply) sends;
           stands_now = stands_sent now address conn (Ok fails.reply) sends;
-          needs = inr (inl spells);
+          needs = inr (inl (inl spells));
           early = λ at unsent. absurd (sends_not_at_last now address conn (Ok fails.reply) sends at unsent);
         }
 
@@ -457,7 +463,7 @@ module _ {A : Type 0} (spec : OperationSpec A) (places : List Place) (own : Retr
           more = answer.Fault Select selected.fault selected.own ∷ [];
           adds = selection_adds now error selected;
           needs = fault_end on mid.link.faults now.link.faults Select selected.own selected.selects.calls.cause.0 selected.fault error is.0 is.1;
-          early = λ at unsent. (tt, subst (KindAtLast spec.refused) (sym is.0) (fault_at_last spec.refused selected.fault));
+          early = λ at unsent. (tt, subst (KindAtLast) (sym is.0) (fault_at_last selected.fault));
         }
 
     -- there was no memory before a session was lent
@@ -495,7 +501,7 @@ module _ {A : Type 0} (spec : OperationSpec A) (places : List Place) (own : Retr
           }
 
       -- there was no number
-      finishes_unnumbered : NoNumber past (on_connection own conn.description) ready.held now.held error → Finishes now (Some (outline_of error))
+      finishes_unnumbered : NoNumber past conn.description (on_connection own conn.description) ready.held now.held error → Finishes now (Some (outline_of error))
       finishes_unnumbered refused =
           let tells = unnumbered_at_end (next_number store) (on_connection own conn.description) ready.held now.held error (stands_ready ready address conn readies).first refused.draws in record {
             more = [];
@@ -505,11 +511,14 @@ module _ {A : Type 0} (spec : OperationSpec A) (places : List Place) (own : Retr
           }
 
       -- there was no frame
-      finishes_unframed : NoFrame spec past (on_connection own conn.description) ready.held now.held error → Finishes now (Some (outline_of error))
+      finishes_unframed : NoFrame spec past conn.description (on_connection own conn.description) ready.held now.held error → Finishes now (Some (outline_of error))
       finishes_unframed refused = record {
         more = [];
         adds = refused_adds;
-        needs = unframed_needs on mid.link.faults now.link.faults [] error (held_id now.held) refused.number refused.why;
+        needs = elim refused.why [
+          | inl early ↦ refused_needs on mid.link.faults now.link.faults [] error conn.description (is_conn ready address conn readies) early.1
+          | inr none ↦ unspelled_needs on mid.link.faults now.link.faults [] error (under (held_id now.held) refused.number) none
+        ];
         early = λ at unsent. absurd (draws_none ready address conn readies at unsent now.held refused.number refused.draws);
       }
 
@@ -670,8 +679,16 @@ module _ {A : Type 0} (spec : OperationSpec A) (places : List Place) (own : Retr
         by_kept None is ends = absurd ends
         by_kept (Some retry) is ends = subst CausedBy (sym ends) (caused_kept [] added tt retry is)
 
+    -- the command could not be built again, and the failure that is kept is the end
+    kept_unfit : (result : Result A Error) → Adds mid.link now.link [] → EndsWith {A = A} kept Unfit result → CausedBy result
+    kept_unfit result added ends = by_kept kept refl ends
+      where
+        by_kept : (found : Option RetryState) → kept ≡ found → EndsWith {A = A} found Unfit result → CausedBy result
+        by_kept None is ends = absurd ends
+        by_kept (Some retry) is ends = subst CausedBy (sym ends) (caused_kept [] added tt retry is)
+
     -- the last attempt did not fail, or failed to select a server
-    caused_last : (attempt : Attempt A) (result : Result A Error) → Tries trial kept mid now attempt → EndsWith kept attempt result → CausedBy result
+    caused_last : (attempt : AttemptEnd A) (result : Result A Error) → Tries trial kept mid now attempt → EndsWith kept attempt result → CausedBy result
     caused_last (Done output) result tries ends = subst CausedBy (sym ends) (caused_new None (finishes_done kept mid far.adds.setup far.stands now output tries))
     caused_last (Failed failing) result tries ends = absurd ends
     caused_last (Unselected error) result tries ends =
@@ -679,6 +696,9 @@ module _ {A : Type 0} (spec : OperationSpec A) (places : List Place) (own : Retr
         (finishes_unselected kept mid far.adds.setup far.stands now error tries) ends
     caused_last Stopped result tries ends =
         kept_stopped result (ready_adds kept mid far.adds.setup far.stands now tries.1.address tries.1.conn tries.1.readies) ends
+    caused_last Unfit result tries ends =
+        kept_unfit result (subst (λ l. Adds mid.link l []) (sym tries.1.link)
+        (ready_adds kept mid far.adds.setup far.stands tries.1.ready tries.1.address tries.1.conn tries.1.readies)) ends
     caused_last (Ended error) result tries ends =
         subst CausedBy (sym ends) (caused_new (Some (outline_of error)) (finishes_ended kept mid far.adds.setup far.stands now error tries))
 
@@ -720,13 +740,13 @@ module _ {A : Type 0} (spec : OperationSpec A) (places : List Place) (own : Retr
     ]
 
 -- an operation has its cause
-pub executes_caused : {A : Type 0} (spec : OperationSpec A) (places : List Place) (before now : Moment) (count count_now : ℕ) (result : Result A Error)
-    → Executes spec places before now count count_now result → Caused spec before now (end_of result)
-executes_caused spec places before now count count_now result executes =
-    let own = spec.own before.client.options in
+pub executes_caused : {A : Type 0} (spec : OperationSpec A) (batch : Batch) (which : SendKind) (before now : Moment) (count count_now : ℕ) (result : Result A Error)
+    → Executes spec batch which before now count count_now result → Caused spec before now (end_of result)
+executes_caused spec batch which before now count count_now result executes =
+    let own = spec.retryability before.client.options in
     let link = besides_out before.link in
     let attempts = executes.attempts in
-    let far = reaches_far spec places own before.store link count executes.sharded attempts.failures attempts.kept attempts.mid attempts.reaches in
-    let caused = caused_ends spec places own before.store link executes.sharded attempts.kept attempts.mid executes.last far result attempts.ends in
+    let far = reaches_far spec batch which own before.store link count executes.sharded attempts.failures attempts.kept attempts.mid attempts.reaches in
+    let caused = caused_ends spec batch which own before.store link executes.sharded attempts.kept attempts.mid executes.last far result attempts.ends in
     let ends = subst (λ l. EndsCaused (grounds spec before) link l (end_of result)) (sym executes.link_is) caused in
     record { items = ends.items; noted = ends.noted; never_falls = ends.never_falls; needs = ends.needs; at_last = ends.at_last }

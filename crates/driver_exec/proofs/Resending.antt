@@ -6,7 +6,6 @@ use Rattle.driver_error.specs.declared.labels.TheConstants.{RETRYABLE_WRITE_ERRO
 use Rattle.driver_error.specs.Error.{labels_of}
 use Rattle.driver_error.specs.LabelTexts.{has_label}
 use Rattle.driver_link.specs.declared.fault.LinkError.TheVariants.{Fault}
-use Rattle.driver_link.specs.declared.machine.Place.{Place}
 use Rattle.driver_link.specs.declared.options.Address.{Address}
 use Rattle.driver_link.specs.LinkState.{LinkState, server_run}
 use Rattle.driver_session.specs.declared.retryability.Retryability.{Retryability}
@@ -15,12 +14,14 @@ use Rattle.driver_session.specs.StoreTells.{Draws, LendsAsBefore, StoreTells}
 use Rattle.driver_session.specs.Session.{MayRaise, Numbers, Session}
 use Rattle.driver_session.proofs.Drawing.{draws_lending, draws_staying, draws_taking, draws_twice}
 use Rattle.driver_session.proofs.Lending.{lends_staying, lends_turning}
-use Rattle.driver_ops.specs.Operations.{OperationSpec, plain_send}
-use Rattle.driver_exec.specs.declared.attempt_end.Attempt.{Attempt}
-use Rattle.driver_exec.specs.declared.attempt_end.Attempt.TheVariants.{Done, Ended, Failed, Stopped, Unselected}
+use Rattle.driver_ops.specs.Fields.{under}
+use Rattle.driver_ops.specs.Operations.{Batch, OperationSpec, send_of}
+use Rattle.driver_ops.specs.SendKinds.{SendKind}
+use Rattle.driver_exec.specs.declared.attempt_end.AttemptEnd.{AttemptEnd}
+use Rattle.driver_exec.specs.declared.attempt_end.AttemptEnd.TheVariants.{Done, Ended, Failed, Stopped, Unfit, Unselected}
 use Rattle.driver_exec.specs.declared.attempt_end.AttemptFailure.{AttemptFailure}
 use Rattle.driver_exec.specs.declared.failure.Failure.{Failure}
-use Rattle.driver_exec.specs.Attempting.{AttemptState, EndsAtOnce, EndsRefused, Trial, Tries, besides_out, on_connection, trial_of}
+use Rattle.driver_exec.specs.Attempting.{AttemptState, EndsAtOnce, EndsRefused, RefusedAgain, Trial, Tries, besides_out, on_connection, trial_of}
 use Rattle.driver_exec.specs.Executing.{Ends, EndsWith, Executes, Reaches, first_state}
 use Rattle.driver_exec.specs.Holding.{DrawsNumber, DrawsSession, GivesBack, GivesNumber, ExecutionSession, number_before}
 use Rattle.driver_exec.specs.Moment.{Moment}
@@ -56,7 +57,7 @@ module _ {A : Type 0} (trial : Trial A) (sharded : Bool) (store : StoreTells) (l
   reaches_course : (count : ℕ) (failures : List AttemptFailure) (kept : Option RetryState) (now : AttemptState) → Reaches trial sharded (first_state store link count) failures kept now
       → CourseAt trial store link (length failures) now × MayGoOn now.held.sent
   reaches_course count [] kept now reaches =
-      subst (λ s. CourseAt trial store link 0 s × MayGoOn s.held.sent) (sym reaches.1) (starts trial.spec trial.places store (server_run link), tt)
+      subst (λ s. CourseAt trial store link 0 s × MayGoOn s.held.sent) (sym reaches.1) (starts trial.spec trial.batch store (server_run link), tt)
   reaches_course count (failing ∷ failures) kept now reaches =
       let mid = reaches.1.1.0 in
       let rest = reaches.1.1.1 in
@@ -87,10 +88,10 @@ module _ {A : Type 0} (trial : Trial A) (sharded : Bool) (store : StoreTells) (l
   -- the last attempt
   module _ (most : ℕ) (few : most ≤ 1) (kept : Option RetryState) (mid now : AttemptState) (goes : MayGoOn mid.held.sent) (course : CourseAt trial store link most mid) where
     over_course : CourseAt trial store link (suc most) now → OverAt trial store link (suc most) now
-    over_course done = course_over trial.spec trial.places store (server_run link) (suc most) now.store (server_run now.link) now.held.session now.held.sent done
+    over_course done = course_over trial.spec trial.batch store (server_run link) (suc most) now.store (server_run now.link) now.held.session now.held.sent done
 
     more_course : CourseAt trial store link most now → OverAt trial store link (suc most) now
-    more_course done = over_course (one_more trial.spec trial.places store (server_run link) most now.store (server_run now.link) now.held.session now.held.sent done)
+    more_course done = over_course (one_more trial.spec trial.batch store (server_run link) most now.store (server_run now.link) now.held.session now.held.sent done)
 
     -- there was no number, and what is held is as before
     undrawn_same : (ready now : ExecutionSession) (turn : Retryability) (error : Error) → DrawsNumber ready.sent turn ready now (Err error) → now ≡ ready
@@ -115,11 +116,11 @@ module _ {A : Type 0} (trial : Trial A) (sharded : Bool) (store : StoreTells) (l
 
     -- the command was refused before it went out
     at_ready : (ready : AttemptState) → now.link ≡ ready.link → now.store ≡ ready.store → (held : ExecutionSession) → now.held ≡ held
-        → Over trial.spec trial.places store (server_run link) most ready.store (server_run ready.link) held.session held.sent → OverAt trial store link most now
+        → Over trial.spec trial.batch store (server_run link) most ready.store (server_run ready.link) held.session held.sent → OverAt trial store link most now
     at_ready ready link_is store_is held held_is over =
-        subst (λ l. Over trial.spec trial.places store (server_run link) most now.store (server_run l) now.held.session now.held.sent) (sym link_is)
-        (subst (λ s. Over trial.spec trial.places store (server_run link) most s (server_run ready.link) now.held.session now.held.sent) (sym store_is)
-        (subst (λ h. Over trial.spec trial.places store (server_run link) most ready.store (server_run ready.link) h.session h.sent) (sym held_is) over))
+        subst (λ l. Over trial.spec trial.batch store (server_run link) most now.store (server_run l) now.held.session now.held.sent) (sym link_is)
+        (subst (λ s. Over trial.spec trial.batch store (server_run link) most s (server_run ready.link) now.held.session now.held.sent) (sym store_is)
+        (subst (λ h. Over trial.spec trial.batch store (server_run link) most ready.store (server_run ready.link) h.session h.sent) (sym held_is) over))
 
     more_over : OverAt trial store link most now → OverAt trial store link (suc most) now
     more_over over = record {
@@ -128,8 +129,8 @@ module _ {A : Type 0} (trial : Trial A) (sharded : Bool) (store : StoreTells) (l
     }
 
     ready_over : (ready : AttemptState) → CourseAt trial store link most ready
-        → Over trial.spec trial.places store (server_run link) most ready.store (server_run ready.link) ready.held.session ready.held.sent
-    ready_over ready done = course_over trial.spec trial.places store (server_run link) most ready.store (server_run ready.link) ready.held.session ready.held.sent done
+        → Over trial.spec trial.batch store (server_run link) most ready.store (server_run ready.link) ready.held.session ready.held.sent
+    ready_over ready done = course_over trial.spec trial.batch store (server_run link) most ready.store (server_run ready.link) ready.held.session ready.held.sent done
 
     -- a number was drawn, and nothing went out under it
     any_number : (store_now : StoreTells) (number : Option ℤ) (session : Option Session) → HoldsFrom store store_now (Some number) session → HoldsLast store store_now None session
@@ -147,14 +148,14 @@ module _ {A : Type 0} (trial : Trial A) (sharded : Bool) (store : StoreTells) (l
         by_number (Some number) fits = may_raise holds.lent session fits.1
 
     abbrev OverReady : AttemptState → Option Session → Option (Option ℤ) → Type 0
-    OverReady ready session sent = Over trial.spec trial.places store (server_run link) most ready.store (server_run ready.link) session sent
+    OverReady ready session sent = Over trial.spec trial.batch store (server_run link) most ready.store (server_run ready.link) session sent
 
     unframed_ready : (ready : AttemptState) (turn : Retryability) (number : Option ℤ) (numbered : ExecutionSession) → DrawsNumber ready.held.sent turn ready.held numbered (Ok number)
         → CourseAt trial store link most ready → OverReady ready numbered.session numbered.sent
     unframed_ready ready turn number numbered draws done = by_sent ready.held.sent refl
       where
-        is_drawn : Drawn trial.spec trial.places store (server_run link) ready.held numbered number ready.store
-        is_drawn = drawn trial.spec trial.places store (server_run link) ready.store turn ready.held numbered number done.holds draws
+        is_drawn : Drawn trial.spec trial.batch store (server_run link) ready.held numbered number ready.store
+        is_drawn = drawn trial.spec trial.batch store (server_run link) ready.store turn ready.held numbered number done.holds draws
 
         by_sent : (sent : Option (Option ℤ)) → ready.held.sent ≡ sent → OverReady ready numbered.session numbered.sent
         by_sent None is = subst (OverReady ready numbered.session) (sym (is_drawn.same_sent ∙ is)) (record {
@@ -162,7 +163,7 @@ module _ {A : Type 0} (trial : Trial A) (sharded : Bool) (store : StoreTells) (l
             count = 0;
             within = omega arith;
             once = λ none. omega arith;
-            sends = none_sent (server_run link) (server_run ready.link) (plain_send (id_of ready.held.session) (number_of ready.held.sent) body) (plain_send (id_of numbered.session) None body)
+            sends = none_sent (server_run link) (server_run ready.link) (send_of (under (id_of ready.held.session) (number_of ready.held.sent)) body) (send_of (under (id_of numbered.session) None) body)
                 done.count (subst (λ s. CountFits s done.count) is done.fits) (done.sends body asked);
           };
           holds = any_number ready.store number numbered.session is_drawn.holds;
@@ -185,12 +186,20 @@ module _ {A : Type 0} (trial : Trial A) (sharded : Bool) (store : StoreTells) (l
           ]
         ]
 
+    -- the command could not be built again
+    again_over : (past : Option RetryState) → RefusedAgain trial past mid now → OverAt trial store link most now
+    again_over past refused =
+        let ready = refused.ready in
+        let done = ready_course trial store link most mid ready refused.address refused.conn refused.readies course in
+        at_ready ready refused.link refused.store now.held refl
+        (unframed_ready ready (on_connection trial.own refused.conn.description) refused.number now.held refused.draws done)
+
     ended_over : (past : Option RetryState) (error : Error) → EndsAtOnce trial past mid now error → OverAt trial store link (suc most) now
     ended_over past error ends = elim ends [
       | inl unready ↦ more_course
-          (subst (λ h. Course trial.spec trial.places store (server_run link) most now.store (server_run now.link) h.session h.sent) (sym unready.held)
-          (store_stays trial.spec trial.places store (server_run link) most mid.store now.store (server_run now.link) mid.held.session mid.held.sent unready.store
-          (counted trial.spec trial.places store (server_run link) most mid.store (server_run mid.link) (server_run now.link) mid.held.session mid.held.sent (early_counted mid.link now.link unready.asks).server course)))
+          (subst (λ h. Course trial.spec trial.batch store (server_run link) most now.store (server_run now.link) h.session h.sent) (sym unready.held)
+          (store_stays trial.spec trial.batch store (server_run link) most mid.store now.store (server_run now.link) mid.held.session mid.held.sent unready.store
+          (counted trial.spec trial.batch store (server_run link) most mid.store (server_run mid.link) (server_run now.link) mid.held.session mid.held.sent (early_counted mid.link now.link unready.asks).server course)))
       | inr other ↦ elim other [
         | inl refused ↦ more_over (refused_over past error refused)
         | inr sent ↦ over_at trial store link past most mid goes course now sent.address sent.conn sent.result sent.sends
@@ -199,12 +208,12 @@ module _ {A : Type 0} (trial : Trial A) (sharded : Bool) (store : StoreTells) (l
 
     abbrev LastAt : Result A Error → Type 0
     LastAt result = OverAt trial store link (suc most) now
-        × EndsWithReading trial.spec trial.places (server_run link) (server_run now.link) (id_of now.held.session) (number_of now.held.sent) result
+        × EndsWithReading trial.spec trial.batch (server_run link) (server_run now.link) (id_of now.held.session) (number_of now.held.sent) result
 
     err_last : (error : Error) (result : Result A Error) → result ≡ Err error → OverAt trial store link (suc most) now → LastAt result
     err_last error result is over = subst LastAt (sym is) (over, tt)
 
-    tried_last : (past : Option RetryState) (attempt : Attempt A) (result : Result A Error) → Tries trial past mid now attempt → EndsWith kept attempt result → LastAt result
+    tried_last : (past : Option RetryState) (attempt : AttemptEnd A) (result : Result A Error) → Tries trial past mid now attempt → EndsWith kept attempt result → LastAt result
     tried_last past (Done output) result tries ends =
         subst LastAt (sym ends) (
           over_at trial store link past most mid goes course now tries.address tries.conn (Ok tries.reply) tries.sends,
@@ -227,6 +236,11 @@ module _ {A : Type 0} (trial : Trial A) (sharded : Bool) (store : StoreTells) (l
         by_kept : (kept : Option RetryState) → EndsWith {A = A} kept Stopped result → LastAt result
         by_kept None ends = absurd ends
         by_kept (Some retry) ends = err_last retry.failure.error result ends over
+    tried_last past Unfit result tries ends = by_kept kept ends
+      where
+        by_kept : (kept : Option RetryState) → EndsWith {A = A} kept Unfit result → LastAt result
+        by_kept None ends = absurd ends
+        by_kept (Some retry) ends = err_last retry.failure.error result ends (more_over (again_over past tries.1))
     tried_last past (Ended error) result tries ends = err_last error result ends (ended_over past error tries)
 
   -- the operation is over
@@ -234,7 +248,7 @@ module _ {A : Type 0} (trial : Trial A) (sharded : Bool) (store : StoreTells) (l
     most : ℕ
     few : most ≤ 2
     over : OverAt trial store link most now
-    ends : EndsWithReading trial.spec trial.places (server_run link) (server_run now.link) (id_of now.held.session) (number_of now.held.sent) result
+    ends : EndsWithReading trial.spec trial.batch (server_run link) (server_run now.link) (id_of now.held.session) (number_of now.held.sent) result
 
   finishes : (count : ℕ) (failures : List AttemptFailure) (kept : Option RetryState) (mid now : AttemptState) (result : Result A Error) → Reaches trial sharded (first_state store link count) failures kept mid
       → Ends trial sharded kept mid now result → Finished now result
@@ -252,8 +266,8 @@ module _ {A : Type 0} (trial : Trial A) (sharded : Bool) (store : StoreTells) (l
             most = length failures;
             few = omega (arith, few.left);
             over = subst (OverAt trial store link (length failures)) (sym limit.same)
-                (course_over trial.spec trial.places store (server_run link) (length failures) mid.store (server_run mid.link) mid.held.session mid.held.sent came.0);
-            ends = subst (λ r. EndsWithReading trial.spec trial.places (server_run link) (server_run now.link) (id_of now.held.session) (number_of now.held.sent) r) (sym limit.answers) tt;
+                (course_over trial.spec trial.batch store (server_run link) (length failures) mid.store (server_run mid.link) mid.held.session mid.held.sent came.0);
+            ends = subst (λ r. EndsWithReading trial.spec trial.batch (server_run link) (server_run now.link) (id_of now.held.session) (number_of now.held.sent) r) (sym limit.answers) tt;
           }
           | inr refused ↦
               let left = one_left kept few.once refused.goes_on in
@@ -262,8 +276,8 @@ module _ {A : Type 0} (trial : Trial A) (sharded : Bool) (store : StoreTells) (l
               record {
                 most = suc (length failures);
                 few = omega arith;
-                over = course_over trial.spec trial.places store (server_run link) (suc (length failures)) now.store (server_run now.link) now.held.session now.held.sent done;
-                ends = subst (λ r. EndsWithReading trial.spec trial.places (server_run link) (server_run now.link) (id_of now.held.session) (number_of now.held.sent) r) (sym refused.answers) tt;
+                over = course_over trial.spec trial.batch store (server_run link) (suc (length failures)) now.store (server_run now.link) now.held.session now.held.sent done;
+                ends = subst (λ r. EndsWithReading trial.spec trial.batch (server_run link) (server_run now.link) (id_of now.held.session) (number_of now.held.sent) r) (sym refused.answers) tt;
               }
         ]
       ]
@@ -299,10 +313,10 @@ borrows_draws store now (Some id) number borrows =
     (draws_taking borrows.lent now borrows.back borrows.back_at borrows.takes)
 
 -- an operation as a whole
-module _ {A : Type 0} (spec : OperationSpec A) (places : List Place) (before now : Moment) (count count_now : ℕ) (result : Result A Error)
-    (executes : Executes spec places before now count count_now result) where
+module _ {A : Type 0} (spec : OperationSpec A) (batch : Batch) (which : SendKind) (before now : Moment) (count count_now : ℕ) (result : Result A Error)
+    (executes : Executes spec batch which before now count count_now result) where
   abbrev trial : Trial A
-  trial = trial_of spec places (spec.own before.client.options)
+  trial = trial_of spec batch which (spec.retryability before.client.options)
 
   done : Finished trial executes.sharded before.store (besides_out before.link) executes.last result
   done = finishes trial executes.sharded before.store (besides_out before.link) count executes.attempts.failures executes.attempts.kept executes.attempts.mid executes.last result executes.attempts.reaches executes.attempts.ends
@@ -311,16 +325,16 @@ module _ {A : Type 0} (spec : OperationSpec A) (places : List Place) (before now
   server_is : server_run now.link ≡ server_run executes.last.link
   server_is = ap server_run executes.link_is
 
-  pub executes_works : SendsOneCommand spec places before now result
+  pub executes_works : SendsOneCommand spec batch before now result
   executes_works = record {
     session = id_of executes.last.held.session;
     number = number_of executes.last.held.sent;
     borrows = borrows trial executes.sharded before.store (besides_out before.link) executes.last.store now.store (number_of executes.last.held.sent) executes.last.held.session done.over.holds executes.comes_back;
     sends = λ body asked.
         let sent = done.over.sends body asked in
-        subst (λ server. SentWithin 2 (server_run before.link) server (plain_send (id_of executes.last.held.session) (number_of executes.last.held.sent) body)) (sym server_is)
+        subst (λ server. SentWithin 2 (server_run before.link) server (send_of (under (id_of executes.last.held.session) (number_of executes.last.held.sent)) body)) (sym server_is)
         (record { count = sent.count; within = omega (arith, sent.within, done.few); once = sent.once; sends = sent.sends });
-    ends = subst (λ server. EndsWithReading spec places (server_run before.link) server (id_of executes.last.held.session) (number_of executes.last.held.sent) result) (sym server_is) done.ends;
+    ends = subst (λ server. EndsWithReading spec batch (server_run before.link) server (id_of executes.last.held.session) (number_of executes.last.held.sent) result) (sym server_is) done.ends;
   }
 
   pub executes_lends : LendsAsBefore before.store now.store

@@ -1,40 +1,31 @@
 -- An attempt of an operation that tells now what it told before is one of the operation as it was.
 use Rattle.std.proofs.Common.{ℕ, List, subst, inl, inr}
-use Rattle.std.specs.Prelude.{ℤ, Option, Result, Ok, Err}
+use Rattle.std.specs.Prelude.{Option, Result, Ok, Err}
 use Rattle.driver_error.specs.declared.error.Error.{Error}
-use Rattle.driver_error.specs.declared.kind.ErrorKind.TheVariants as kind
-use Rattle.driver_error.specs.Error.{ErrorKind, kind_of}
+use Rattle.driver_error.specs.Error.{kind_of}
 use Rattle.driver_link.specs.declared.fault.LinkError.{LinkError}
-use Rattle.driver_link.specs.declared.machine.Place.{Place}
 use Rattle.driver_link.specs.declared.options.Address.{Address}
 use Rattle.driver_link.specs.declared.options.Conn.{Conn}
 use Rattle.driver_link.specs.LinkState.{LinkState}
 use Rattle.driver_session.specs.declared.retryability.Retryability.{Retryability}
-use Rattle.driver_ops.specs.Operations.{OperationSpec, SameSpec, TellsUnframed}
-use Rattle.driver_exec.specs.declared.attempt_end.Attempt.{Attempt}
-use Rattle.driver_exec.specs.declared.attempt_end.Attempt.TheVariants.{Done, Ended, Failed, Stopped, Unselected}
+use Rattle.driver_ops.specs.Fields.{SendContext}
+use Rattle.driver_ops.specs.Operations.{Batch, OperationSpec, SameSpec}
+use Rattle.driver_ops.specs.SendKinds.{SendKind}
+use Rattle.driver_exec.specs.declared.attempt_end.AttemptEnd.{AttemptEnd}
+use Rattle.driver_exec.specs.declared.attempt_end.AttemptEnd.TheVariants.{Done, Ended, Failed, Stopped, Unfit, Unselected}
 use Rattle.driver_exec.specs.declared.failure.FailurePhase.{FailurePhase}
 use Rattle.driver_exec.specs.declared.failure.FailurePhase.TheVariants.{ConnectionEstablishment, Execution}
 use Rattle.driver_exec.specs.Attempting.{EndsAtOnce, Exchanges, FailsIn, Readies, AttemptState, Sends, Trial, Tries, asks_session, trial_of}
 use Rattle.driver_exec.specs.Holding.{HoldsSession, needs_session}
 use Rattle.driver_exec.specs.Retry.{RetryState}
-use Rattle.driver_exec.proofs.Trying.{answers_same, framed_same, same_back}
+use Rattle.driver_exec.proofs.Trying.{answers_same, framed_same, refuses_same, unspelled_same}
 
-module _ {A : Type 0} (old now : OperationSpec A) (same : SameSpec old now) (places : List Place) (own : Retryability) where
-  unframed_same : (session : Option (List ℕ)) (number : Option ℤ) (why : ErrorKind) → TellsUnframed now session number why → TellsUnframed old session number why
-  unframed_same session number (kind.InvalidArgument message) tells = (same.refused (kind.InvalidArgument message)).1 tells
-  unframed_same session number (kind.BsonSerialization fault) tells = elim tells [
-    | inl refused ↦ inl ((same.refused (kind.BsonSerialization fault)).1 refused)
-    | inr unspelled ↦ inr ((same.unspelled session number fault).1 unspelled)
-  ]
-  unframed_same session number kind.Memory tells = tt
-  unframed_same session number _ tells = absurd tells
-
+module _ {A : Type 0} (old now : OperationSpec A) (same : SameSpec old now) (batch : Batch) (which : SendKind) (own : Retryability) where
   abbrev told : Trial A
-  told = trial_of now places own
+  told = trial_of now batch which own
 
   abbrev was : Trial A
-  was = trial_of old places own
+  was = trial_of old batch which own
 
   readies_same : {past : Option RetryState} (before after : AttemptState) (address : Address) (conn : Conn) → Readies told past before after address conn → Readies was past before after address conn
   readies_same before after address conn readies = record {
@@ -44,12 +35,12 @@ module _ {A : Type 0} (old now : OperationSpec A) (same : SameSpec old now) (pla
     count = readies.count;
   }
 
-  exchanges_same : (link link_now : LinkState) (conn : Conn) (session : Option (List ℕ)) (number : Option ℤ) (result : Result (List ℕ) LinkError)
-      → Exchanges now places link link_now conn session number result → Exchanges old places link link_now conn session number result
-  exchanges_same link link_now conn session number result exchanges = record {
+  exchanges_same : (link link_now : LinkState) (conn : Conn) (context : SendContext) (result : Result (List ℕ) LinkError)
+      → Exchanges now which batch link link_now conn context result → Exchanges old which batch link link_now conn context result
+  exchanges_same link link_now conn context result exchanges = record {
     frame = exchanges.frame;
-    framed = framed_same now old (same_back old now same) session number exchanges.frame exchanges.framed;
-    reads = λ body asked. exchanges.reads body ((same.asked places body).0 asked);
+    framed = framed_same old now same which batch.statements context exchanges.frame exchanges.framed;
+    reads = λ body asked. exchanges.reads body ((same.bodies batch.statements batch.places body).0 asked);
     exchanges = exchanges.exchanges;
   }
 
@@ -63,7 +54,7 @@ module _ {A : Type 0} (old now : OperationSpec A) (same : SameSpec old now) (pla
     numbered = sends.numbered;
     number = sends.number;
     draws = sends.draws;
-    exchanges = exchanges_same _ _ _ _ _ result sends.exchanges;
+    exchanges = exchanges_same _ _ _ _ result sends.exchanges;
     store_is = sends.store_is;
     held_is = sends.held_is;
     counted = sends.counted;
@@ -120,7 +111,16 @@ module _ {A : Type 0} (old now : OperationSpec A) (same : SameSpec old now) (pla
           | inl none ↦ inl none
           | inr later ↦ elim later [
             | inl none ↦ inr (inl none)
-            | inr none ↦ inr (inr (record { goes = none.goes; number = none.number; draws = none.draws; why = unframed_same _ none.number (kind_of error) none.why }))
+            | inr none ↦ inr (inr (record {
+              goes = none.goes;
+              number = none.number;
+              draws = none.draws;
+              allowed = none.allowed;
+              why = elim none.why [
+                | inl early ↦ inl (early.0, refuses_same old now same refused.conn.description error early.1)
+                | inr unspelled ↦ inr (unspelled_same old now same _ (kind_of error) unspelled)
+              ];
+            }))
           ]
         ];
       }))
@@ -134,7 +134,7 @@ module _ {A : Type 0} (old now : OperationSpec A) (same : SameSpec old now) (pla
     ]
   ]
 
-  pub tries_same : (past : Option RetryState) (before after : AttemptState) (attempt : Attempt A) → Tries told past before after attempt → Tries was past before after attempt
+  pub tries_same : (past : Option RetryState) (before after : AttemptState) (attempt : AttemptEnd A) → Tries told past before after attempt → Tries was past before after attempt
   tries_same past before after (Done output) tries = record {
     address = tries.address;
     conn = tries.conn;
@@ -152,6 +152,25 @@ module _ {A : Type 0} (old now : OperationSpec A) (same : SameSpec old now) (pla
       readies = readies_same before after tries.1.address tries.1.conn tries.1.readies;
       allowed = tries.1.allowed;
       nothing = tries.1.nothing;
+    },
+  )
+  tries_same past before after Unfit tries = (
+    tries.0,
+    record {
+      ready = tries.1.ready;
+      address = tries.1.address;
+      conn = tries.1.conn;
+      readies = readies_same before tries.1.ready tries.1.address tries.1.conn tries.1.readies;
+      link = tries.1.link;
+      store = tries.1.store;
+      count = tries.1.count;
+      allowed = tries.1.allowed;
+      goes = tries.1.goes;
+      number = tries.1.number;
+      draws = tries.1.draws;
+      again = tries.1.again;
+      error = tries.1.error;
+      refused = refuses_same old now same tries.1.conn.description tries.1.error tries.1.refused;
     },
   )
   tries_same past before after (Ended error) tries = ends_same past before after error tries

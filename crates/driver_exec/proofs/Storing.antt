@@ -8,8 +8,8 @@ use Rattle.driver_link.specs.declared.options.Conn.{Conn}
 use Rattle.driver_session.specs.StoreTells.{DrawnApart, Draws, StoreTells}
 use Rattle.driver_session.specs.Session.{Session}
 use Rattle.driver_session.proofs.Drawing.{apart_before, draws_lending, draws_refl, draws_staying, draws_taking}
-use Rattle.driver_exec.specs.declared.attempt_end.Attempt.{Attempt}
-use Rattle.driver_exec.specs.declared.attempt_end.Attempt.TheVariants.{Done, Ended, Failed, Stopped, Unselected}
+use Rattle.driver_exec.specs.declared.attempt_end.AttemptEnd.{AttemptEnd}
+use Rattle.driver_exec.specs.declared.attempt_end.AttemptEnd.TheVariants.{Done, Ended, Failed, Stopped, Unfit, Unselected}
 use Rattle.driver_exec.specs.declared.failure.FailurePhase.{FailurePhase}
 use Rattle.driver_exec.specs.declared.failure.FailurePhase.TheVariants.{ConnectionEstablishment, Execution}
 use Rattle.driver_exec.specs.Attempting.{FailsIn, Readies, AttemptState, Sends, Trial, Tries, asks_session}
@@ -42,11 +42,12 @@ module _ {A : Type 0} (trial : Trial A) (past : Option RetryState) (mid now : At
     | inr says ↦ sends_draws address says.conn _ says.sends
   ]
 
-  pub tries_draws : (attempt : Attempt A) → Tries trial past mid now attempt → Draws mid.store now.store
+  pub tries_draws : (attempt : AttemptEnd A) → Tries trial past mid now attempt → Draws mid.store now.store
   tries_draws (Done output) tries = sends_draws tries.address tries.conn _ tries.sends
   tries_draws (Failed failing) tries = fails_draws failing.address failing.failure.phase failing.failure.error tries
   tries_draws (Unselected error) tries = draws_same mid.store now.store tries.rest.store
   tries_draws Stopped tries = readies_draws trial mid now tries.1.address tries.1.conn tries.1.readies
+  tries_draws Unfit tries = subst (Draws mid.store) (sym tries.1.store) (readies_draws trial mid tries.1.ready tries.1.address tries.1.conn tries.1.readies)
   tries_draws (Ended error) tries = elim tries [
     | inl unready ↦ draws_staying mid.store now.store unready.store
     | inr other ↦ elim other [

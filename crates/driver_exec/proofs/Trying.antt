@@ -1,9 +1,9 @@
 -- One attempt of an operation, from the calls in which it was made.
-use Rattle.std.proofs.Common.{◌≡◌, ℕ, ◌≤◌, List, refl, sym, ap, subst, ◌∙◌, inl, inr, arith}
+use Rattle.std.proofs.Common.{◌≡◌, ℕ, ◌≤◌, List, [], ◌∷◌, refl, sym, ap, subst, ◌∙◌, inl, inr, arith}
 use Rattle.std.specs.Prelude.{ℤ, Bool, true, false, ◌&&◌, Option, None, Some, is_some, Result, Ok, Err}
 use Rattle.driver_error.specs.declared.error.Error.{Error}
 use Rattle.driver_error.specs.declared.kind.ErrorKind.TheVariants as kind
-use Rattle.driver_error.specs.Error.{IsAlone}
+use Rattle.driver_error.specs.Error.{ErrorKind, IsAlone}
 use Rattle.driver_error.specs.LabelTexts.{no_labels}
 use Rattle.driver_link.specs.declared.fault.Answered.{Answered}
 use Rattle.driver_link.specs.declared.fault.LinkCall.{LinkCall}
@@ -13,6 +13,7 @@ use Rattle.driver_link.specs.declared.fault.LinkError.TheVariants.{Fault, Memory
 use Rattle.driver_link.specs.declared.machine.Place.{Place}
 use Rattle.driver_link.specs.declared.options.Address.{Address}
 use Rattle.driver_link.specs.declared.options.Conn.{Conn}
+use Rattle.driver_link.specs.declared.options.Description.{Description}
 use Rattle.driver_link.specs.Counting.{Listed, OnlyCounts, check_out_fault, checked_out, select_fault, selected}
 use Rattle.driver_link.specs.Faults.{HasLinkCause}
 use Rattle.driver_link.specs.Framed.{Framed}
@@ -23,16 +24,19 @@ use Rattle.driver_link.specs.ServerRun.{ServerRun}
 use Rattle.driver_session.specs.declared.retryability.Retryability.{Retryability}
 use Rattle.driver_session.specs.StoreTells.{StoreTells}
 use Rattle.driver_ops.specs.declared.command.Command.{Command}
-use Rattle.driver_ops.specs.Operations.{GivesFrame, IsBuilt, IsFramed, OperationSpec, SameSpec, ReadsAnswer}
-use Rattle.driver_exec.specs.declared.attempt_end.Attempt.{Attempt}
-use Rattle.driver_exec.specs.declared.attempt_end.Attempt.TheVariants.{Ended, Failed, Stopped, Unselected}
+use Rattle.driver_ops.specs.declared.operation.Reading.TheVariants as read
+use Rattle.driver_ops.specs.Fields.{SendContext}
+use Rattle.driver_ops.specs.Operations.{Batch, IsBuilt, IsFramed, OperationSpec, ReadsAnswer, Refuses, SameSpec, TellsUnframed}
+use Rattle.driver_ops.specs.SendKinds.{SendKind}
+use Rattle.driver_exec.specs.declared.attempt_end.AttemptEnd.{AttemptEnd}
+use Rattle.driver_exec.specs.declared.attempt_end.AttemptEnd.TheVariants.{Ended, Failed, Stopped, Unselected}
 use Rattle.driver_exec.specs.Attempting.{AsksEarly, AttemptState, Connects, FailsIn, LosesExchange, NotConnected, Readies, Selects, Sends, SpellsFailure, Trial, Tries, asked_for, asks_session, avoided, besides_out, is_nothing, may_use, on_connection, stops, trial_of}
 use Rattle.driver_exec.specs.Causes.{AllEarly}
 use Rattle.driver_exec.specs.Holding.{ExecutionSession, HoldsSession, needs_session}
 use Rattle.driver_exec.specs.Retry.{RetryState}
 use Rattle.driver_exec.proofs.Attempts.{check_out_counts, counts_twice, select_counts}
 use Rattle.driver_exec.proofs.Causes.{notes_since}
-use Rattle.driver_exec.specs.inside.Attempting.{Comes, Exchanging, Sending, attempt_state}
+use Rattle.driver_exec.specs.inside.Attempting.{Comes, Sending, attempt_state}
 use Rattle.driver_exec.specs.inside.Failures.{EndsLost, EndsRead, EndsUnconnected, EndsUnselected}
 
 -- only calls of the link were counted, and nothing was exchanged
@@ -182,80 +186,83 @@ early_counted link now asks = elim asks [
 pub same_back : {A : Type 0} (old now : OperationSpec A) → SameSpec old now → SameSpec now old
 same_back old now same = record {
   name = sym same.name;
-  commands = λ command. ((same.commands command).1, (same.commands command).0);
-  asked = λ places body. ((same.asked places body).1, (same.asked places body).0);
-  refused = λ why. ((same.refused why).1, (same.refused why).0);
-  unspelled = λ session number fault. ((same.unspelled session number fault).1, (same.unspelled session number fault).0);
-  own = λ options. sym (same.own options);
+  target = sym same.target;
+  commands = λ which statements command. ((same.commands which statements command).1, (same.commands which statements command).0);
+  bodies = λ statements places body. ((same.bodies statements places body).1, (same.bodies statements places body).0);
+  refused = λ description error. ((same.refused description error).1, (same.refused description error).0);
+  write_concern = λ which. sym (same.write_concern which);
+  read_concern = sym same.read_concern;
+  selection_criteria = λ which. sym (same.selection_criteria which);
   sessions = sym same.sessions;
-  answers = λ reply result. ((same.answers reply result).1, (same.answers reply result).0);
+  retryability = λ options. sym (same.retryability options);
+  backpressure = λ options. sym (same.backpressure options);
+  after_cluster_time = sym same.after_cluster_time;
+  reads = λ pages result. ((same.reads pages result).1, (same.reads pages result).0);
 }
-
--- a command and a frame of such an operation
-module _ {A : Type 0} (old now : OperationSpec A) (same : SameSpec old now) where
-  built_same : (statements : ℕ) (command : Command) → IsBuilt old statements command → IsBuilt now statements command
-  built_same statements command built = record {
-    name = built.name ∙ sym same.name;
-    is = (same.commands command).0 built.is;
-    plain = built.plain;
-    asks = λ places body asked. built.asks places body ((same.asked places body).1 asked);
-    counts = λ places body asked. built.counts places body ((same.asked places body).1 asked);
-    spelling = λ session number fault sixteen refused. (same.unspelled session number fault).0 (built.spelling session number fault sixteen refused);
-  }
-
-  pub framed_same : (session : Option (List ℕ)) (number : Option ℤ) (frame : Framed) → IsFramed old session number frame → IsFramed now session number frame
-  framed_same session number frame framed =
-      record { statements = framed.statements; command = framed.command; built = built_same framed.statements framed.command framed.built; is = framed.is }
-
-  -- a frame of the operation as it was is one of it now
-  pub gives_same : (session : Option (List ℕ)) (number : Option ℤ) (frame : Framed) → GivesFrame old session number frame → GivesFrame now session number frame
-  gives_same session number frame gives =
-      record { framed = framed_same session number frame gives.framed; reads = λ places body asked. gives.reads places body ((same.asked places body).1 asked) }
 
 -- an operation tells before and now the same
 module _ {A : Type 0} (old now : OperationSpec A) (same : SameSpec old now) where
+  built_same : (which : SendKind) (statements : ℕ) (command : Command) → IsBuilt now which statements command → IsBuilt old which statements command
+  built_same which statements command built = record {
+    name = built.name ∙ same.name;
+    is = (same.commands which statements command).1 built.is;
+    plain = built.plain;
+    asks = λ places body asked. built.asks places body ((same.bodies statements places body).0 asked);
+    within = λ places body asked. built.within places body ((same.bodies statements places body).0 asked);
+  }
+
+  -- a frame of the operation as it is now is one of it as it was
+  pub framed_same : (which : SendKind) (statements : ℕ) (context : SendContext) (frame : Framed) → IsFramed now which statements context frame → IsFramed old which statements context frame
+  framed_same which statements context frame framed =
+      record { command = framed.command; built = built_same which statements framed.command framed.built; is = framed.is }
+
+  -- so is a refused build
+  pub refuses_same : (description : Description) (error : Error) → Refuses now description error → Refuses old description error
+  refuses_same description error refuses = record { refused = (same.refused description error).1 refuses.refused; may = refuses.may; alone = refuses.alone }
+
+  -- so is a command without a spelling
+  pub unspelled_same : (context : SendContext) (why : ErrorKind) → TellsUnframed now context why → TellsUnframed old context why
+  unspelled_same context (kind.BsonSerialization fault) none = record {
+    which = none.which;
+    statements = none.statements;
+    command = none.command;
+    is = (same.commands none.which none.statements none.command).1 none.is;
+    sixteen = none.sixteen;
+    refused = none.refused;
+  }
+  unspelled_same context kind.Memory none = tt
+  unspelled_same context _ none = absurd none
+
+  -- and a reply that was read
   pub answers_same : (reply : List ℕ) (answer : Result A Error) → ReadsAnswer now reply answer → ReadsAnswer old reply answer
-  answers_same reply (Ok output) reads = record { response = reads.response; done = reads.done; reads = (same.answers reads.response.body (Ok output)).1 reads.reads }
+  answers_same reply (Ok output) reads =
+      record { response = reads.response; done = reads.done; reads = (same.reads (Ok reads.response.body ∷ []) (Ok (read.Done output))).1 reads.reads }
   answers_same reply (Err error) reads = elim reads [
     | inl spelled ↦ inl spelled
     | inr other ↦ elim other [
-      | inl read ↦ inr (inl (record {
-        response = read.response;
-        done = read.done;
-        bare = read.bare;
-        reads = (same.answers read.response.body (Err read.bare)).1 read.reads;
-        kept = read.kept;
+      | inl found ↦ inr (inl (record {
+        response = found.response;
+        done = found.done;
+        bare = found.bare;
+        reads = (same.reads (Ok found.response.body ∷ []) (Err found.bare)).1 found.reads;
+        kept = found.kept;
       }))
       | inr memory ↦ inr (inr memory)
     ]
   ]
 
-  comes_same : (turn : Retryability) (version : Option ℤ) (address : Address) (result : Result (List ℕ) LinkError) (attempt : Attempt A)
+  pub comes_same : (turn : Retryability) (version : Option ℤ) (address : Address) (result : Result (List ℕ) LinkError) (attempt : AttemptEnd A)
       → Comes now turn version address result attempt → Comes old turn version address result attempt
   comes_same turn version address (Ok reply) attempt comes =
       record { answer = comes.answer; reads = answers_same reply comes.answer comes.reads; ends = comes.ends }
   comes_same turn version address (Err failure) attempt comes = comes
 
-  pub exchanging_same : (places : List Place) (link link_now : LinkState) (turn : Retryability) (conn : Conn) (address : Address) (held held_now : ExecutionSession) (attempt : Attempt A)
-      → Exchanging now places link link_now turn conn address held held_now attempt → Exchanging old places link link_now turn conn address held held_now attempt
-  exchanging_same places link link_now turn conn address held held_now attempt exchanging = record {
-    result = exchanging.result;
-    exchanges = record {
-      frame = exchanging.exchanges.frame;
-      framed = framed_same now old (same_back old now same) _ _ exchanging.exchanges.frame exchanging.exchanges.framed;
-      reads = λ body asked. exchanging.exchanges.reads body ((same.asked places body).0 asked);
-      exchanges = exchanging.exchanges.exchanges;
-    };
-    held_is = exchanging.held_is;
-    comes = comes_same turn conn.description.max_wire_version address exchanging.result attempt exchanging.comes;
-  }
-
-module _ {A : Type 0} (spec : OperationSpec A) (places : List Place) (own : Retryability) (past : Option RetryState) where
+module _ {A : Type 0} (spec : OperationSpec A) (batch : Batch) (which : SendKind) (own : Retryability) (past : Option RetryState) where
   abbrev trial : Trial A
-  trial = trial_of spec places own
+  trial = trial_of spec batch which own
 
   -- no server was selected
-  pub unselected_tries : (store : StoreTells) (link now : LinkState) (held : ExecutionSession) (count : ℕ) (failure : LinkError) (attempt : Attempt A)
+  pub unselected_tries : (store : StoreTells) (link now : LinkState) (held : ExecutionSession) (count : ℕ) (failure : LinkError) (attempt : AttemptEnd A)
       → Selects (avoided past) (besides_out link) (besides_out now) (Err failure) → EndsUnselected failure attempt → Tries trial past (attempt_state store link held count) (attempt_state store now held count) attempt
   unselected_tries store link now held count (Fault fault labels) (Unselected error) selects is =
       record { fault = fault; own = labels; selects = selects; is = is; rest = record { store = refl; held = refl; count = refl } }
@@ -267,7 +274,7 @@ module _ {A : Type 0} (spec : OperationSpec A) (places : List Place) (own : Retr
   unselected_tries store link now held count Memory _ selects ends = absurd ends
 
   -- no connection was had
-  pub unconnected_tries : (store : StoreTells) (link mid now : LinkState) (held : ExecutionSession) (count : ℕ) (address : Address) (failure : LinkError) (attempt : Attempt A)
+  pub unconnected_tries : (store : StoreTells) (link mid now : LinkState) (held : ExecutionSession) (count : ℕ) (address : Address) (failure : LinkError) (attempt : AttemptEnd A)
       → Selects (avoided past) (besides_out link) mid (Ok address) → ChecksOutConnection mid (besides_out now) address (Err failure) → EndsUnconnected own address failure attempt
       → Tries trial past (attempt_state store link held count) (attempt_state store now held count) attempt
   unconnected_tries store link mid now held count address (Fault fault labels) (Failed failing) selects checks ends =
@@ -345,7 +352,7 @@ module _ {A : Type 0} (spec : OperationSpec A) (places : List Place) (own : Retr
         came = attempt_state store_now link_now held_now count_now
 
         -- the command's reply was read
-        read_tries : (reply : List ℕ) (answer : Result A Error) (attempt : Attempt A) → Sends trial past began came address conn (Ok reply) → ReadsAnswer spec reply answer
+        read_tries : (reply : List ℕ) (answer : Result A Error) (attempt : AttemptEnd A) → Sends trial past began came address conn (Ok reply) → ReadsAnswer spec reply answer
             → EndsRead turn version address answer attempt → Tries trial past began came attempt
         read_tries reply (Ok output) attempt sends reads ends =
             subst (λ a. Tries trial past began came a) (sym ends) (record { address = address; conn = conn; reply = reply; sends = sends; reads = reads })
@@ -366,7 +373,7 @@ module _ {A : Type 0} (spec : OperationSpec A) (places : List Place) (own : Retr
         read_tries reply (Err read) _ sends reads ends = absurd ends
 
         -- its exchange failed
-        lost_tries : (failure : LinkError) (attempt : Attempt A) → Sends trial past began came address conn (Err failure) → EndsLost turn version address failure attempt
+        lost_tries : (failure : LinkError) (attempt : AttemptEnd A) → Sends trial past began came address conn (Err failure) → EndsLost turn version address failure attempt
             → Tries trial past began came attempt
         lost_tries (Fault fault labels) (Failed failing) sends ends =
             subst (λ phase. FailsIn trial past began came failing.address phase failing.failure.error) (sym ends.phase_is)
@@ -383,12 +390,12 @@ module _ {A : Type 0} (spec : OperationSpec A) (places : List Place) (own : Retr
         lost_tries (Fault fault labels) _ sends ends = absurd ends
         lost_tries Memory _ sends ends = absurd ends
 
-        came_tries : (result : Result (List ℕ) LinkError) (attempt : Attempt A) → Sends trial past began came address conn result → Comes spec turn version address result attempt
+        came_tries : (result : Result (List ℕ) LinkError) (attempt : AttemptEnd A) → Sends trial past began came address conn result → Comes spec turn version address result attempt
             → Tries trial past began came attempt
         came_tries (Ok reply) attempt sends comes = read_tries reply comes.answer attempt sends comes.reads comes.ends
         came_tries (Err failure) attempt sends comes = lost_tries failure attempt sends comes
 
-        sending_tries : (attempt : Attempt A) → Sending spec places (besides_out link) (besides_out link_now) turn conn address ready held_now count count_now attempt → Tries trial past began came attempt
+        sending_tries : (attempt : AttemptEnd A) → Sending spec which batch (is_some past) (besides_out link) (besides_out link_now) turn conn address ready held_now count count_now attempt → Tries trial past began came attempt
         sending_tries attempt sending = elim sending [
           | inl none ↦ subst (λ a. Tries trial past began came a) (sym none.ends) (inr (inl (record {
             ready = attempt_state store_now link ready count;
@@ -398,7 +405,7 @@ module _ {A : Type 0} (spec : OperationSpec A) (places : List Place) (own : Retr
             link = none.link_is;
             store = refl;
             count = none.uncounted;
-            refused = inr (inl (record { goes = goes; draws = none.draws }));
+            refused = inr (inl (record { allowed = allowed; goes = goes; draws = none.draws }));
           })))
           | inr other ↦ elim other [
             | inl none ↦ subst (λ a. Tries trial past began came a) (sym none.ends) (inr (inl (record {
@@ -409,25 +416,49 @@ module _ {A : Type 0} (spec : OperationSpec A) (places : List Place) (own : Retr
               link = none.link_is;
               store = refl;
               count = none.uncounted;
-              refused = inr (inr (record { goes = goes; number = none.number; draws = none.draws; why = none.why }));
+              refused = inr (inr (record { goes = goes; number = none.number; draws = none.draws; allowed = allowed; why = none.why }));
             })))
-            | inr out ↦ came_tries out.exchanging.result attempt (record {
-              ready = attempt_state store_now link ready count;
-              readies = readied;
-              allowed = allowed;
-              goes = goes;
-              numbered = out.numbered;
-              number = out.number;
-              draws = out.draws;
-              exchanges = out.exchanging.exchanges;
-              store_is = refl;
-              held_is = out.exchanging.held_is;
-              counted = out.counted;
-            }) out.exchanging.comes
+            | inr more ↦ elim more [
+              | inl unfit ↦ subst (λ a. Tries trial past began came a) (sym unfit.ends) (
+                (both_true (is_some past) (is_some ready.sent) unfit.again_is).0,
+                record {
+                  ready = attempt_state store_now link ready count;
+                  address = address;
+                  conn = conn;
+                  readies = readied;
+                  link = unfit.link_is;
+                  store = refl;
+                  count = unfit.uncounted;
+                  allowed = allowed;
+                  goes = goes;
+                  number = unfit.number;
+                  draws = unfit.draws;
+                  again = unfit.again_is;
+                  error = unfit.error;
+                  refused = unfit.refused;
+                },
+              )
+              | inr out ↦ came_tries out.exchanging.result attempt (record {
+                ready = attempt_state store_now link ready count;
+                readies = readied;
+                allowed = allowed;
+                goes = goes;
+                numbered = out.numbered;
+                number = out.number;
+                draws = out.draws;
+                exchanges = out.exchanging.exchanges;
+                store_is = refl;
+                held_is = out.exchanging.held_is;
+                counted = out.counted;
+              }) out.exchanging.comes
+            ]
           ]
         ]
 
         -- the command of an attempt on its connection
-        pub sent_tries : (found : Retryability) (attempt : Attempt A) → found ≡ turn → Sending spec places (besides_out link) (besides_out link_now) found conn address ready held_now count count_now attempt
-            → Tries trial past began came attempt
-        sent_tries found attempt is sending = sending_tries attempt (subst (λ t. Sending spec places (besides_out link) (besides_out link_now) t conn address ready held_now count count_now attempt) is sending)
+        pub sent_tries : (found : Retryability) (again : Bool) (attempt : AttemptEnd A) → found ≡ turn → again ≡ is_some past
+            → Sending spec which batch again (besides_out link) (besides_out link_now) found conn address ready held_now count count_now attempt → Tries trial past began came attempt
+        sent_tries found again attempt is again_is sending =
+            sending_tries attempt
+            (subst (λ a. Sending spec which batch a (besides_out link) (besides_out link_now) turn conn address ready held_now count count_now attempt) again_is
+            (subst (λ t. Sending spec which batch again (besides_out link) (besides_out link_now) t conn address ready held_now count count_now attempt) is sending))

@@ -5,15 +5,14 @@ use Rattle.bson_lite.specs.declared.bson.Bson.{Bson}
 use Rattle.bson_lite.specs.declared.document.Pair.{Pair}
 use Rattle.bson_lite.specs.Spelling.{Spells}
 use Rattle.driver_error.specs.declared.error.Error.{Error}
-use Rattle.bson_lite.specs.declared.namespace.Namespace.{Namespace}
-use Rattle.driver_link.specs.declared.machine.Place.{Place}
 use Rattle.driver_link.specs.declared.machine.PlacedWrite.{PlacedWrite}
 use Rattle.driver_link.specs.declared.machine.Send.{Send}
 use Rattle.driver_link.specs.LinkState.{server_run}
 use Rattle.driver_link.specs.ServerRun.{IsReply, ServerRun, run_answer}
+use Rattle.driver_ops.specs.declared.target.OperationTarget.{OperationTarget}
 use Rattle.driver_ops.specs.InsertSpec.{AsksInsert, insert_spec}
 use Rattle.driver_ops.specs.Inserts.{is_done_reply}
-use Rattle.driver_ops.specs.Operations.{OperationSpec, ReadsOutput}
+use Rattle.driver_ops.specs.Operations.{AsksFor, Batch, OperationSpec, ReadsOutput}
 use Rattle.driver_ops.proofs.InsertReading.{output_done}
 use Rattle.driver_ops.proofs.Responding.{spells_one}
 use Rattle.driver_exec.specs.Causes.{end_of}
@@ -24,14 +23,14 @@ use Rattle.driver_exec.specs.Writing.{DoneLast, EndsWritten, WasDoneLast, Wrote,
 
 -- the insert asks for its write
 pub asks_write : (write : PlacedWrite) (bytes : List ℕ) → Spells write.written.document bytes
-    → AsksInsert write.written.namespace bytes (write.place ∷ []) (insert_asked write)
-asks_write write bytes spelled = record { document = write.written.document; place = write.place; spelled = spelled; alone = refl; is = refl }
+    → AsksInsert write.written.namespace bytes 1 (write.place ∷ []) (insert_asked write)
+asks_write write bytes spelled = record { one = refl; document = write.written.document; place = write.place; spelled = spelled; alone = refl; is = refl }
 
 -- and reads only a reply that tells that it was done
-pub insert_reads : (namespace : Namespace) (bytes : List ℕ) → ReadsDone {A = Unit {0}} (insert_spec namespace bytes)
-insert_reads namespace bytes = λ reply output reads. output_done namespace bytes reply output reads
+pub insert_reads : (target : OperationTarget) (bytes : List ℕ) → ReadsDone {A = Unit {0}} (insert_spec target bytes)
+insert_reads target bytes = λ reply output reads. output_done target bytes reply output reads
 
-module _ {A : Type 0} (spec : OperationSpec A) (places : List Place) (write : PlacedWrite) (asked : spec.asked places (insert_asked write)) (reads_done : ReadsDone spec) where
+module _ {A : Type 0} (spec : OperationSpec A) (batch : Batch) (write : PlacedWrite) (asked : AsksFor spec batch (insert_asked write)) (reads_done : ReadsDone spec) where
   -- a reply that was read tells of an insert that was done
   done_last : (told now : ServerRun) (send : Send) (earlier : ℕ) (reply : List ℕ) (output : A) → ReadsOutput spec reply output → LastAnswer told now send earlier reply
       → DoneLast told now send earlier
@@ -55,7 +54,7 @@ module _ {A : Type 0} (spec : OperationSpec A) (places : List Place) (write : Pl
   was_done (Some told) (Some now) send earlier reply output reads last = done_last told now send earlier reply output reads last
 
   ends_written : (link now : Option ServerRun) (session : Option (List ℕ)) (number : Option ℤ) (result : Result A Error)
-      → EndsWithReading spec places link now session number result → EndsWritten link now session number write (end_of result)
+      → EndsWithReading spec batch link now session number result → EndsWritten link now session number write (end_of result)
   ends_written link now session number (Ok output) last = record {
     earlier = last.earlier;
     within = last.within;
@@ -65,7 +64,7 @@ module _ {A : Type 0} (spec : OperationSpec A) (places : List Place) (write : Pl
   ends_written link now session number (Err error) last = tt
 
   -- what the insert of the write leaves
-  pub works_wrote : (before now : Moment) (result : Result A Error) → SendsOneCommand spec places before now result → Wrote before now write (end_of result)
+  pub works_wrote : (before now : Moment) (result : Result A Error) → SendsOneCommand spec batch before now result → Wrote before now write (end_of result)
   works_wrote before now result works = record {
     session = works.session;
     number = works.number;

@@ -8,8 +8,6 @@ use Rattle.driver_error.specs.LabelTexts.{no_labels}
 use Rattle.driver_link.specs.declared.fault.LinkError.{LinkError}
 use Rattle.driver_link.specs.declared.fault.LinkError.TheVariants.{Fault}
 use Rattle.driver_link.specs.declared.fault.LinkFault.{LinkFault}
-use Rattle.driver_link.specs.declared.machine.Place.{Place}
-use Rattle.driver_link.specs.declared.machine.SendBody.{SendBody}
 use Rattle.driver_link.specs.declared.options.Address.{Address}
 use Rattle.driver_link.specs.declared.options.Asked.{Asked}
 use Rattle.driver_link.specs.declared.options.Conn.{Conn}
@@ -17,13 +15,14 @@ use Rattle.driver_link.specs.declared.options.Description.{Description}
 use Rattle.driver_link.specs.Framed.{Framed}
 use Rattle.driver_link.specs.LinkCalls.{ChecksOutConnection, ExchangesFrame, SelectsServer}
 use Rattle.driver_link.specs.LinkState.{LinkState}
-use Rattle.driver_link.specs.Reads.{Reads}
 use Rattle.driver_session.specs.declared.retryability.Retryability.{Retryability}
 use Rattle.driver_session.specs.declared.retryability.Retryability.TheVariants as may
 use Rattle.driver_session.specs.StoreTells.{StoreTells}
-use Rattle.driver_ops.specs.Operations.{IsFramed, OperationSpec, TellsUnframed, plain_send, ReadsAnswer}
-use Rattle.driver_exec.specs.declared.attempt_end.Attempt.{Attempt}
-use Rattle.driver_exec.specs.declared.attempt_end.Attempt.TheVariants.{Done, Ended, Failed, Stopped, Unselected}
+use Rattle.driver_ops.specs.Fields.{SendContext, under}
+use Rattle.driver_ops.specs.Operations.{Batch, IsFramed, OperationSpec, ReadsAnswer, ReadsAsAsked, Refuses, TellsUnframed, front}
+use Rattle.driver_ops.specs.SendKinds.{SendKind}
+use Rattle.driver_exec.specs.declared.attempt_end.AttemptEnd.{AttemptEnd}
+use Rattle.driver_exec.specs.declared.attempt_end.AttemptEnd.TheVariants.{Done, Ended, Failed, Stopped, Unfit, Unselected}
 use Rattle.driver_exec.specs.declared.failure.FailurePhase.{FailurePhase}
 use Rattle.driver_exec.specs.declared.failure.FailurePhase.TheVariants.{ConnectionEstablishment, Execution}
 use Rattle.driver_exec.specs.Failures.{IsFaultOf, IsLabelledRead, IsVersioned}
@@ -42,16 +41,17 @@ pub record AttemptState : Type 0 where
   pub held : ExecutionSession
   pub count : ℕ
 
--- an operation as its attempts see it: what it tells, the places of its writes, and what of it may be repeated by its own
--- rules
+-- an operation as its attempts see it: what it tells, the places of its writes with the number of its command's statements,
+-- the kind of its sends, and what of it may be repeated by its own rules
 pub record Trial (A : Type 0) : Type 1 where
   pub spec : OperationSpec A
-  pub places : List Place
+  pub batch : Batch
+  pub which : SendKind
   pub own : Retryability
 
--- an operation by what it tells, the places of its writes, and what of it may be repeated by its own rules
-abbrev pub trial_of : {A : Type 0} → OperationSpec A → List Place → Retryability → Trial A
-trial_of spec places own = record { spec = spec; places = places; own = own }
+-- an operation of these parts
+abbrev pub trial_of : {A : Type 0} → OperationSpec A → Batch → SendKind → Retryability → Trial A
+trial_of spec batch which own = record { spec = spec; batch = batch; which = which; own = own }
 
 -- what of an operation may be repeated on a connection: a write where that takes such writes
 abbrev pub on_connection : Retryability → Description → Retryability
@@ -124,13 +124,13 @@ pub record Readies {A : Type 0} (trial : Trial A) (kept : Option RetryState) (be
   pub holds : HoldsSession (needs_session (asks_session trial.spec.sessions conn.description) before.held) before.store now.store before.held now.held (Ok tt)
   pub count : now.count ≡ before.count
 
--- a command went out over a connection under a session and a number, where there are such, with this result of the
--- exchange: the frame was the built command with the executor's fields, and it reads as the send of what was asked
-pub record Exchanges {A : Type 0} (spec : OperationSpec A) (places : List Place) (link now : LinkState) (conn : Conn) (session : Option (List ℕ)) (number : Option ℤ) (result : Result (List ℕ) LinkError) : Type 0 where
+-- a command went out over a connection with the front of the places, and this came of the exchange: the frame was the built
+-- command with the executor's fields, and it reads as the send of what was asked
+pub record Exchanges {A : Type 0} (spec : OperationSpec A) (which : SendKind) (batch : Batch) (link now : LinkState) (conn : Conn) (context : SendContext) (result : Result (List ℕ) LinkError) : Type 0 where
   pub frame : Framed
-  pub framed : IsFramed spec session number frame
-  pub reads : (body : SendBody) → spec.asked places body → Reads frame places (plain_send session number body)
-  pub exchanges : ExchangesFrame link now conn frame places result
+  pub framed : IsFramed spec which batch.statements context frame
+  pub reads : ReadsAsAsked spec batch context frame
+  pub exchanges : ExchangesFrame link now conn frame (front batch) result
 
 -- what is held after an exchange
 abbrev pub held_after : Result (List ℕ) LinkError → ExecutionSession → ExecutionSession
@@ -147,7 +147,7 @@ pub record Sends {A : Type 0} (trial : Trial A) (kept : Option RetryState) (befo
   pub numbered : ExecutionSession
   pub number : Option ℤ
   pub draws : DrawsNumber ready.held.sent (on_connection trial.own conn.description) ready.held numbered (Ok number)
-  pub exchanges : Exchanges trial.spec trial.places ready.link now.link conn (held_id numbered) number result
+  pub exchanges : Exchanges trial.spec trial.which trial.batch ready.link now.link conn (under (held_id numbered) number) result
   pub store_is : now.store ≡ ready.store
   pub held_is : now.held ≡ held_after result (record numbered { sent = Some number })
   pub counted : now.count ≡ ready.count + 1
@@ -226,16 +226,22 @@ pub record NoSessions (description : Description) (ready now : ExecutionSession)
   pub is : IsAlone kind.SessionsNotSupported no_labels error
 
 -- there was no number
-pub record NoNumber (kept : Option RetryState) (turn : Retryability) (ready now : ExecutionSession) (error : Error) : Type 0 where
+pub record NoNumber (kept : Option RetryState) (description : Description) (turn : Retryability) (ready now : ExecutionSession) (error : Error) : Type 0 where
+  pub allowed : may_use ready description ≡ true
   pub goes : stops (is_some kept) turn ≡ false
   pub draws : DrawsNumber ready.sent turn ready now (Err error)
 
--- there was no frame under the number
-pub record NoFrame {A : Type 0} (spec : OperationSpec A) (kept : Option RetryState) (turn : Retryability) (ready now : ExecutionSession) (error : Error) : Type 0 where
+-- the command is built again: it went out before, and a failure is kept
+abbrev pub builds_again : Bool → ExecutionSession → Bool
+builds_again again held = again && is_some held.sent
+
+-- there was no frame under the number: the first build was refused, or what was built has no spelling
+pub record NoFrame {A : Type 0} (spec : OperationSpec A) (kept : Option RetryState) (description : Description) (turn : Retryability) (ready now : ExecutionSession) (error : Error) : Type 0 where
   pub goes : stops (is_some kept) turn ≡ false
   pub number : Option ℤ
   pub draws : DrawsNumber ready.sent turn ready now (Ok number)
-  pub why : TellsUnframed spec (held_id now) number (kind_of error)
+  pub allowed : may_use ready description ≡ true
+  pub why : ((builds_again (is_some kept) ready ≡ false) × Refuses spec description error) ⊎ TellsUnframed spec (under (held_id now) number) (kind_of error)
 
 -- a connection was had, and the command was refused before it went out
 pub record EndsRefused {A : Type 0} (trial : Trial A) (kept : Option RetryState) (before now : AttemptState) (error : Error) : Type 0 where
@@ -247,7 +253,24 @@ pub record EndsRefused {A : Type 0} (trial : Trial A) (kept : Option RetryState)
   pub store : now.store ≡ ready.store
   pub count : now.count ≡ ready.count
   pub refused : NoSessions conn.description ready.held now.held error
-      ⊎ (NoNumber kept (on_connection trial.own conn.description) ready.held now.held error ⊎ NoFrame trial.spec kept (on_connection trial.own conn.description) ready.held now.held error)
+      ⊎ (NoNumber kept conn.description (on_connection trial.own conn.description) ready.held now.held error ⊎ NoFrame trial.spec kept conn.description (on_connection trial.own conn.description) ready.held now.held error)
+
+-- a connection was had for which the command, which went out before, was not built again: that was refused
+pub record RefusedAgain {A : Type 0} (trial : Trial A) (kept : Option RetryState) (before now : AttemptState) : Type 0 where
+  pub ready : AttemptState
+  pub address : Address
+  pub conn : Conn
+  pub readies : Readies trial kept before ready address conn
+  pub link : now.link ≡ ready.link
+  pub store : now.store ≡ ready.store
+  pub count : now.count ≡ ready.count
+  pub allowed : may_use ready.held conn.description ≡ true
+  pub goes : stops (is_some kept) (on_connection trial.own conn.description) ≡ false
+  pub number : Option ℤ
+  pub draws : DrawsNumber ready.held.sent (on_connection trial.own conn.description) ready.held now.held (Ok number)
+  pub again : builds_again (is_some kept) ready.held ≡ true
+  pub error : Error
+  pub refused : Refuses trial.spec conn.description error
 
 -- the command went out, and there was no memory for what came of it
 pub record EndsSent {A : Type 0} (trial : Trial A) (kept : Option RetryState) (before now : AttemptState) (error : Error) : Type 0 where
@@ -261,10 +284,12 @@ pub record EndsSent {A : Type 0} (trial : Trial A) (kept : Option RetryState) (b
 abbrev pub EndsAtOnce : {A : Type 0} → Trial A → Option RetryState → AttemptState → AttemptState → Error → Type 0
 EndsAtOnce trial kept before now error = EndsUnready kept before now error ⊎ (EndsRefused trial kept before now error ⊎ EndsSent trial kept before now error)
 
--- one attempt, by what is kept of the failures before and how it ended; only one that is not the first stops
-abbrev pub Tries : {A : Type 0} → Trial A → Option RetryState → AttemptState → AttemptState → Attempt A → Type 0
+-- one attempt, by what is kept of the failures before and how it ended; only one that is not the first stops, or builds its
+-- command again
+abbrev pub Tries : {A : Type 0} → Trial A → Option RetryState → AttemptState → AttemptState → AttemptEnd A → Type 0
 Tries trial kept before now (Done output) = IsAnswered trial kept before now output
 Tries trial kept before now (Failed failing) = FailsIn trial kept before now failing.address failing.failure.phase failing.failure.error
 Tries trial kept before now (Unselected error) = NotSelected kept before now error
 Tries trial kept before now Stopped = (is_some kept ≡ true) × Stops trial kept before now
+Tries trial kept before now Unfit = (is_some kept ≡ true) × RefusedAgain trial kept before now
 Tries trial kept before now (Ended error) = EndsAtOnce trial kept before now error

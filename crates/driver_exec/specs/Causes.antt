@@ -50,17 +50,15 @@ end_of (Ok given) = None
 end_of (Err error) = Some (outline_of error)
 
 -- where a session's number is at its end, an error tells so, but for the faults of calls before a command goes
--- out, for what a build is refused with, and for want of memory
-abbrev pub KindAtLast : (ErrorKind → Type 0) → ErrorKind → Type 0
-KindAtLast early (kind.Io io) = Unit {0}
-KindAtLast early (kind.ConnectionPoolCleared message) = Unit {0}
-KindAtLast early (kind.ServerSelection message) = Unit {0}
-KindAtLast early (kind.Authentication message) = Unit {0}
-KindAtLast early (kind.InvalidArgument message) = early (kind.InvalidArgument message)
-KindAtLast early (kind.BsonSerialization fault) = early (kind.BsonSerialization fault)
-KindAtLast early (kind.Internal message) = Unit {0}
-KindAtLast early kind.Memory = Unit {0}
-KindAtLast early _ = ⊥
+-- out, and for want of memory
+abbrev pub KindAtLast : ErrorKind → Type 0
+KindAtLast (kind.Io io) = Unit {0}
+KindAtLast (kind.ConnectionPoolCleared message) = Unit {0}
+KindAtLast (kind.ServerSelection message) = Unit {0}
+KindAtLast (kind.Authentication message) = Unit {0}
+KindAtLast (kind.Internal message) = Unit {0}
+KindAtLast kind.Memory = Unit {0}
+KindAtLast _ = ⊥
 
 -- the number of the session that a check-out lends
 abbrev pub lent_number : List IdleSession → ℤ

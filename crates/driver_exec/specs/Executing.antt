@@ -4,12 +4,12 @@ use Rattle.std.specs.Prelude.{◌≡◌, ℕ, Bool, true, false, List, [], ◌�
 use Rattle.driver_error.specs.declared.error.Error.{Error}
 use Rattle.driver_error.specs.declared.kind.ErrorKind.TheVariants as kind
 use Rattle.driver_error.specs.Error.{kind_of}
-use Rattle.driver_link.specs.declared.machine.Place.{Place}
 use Rattle.driver_link.specs.LinkState.{LinkState, setup_of}
 use Rattle.driver_session.specs.StoreTells.{StoreTells}
-use Rattle.driver_ops.specs.Operations.{OperationSpec}
-use Rattle.driver_exec.specs.declared.attempt_end.Attempt.{Attempt}
-use Rattle.driver_exec.specs.declared.attempt_end.Attempt.TheVariants.{Done, Ended, Failed, Stopped, Unselected}
+use Rattle.driver_ops.specs.Operations.{Batch, OperationSpec}
+use Rattle.driver_ops.specs.SendKinds.{SendKind}
+use Rattle.driver_exec.specs.declared.attempt_end.AttemptEnd.{AttemptEnd}
+use Rattle.driver_exec.specs.declared.attempt_end.AttemptEnd.TheVariants.{Done, Ended, Failed, Stopped, Unfit, Unselected}
 use Rattle.driver_exec.specs.declared.attempt_end.AttemptFailure.{AttemptFailure}
 use Rattle.driver_exec.specs.Attempting.{AttemptState, Trial, Tries, besides_out, trial_of}
 use Rattle.driver_exec.specs.Holding.{GivesBack, holds_nothing, number_before}
@@ -39,20 +39,22 @@ Reaches trial sharded before (failing ∷ failures) kept now =
     × ((mid : AttemptState) × ((earlier : Option RetryState) × (Reaches trial sharded before failures earlier mid × FailsOnce trial sharded earlier mid failing retry now))))
 
 -- the result of an attempt after which there is no other: where no server was selected the failure that is kept is answered,
--- else the selection's; where nothing may be repeated, the failure that is kept
-abbrev pub EndsWith : {A : Type 0} → Option RetryState → Attempt A → Result A Error → Type 0
+-- else the selection's; where nothing may be repeated, or the command could not be built again, the failure that is kept
+abbrev pub EndsWith : {A : Type 0} → Option RetryState → AttemptEnd A → Result A Error → Type 0
 EndsWith kept (Done output) result = result ≡ Ok output
 EndsWith kept (Failed failing) result = ⊥
 EndsWith None (Unselected error) result = result ≡ Err error
 EndsWith (Some retry) (Unselected error) result = result ≡ Err retry.failure.error
 EndsWith None Stopped result = ⊥
 EndsWith (Some retry) Stopped result = result ≡ Err retry.failure.error
+EndsWith None Unfit result = ⊥
+EndsWith (Some retry) Unfit result = result ≡ Err retry.failure.error
 EndsWith kept (Ended error) result = result ≡ Err error
 
--- the last attempt was done, selected no server, stopped, or ended the operation at once
+-- the last attempt was done, selected no server, stopped, could not build its command again, or ended the operation at once
 pub record EndsLast {A : Type 0} (trial : Trial A) (kept : Option RetryState) (mid now : AttemptState) (result : Result A Error) : Type 0 where
   pub goes_on : limit_reached kept ≡ false
-  pub attempt : Attempt A
+  pub attempt : AttemptEnd A
   pub tries : Tries trial kept mid now attempt
   pub ends : EndsWith kept attempt result
 
@@ -90,14 +92,15 @@ pub record Attempts {A : Type 0} (trial : Trial A) (sharded : Bool) (before now 
   pub reaches : Reaches trial sharded before failures kept mid
   pub ends : Ends trial sharded kept mid now result
 
--- an operation outside transactions, with the places of its writes: its attempts, where the link tells its setup by
--- whether that has routers of shards, with a count of all its sends; then the session that it was lent comes back. The
--- connections that are out and the client's options are as before
-pub record Executes {A : Type 0} (spec : OperationSpec A) (places : List Place) (before now : Moment) (count count_now : ℕ) (result : Result A Error) : Type 0 where
+-- an operation outside transactions, with the places of its writes and the number of its command's statements: its
+-- attempts, under one kind of send, and with a count of all its sends, where the link tells its setup by whether that has
+-- routers of shards; then the session that it was lent comes back. The connections that are out and the client's options are
+-- as before
+pub record Executes {A : Type 0} (spec : OperationSpec A) (batch : Batch) (which : SendKind) (before now : Moment) (count count_now : ℕ) (result : Result A Error) : Type 0 where
   pub sharded : Bool
   pub sharded_is : IfSome (setup_of before.link) (λ setup. sharded ≡ setup.description.sharded)
   pub last : AttemptState
-  pub attempts : Attempts (trial_of spec places (spec.own before.client.options)) sharded (first_state before.store (besides_out before.link) count) last result
+  pub attempts : Attempts (trial_of spec batch which (spec.retryability before.client.options)) sharded (first_state before.store (besides_out before.link) count) last result
   pub link_is : besides_out now.link ≡ last.link
   pub out : now.link.out ≡ before.link.out
   pub count_is : count_now ≡ last.count

@@ -1,5 +1,5 @@
 -- Why an operation outside transactions ended as it did, by what the link answered in it, over any link and any store.
-use Rattle.std.specs.Prelude.{◌≡◌, ℕ, ◌≤◌, ℤ, Bool, true, List, [], ◌∷◌, Option, None, Some, ◌⊎◌, Ok, Err, if◌then◌else◌}
+use Rattle.std.specs.Prelude.{◌≡◌, ℕ, ◌≤◌, ℤ, Bool, true, List, [], ◌∷◌, Option, None, Some, IfSome, ◌⊎◌, Ok, Err, if◌then◌else◌}
 use Rattle.bson_lite.specs.declared.fault.EncodeFault.{EncodeFault}
 use Rattle.driver_error.specs.declared.error.Error.{Error}
 use Rattle.driver_error.specs.declared.kind.ErrorKind.TheVariants as kind
@@ -18,9 +18,11 @@ use Rattle.driver_link.specs.LinkState.{GainsAll, LinkState, setup_of}
 use Rattle.driver_link.specs.Failures.{is_network}
 use Rattle.driver_session.specs.declared.retryability.Retryability.{Retryability}
 use Rattle.driver_session.specs.declared.retryability.Retryability.TheVariants as may
-use Rattle.driver_ops.specs.Operations.{OperationSpec, ReadsAnswer}
+use Rattle.driver_link.specs.declared.options.Description.{Description}
+use Rattle.driver_ops.specs.Fields.{SendContext}
+use Rattle.driver_ops.specs.Operations.{HasNoSpelling, OperationSpec, ReadsAnswer, Refuses}
 use Rattle.driver_exec.specs.Attempting.{on_connection}
-use Rattle.driver_exec.specs.Causes.{AllEarly, ErrorOutline, HasReply, IsLast, KindAtLast, MayBeLast, next_number}
+use Rattle.driver_exec.specs.Causes.{AllEarly, ErrorOutline, HasReply, IsLast, KindAtLast, MayBeLast, next_number, outline_of}
 use Rattle.driver_exec.specs.LabelTable.{labels_outside_transactions}
 use Rattle.driver_exec.specs.OldDeployment.{reworded_kind}
 use Rattle.driver_exec.specs.Moment.{Moment}
@@ -55,11 +57,18 @@ pub record SpellsEnd {A : Type 0} (spec : OperationSpec A) (why : ErrorOutline) 
   pub kind_is : why.kind ≡ reworded_kind (kind_of bare)
   pub labels_are : why.labels ≡ labels_outside_transactions turn bare
 
--- an operation's command has no spelling, under some session and number
+-- a built command has no spelling, under some session and number
 pub record Unspelled {A : Type 0} (spec : OperationSpec A) (fault : EncodeFault) : Type 0 where
-  pub session : Option (List ℕ)
-  pub number : Option ℤ
-  pub is : spec.unspelled session number fault
+  pub context : SendContext
+  pub is : HasNoSpelling spec context fault
+
+-- a build of the operation is refused so for a connection, which has the setup's description where the link tells its setup
+pub record RefusesBuild {A : Type 0} (spec : OperationSpec A) (setup : Option Setup) (why : ErrorOutline) : Type 0 where
+  pub description : Description
+  pub told : IfSome setup (λ told. description ≡ told.description)
+  pub error : Error
+  pub refuses : Refuses spec description error
+  pub is : why ≡ outline_of error
 
 -- an operation reads a reply
 abbrev pub IsRead : {A : Type 0} → OperationSpec A → List ℕ → Type 0
@@ -77,7 +86,7 @@ pub record Grounds (A : Type 0) : Type 1 where
 abbrev pub grounds : {A : Type 0} → OperationSpec A → Moment → Grounds A
 grounds spec before = record {
   spec = spec;
-  own = spec.own before.client.options;
+  own = spec.retryability before.client.options;
   setup = setup_of before.link;
   number = next_number before.store;
 }
@@ -88,18 +97,17 @@ KindNeeds on before now items labels (kind.Io io) = Rose before now × HasFault 
 KindNeeds on before now items labels (kind.ConnectionPoolCleared message) = Rose before now × HasFault on.own on.setup (fault.PoolCleared message) labels items
 KindNeeds on before now items labels (kind.ServerSelection message) = Rose before now × HasFault on.own on.setup (fault.Selection message) labels items
 KindNeeds on before now items labels (kind.Authentication message) = Rose before now × HasFault on.own on.setup (fault.Authentication message) labels items
-KindNeeds on before now items labels (kind.InvalidArgument message) = on.spec.refused (kind.InvalidArgument message)
-KindNeeds on before now items labels (kind.BsonSerialization fault) = on.spec.refused (kind.BsonSerialization fault) ⊎ Unspelled on.spec fault
+KindNeeds on before now items labels (kind.BsonSerialization fault) = Unspelled on.spec fault
 KindNeeds on before now items labels (kind.Internal message) = MayBeLast on.number
 KindNeeds on before now items labels kind.SessionsNotSupported = on.setup ≡ None
 KindNeeds on before now items labels kind.Memory = Unit {0}
 KindNeeds on before now items labels _ = ⊥
 
--- what an end needs: an Ok comes only after a reply that the operation reads, and an error by its kind or after a reply that
--- spells it
+-- what an end needs: an Ok comes only after a reply that the operation reads, and an error by its kind, after a reply that
+-- spells it, or where a build is refused so
 abbrev pub EndNeeds : {A : Type 0} → Grounds A → ℕ → ℕ → List Answered → Option ErrorOutline → Type 0
 EndNeeds on before now items None = HasReply (IsRead on.spec) items
-EndNeeds on before now items (Some why) = KindNeeds on before now items why.labels why.kind ⊎ HasReply (SpellsEnd on.spec why) items
+EndNeeds on before now items (Some why) = KindNeeds on before now items why.labels why.kind ⊎ (HasReply (SpellsEnd on.spec why) items ⊎ RefusesBuild on.spec on.setup why)
 
 -- each send has a number: the operation takes a session and may repeat its write, and the link tells that its connections
 -- take sessions and retryable writes
@@ -111,7 +119,7 @@ DrawsNumbers sessions own setup = ⊥
 -- where the next session's number is at its end nothing is exchanged, and an error tells so, but for what was found before
 abbrev pub EndAtLast : {A : Type 0} → Grounds A → List Answered → Option ErrorOutline → Type 0
 EndAtLast on items None = ⊥
-EndAtLast on items (Some why) = AllEarly items × KindAtLast on.spec.refused why.kind
+EndAtLast on items (Some why) = AllEarly items × KindAtLast why.kind
 
 -- an end with its cause: what the link answered in between, and a count of faults that never falls
 pub record EndsCaused {A : Type 0} (on : Grounds A) (link now : LinkState) (ended : Option ErrorOutline) : Type 0 where

@@ -2,7 +2,6 @@
 -- its sends are one and the same, at most two.
 use Rattle.std.specs.Prelude.{◌≡◌, ℕ, zero, suc, ◌≤◌, ℤ, List, Option, None, Some, Result, Ok, Err}
 use Rattle.driver_error.specs.declared.error.Error.{Error}
-use Rattle.driver_link.specs.declared.machine.Place.{Place}
 use Rattle.driver_link.specs.declared.machine.Send.{Send}
 use Rattle.driver_link.specs.declared.machine.SendBody.{SendBody}
 use Rattle.driver_link.specs.Counting.{KeepsServer}
@@ -10,7 +9,8 @@ use Rattle.driver_link.specs.LinkState.{server_run}
 use Rattle.driver_link.specs.ServerRun.{IsReply, ServerRun, run_after, run_answer}
 use Rattle.driver_session.specs.Session.{MayRaise, Raises, Session}
 use Rattle.driver_session.specs.StoreTells.{LendsSession, StoreTells, TakesSession}
-use Rattle.driver_ops.specs.Operations.{OperationSpec, plain_send, ReadsOutput}
+use Rattle.driver_ops.specs.Fields.{under}
+use Rattle.driver_ops.specs.Operations.{AsksFor, Batch, OperationSpec, ReadsOutput, send_of}
 use Rattle.driver_exec.specs.Moment.{Moment}
 
 -- one send went out so many times; all else were calls that were only counted
@@ -70,24 +70,24 @@ Borrows store now (Some id) number = Borrowed store now id number
 
 -- an Ok is what the operation reads in the last reply: that to the last send of what was asked for, of which at most one
 -- went out before it, and none where it has no number
-pub record ReadsLast {A : Type 0} (spec : OperationSpec A) (places : List Place) (link now : Option ServerRun) (session : Option (List ℕ)) (number : Option ℤ) (output : A) : Type 0 where
+pub record ReadsLast {A : Type 0} (spec : OperationSpec A) (batch : Batch) (link now : Option ServerRun) (session : Option (List ℕ)) (number : Option ℤ) (output : A) : Type 0 where
   pub bytes : List ℕ
   pub reads : ReadsOutput spec bytes output
   pub earlier : ℕ
   pub within : earlier ≤ 1
   pub once : number ≡ None → earlier ≡ 0
-  pub answered : (body : SendBody) → spec.asked places body → AnsweredLast link now (plain_send session number body) earlier bytes
+  pub answered : (body : SendBody) → AsksFor spec batch body → AnsweredLast link now (send_of (under session number) body) earlier bytes
 
 -- an Ok is what the operation reads in the last reply
-abbrev pub EndsWithReading : {A : Type 0} → OperationSpec A → List Place → Option ServerRun → Option ServerRun → Option (List ℕ) → Option ℤ → Result A Error → Type 0
-EndsWithReading spec places link now session number (Ok output) = ReadsLast spec places link now session number output
-EndsWithReading spec places link now session number (Err error) = Unit {0}
+abbrev pub EndsWithReading : {A : Type 0} → OperationSpec A → Batch → Option ServerRun → Option ServerRun → Option (List ℕ) → Option ℤ → Result A Error → Type 0
+EndsWithReading spec batch link now session number (Ok output) = ReadsLast spec batch link now session number output
+EndsWithReading spec batch link now session number (Err error) = Unit {0}
 
 -- an operation: one send of what was asked for went out at most twice, and at most once where it has no number; the session
 -- that it was under, if any, was borrowed from the store; and an Ok is the reading of the last reply
-pub record SendsOneCommand {A : Type 0} (spec : OperationSpec A) (places : List Place) (before now : Moment) (result : Result A Error) : Type 0 where
+pub record SendsOneCommand {A : Type 0} (spec : OperationSpec A) (batch : Batch) (before now : Moment) (result : Result A Error) : Type 0 where
   pub session : Option (List ℕ)
   pub number : Option ℤ
   pub borrows : Borrows before.store now.store session number
-  pub sends : (body : SendBody) → spec.asked places body → SentWithin 2 (server_run before.link) (server_run now.link) (plain_send session number body)
-  pub ends : EndsWithReading spec places (server_run before.link) (server_run now.link) session number result
+  pub sends : (body : SendBody) → AsksFor spec batch body → SentWithin 2 (server_run before.link) (server_run now.link) (send_of (under session number) body)
+  pub ends : EndsWithReading spec batch (server_run before.link) (server_run now.link) session number result

@@ -11,7 +11,8 @@ use Rattle.driver_link.specs.Counting.{KeepsServer}
 use Rattle.driver_link.specs.LinkState.{server_run}
 use Rattle.driver_link.specs.ServerRun.{ServerRun, run_after, run_answer}
 use Rattle.driver_ops.specs.Inserts.{insert_write, is_done_reply}
-use Rattle.driver_ops.specs.Operations.{plain_send}
+use Rattle.driver_ops.specs.Fields.{under}
+use Rattle.driver_ops.specs.Operations.{send_of}
 use Rattle.driver_exec.specs.Causes.{ErrorOutline}
 use Rattle.driver_exec.specs.Moment.{Moment}
 use Rattle.driver_exec.specs.Resending.{Borrows, SendsTold, SentWithin}
@@ -26,7 +27,7 @@ insert_asked write = Write command.Insert true (placed_write write ∷ [])
 
 -- its send under a session and a number, where there are such
 abbrev pub insert_send : Option (List ℕ) → Option ℤ → PlacedWrite → Send
-insert_send session number write = plain_send session number (insert_asked write)
+insert_send session number write = send_of (under session number) (insert_asked write)
 
 -- the last send was answered by a reply that tells of an insert that was done, after so many others
 pub record DoneLast (told now : ServerRun) (send : Send) (earlier : ℕ) : Type 0 where

@@ -1,8 +1,9 @@
 //! How an attempt of an operation ends, and the errors of its failures.
 ghost use Rattle.std.specs.Prelude.{◌≡◌, Err};
-ghost use Rattle.driver_exec.specs.declared.attempt_end.Attempt.TheVariants.{Failed};
+ghost use Rattle.driver_exec.specs.declared.attempt_end.AttemptEnd.TheVariants.{Failed};
 ghost use Rattle.driver_error.specs.Error.{kind_of};
 ghost use Rattle.driver_exec.specs.Failures.{is_memory};
+ghost use Rattle.driver_exec.specs.inside.Attempting.{EndsUnbuilt};
 ghost use Rattle.driver_exec.specs.inside.Failures.{EndsLost, EndsRead, EndsUnconnected, EndsUnselected, FaultError, IsLabelledBy};
 
 use crate::failure::{Failure, FailurePhase};
@@ -13,7 +14,7 @@ use driver_session::Retryability;
 use std::alloc::Global;
 
 /// How an attempt ended.
-pub(crate) enum Attempt<T> {
+pub(crate) enum AttemptEnd<T> {
     /// Its reply was read.
     Done(T),
     /// It failed, and a decision says what comes then.
@@ -22,11 +23,14 @@ pub(crate) enum Attempt<T> {
     Unselected(Error),
     /// A further attempt met a connection on which nothing of the operation may be repeated.
     Stopped,
+    /// The command went out before, and was refused when it was built again for another connection.
+    Unfit,
     /// The operation ends at once: something was refused, or there was no memory.
     Ended(Error),
 }
 
 /// A failure of an attempt, with the address of its server.
+#[derive(Drop)]
 pub(crate) struct AttemptFailure {
     pub failure: Failure,
     pub address: Address,
@@ -75,23 +79,23 @@ pub(crate) fn fault_error(
 }
 
 /// A failure in a phase, at the server of an address.
-fn fails_at<T>(error: Error, phase: FailurePhase, address: Address) -> Attempt<T>
+fn fails_at<T>(error: Error, phase: FailurePhase, address: Address) -> AttemptEnd<T>
     ensures { result ≡ Failed
         (record { failure = record { error = error; phase = phase }; address = address }) }
 {
-    Attempt::Failed(AttemptFailure {
+    AttemptEnd::Failed(AttemptFailure {
         failure: Failure { error, phase },
         address,
     })
 }
 
 /// The end of an attempt that selected no server.
-pub(crate) fn unselected<T>(alloc: Global, failure: LinkError) -> Attempt<T>
+pub(crate) fn unselected<T>(alloc: Global, failure: LinkError) -> AttemptEnd<T>
     ensures { EndsUnselected failure result }
 {
     match fault_error(alloc, failure, Retryability::None) {
-        Ok(error) => Attempt::Unselected(error),
-        Err(error) => Attempt::Ended(error),
+        Ok(error) => AttemptEnd::Unselected(error),
+        Err(error) => AttemptEnd::Ended(error),
     }
 }
 
@@ -101,13 +105,24 @@ pub(crate) fn unconnected<T>(
     failure: LinkError,
     own: Retryability,
     address: Address,
-) -> Attempt<T>
+) -> AttemptEnd<T>
     ensures { EndsUnconnected own address failure result }
 {
     match fault_error(alloc, failure, own) {
         Ok(error) => fails_at(error, FailurePhase::ConnectionEstablishment, address),
-        Err(error) => Attempt::Ended(error),
+        Err(error) => AttemptEnd::Ended(error),
     }
+}
+
+/// The end of an attempt whose build met this error, where the command was built before or not.
+pub(crate) fn unbuilt<T>(error: Error, again: bool) -> AttemptEnd<T>
+    ensures { EndsUnbuilt again error result }
+{
+    if again && !is_memory(&error) {
+        drop(error);
+        return AttemptEnd::Unfit;
+    }
+    AttemptEnd::Ended(error)
 }
 
 /// The end of an attempt whose exchange failed, on a connection of a wire version.
@@ -117,7 +132,7 @@ pub(crate) fn lost<T>(
     turn: Retryability,
     version: Option<i32>,
     address: Address,
-) -> Attempt<T>
+) -> AttemptEnd<T>
     ensures { EndsLost turn version address failure result }
 {
     match fault_error(alloc, failure, turn) {
@@ -126,7 +141,7 @@ pub(crate) fn lost<T>(
             FailurePhase::Execution,
             address,
         ),
-        Err(error) => Attempt::Ended(error),
+        Err(error) => AttemptEnd::Ended(error),
     }
 }
 
@@ -137,11 +152,11 @@ pub(crate) fn read<T>(
     turn: Retryability,
     version: Option<i32>,
     address: Address,
-) -> Attempt<T>
+) -> AttemptEnd<T>
     ensures { EndsRead turn version address answer result }
 {
     match answer {
-        Ok(output) => Attempt::Done(output),
+        Ok(output) => AttemptEnd::Done(output),
         Err(error) => spelled(alloc, error, turn, version, address),
     }
 }
@@ -153,11 +168,11 @@ fn spelled<T>(
     turn: Retryability,
     version: Option<i32>,
     address: Address,
-) -> Attempt<T>
+) -> AttemptEnd<T>
     ensures { EndsRead turn version address (Err error) result }
 {
     if is_memory(&error) {
-        return Attempt::Ended(error);
+        return AttemptEnd::Ended(error);
     }
     match labelled(alloc, error, turn) {
         Ok(error) => fails_at(
@@ -165,6 +180,6 @@ fn spelled<T>(
             FailurePhase::Execution,
             address,
         ),
-        Err(error) => Attempt::Ended(error),
+        Err(error) => AttemptEnd::Ended(error),
     }
 }

@@ -1,11 +1,11 @@
 //! An operation outside transactions: attempts, and between them the decision on a retry.
-ghost use Rattle.std.specs.Prelude.{◌≡◌, ◌≤◌, ◌+◌, IsSome};
+ghost use Rattle.std.specs.Prelude.{◌≡◌, ◌≤◌, ◌+◌, ℕ, IsSome};
 ghost use Rattle.driver_link.specs.declared.machine.PlacedWrite.{PlacedWrite};
-ghost use Rattle.driver_link.specs.declared.machine.SendBody.{SendBody};
+ghost use Rattle.driver_ops.specs.Operations.{AsksFor, HasBodies, IsFixed, SameSpec, StaysFixed, batch_of};
 ghost use Rattle.driver_exec.specs.Attempting.{trial_of};
 ghost use Rattle.driver_exec.specs.Causes.{end_of};
 ghost use Rattle.driver_exec.specs.Client.{options_of, store_of};
-ghost use Rattle.driver_exec.specs.Executing.{Executes, Attempts, limit_reached};
+ghost use Rattle.driver_exec.specs.Executing.{Attempts, EndsWith, Executes, limit_reached};
 ghost use Rattle.driver_exec.specs.Holding.{holds_nothing};
 ghost use Rattle.driver_exec.specs.Keeping.{KeepsInvariant, OkHasEntries, ReadsDone};
 ghost use Rattle.driver_exec.specs.Moment.{DrawsInOrder, KeepsLent, moment_of};
@@ -14,9 +14,9 @@ ghost use Rattle.driver_exec.specs.Resending.{SendsOneCommand};
 ghost use Rattle.driver_exec.specs.Retry.{Decides, decide};
 ghost use Rattle.driver_exec.specs.Writing.{insert_asked};
 ghost use Rattle.driver_exec.specs.inside.Attempting.{attempt_state};
-ghost use Rattle.driver_exec.specs.inside.Executing.{IsLastError, kept_or};
+ghost use Rattle.driver_exec.specs.inside.Executing.{FailureOf, IsLastError, MayAnswer, kept_or};
 
-use crate::attempt_end::{Attempt, AttemptFailure};
+use crate::attempt_end::{AttemptEnd, AttemptFailure};
 use crate::client::Client;
 use crate::execution_session::{ExecutionSession, check_in_session};
 use crate::failure::FailurePhase;
@@ -45,21 +45,27 @@ pub fn execute_operation<O: Operation, S: SessionStore, L: Link, K: Clock, R: Rn
     outside: &mut Outside<L, K, R>,
     sends: &mut Steps<Q>,
 ) -> Result<O::Output>
-    requires { (body : SendBody) × (O.spec op.old).asked places.now body }
-    ensures executes { Executes (O.spec op.old) places.now
+    requires { HasBodies (O.spec op.old) places.now }
+    ensures executes { (statements : ℕ) → IsFixed (O.built op.new) statements →
+        Executes (O.spec op.old) (batch_of places.now statements) (O.next op.old)
         (moment_of S.tells L.tells K.tells R.stream client.old outside.old)
         (moment_of S.tells L.tells K.tells R.stream client.new outside.new)
         sends.old sends.new result }
-    ensures one_command { SendsOneCommand (O.spec op.old) places.now
+    ensures one_command { (statements : ℕ) → IsFixed (O.built op.new) statements →
+        SendsOneCommand (O.spec op.old) (batch_of places.now statements)
         (moment_of S.tells L.tells K.tells R.stream client.old outside.old)
         (moment_of S.tells L.tells K.tells R.stream client.new outside.new)
         result }
-    ensures keeps { (write : PlacedWrite) → (O.spec op.old).asked places.now (insert_asked write) →
+    ensures keeps { (statements : ℕ) → IsFixed (O.built op.new) statements →
+        (write : PlacedWrite) →
+        AsksFor (O.spec op.old) (batch_of places.now statements) (insert_asked write) →
         KeepsInvariant
         (moment_of S.tells L.tells K.tells R.stream client.old outside.old)
         (moment_of S.tells L.tells K.tells R.stream client.new outside.new)
         write }
-    ensures stands { (write : PlacedWrite) → (O.spec op.old).asked places.now (insert_asked write) →
+    ensures stands { (statements : ℕ) → IsFixed (O.built op.new) statements →
+        (write : PlacedWrite) →
+        AsksFor (O.spec op.old) (batch_of places.now statements) (insert_asked write) →
         ReadsDone (O.spec op.old) → OkHasEntries
         (moment_of S.tells L.tells K.tells R.stream client.old outside.old)
         (moment_of S.tells L.tells K.tells R.stream client.new outside.new)
@@ -74,6 +80,8 @@ pub fn execute_operation<O: Operation, S: SessionStore, L: Link, K: Clock, R: Rn
         (moment_of S.tells L.tells K.tells R.stream client.old outside.old)
         (moment_of S.tells L.tells K.tells R.stream client.new outside.new)
         (end_of result) }
+    ensures spec { SameSpec (O.spec op.old) (O.spec op.new) }
+    ensures fixed { StaysFixed (O.built op.old) (O.built op.new) }
     ensures call { outside.new.call ≡ outside.old.call }
     ensures sends { sends.new ≤ sends.old + 2 }
 {
@@ -95,13 +103,17 @@ fn execute_operation_with_retry<O: Operation, S: SessionStore, L: Link, K: Clock
     sharded: bool,
     sends: &mut Steps<Q>,
 ) -> (ExecutionSession, Result<O::Output>)
-    requires { (body : SendBody) × (O.spec op.old).asked places.now body }
-    ensures attempts { Attempts
-        (trial_of (O.spec op.old) places.now ((O.spec op.old).own (options_of client.old))) sharded
+    requires { HasBodies (O.spec op.old) places.now }
+    ensures attempts { (statements : ℕ) → IsFixed (O.built op.new) statements → Attempts
+        (trial_of (O.spec op.old) (batch_of places.now statements) (O.next op.old)
+        ((O.spec op.old).retryability (options_of client.old))) sharded
         (attempt_state (S.tells (store_of client.old)) (L.tells outside.old.link) holds_nothing sends.old)
         (attempt_state (S.tells (store_of client.new)) (L.tells outside.new.link) result.0 sends.new)
         result.1 }
     ensures options { options_of client.new ≡ options_of client.old }
+    ensures spec { SameSpec (O.spec op.old) (O.spec op.new) }
+    ensures fixed { StaysFixed (O.built op.old) (O.built op.new) }
+    ensures next { O.next op.new ≡ O.next op.old }
     ensures out { (L.tells outside.new.link).out ≡ (L.tells outside.old.link).out }
     ensures call { outside.new.call ≡ outside.old.call }
     ensures sends { sends.new ≤ sends.old + 2 }
@@ -124,22 +136,43 @@ fn execute_operation_with_retry<O: Operation, S: SessionStore, L: Link, K: Clock
             sends,
         );
         held = next;
-        match attempt {
-            Attempt::Failed(failing) => match decide(
-                alloc,
-                kept,
-                failing,
-                held.number(),
-                own,
-                sharded,
-            ) {
-                Ok(retry) => kept = Some(retry),
-                Err(error) => return (held, Err(error)),
-            },
-            Attempt::Done(output) => return (held, Ok(output)),
-            Attempt::Unselected(error) => return (held, Err(kept_or(kept, error))),
-            Attempt::Stopped => return (held, Err(last_error(kept))),
-            Attempt::Ended(error) => return (held, Err(error)),
+        let failing = match failure_of(attempt) {
+            Ok(failing) => failing,
+            Err(end) => return (held, answer_of(end, kept)),
+        };
+        match decide(alloc, kept, failing, held.number(), own, sharded) {
+            Ok(retry) => kept = Some(retry),
+            Err(error) => return (held, Err(error)),
+        }
+    }
+}
+
+/// The failure of an attempt that failed, or else its end.
+fn failure_of<T>(attempt: AttemptEnd<T>) -> std::result::Result<AttemptFailure, AttemptEnd<T>>
+    ensures { FailureOf attempt result }
+{
+    match attempt {
+        AttemptEnd::Failed(failing) => Ok(failing),
+        end => Err(end),
+    }
+}
+
+/// The result of an operation whose last attempt ended so.
+fn answer_of<T>(end: AttemptEnd<T>, kept: Option<Retry>) -> Result<T>
+    requires { MayAnswer kept end }
+    ensures { EndsWith kept end result }
+{
+    match end {
+        AttemptEnd::Failed(_) => unreachable!(),
+        AttemptEnd::Done(output) => {
+            drop(kept);
+            Ok(output)
+        }
+        AttemptEnd::Unselected(error) => Err(kept_or(kept, error)),
+        AttemptEnd::Stopped | AttemptEnd::Unfit => Err(last_error(kept)),
+        AttemptEnd::Ended(error) => {
+            drop(kept);
+            Err(error)
         }
     }
 }

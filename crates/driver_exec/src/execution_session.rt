@@ -66,7 +66,7 @@ impl ExecutionSession {
     }
 
     /// Whether a send went out.
-    fn has_sent(&self) -> bool
+    pub(crate) fn has_sent(&self) -> bool
         ensures { result ≡ is_some self.now.sent }
     {
         self.sent.is_some()

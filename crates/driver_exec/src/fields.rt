@@ -1,7 +1,7 @@
 //! The fields that the executor appends to a built command.
 ghost use Rattle.std.specs.Prelude.{◌≡◌, ◌++◌, IfOk, OnOk, length};
 ghost use Rattle.std.specs.Option.{option_copied};
-ghost use Rattle.driver_ops.specs.Fields.{IsSixteen, session_document, session_field, number_field, executor_fields, with_fields};
+ghost use Rattle.driver_ops.specs.Fields.{IsSixteen, session_document, session_field, number_field, executor_fields, under, with_fields};
 
 use bson_lite::{Binary, Bson, Bytes, Document, TryClone};
 use driver_link::keys;
@@ -18,7 +18,7 @@ pub(crate) fn append_fields(
     number: Option<i64>,
 ) -> Result<(), AllocError>
     ensures fields { OnOk result
-        (command.new ≡ with_fields (option_copied session.entry) number command.old) }
+        (command.new ≡ with_fields (under (option_copied session.entry) number) command.old) }
     ensures sixteen { IsSixteen (option_copied session.entry) }
 {
     push_session(alloc, &mut command.body, session)?;

@@ -1,19 +1,20 @@
 //! The command of an attempt on its connection: its number, its frame, one exchange, and what comes of the reply.
-ghost use Rattle.std.specs.Prelude.{◌≡◌, ◌≤◌, ◌+◌};
+ghost use Rattle.std.specs.Prelude.{◌≡◌, ◌≤◌, ◌+◌, ℕ, length, take};
 ghost use Rattle.std.specs.Option.{option_copied};
-ghost use Rattle.driver_link.specs.declared.machine.SendBody.{SendBody};
-ghost use Rattle.driver_ops.specs.Operations.{BuildsFrame, GivesFrame, SameSpec};
-ghost use Rattle.driver_exec.specs.Attempting.{besides_out};
-ghost use Rattle.driver_exec.specs.Holding.{held_id, number_before};
-ghost use Rattle.driver_exec.specs.inside.Attempting.{Exchanging, Sending};
+ghost use Rattle.driver_link.specs.declared.machine.Send.{Send as Sent};
+ghost use Rattle.driver_link.specs.Reads.{Reads};
+ghost use Rattle.driver_ops.specs.Fields.{FramesUnder, under};
+ghost use Rattle.driver_ops.specs.Operations.{HasBodies, IsFixed, SameSpec, StaysFixed, batch_of};
+ghost use Rattle.driver_exec.specs.Attempting.{besides_out, builds_again};
+ghost use Rattle.driver_exec.specs.inside.Attempting.{ExchangesOnce, Sending};
 
-use crate::attempt_end::{Attempt, lost, read};
+use crate::attempt_end::{AttemptEnd, lost, read, unbuilt};
 use crate::execution_session::{ExecutionSession, draw_number};
 use crate::fields::append_fields;
 use crate::steps::Steps;
 use driver_error::Result;
-use driver_link::{Address, Conn, Description, Frame, Link, Place};
-use driver_ops::{Operation, read_answer};
+use driver_link::{Address, Conn, Frame, Link, Place};
+use driver_ops::{Command, Operation, read_answer};
 use driver_session::Retryability;
 use std::alloc::Global;
 use std::sync::ledger::Ledger;
@@ -36,38 +37,53 @@ pub(crate) fn send<O: Operation, L: Link, Q: Ledger>(
     turn: &AttemptConnection<'_>,
     address: Address,
     sends: &mut Steps<Q>,
-) -> (ExecutionSession, Attempt<O::Output>)
-    requires { (body : SendBody) × (O.spec op.old).asked places.now body }
-    ensures sending { Sending (O.spec op.old) places.now
+) -> (ExecutionSession, AttemptEnd<O::Output>)
+    requires { HasBodies (O.spec op.old) places.now }
+    ensures sending { (statements : ℕ) → IsFixed (O.built op.new) statements →
+        Sending (O.spec op.old) (O.next op.old) (batch_of places.now statements) turn.now.again
         (besides_out (L.tells link.old)) (besides_out (L.tells link.new))
         turn.now.turn turn.now.conn.now address held result.0 sends.old sends.new result.1 }
     ensures spec { SameSpec (O.spec op.old) (O.spec op.new) }
+    ensures fixed { StaysFixed (O.built op.old) (O.built op.new) }
+    ensures next { O.next op.new ≡ O.next op.old }
     ensures out { (L.tells link.new).out ≡ (L.tells link.old).out }
     ensures sends { sends.new ≤ sends.old + 1 }
 {
+    let again = builds_again(turn, &held);
     let (held, drawn) = draw_number(alloc, held, turn.turn);
     let number = match drawn {
         Ok(number) => number,
-        Err(error) => return (held, Attempt::Ended(error)),
+        Err(error) => return (held, AttemptEnd::Ended(error)),
     };
-    let frame = match frame_of(alloc, op, &turn.conn.description, held.id(), number) {
+    let command = match op.build(alloc, &turn.conn.description) {
+        Ok(command) => command,
+        Err(error) => return (held, unbuilt(error, again)),
+    };
+    let frame = match frame_of(alloc, command, held.id(), number) {
         Ok(frame) => frame,
-        Err(error) => return (held, Attempt::Ended(error)),
+        Err(error) => return (held, AttemptEnd::Ended(error)),
     };
-    exchange(
-        alloc,
-        link,
-        op,
-        places,
-        &frame,
-        held.sent_under(number),
-        turn,
-        address,
-        sends,
-    )
+    let own = front(places, op.statements());
+    let held = held.sent_under(number);
+    exchange(alloc, link, op, own, &frame, held, turn, address, sends)
 }
 
-/// One exchange of the command, and what comes of it.
+/// Whether the command is built again: it went out before, and a failure is kept.
+fn builds_again(turn: &AttemptConnection<'_>, held: &ExecutionSession) -> bool
+    ensures { result ≡ builds_again turn.now.again held.now }
+{
+    turn.again && held.has_sent()
+}
+
+/// The first of the places, as many as the command has statements.
+fn front(places: &[Place], statements: usize) -> &[Place]
+    requires { statements ≤ length places.now }
+    ensures { result.now ≡ take statements places.now }
+{
+    &places[..statements]
+}
+
+/// One exchange of a frame, with the places of its writes, and what comes of it.
 fn exchange<O: Operation, L: Link, Q: Ledger>(
     alloc: Global,
     link: &mut L,
@@ -78,13 +94,14 @@ fn exchange<O: Operation, L: Link, Q: Ledger>(
     turn: &AttemptConnection<'_>,
     address: Address,
     sends: &mut Steps<Q>,
-) -> (ExecutionSession, Attempt<O::Output>)
-    requires asked { (body : SendBody) × (O.spec op.old).asked places.now body }
-    requires gives { GivesFrame (O.spec op.old) (held_id held) (number_before held) frame.now }
-    ensures exchanging { Exchanging (O.spec op.old) places.now
+) -> (ExecutionSession, AttemptEnd<O::Output>)
+    requires { (sent : Sent) × Reads frame.now places.now sent }
+    ensures exchanges { ExchangesOnce (O.spec op.old)
         (besides_out (L.tells link.old)) (besides_out (L.tells link.new))
-        turn.now.turn turn.now.conn.now address held result.0 result.1 }
+        turn.now.turn turn.now.conn.now address frame.now places.now held result.0 result.1 }
     ensures spec { SameSpec (O.spec op.old) (O.spec op.new) }
+    ensures built { O.built op.new ≡ O.built op.old }
+    ensures next { O.next op.new ≡ O.next op.old }
     ensures out { (L.tells link.new).out ≡ (L.tells link.old).out }
     ensures sends { sends.new ≡ sends.old + 1 }
 {
@@ -102,18 +119,15 @@ fn exchange<O: Operation, L: Link, Q: Ledger>(
     }
 }
 
-/// The frame of an operation's command with the executor's fields.
-fn frame_of<O: Operation>(
+/// The frame of a command with the executor's fields.
+fn frame_of(
     alloc: Global,
-    op: &mut O,
-    description: &Description,
+    mut command: Command,
     session: Option<&[u8; 16]>,
     number: Option<i64>,
 ) -> Result<Frame>
-    ensures builds { BuildsFrame (O.spec op.old) (option_copied session.entry) number result }
-    ensures spec { SameSpec (O.spec op.old) (O.spec op.new) }
+    ensures { FramesUnder (under (option_copied session.entry) number) command result }
 {
-    let mut command = op.build(alloc, description)?;
     append_fields(alloc, &mut command, session, number)?;
     command.framed(alloc)
 }

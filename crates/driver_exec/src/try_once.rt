@@ -1,18 +1,17 @@
 //! One attempt of an operation outside transactions: a server, a connection, a session where none is held,
 //! one command and its reply.
-ghost use Rattle.std.specs.Prelude.{◌≡◌, ◌≤◌, ◌+◌, Option, is_some};
+ghost use Rattle.std.specs.Prelude.{◌≡◌, ◌≤◌, ◌+◌, ℕ, Option, is_some};
 ghost use Rattle.std.specs.Option.{option_copied};
-ghost use Rattle.driver_link.specs.declared.machine.SendBody.{SendBody};
 ghost use Rattle.driver_link.specs.LinkCalls.{ChecksInConnection};
 ghost use Rattle.driver_link.specs.LinkState.{LinkState};
 ghost use Rattle.driver_session.specs.declared.retryability.Retryability.{Retryability as Repeated};
-ghost use Rattle.driver_ops.specs.Operations.{SameSpec};
+ghost use Rattle.driver_ops.specs.Operations.{HasBodies, IsFixed, SameSpec, StaysFixed, batch_of};
 ghost use Rattle.driver_exec.specs.Attempting.{Connects, Tries, asks_session, avoided, besides_out, is_nothing, may_use, on_connection, stops, trial_of};
 ghost use Rattle.driver_exec.specs.Client.{options_of, store_of};
 ghost use Rattle.driver_exec.specs.Retry.{RetryState};
 ghost use Rattle.driver_exec.specs.inside.Attempting.{attempt_state};
 
-use crate::attempt_end::{Attempt, unconnected, unselected};
+use crate::attempt_end::{AttemptEnd, unconnected, unselected};
 use crate::client::Client;
 use crate::execution_session::{ExecutionSession, check_out_session};
 use crate::outside::Outside;
@@ -37,16 +36,19 @@ pub(crate) fn try_once<O: Operation, S: SessionStore, L: Link, K: Clock, R, Q: L
     held: ExecutionSession,
     kept: Option<&Retry>,
     sends: &mut Steps<Q>,
-) -> (ExecutionSession, Attempt<O::Output>)
-    requires { (body : SendBody) × (O.spec op.old).asked places.now body }
-    ensures tries { Tries
-        (trial_of (O.spec op.old) places.now ((O.spec op.old).own (options_of client.old)))
+) -> (ExecutionSession, AttemptEnd<O::Output>)
+    requires { HasBodies (O.spec op.old) places.now }
+    ensures tries { (statements : ℕ) → IsFixed (O.built op.new) statements → Tries
+        (trial_of (O.spec op.old) (batch_of places.now statements) (O.next op.old)
+        ((O.spec op.old).retryability (options_of client.old)))
         (option_copied kept.entry)
         (attempt_state (S.tells (store_of client.old)) (L.tells outside.old.link) held sends.old)
         (attempt_state (S.tells (store_of client.new)) (L.tells outside.new.link) result.0 sends.new)
         result.1 }
     ensures options { options_of client.new ≡ options_of client.old }
     ensures spec { SameSpec (O.spec op.old) (O.spec op.new) }
+    ensures fixed { StaysFixed (O.built op.old) (O.built op.new) }
+    ensures next { O.next op.new ≡ O.next op.old }
     ensures out { (L.tells outside.new.link).out ≡ (L.tells outside.old.link).out }
     ensures call { outside.new.call ≡ outside.old.call }
     ensures sends { sends.new ≤ sends.old + 1 }
@@ -73,10 +75,10 @@ pub(crate) fn try_once<O: Operation, S: SessionStore, L: Link, K: Clock, R, Q: L
 }
 
 /// Reports the failure of an attempt, if it is one, and checks its connection in.
-fn check_in_connection<L: Link, T>(link: &mut L, conn: Conn, attempt: &Attempt<T>)
+fn check_in_connection<L: Link, T>(link: &mut L, conn: Conn, attempt: &AttemptEnd<T>)
     ensures { ChecksInConnection (L.tells link.old) (L.tells link.new) conn }
 {
-    if let Attempt::Failed(failing) = attempt {
+    if let AttemptEnd::Failed(failing) = attempt {
         link.report(&conn.address, &failing.failure.error);
     }
     link.check_in(conn);
@@ -164,18 +166,21 @@ fn execute_operation_on_connection<O: Operation, S: SessionStore, L: Link, K: Cl
     turn: &AttemptConnection<'_>,
     address: Address,
     sends: &mut Steps<Q>,
-) -> (ExecutionSession, Attempt<O::Output>)
-    requires { (body : SendBody) × (O.spec op.old).asked places.now body }
-    ensures tries { (own : Repeated) → turn.now.turn ≡ on_connection own turn.now.conn.now.description →
+) -> (ExecutionSession, AttemptEnd<O::Output>)
+    requires { HasBodies (O.spec op.old) places.now }
+    ensures tries { (statements : ℕ) → IsFixed (O.built op.new) statements →
+        (own : Repeated) → turn.now.turn ≡ on_connection own turn.now.conn.now.description →
         (kept : Option RetryState) → turn.now.again ≡ is_some kept → (before : LinkState) →
         Connects (avoided kept) (besides_out before) (besides_out (L.tells outside.old.link))
         address turn.now.conn.now →
-        Tries (trial_of (O.spec op.old) places.now own) kept
+        Tries (trial_of (O.spec op.old) (batch_of places.now statements) (O.next op.old) own) kept
         (attempt_state (S.tells (store_of client.old)) before held sends.old)
         (attempt_state (S.tells (store_of client.new)) (L.tells outside.new.link) result.0 sends.new)
         result.1 }
     ensures options { options_of client.new ≡ options_of client.old }
     ensures spec { SameSpec (O.spec op.old) (O.spec op.new) }
+    ensures fixed { StaysFixed (O.built op.old) (O.built op.new) }
+    ensures next { O.next op.new ≡ O.next op.old }
     ensures out { (L.tells outside.new.link).out ≡ (L.tells outside.old.link).out }
     ensures call { outside.new.call ≡ outside.old.call }
     ensures sends { sends.new ≤ sends.old + 1 }
@@ -185,11 +190,11 @@ fn execute_operation_on_connection<O: Operation, S: SessionStore, L: Link, K: Cl
     let (held, lent) = check_out_session(alloc, client, &mut outside.clock, held, asked);
     match lent {
         Ok(()) => {}
-        Err(error) => return (held, Attempt::Ended(error)),
+        Err(error) => return (held, AttemptEnd::Ended(error)),
     }
     if may_use(&held, description) {
         if stops(turn) {
-            return (held, Attempt::Stopped);
+            return (held, AttemptEnd::Stopped);
         }
         return send(
             alloc,
@@ -203,5 +208,5 @@ fn execute_operation_on_connection<O: Operation, S: SessionStore, L: Link, K: Cl
         );
     }
     let refused = Error::from_kind(ErrorKind::SessionsNotSupported);
-    (held, Attempt::Ended(refused))
+    (held, AttemptEnd::Ended(refused))
 }

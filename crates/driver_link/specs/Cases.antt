@@ -103,6 +103,7 @@ case_under id number server send =
     if is_below number before then too_old
     else numbered_case (known_under id number server send) (is_new number before) send send.body
 
+-- the case of a send by its session and its number, of which either may be missing
 unfoldable pub case_as : Option (List ℕ) → Option ℤ → Server → Send → Case
 case_as (Some id) (Some number) server send = case_under id number server send
 case_as session number server send = unnumbered_case send.body
@@ -111,6 +112,7 @@ case_as session number server send = unnumbered_case send.body
 abbrev pub case_of : Server → Send → Case
 case_of server send = case_as send.session send.number server send
 
+-- the same by the session and the number
 unfoldable pub known_as : Option (List ℕ) → Option ℤ → Server → Send → Option KnownSession
 known_as (Some id) (Some number) server send = Some (known_under id number server send)
 known_as session number server send = None

@@ -38,6 +38,7 @@ unfoldable pub arrived : Server → ℕ → Option (Option Send) → Server
 arrived server at (Some (Some send)) = served usual (record server { waiting = slice_set server.waiting at None }) send
 arrived server at other = server
 
+-- the waiting send at a place is served
 unfoldable pub delivered : Server → ℕ → Server
 delivered server at = arrived server at (slice_get server.waiting at)
 

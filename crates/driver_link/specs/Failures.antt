@@ -1,4 +1,4 @@
--- The errors that failures of a link become.
+-- The errors that failures of a link become, and which failures are the network's.
 use Rattle.std.specs.Prelude.{Bool, true, false}
 use Rattle.driver_error.specs.declared.error.Error.{Error}
 use Rattle.driver_error.specs.declared.kind.ErrorKind.TheVariants as kind

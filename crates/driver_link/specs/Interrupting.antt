@@ -54,6 +54,7 @@ abbrev pub runs_in : Case → List Statement → Bool
 runs_in (commits entries) done = has_entries entries
 runs_in other done = has_run done
 
+-- the same of a send that is interrupted after so many statements
 abbrev pub runs_before : ℕ → Server → Send → Bool
 runs_before most server send = runs_in (interrupted_case most (case_of server send)) (done_before most server send)
 

@@ -5,6 +5,7 @@ pub mod Cases
 pub mod Clock
 pub mod CommandNames
 pub mod Commands
+pub mod Concerns
 pub mod Counting
 pub mod CountingIds
 pub mod Cursors

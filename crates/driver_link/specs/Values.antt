@@ -5,6 +5,7 @@ use Rattle.bson_lite.specs.declared.bson.Bson.{Bson, out-Bson}
 use Rattle.bson_lite.specs.declared.bson.Bson.TheOpen.{Bson-F}
 use Rattle.bson_lite.specs.declared.document.Pair.{Pair}
 
+-- a value one level deep: its text, its flag, its number, its pairs, its values, its bytes
 abbrev pub as_text : Bson-F Bson → Option (List ℕ)
 as_text (Bson-F.String text) = Some text
 as_text _ = None

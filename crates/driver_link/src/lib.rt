@@ -5,6 +5,7 @@
 pub mod by_id;
 pub mod clock;
 pub mod command;
+mod concerns;
 mod copy;
 pub mod counting_ids;
 pub mod fake_link;
@@ -24,6 +25,7 @@ mod tests;
 pub use by_id::ById;
 pub use clock::Clock;
 pub use command::{CommandName, command_named};
+pub use concerns::{Acknowledgment, ReadConcern, ReadConcernLevel, WriteConcern};
 pub use counting_ids::{CountingIds, counting_ids_differ};
 pub use fake_link::{FakeLink, FakeStep, NotedConn};
 pub use fault::{Answered, LinkCall, LinkError, LinkFault};

@@ -1,15 +1,16 @@
-//! Tests of the fake link.
+//! Tests of the fake link, and of copies of concerns.
 ghost use Rattle.std.specs.Prelude.{◌≡◌, [], IfOk};
 ghost use Rattle.driver_link.specs.AbortFrame.{abort_body as body_of_abort, abort_send};
 ghost use Rattle.driver_link.specs.Reads.{Reads};
 
+use crate::concerns::{Acknowledgment, ReadConcern, ReadConcernLevel, WriteConcern};
 use crate::fake_link::{FakeLink, FakeStep, NotedConn};
 use crate::fault::{Answered, LinkCall, LinkError, LinkFault};
 use crate::frame::Frame;
 use crate::keys::{ABORT_TRANSACTION, ADMIN, DATABASE};
 use crate::link::Link;
 use crate::options::{Address, Asked, Conn, Description, SelectionCriteria};
-use bson_lite::{Bson, Bytes, Document, List, Text, encode};
+use bson_lite::{Bson, Bytes, Document, List, Text, TryClone, encode};
 use driver_error::IoKind;
 use std::alloc::{AllocError, Global};
 
@@ -90,7 +91,8 @@ fn select_any(link: &mut FakeLink, alloc: Global) -> Result<Address, LinkError> 
 
 /// Checks a connection out, and answers its number and its wire version.
 fn check_out(link: &mut FakeLink, alloc: Global) -> Result<(u64, Option<i32>), LinkError> {
-    let conn = link.check_out(alloc, &there(alloc)?)?;
+    let address = there(alloc)?;
+    let conn = link.check_out(alloc, &address)?;
     let seen = (conn.number, conn.description.max_wire_version);
     link.check_in(conn);
     Ok(seen)
@@ -98,20 +100,23 @@ fn check_out(link: &mut FakeLink, alloc: Global) -> Result<(u64, Option<i32>), L
 
 /// Sends one frame over a connection of its own.
 fn exchange(link: &mut FakeLink, alloc: Global) -> Result<Bytes, LinkError> {
+    let address = there(alloc)?;
     let frame = abort_frame(alloc)?;
-    let conn = link.check_out(alloc, &there(alloc)?)?;
+    let conn = link.check_out(alloc, &address)?;
     let answer = link.exchange(alloc, &conn, &frame, &[]);
     link.check_in(conn);
     answer
 }
 
-/// A link that had three exchanges.
-fn exchanged(alloc: Global) -> Result<FakeLink, AllocError> {
-    let mut link = two_steps(alloc)?;
-    for _ in 0..3 {
-        drop(exchange(&mut link, alloc));
+/// Whether a check that may lack memory or meet a fault held.
+fn holds(checked: Result<bool, LinkError>) -> bool {
+    match checked {
+        Ok(held) => held,
+        Err(failure) => {
+            drop(failure);
+            false
+        }
     }
-    Ok(link)
 }
 
 /// Whether an exchange answered these bytes.
@@ -201,35 +206,54 @@ fn asked_any(asked: &[Asked], at: usize) -> bool {
     }
 }
 
+/// Whether a selection with an address gives that one, and one without gives the usual one.
+fn selects(link: &mut FakeLink, alloc: Global) -> Result<bool, LinkError> {
+    let asked = select_there(link, alloc)?;
+    if !is_at(&asked, "there", 5) {
+        return Ok(false);
+    }
+    drop(asked);
+    let any = select_any(link, alloc)?;
+    Ok(is_at(&any, "fake", 27017))
+}
+
+/// Whether these two selections are told.
+fn tells_selections(link: &FakeLink) -> bool {
+    let asked = link.asked();
+    let addresses = link.addresses();
+    asked.len() == 2
+        && asked_there(asked, 0)
+        && asked_any(asked, 1)
+        && addresses.len() == 2
+        && selected(addresses, 0, "there", 5)
+        && selected(addresses, 1, "fake", 27017)
+}
+
 #[test]
-fn selections_are_told(rt: HostRuntime) -> Result<(), LinkError> {
-    let alloc = rt.alloc();
-    let mut link = two_steps(alloc)?;
-    let found = select_there(&mut link, alloc)?;
-    assert!(rt; is_at(&found, "there", 5));
-    let found = select_any(&mut link, alloc)?;
-    assert!(rt; is_at(&found, "fake", 27017));
-    assert_eq!(rt; link.asked().len(), 2);
-    assert!(rt; asked_there(link.asked(), 0));
-    assert!(rt; asked_any(link.asked(), 1));
-    assert_eq!(rt; link.addresses().len(), 2);
-    assert!(rt; selected(link.addresses(), 0, "there", 5));
-    assert!(rt; selected(link.addresses(), 1, "fake", 27017));
+fn selections_are_told(rt: HostRuntime) -> Result<(), AllocError> {
+    let mut link = two_steps(rt.alloc())?;
+    assert!(rt; holds(selects(&mut link, rt.alloc())));
+    assert!(rt; tells_selections(&link));
+    Ok(())
+}
+
+/// Whether three check-outs have the two descriptions in turn, and then the last one again.
+fn describes_in_turn(link: &mut FakeLink, alloc: Global) -> Result<bool, LinkError> {
+    let first = check_out(link, alloc)?;
+    let second = check_out(link, alloc)?;
+    let third = check_out(link, alloc)?;
+    Ok(first == (0, Some(17)) && second == (1, Some(25)) && third == (2, Some(25)))
+}
+
+#[test]
+fn check_outs_give_the_descriptions_in_turn(rt: HostRuntime) -> Result<(), AllocError> {
+    let mut link = two_steps(rt.alloc())?;
+    assert!(rt; holds(describes_in_turn(&mut link, rt.alloc())));
     Ok(())
 }
 
 #[test]
-fn check_outs_give_the_descriptions_in_turn(rt: HostRuntime) -> Result<(), LinkError> {
-    let alloc = rt.alloc();
-    let mut link = two_steps(alloc)?;
-    assert_eq!(rt; check_out(&mut link, alloc)?, (0, Some(17)));
-    assert_eq!(rt; check_out(&mut link, alloc)?, (1, Some(25)));
-    assert_eq!(rt; check_out(&mut link, alloc)?, (2, Some(25)));
-    Ok(())
-}
-
-#[test]
-fn exchanges_do_the_steps_in_turn(rt: HostRuntime) -> Result<(), LinkError> {
+fn exchanges_do_the_steps_in_turn(rt: HostRuntime) -> Result<(), AllocError> {
     let alloc = rt.alloc();
     let mut link = two_steps(alloc)?;
     assert!(rt; is_given(exchange(&mut link, alloc), b"reply"));
@@ -242,36 +266,51 @@ fn exchanges_do_the_steps_in_turn(rt: HostRuntime) -> Result<(), LinkError> {
     Ok(())
 }
 
-#[test]
-fn exchanges_are_told(rt: HostRuntime) -> Result<(), LinkError> {
-    let alloc = rt.alloc();
-    let link = exchanged(alloc)?;
-    assert_eq!(rt; link.frames().len(), 3);
-    assert!(rt; is_abort(link.frames(), 2, &ABORT));
-    assert_eq!(rt; link.answered().len(), 3);
-    assert!(rt; is_reply(link.answered(), 0, b"reply"));
-    assert!(rt; is_noted(link.answered(), 1, IoKind::BrokenPipe));
-    assert!(rt; is_noted(link.answered(), 2, IoKind::ConnectionReset));
-    Ok(())
+/// Whether the three exchanges are told, with their answers and the numbers of their connections.
+fn tells_exchanges(link: &FakeLink) -> bool {
+    link.frames().len() == 3
+        && is_abort(link.frames(), 2, &ABORT)
+        && link.answered().len() == 3
+        && is_reply(link.answered(), 0, b"reply")
+        && is_noted(link.answered(), 1, IoKind::BrokenPipe)
+        && is_noted(link.answered(), 2, IoKind::ConnectionReset)
+        && link.over() == [0, 1, 2].as_slice()
+        && link.out().is_empty()
 }
 
 #[test]
-fn the_other_calls_answer_the_same_each_time(rt: HostRuntime) -> Result<(), LinkError> {
+fn exchanges_are_told_with_their_connections(rt: HostRuntime) -> Result<(), AllocError> {
     let alloc = rt.alloc();
     let mut link = two_steps(alloc)?;
+    for _ in 0..3 {
+        drop(exchange(&mut link, alloc));
+    }
+    assert!(rt; tells_exchanges(&link));
+    Ok(())
+}
+
+/// Whether the calls that take no step answer what they always do.
+fn answers_the_same(link: &mut FakeLink, alloc: Global) -> Result<bool, LinkError> {
+    let supports = link.transaction_support(alloc)?;
     let address = there(alloc)?;
-    assert!(rt; link.is_sharded());
-    assert_eq!(rt; link.session_timeout_ms(), None);
-    assert!(rt; link.transaction_support(alloc)?);
     let conn = link.check_out(alloc, &address)?;
     let answer = link.reauthenticate(alloc, &conn);
     link.check_in(conn);
-    answer
+    answer?;
+    Ok(supports && link.is_sharded() && link.session_timeout_ms().is_none())
+}
+
+#[test]
+fn the_other_calls_answer_the_same_each_time(rt: HostRuntime) -> Result<(), AllocError> {
+    let mut link = two_steps(rt.alloc())?;
+    assert!(rt; holds(answers_the_same(&mut link, rt.alloc())));
+    Ok(())
 }
 
 /// Checks a connection out that is never handed back.
 fn keep_out(link: &mut FakeLink, alloc: Global) -> Result<(), LinkError> {
-    let conn = link.check_out(alloc, &there(alloc)?)?;
+    let there = there(alloc)?;
+    let conn = link.check_out(alloc, &there)?;
     let Conn {
         address,
         description: _,
@@ -281,43 +320,78 @@ fn keep_out(link: &mut FakeLink, alloc: Global) -> Result<(), LinkError> {
     Ok(())
 }
 
-/// Whether a noted connection leads to the tests' address.
-fn leads_there(conns: &[NotedConn], at: usize) -> bool {
+/// Whether a noted connection has this number and leads to the tests' address.
+fn is_noted_as(conns: &[NotedConn], at: usize, number: u64) -> bool {
     match conns.get(at) {
-        Some(conn) => is_at(conn.address(), "there", 5),
+        Some(conn) => conn.number() == number && is_at(conn.address(), "there", 5),
         None => false,
     }
 }
 
-/// The numbers of noted connections.
-fn numbers(alloc: Global, conns: &[NotedConn]) -> Result<Vec<u64>, AllocError> {
-    let mut numbers = Vec::new(alloc);
-    for conn in conns {
-        numbers.push(conn.number())?;
-    }
-    Ok(numbers)
+/// Three connections, of which the second is handed back.
+fn keeps_two_out(link: &mut FakeLink, alloc: Global) -> Result<bool, LinkError> {
+    keep_out(link, alloc)?;
+    check_out(link, alloc)?;
+    keep_out(link, alloc)?;
+    Ok(true)
+}
+
+/// Whether these three are told, and that two are out.
+fn tells_connections(link: &FakeLink) -> bool {
+    let all = link.connections();
+    let out = link.out();
+    all.len() == 3
+        && is_noted_as(all, 0, 0)
+        && is_noted_as(all, 1, 1)
+        && is_noted_as(all, 2, 2)
+        && out.len() == 2
+        && is_noted_as(out, 0, 0)
+        && is_noted_as(out, 1, 2)
 }
 
 #[test]
-fn connections_are_told_and_those_that_are_out(rt: HostRuntime) -> Result<(), LinkError> {
-    let alloc = rt.alloc();
-    let mut link = two_steps(alloc)?;
-    keep_out(&mut link, alloc)?;
-    check_out(&mut link, alloc)?;
-    keep_out(&mut link, alloc)?;
-    let all = numbers(alloc, link.connections())?;
-    assert_eq!(rt; all.as_slice(), [0, 1, 2].as_slice());
-    let out = numbers(alloc, link.out())?;
-    assert_eq!(rt; out.as_slice(), [0, 2].as_slice());
-    assert!(rt; leads_there(link.out(), 1));
+fn connections_are_told_and_those_that_are_out(rt: HostRuntime) -> Result<(), AllocError> {
+    let mut link = two_steps(rt.alloc())?;
+    assert!(rt; holds(keeps_two_out(&mut link, rt.alloc())));
+    assert!(rt; tells_connections(&link));
     Ok(())
 }
 
+/// Whether a copy of a concern has its fields.
+fn copies_concern(alloc: Global) -> Result<bool, AllocError> {
+    let concern = WriteConcern {
+        w: Some(Acknowledgment::Nodes(2)),
+        w_timeout: Some(10_000),
+        journal: Some(true),
+    };
+    let copy = concern.try_clone(alloc)?;
+    Ok(asks_two_nodes(&copy))
+}
+
+/// Whether two servers are asked for, their journals and ten seconds.
+fn asks_two_nodes(concern: &WriteConcern) -> bool {
+    let nodes = match concern.w {
+        Some(Acknowledgment::Nodes(nodes)) => nodes,
+        _ => 0,
+    };
+    nodes == 2 && concern.w_timeout == Some(10_000) && concern.journal == Some(true)
+}
+
+/// Whether a copy of a read concern has its level.
+fn copies_level(alloc: Global) -> Result<bool, AllocError> {
+    let concern = ReadConcern {
+        level: ReadConcernLevel::Custom(Text::from_str(alloc, "mine")?),
+    };
+    let copy = concern.try_clone(alloc)?;
+    Ok(match &copy.level {
+        ReadConcernLevel::Custom(name) => name.as_str() == "mine",
+        _ => false,
+    })
+}
+
 #[test]
-fn frames_are_told_with_the_numbers_of_their_connections(rt: HostRuntime) -> Result<(), LinkError> {
-    let alloc = rt.alloc();
-    let link = exchanged(alloc)?;
-    assert_eq!(rt; link.over(), [0, 1, 2].as_slice());
-    assert!(rt; link.out().is_empty());
+fn concerns_are_copied(rt: HostRuntime) -> Result<(), AllocError> {
+    assert!(rt; copies_concern(rt.alloc())?);
+    assert!(rt; copies_level(rt.alloc())?);
     Ok(())
 }

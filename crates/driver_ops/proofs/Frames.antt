@@ -1,6 +1,6 @@
 -- The frame of a command with the executor's fields reads as the send of what the command asks for.
-use Rattle.std.proofs.Common.{◌≡◌, ℕ, List, [], ◌∷◌, ◌++◌, length, refl, ap, rules, Bool, subst, sym, inl, inr}
-use Rattle.std.specs.Prelude.{ℤ, true, false, Some, None, Option, Result, Ok, Err, bytes_eq, if◌then◌else◌}
+use Rattle.std.proofs.Common.{◌≡◌, ℕ, List, [], ◌∷◌, ◌++◌, length, refl, ap, rules, Bool, subst, sym}
+use Rattle.std.specs.Prelude.{ℤ, true, false, Some, None, Option, bytes_eq, if◌then◌else◌}
 use Rattle.std.specs.Option.{option_map}
 use denote.Hole.Carrier.{out}
 use Rattle.bson_lite.specs.declared.bson.Binary.{Binary}
@@ -8,9 +8,7 @@ use Rattle.bson_lite.specs.declared.bson.Bson.{Bson}
 use Rattle.bson_lite.specs.declared.bson.Bson as bson
 use Rattle.bson_lite.specs.declared.document.Pair.{Pair}
 use Rattle.bson_lite.specs.Fields.{value_of}
-use Rattle.bson_lite.specs.Spelling.{refusal}
-use Rattle.driver_error.specs.declared.error.Error.{Error}
-use Rattle.driver_error.specs.Error.{ErrorKind, kind_of}
+use Rattle.driver_error.specs.Error.{ErrorKind}
 use Rattle.driver_error.specs.declared.kind.ErrorKind.TheVariants as kind
 use Rattle.driver_link.specs.declared.keys.TheConstants.{AUTOCOMMIT, DATABASE, SESSION, START_TRANSACTION, TRANSACTION_NUMBER, UUID_SUBTYPE}
 use Rattle.driver_link.specs.declared.frame.Documents.{Documents}
@@ -25,8 +23,9 @@ use Rattle.driver_link.specs.Writes.{is_common}
 use Rattle.driver_session.proofs.Ids.{equal_bytes}
 use Rattle.driver_ops.specs.declared.command.Command.{Command}
 use Rattle.driver_ops.specs.Encoding.{TellsRefusal}
-use Rattle.driver_ops.specs.Fields.{AreCommon, Frames, IsFrameOf, IsPlain, IsSixteen, executor_fields, number_field, session_document, session_field, with_fields}
-use Rattle.driver_ops.specs.Operations.{BuildsFrame, IsBuilt, OperationSpec, ReadsAsAsked, TellsUnbuilt, TellsUnframed, plain_send}
+use Rattle.driver_ops.specs.Fields.{AreCommon, IsFrameOf, IsPlain, IsSixteen, SendContext, executor_fields, number_field, session_document, session_field, under, with_fields}
+use Rattle.driver_ops.specs.Operations.{Batch, IsBuilt, OperationSpec, ReadsAsAsked, TellsUnframed, front, send_of}
+use Rattle.driver_ops.specs.SendKinds.{SendKind}
 
 -- what values are as the fields of a command
 text_is : (text : List ℕ) → text_of (bson.String text) ≡ Some text
@@ -67,7 +66,7 @@ skips key (pair ∷ body) fields none = by_test (bytes_eq pair.key key) (skips k
     by_test false rest none = rest none
 
 -- what stands under the keys of the executor's fields
-database_in : (session : Option (List ℕ)) (number : Option ℤ) (database : List ℕ) → value_of DATABASE.now (executor_fields session number database) ≡ Some (bson.String database)
+database_in : (session : Option (List ℕ)) (number : Option ℤ) (database : List ℕ) → value_of DATABASE.now (executor_fields (under session number) database) ≡ Some (bson.String database)
 unfolding executor_fields session_field number_field
 database_in None None database = refl
 database_in None (Some number) database = refl
@@ -75,7 +74,7 @@ database_in (Some id) None database = refl
 database_in (Some id) (Some number) database = refl
 
 session_in : (session : Option (List ℕ)) (number : Option ℤ) (database : List ℕ)
-    → value_of SESSION.now (executor_fields session number database) ≡ option_map (λ id. bson.Document (session_document id)) session
+    → value_of SESSION.now (executor_fields (under session number) database) ≡ option_map (λ id. bson.Document (session_document id)) session
 unfolding executor_fields session_field number_field
 session_in None None database = refl
 session_in None (Some number) database = refl
@@ -83,21 +82,21 @@ session_in (Some id) None database = refl
 session_in (Some id) (Some number) database = refl
 
 number_in : (session : Option (List ℕ)) (number : Option ℤ) (database : List ℕ)
-    → value_of TRANSACTION_NUMBER.now (executor_fields session number database) ≡ option_map (λ one. bson.Int64 one) number
+    → value_of TRANSACTION_NUMBER.now (executor_fields (under session number) database) ≡ option_map (λ one. bson.Int64 one) number
 unfolding executor_fields session_field number_field
 number_in None None database = refl
 number_in None (Some number) database = refl
 number_in (Some id) None database = refl
 number_in (Some id) (Some number) database = refl
 
-start_in : (session : Option (List ℕ)) (number : Option ℤ) (database : List ℕ) → value_of START_TRANSACTION.now (executor_fields session number database) ≡ None
+start_in : (session : Option (List ℕ)) (number : Option ℤ) (database : List ℕ) → value_of START_TRANSACTION.now (executor_fields (under session number) database) ≡ None
 unfolding executor_fields session_field number_field
 start_in None None database = refl
 start_in None (Some number) database = refl
 start_in (Some id) None database = refl
 start_in (Some id) (Some number) database = refl
 
-autocommit_in : (session : Option (List ℕ)) (number : Option ℤ) (database : List ℕ) → value_of AUTOCOMMIT.now (executor_fields session number database) ≡ None
+autocommit_in : (session : Option (List ℕ)) (number : Option ℤ) (database : List ℕ) → value_of AUTOCOMMIT.now (executor_fields (under session number) database) ≡ None
 unfolding executor_fields session_field number_field
 autocommit_in None None database = refl
 autocommit_in None (Some number) database = refl
@@ -105,7 +104,7 @@ autocommit_in (Some id) None database = refl
 autocommit_in (Some id) (Some number) database = refl
 
 -- they are fields that stand in commands of every kind
-are_common : (session : Option (List ℕ)) (number : Option ℤ) (database : List ℕ) → AreCommon (executor_fields session number database)
+are_common : (session : Option (List ℕ)) (number : Option ℤ) (database : List ℕ) → AreCommon (executor_fields (under session number) database)
 unfolding executor_fields session_field number_field is_common
 are_common None None database = (refl, tt)
 are_common None (Some number) database = (refl, (refl, tt))
@@ -127,10 +126,10 @@ number_read (Some number) = ap (λ found. option_map (λ one. Some one) found) (
 -- the executor's fields are found where the body before them has none of them
 module _ (body : List (Pair Bson)) (session : Option (List ℕ)) (number : Option ℤ) (database : List ℕ) (plain : IsPlain body) (sixteen : IsSixteen session) where
   abbrev joined : List (Pair Bson)
-  joined = body ++ executor_fields session number database
+  joined = body ++ executor_fields (under session number) database
 
-  behind : (key : List ℕ) → value_of key body ≡ None → value_of key joined ≡ value_of key (executor_fields session number database)
-  behind key none = skips key body (executor_fields session number database) none
+  behind : (key : List ℕ) → value_of key body ≡ None → value_of key joined ≡ value_of key (executor_fields (under session number) database)
+  behind key none = skips key body (executor_fields (under session number) database) none
 
   database_of : needed text_of DATABASE.now joined ≡ Some database
   unfolding needed
@@ -154,53 +153,40 @@ module _ (body : List (Pair Bson)) (session : Option (List ℕ)) (number : Optio
   unfolding flag_value
   autocommit_of = rw (behind AUTOCOMMIT.now plain.1.1.1.1.0, autocommit_in session number database) refl
 
-  sent_is : (asked : SendBody) → sent_as joined asked ≡ Some (plain_send session number asked)
+  sent_is : (asked : SendBody) → sent_as joined asked ≡ Some (send_of (under session number) asked)
   unfolding sent_as
   sent_is asked = rw (session_of, number_of, start_of, autocommit_of)
 
   spells : (sequences : List Documents) (places : List Place) (asked : SendBody) → asks database joined sequences places ≡ Some asked
-      → spelled database joined sequences places ≡ Some (plain_send session number asked)
+      → spelled database joined sequences places ≡ Some (send_of (under session number) asked)
   unfolding spelled
   spells sequences places asked is = rw (goes, is) (sent_is asked)
 
--- the frame of a built command with the executor's fields
-pub reads_as_asked : {A : Type 0} (spec : OperationSpec A) (statements : ℕ) (session : Option (List ℕ)) (number : Option ℤ) (command whole : Command) (frame : Framed)
-    → IsSixteen session → IsBuilt spec statements command → whole ≡ with_fields session number command → IsFrameOf whole frame
-    → ReadsAsAsked spec session number frame
-reads_as_asked spec statements session number command whole frame sixteen built appended framed places body asked =
-    let asks = built.asks places body asked in
-    let made = subst (λ whole. IsFrameOf whole frame) appended framed in
+-- the frame of a built command with the executor's fields reads as what is asked for
+pub reads_as_asked : {A : Type 0} (spec : OperationSpec A) (which : SendKind) (batch : Batch) (context : SendContext) (command : Command) (frame : Framed)
+    → IsSixteen context.session → IsBuilt spec which batch.statements command → IsFrameOf (with_fields context command) frame
+    → ReadsAsAsked spec batch context frame
+reads_as_asked spec which batch context command frame sixteen built made body asked =
+    let asks = built.asks batch.places body asked in
     record {
-      body = command.body ++ executor_fields session number command.database;
+      body = command.body ++ executor_fields context command.database;
       sequences = asks.sequences;
       body_spelled = made.spelled;
       sequences_spelled = subst (SpellSequences asks.sequences) (sym made.sequences) asks.spelled;
-      spelled = subst (λ database. spelled database (command.body ++ executor_fields session number command.database) asks.sequences places ≡ Some (plain_send session number body))
+      spelled = subst (λ database. spelled database (command.body ++ executor_fields context command.database) asks.sequences (front batch) ≡ Some (send_of context body))
           (sym made.database)
-          (spells command.body session number command.database built.plain sixteen asks.sequences places body (asks.asks _ (are_common session number command.database)));
+          (spells command.body context.session context.number command.database built.plain sixteen asks.sequences (front batch) body
+          (asks.asks _ (are_common context.session context.number command.database)));
     }
 
 -- why there is no such frame
-pub unframed : {A : Type 0} (spec : OperationSpec A) (statements : ℕ) (session : Option (List ℕ)) (number : Option ℤ) (command whole : Command) (why : ErrorKind)
-    → IsSixteen session → IsBuilt spec statements command → whole ≡ with_fields session number command → TellsRefusal whole.body why → TellsUnframed spec session number why
-unframed spec statements session number command whole (kind.BsonSerialization fault) sixteen built appended tells =
-    inr (built.spelling session number fault sixteen (subst (λ whole. refusal whole.body ≡ Some fault) appended tells))
-unframed spec statements session number command whole kind.Memory sixteen built appended tells = tt
-unframed spec statements session number command whole _ sixteen built appended tells = absurd tells
+pub unframed : {A : Type 0} (spec : OperationSpec A) (which : SendKind) (statements : ℕ) (context : SendContext) (command : Command) (why : ErrorKind)
+    → IsSixteen context.session → IsBuilt spec which statements command → TellsRefusal (with_fields context command).body why → TellsUnframed spec context why
+unframed spec which statements context command (kind.BsonSerialization fault) sixteen built tells =
+    record { which = which; statements = statements; command = command; is = built.is; sixteen = sixteen; refused = tells }
+unframed spec which statements context command kind.Memory sixteen built tells = tt
+unframed spec which statements context command _ sixteen built tells = absurd tells
 
-pub unbuilt : {A : Type 0} (spec : OperationSpec A) (session : Option (List ℕ)) (number : Option ℤ) (why : ErrorKind) → TellsUnbuilt spec why → TellsUnframed spec session number why
-unbuilt spec session number (kind.InvalidArgument message) tells = tells
-unbuilt spec session number (kind.BsonSerialization fault) tells = inl tells
-unbuilt spec session number kind.Memory tells = tt
-unbuilt spec session number _ tells = absurd tells
-
--- a built command with the executor's fields, in bytes
-pub frames_builds : {A : Type 0} (spec : OperationSpec A) (statements : ℕ) (session : Option (List ℕ)) (number : Option ℤ) (command whole : Command) (result : Result Framed Error)
-    → IsSixteen session → IsBuilt spec statements command → whole ≡ with_fields session number command → Frames whole result → BuildsFrame spec session number result
-frames_builds spec statements session number command whole (Ok frame) sixteen built appended framed =
-    record {
-      framed = record { statements = statements; command = command; built = built; is = subst (λ w. IsFrameOf w frame) appended framed };
-      reads = reads_as_asked spec statements session number command whole frame sixteen built appended framed;
-    }
-frames_builds spec statements session number command whole (Err error) sixteen built appended tells =
-    unframed spec statements session number command whole (kind_of error) sixteen built appended tells
+-- want of memory is no reason of the command's
+pub no_memory : {A : Type 0} (spec : OperationSpec A) (context : SendContext) (why : ErrorKind) → why ≡ kind.Memory → TellsUnframed spec context why
+no_memory spec context why is = subst (TellsUnframed spec context) (sym is) tt

@@ -23,6 +23,7 @@ use Rattle.driver_link.specs.Numbers.{reply_number}
 use Rattle.driver_link.specs.Retried.{one_inserted}
 use Rattle.driver_ops.specs.declared.insert.InsertReply.{InsertReply}
 use Rattle.driver_ops.specs.InsertAnswers.{AnswersFound, AnswersReply, counts_one, errors_there, insert_reply}
+use Rattle.driver_ops.specs.declared.target.OperationTarget.{OperationTarget}
 use Rattle.driver_ops.specs.InsertSpec.{insert_spec}
 use Rattle.driver_ops.specs.Inserts.{int_at, is_done_reply, is_one}
 use Rattle.driver_ops.specs.Readings.{command_error_in, labels_in}
@@ -114,9 +115,9 @@ done_found reply output (Some found) at answers is =
     let one = counted_one found.n found.errors (is_none found.concern) answers.0 answers.1 in
     ap (λ b. b && is_one (int_at N.now reply)) (ok_is_one reply is) ∙ ap is_one (n_found reply found at) ∙ one
 
-pub output_done : (namespace : Namespace) (document : List ℕ) (bytes : List ℕ) (output : Unit {0}) (reads : ReadsOutput (insert_spec namespace document) bytes output)
+pub output_done : (target : OperationTarget) (document : List ℕ) (bytes : List ℕ) (output : Unit {0}) (reads : ReadsOutput (insert_spec target document) bytes output)
     → is_done_reply reads.response.body ≡ true
-output_done namespace document bytes output reads =
+output_done target document bytes output reads =
     done_found reads.response.body output (insert_reply reads.response.body) refl reads.reads reads.done.is
 
 document_said : said one_inserted ≡ done
@@ -137,7 +138,7 @@ pub inserted_plain : IsPlainDone one_inserted
 inserted_plain = record { says = document_said; found = document_read }
 
 -- such a reply is taken, unless memory runs out
-module _ (namespace : Namespace) (document bytes : List ℕ) (reply : Reply) (plain : IsPlainDone reply) (spelled : Spells reply bytes) where
+module _ (target : OperationTarget) (document bytes : List ℕ) (reply : Reply) (plain : IsPlainDone reply) (spelled : Spells reply bytes) where
   no_said : (what : Said) (error : Error) → said reply ≡ what → SpellsError bytes what error → ⊥
   no_said done error at spells = spells
   no_said (fails body) error at spells = let e : fails body ≡ done = sym at ∙ plain.says in cc
@@ -167,7 +168,7 @@ module _ (namespace : Namespace) (document bytes : List ℕ) (reply : Reply) (pl
           true_false : ◌≡◌ {A = Bool} true false → ⊥
           true_false is = cc
 
-  no_read : (error : Error) → ReadsError (insert_spec {A = Unit {0}} namespace document) bytes error → kind_of error ≡ kind.Memory
+  no_read : (error : Error) → ReadsError (insert_spec {A = Unit {0}} target document) bytes error → kind_of error ≡ kind.Memory
   no_read error read =
       let same = spells_one reply read.response.body bytes spelled read.done.spelled in
       elim read.reads [
@@ -178,7 +179,7 @@ module _ (namespace : Namespace) (document bytes : List ℕ) (reply : Reply) (pl
       of_kept : kind_of read.bare ≡ kind.Memory → HasResponse (Some bytes) read.bare error → kind_of error ≡ kind.Memory
       of_kept memory kept = kept.kind ∙ memory
 
-  pub plain_read : (error : Error) → ReadsAnswer (insert_spec {A = Unit {0}} namespace document) bytes (Err error) → kind_of error ≡ kind.Memory
+  pub plain_read : (error : Error) → ReadsAnswer (insert_spec {A = Unit {0}} target document) bytes (Err error) → kind_of error ≡ kind.Memory
   plain_read error reads = elim reads [
     | inl response ↦ no_response error response
     | inr other ↦ elim other [ inl read ↦ no_read error read | inr memory ↦ memory ]

@@ -1,6 +1,6 @@
 -- An insert's command asks for the insert of its document.
-use Rattle.std.proofs.Common.{◌≡◌, ℕ, List, [], ◌∷◌, ◌++◌, length, refl, ap, Bool, subst, sym}
-use Rattle.std.specs.Prelude.{ℤ, true, Option, Some}
+use Rattle.std.proofs.Common.{◌≡◌, ℕ, ◌≤◌, List, [], ◌∷◌, ◌++◌, length, refl, Bool, subst, sym, arith}
+use Rattle.std.specs.Prelude.{take, true, Some}
 use denote.Hole.Carrier.{out}
 use Rattle.bson_lite.specs.declared.bson.Bson.{Bson}
 use Rattle.bson_lite.specs.declared.bson.Bson as bson
@@ -21,10 +21,13 @@ use Rattle.driver_link.specs.Reads.{SpellSequences}
 use Rattle.driver_link.specs.Values.{text_of, bool_of}
 use Rattle.driver_link.specs.Writes.{placed}
 use Rattle.driver_ops.specs.declared.command.Command.{Command}
-use Rattle.driver_ops.specs.Fields.{IsPlain, IsSixteen, executor_fields, field, with_fields}
-use Rattle.driver_ops.specs.InsertSpec.{AsksInsert, insert_spec}
-use Rattle.driver_ops.specs.Inserts.{IsOneDocument, insert_body, insert_command, insert_write, BodyRefused}
-use Rattle.driver_ops.specs.Operations.{AsksFor, IsBuilt}
+use Rattle.driver_ops.specs.declared.target.OperationTarget.{OperationTarget}
+use Rattle.driver_ops.specs.Fields.{IsPlain, IsSixteen, SendContext, executor_fields, field, with_fields}
+use Rattle.driver_ops.specs.InsertSpec.{AsksInsert, IsInsertCommand, insert_spec}
+use Rattle.driver_ops.specs.Inserts.{BodyRefused, insert_body, insert_command, insert_write}
+use Rattle.driver_ops.specs.Operations.{CommandAsks, IsBuilt}
+use Rattle.driver_ops.specs.SendKinds.{SendKind}
+use Rattle.driver_ops.specs.Targets.{namespace_of}
 
 text_is : (text : List ℕ) → text_of (bson.String text) ≡ Some text
 unfolding bson.out-Bson out
@@ -56,37 +59,38 @@ unfolding insert_command
 plain_is namespace = (refl, (refl, (refl, (refl, (refl, (refl, (refl, (refl, (refl, tt)))))))))
 
 -- the command with the executor's fields has the whole body
-body_is : (namespace : Namespace) (session : Option (List ℕ)) (number : Option ℤ)
-    → insert_command namespace ++ executor_fields session number namespace.db ≡ insert_body namespace session number
+body_is : (namespace : Namespace) (context : SendContext) → insert_command namespace ++ executor_fields context namespace.db ≡ insert_body namespace context
 unfolding insert_body
-body_is namespace session number = refl
+body_is namespace context = refl
 
-module _ (namespace : Namespace) (bytes : List ℕ) (made : Command) (is_database : made.database ≡ namespace.db) (is_body : made.body ≡ insert_command namespace)
-    (one : IsOneDocument made.sequences bytes) where
-  asks_for : (places : List Place) (body : SendBody) → AsksInsert namespace bytes places body → AsksFor made places body
+-- the body with the executor's fields of an insert's command that has no spelling
+pub body_refused : (namespace : Namespace) (bytes : List ℕ) (context : SendContext) (statements : ℕ) (made : Command) (fault : EncodeFault) → IsInsertCommand namespace bytes statements made
+    → IsSixteen context.session → refusal (with_fields context made).body ≡ Some fault → BodyRefused namespace context fault
+body_refused namespace bytes context statements made fault is sixteen refused = record {
+  sixteen = sixteen;
+  is = subst (λ body. refusal body ≡ Some fault) (body_is namespace context)
+      (subst (λ database. refusal (insert_command namespace ++ executor_fields context database) ≡ Some fault) is.database
+      (subst (λ body. refusal (body ++ executor_fields context made.database) ≡ Some fault) is.body refused));
+}
+
+module _ (target : OperationTarget) (bytes : List ℕ) (made : Command) (is : IsInsertCommand (namespace_of target) bytes 1 made) where
+  abbrev namespace : Namespace
+  namespace = namespace_of target
+
+  asks_for : (places : List Place) (body : SendBody) → AsksInsert namespace bytes 1 places body → CommandAsks made (take 1 places) body
   asks_for places body asked = record {
     sequences = record { name = DOCUMENTS.now; documents = asked.document ∷ [] } ∷ [];
-    spelled = subst (SpellSequences (record { name = DOCUMENTS.now; documents = asked.document ∷ [] } ∷ [])) (sym one)
+    spelled = subst (SpellSequences (record { name = DOCUMENTS.now; documents = asked.document ∷ [] } ∷ [])) (sym is.sequences)
         (record { name = refl; documents = (asked.spelled, tt) }, tt);
-    asks = λ fields common. rw (is_database, is_body, asked.alone, asked.is) (asks_is namespace fields asked.document asked.place);
-  }
-
-  spelling : (session : Option (List ℕ)) (number : Option ℤ) (fault : EncodeFault) → IsSixteen session → refusal (with_fields session number made).body ≡ Some fault
-      → BodyRefused namespace session number fault
-  spelling session number fault sixteen refused = record {
-    sixteen = sixteen;
-    is = subst (λ body. refusal body ≡ Some fault) (body_is namespace session number)
-        (subst (λ database. refusal (insert_command namespace ++ executor_fields session number database) ≡ Some fault) is_database
-        (subst (λ body. refusal (body ++ executor_fields session number made.database) ≡ Some fault) is_body refused));
+    asks = λ fields common. rw (is.database, is.body, asked.alone, asked.is) (asks_is namespace fields asked.document asked.place);
   }
 
   -- such a command is an insert's
-  pub built_insert : {A : Type 0} → made.name ≡ name.Insert → IsBuilt {A = A} (insert_spec namespace bytes) 1 made
-  built_insert is_name = record {
+  pub built_insert : {A : Type 0} (which : SendKind) → made.name ≡ name.Insert → IsBuilt {A = A} (insert_spec target bytes) which 1 made
+  built_insert which is_name = record {
     name = is_name;
-    is = record { database = is_database; body = is_body; sequences = one };
-    plain = subst IsPlain (sym is_body) (plain_is namespace);
+    is = is;
+    plain = subst IsPlain (sym is.body) (plain_is namespace);
     asks = asks_for;
-    counts = λ places body asked. ap length asked.alone;
-    spelling = spelling;
+    within = λ places body asked. subst (λ found. 1 ≤ length found) (sym asked.alone) (omega arith);
   }

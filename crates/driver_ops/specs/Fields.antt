@@ -31,13 +31,23 @@ unfoldable pub number_field : Option ℤ → List (Pair Bson)
 number_field None = []
 number_field (Some number) = field TRANSACTION_NUMBER.now (bson.Int64 number) ∷ []
 
--- the executor's fields under a session and a number, where there are such, of a command that goes to a database
-unfoldable pub executor_fields : Option (List ℕ) → Option ℤ → List ℕ → List (Pair Bson)
-executor_fields session number database = session_field session ++ number_field number ++ field DATABASE.now (bson.String database) ∷ []
+-- what the executor's fields come from at one exchange: the session and the number that the command is under, of which
+-- either may be missing
+pub record SendContext : Type 0 where
+  pub session : Option (List ℕ)
+  pub number : Option ℤ
+
+-- under this session and this number
+abbrev pub under : Option (List ℕ) → Option ℤ → SendContext
+under session number = record { session = session; number = number }
+
+-- the executor's fields of a command that goes to a database
+unfoldable pub executor_fields : SendContext → List ℕ → List (Pair Bson)
+executor_fields context database = session_field context.session ++ number_field context.number ++ field DATABASE.now (bson.String database) ∷ []
 
 -- the command with the executor's fields behind its own
-abbrev pub with_fields : Option (List ℕ) → Option ℤ → Command → Command
-with_fields session number command = record command { body = command.body ++ executor_fields session number command.database }
+abbrev pub with_fields : SendContext → Command → Command
+with_fields context command = record command { body = command.body ++ executor_fields context command.database }
 
 -- the id of a session, where there is one, has 16 bytes
 abbrev pub IsSixteen : Option (List ℕ) → Type 0
@@ -68,3 +78,7 @@ pub record IsFrameOf (command : Command) (frame : Framed) : Type 0 where
 abbrev pub Frames : Command → Result Framed Error → Type 0
 Frames command (Ok frame) = IsFrameOf command frame
 Frames command (Err error) = TellsRefusal command.body (kind_of error)
+
+-- the same with the executor's fields
+abbrev pub FramesUnder : SendContext → Command → Result Framed Error → Type 0
+FramesUnder context command result = IsSixteen context.session × Frames (with_fields context command) result

@@ -1,30 +1,40 @@
 -- What an insert of one document tells as an operation.
-use Rattle.std.specs.Prelude.{◌≡◌, ℕ, Bool, true, false, List, [], ◌∷◌, Option, Some}
+use Rattle.std.specs.Prelude.{◌≡◌, ℕ, Bool, true, false, List, [], ◌∷◌, Option, Some, Result, Ok, Err}
 use Rattle.bson_lite.specs.declared.bson.Bson.{Bson}
 use Rattle.bson_lite.specs.declared.document.Pair.{Pair}
 use Rattle.bson_lite.specs.declared.namespace.Namespace.{Namespace}
 use Rattle.bson_lite.specs.Spelling.{Spells}
+use Rattle.driver_error.specs.declared.error.Error.{Error}
 use Rattle.driver_link.specs.declared.command.CommandName.TheVariants as name
 use Rattle.driver_link.specs.declared.machine.Place.{Place}
-use Rattle.driver_link.specs.declared.options.ClientOptions.{ClientOptions}
 use Rattle.driver_link.specs.declared.machine.SendBody.{SendBody}
 use Rattle.driver_link.specs.declared.machine.SendBody.TheVariants.{Write}
 use Rattle.driver_link.specs.declared.machine.SendCommand.TheVariants as command
+use Rattle.driver_link.specs.declared.options.ClientOptions.{ClientOptions}
 use Rattle.driver_session.specs.declared.retryability.Retryability.{Retryability}
 use Rattle.driver_session.specs.declared.retryability.Retryability.TheVariants as may
 use Rattle.driver_ops.specs.declared.command.Command.{Command}
+use Rattle.driver_ops.specs.declared.feature.Feature.TheVariants.{Inherit, NotSupported}
+use Rattle.driver_ops.specs.declared.operation.Reading.{Reading}
+use Rattle.driver_ops.specs.declared.operation.Reading.TheVariants.{Done}
+use Rattle.driver_ops.specs.declared.target.OperationTarget.{OperationTarget}
+use Rattle.driver_ops.specs.Defaults.{is_repeatable}
 use Rattle.driver_ops.specs.InsertAnswers.{ReadsInsert}
-use Rattle.driver_ops.specs.Inserts.{IsOneDocument, insert_command, insert_write, BodyRefused}
-use Rattle.driver_ops.specs.Operations.{OperationSpec, never}
+use Rattle.driver_ops.specs.Inserts.{IsOneDocument, insert_command, insert_write}
+use Rattle.driver_ops.specs.Operations.{OperationSpec, Page, never}
+use Rattle.driver_ops.specs.SendKinds.{SendKind}
+use Rattle.driver_ops.specs.Targets.{namespace_of}
 
--- the command of an insert: into the namespace's collection, ordered, with one sequence of the one document
-pub record IsInsertCommand (namespace : Namespace) (bytes : List ℕ) (made : Command) : Type 0 where
+-- the command of an insert: one statement, into the namespace's collection, ordered, with one sequence of the one document
+pub record IsInsertCommand (namespace : Namespace) (bytes : List ℕ) (statements : ℕ) (made : Command) : Type 0 where
+  pub one : statements ≡ 1
   pub database : made.database ≡ namespace.db
   pub body : made.body ≡ insert_command namespace
   pub sequences : IsOneDocument made.sequences bytes
 
 -- the insert of the document that the bytes spell, under the one place
-pub record AsksInsert (namespace : Namespace) (bytes : List ℕ) (places : List Place) (body : SendBody) : Type 0 where
+pub record AsksInsert (namespace : Namespace) (bytes : List ℕ) (statements : ℕ) (places : List Place) (body : SendBody) : Type 0 where
+  pub one : statements ≡ 1
   pub document : List (Pair Bson)
   pub place : Place
   pub spelled : Spells document bytes
@@ -40,15 +50,26 @@ repeated_where other = may.Write
 abbrev pub own_of_insert : ClientOptions → Retryability
 own_of_insert options = repeated_where options.retry_writes
 
--- a build is refused nothing; the command has no spelling where its body with the executor's fields has none
-abbrev pub insert_spec : {A : Type 0} → Namespace → List ℕ → OperationSpec A
-insert_spec namespace bytes = record {
+-- an answer is the one reply
+abbrev pub ReadsAlone : {A : Type 0} → (List (Pair Bson) → Result A Error → Type 0) → List Page → Result (Reading A) Error → Type 0
+ReadsAlone reads (Ok reply ∷ []) (Ok (Done output)) = reads reply (Ok output)
+ReadsAlone reads (Ok reply ∷ []) (Err error) = reads reply (Err error)
+ReadsAlone reads pages result = ⊥
+
+-- a build is refused nothing, each send has the same command, and the reply is the whole answer
+abbrev pub insert_spec : {A : Type 0} → OperationTarget → List ℕ → OperationSpec A
+insert_spec target bytes = record {
   name = name.Insert;
-  commands = IsInsertCommand namespace bytes;
-  asked = AsksInsert namespace bytes;
+  target = target;
+  commands = λ which. IsInsertCommand (namespace_of target) bytes;
+  bodies = AsksInsert (namespace_of target) bytes;
   refused = never;
-  unspelled = BodyRefused namespace;
-  own = own_of_insert;
+  write_concern = λ which. Inherit;
+  read_concern = NotSupported;
+  selection_criteria = λ which. Inherit;
   sessions = true;
-  answers = ReadsInsert;
+  retryability = own_of_insert;
+  backpressure = λ options. is_repeatable (own_of_insert options);
+  after_cluster_time = true;
+  reads = ReadsAlone ReadsInsert;
 }

@@ -15,15 +15,15 @@ use Rattle.driver_link.specs.declared.machine.Place.{Place}
 use Rattle.driver_link.specs.declared.machine.PlacedWrite.{PlacedWrite}
 use Rattle.driver_link.specs.declared.machine.WriteKind.TheVariants as write_kind
 use Rattle.driver_link.specs.Writes.{write_on}
-use Rattle.driver_ops.specs.Fields.{executor_fields, field, IsSixteen}
+use Rattle.driver_ops.specs.Fields.{IsSixteen, SendContext, executor_fields, field}
 
 -- the body of the insert command, without the executor's fields
 unfoldable pub insert_command : Namespace → List (Pair Bson)
 insert_command namespace = field INSERT.now (bson.String namespace.coll) ∷ field ORDERED.now (bson.Boolean true) ∷ []
 
 -- the body of the insert command, with the executor's fields
-unfoldable pub insert_body : Namespace → Option (List ℕ) → Option ℤ → List (Pair Bson)
-insert_body namespace session number = insert_command namespace ++ executor_fields session number namespace.db
+unfoldable pub insert_body : Namespace → SendContext → List (Pair Bson)
+insert_body namespace context = insert_command namespace ++ executor_fields context namespace.db
 
 -- the write that inserts a document
 abbrev pub insert_write : Namespace → List (Pair Bson) → Place → PlacedWrite
@@ -46,7 +46,7 @@ int_at key document = option_and_then int_of (value_of key document)
 unfoldable pub is_done_reply : List (Pair Bson) → Bool
 is_done_reply document = is_one (int_at OK.now document) && is_one (int_at N.now document)
 
--- the body of an insert into this namespace, under this session and number, has no spelling
-pub record BodyRefused (namespace : Namespace) (session : Option (List ℕ)) (number : Option ℤ) (fault : EncodeFault) : Type 0 where
-  pub sixteen : IsSixteen session
-  pub is : refusal (insert_body namespace session number) ≡ Some fault
+-- the body of an insert into this namespace, with the executor's fields, has no spelling
+pub record BodyRefused (namespace : Namespace) (context : SendContext) (fault : EncodeFault) : Type 0 where
+  pub sixteen : IsSixteen context.session
+  pub is : refusal (insert_body namespace context) ≡ Some fault

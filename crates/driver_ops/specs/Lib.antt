@@ -1,4 +1,6 @@
+pub mod Defaults
 pub mod Encoding
+pub mod Features
 pub mod Fields
 pub mod InsertAnswers
 pub mod InsertSpec
@@ -6,5 +8,7 @@ pub mod Inserts
 pub mod Operations
 pub mod Readings
 pub mod Responses
+pub mod SendKinds
+pub mod Targets
 pub mod WriteReplies
 pub mod inside

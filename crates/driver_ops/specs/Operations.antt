@@ -1,131 +1,198 @@
 -- What an operation tells of its command, what building it comes to, and what a reply to it comes to.
-use Rattle.std.specs.Prelude.{◌≡◌, ◌↔◌, ℕ, ℤ, Bool, false, List, length, ◌++◌, Option, Some, ◌⊎◌, Result, Ok, Err}
+use Rattle.std.specs.Prelude.{◌≡◌, ◌↔◌, ℕ, ◌≤◌, Bool, false, List, [], ◌∷◌, length, take, ◌++◌, Option, None, Some, ◌⊎◌, Result, Ok, Err}
 use Rattle.bson_lite.specs.declared.bson.Bson.{Bson}
 use Rattle.bson_lite.specs.declared.document.Pair.{Pair}
 use Rattle.bson_lite.specs.declared.fault.EncodeFault.{EncodeFault}
 use Rattle.bson_lite.specs.Spelling.{refusal}
 use Rattle.driver_error.specs.declared.error.Error.{Error}
 use Rattle.driver_error.specs.declared.kind.ErrorKind.TheVariants as kind
-use Rattle.driver_error.specs.Error.{ErrorKind, kind_of, HasResponse}
+use Rattle.driver_error.specs.Error.{ErrorKind, HasResponse, IsAlone, kind_of}
+use Rattle.driver_error.specs.LabelTexts.{no_labels}
 use Rattle.driver_link.specs.declared.command.CommandName.{CommandName}
+use Rattle.driver_link.specs.declared.concerns.ReadConcern.{ReadConcern}
+use Rattle.driver_link.specs.declared.concerns.WriteConcern.{WriteConcern}
 use Rattle.driver_link.specs.declared.frame.Documents.{Documents}
 use Rattle.driver_link.specs.declared.machine.Place.{Place}
 use Rattle.driver_link.specs.declared.machine.Send.{Send}
 use Rattle.driver_link.specs.declared.machine.SendBody.{SendBody}
+use Rattle.driver_link.specs.declared.options.ClientOptions.{ClientOptions}
+use Rattle.driver_link.specs.declared.options.Description.{Description}
+use Rattle.driver_link.specs.declared.options.SelectionCriteria.{SelectionCriteria}
 use Rattle.driver_link.specs.Asking.{asks}
 use Rattle.driver_link.specs.Framed.{Framed}
 use Rattle.driver_link.specs.Reads.{Reads, SpellSequences}
-use Rattle.driver_link.specs.declared.options.ClientOptions.{ClientOptions}
 use Rattle.driver_session.specs.declared.retryability.Retryability.{Retryability}
 use Rattle.driver_ops.specs.declared.command.Command.{Command}
-use Rattle.driver_ops.specs.Fields.{AreCommon, IsFrameOf, IsPlain, IsSixteen, with_fields}
+use Rattle.driver_ops.specs.declared.feature.Feature.{Feature}
+use Rattle.driver_ops.specs.declared.operation.Reading.{Reading}
+use Rattle.driver_ops.specs.declared.operation.Reading.TheVariants.{Done}
 use Rattle.driver_ops.specs.declared.response.CommandResponse.{CommandResponse}
+use Rattle.driver_ops.specs.declared.target.OperationTarget.{OperationTarget}
+use Rattle.driver_ops.specs.Fields.{AreCommon, IsFrameOf, IsPlain, IsSixteen, SendContext, with_fields}
 use Rattle.driver_ops.specs.Responses.{ReadsResponse}
+use Rattle.driver_ops.specs.SendKinds.{SendKind}
 
--- what an operation tells: the name of its command, which commands it builds, what a command asks for with the places of
--- its writes,
--- what a build is refused with beside want of memory, why a built command with the executor's fields, under a session and
--- a number, has no spelling, what of it may be repeated, whether it takes a session, and how a reply is read which says that the
--- command was done
+-- one page of the answer to a command: the document that came, or why none came
+abbrev pub Page : Type 0
+Page = Result (List (Pair Bson)) Error
+
+-- what an operation tells: the name of its command and what it goes to; which commands it builds, by the kind of the send and
+-- the number of statements; what a command of so many statements asks for, with the places of all its remaining writes; what
+-- a build is refused with, beside want of memory; its options, of which some are by the kind of the send; what of it may be
+-- repeated; and what the pages of an answer come to, the newest first
 pub record OperationSpec (A : Type 0) : Type 1 where
   pub name : CommandName
-  pub commands : Command → Type 0
-  pub asked : List Place → SendBody → Type 0
-  pub refused : ErrorKind → Type 0
-  pub unspelled : Option (List ℕ) → Option ℤ → EncodeFault → Type 0
-  pub own : ClientOptions → Retryability
+  pub target : OperationTarget
+  pub commands : SendKind → ℕ → Command → Type 0
+  pub bodies : ℕ → List Place → SendBody → Type 0
+  pub refused : Description → Error → Type 0
+  pub write_concern : SendKind → Feature WriteConcern
+  pub read_concern : Feature ReadConcern
+  pub selection_criteria : SendKind → Feature SelectionCriteria
   pub sessions : Bool
-  pub answers : List (Pair Bson) → Result A Error → Type 0
+  pub retryability : ClientOptions → Retryability
+  pub backpressure : ClientOptions → Bool
+  pub after_cluster_time : Bool
+  pub reads : List Page → Result (Reading A) Error → Type 0
 
 -- an operation tells before and now the same
 pub record SameSpec {A : Type 0} (old now : OperationSpec A) : Type 0 where
   pub name : now.name ≡ old.name
-  pub commands : (command : Command) → old.commands command ↔ now.commands command
-  pub asked : (places : List Place) (body : SendBody) → old.asked places body ↔ now.asked places body
-  pub refused : (why : ErrorKind) → old.refused why ↔ now.refused why
-  pub unspelled : (session : Option (List ℕ)) (number : Option ℤ) (fault : EncodeFault) → old.unspelled session number fault ↔ now.unspelled session number fault
-  pub own : (options : ClientOptions) → now.own options ≡ old.own options
+  pub target : now.target ≡ old.target
+  pub commands : (which : SendKind) (statements : ℕ) (command : Command) → old.commands which statements command ↔ now.commands which statements command
+  pub bodies : (statements : ℕ) (places : List Place) (body : SendBody) → old.bodies statements places body ↔ now.bodies statements places body
+  pub refused : (description : Description) (error : Error) → old.refused description error ↔ now.refused description error
+  pub write_concern : (which : SendKind) → now.write_concern which ≡ old.write_concern which
+  pub read_concern : now.read_concern ≡ old.read_concern
+  pub selection_criteria : (which : SendKind) → now.selection_criteria which ≡ old.selection_criteria which
   pub sessions : now.sessions ≡ old.sessions
-  pub answers : (reply : List (Pair Bson)) (result : Result A Error) → old.answers reply result ↔ now.answers reply result
+  pub retryability : (options : ClientOptions) → now.retryability options ≡ old.retryability options
+  pub backpressure : (options : ClientOptions) → now.backpressure options ≡ old.backpressure options
+  pub after_cluster_time : now.after_cluster_time ≡ old.after_cluster_time
+  pub reads : (pages : List Page) (result : Result (Reading A) Error) → old.reads pages result ↔ now.reads pages result
+
+-- the same may be sent under both kinds
+pub record SameAt {A : Type 0} (spec : OperationSpec A) (old now : SendKind) : Type 0 where
+  pub commands : (statements : ℕ) (command : Command) → spec.commands old statements command ↔ spec.commands now statements command
+  pub write_concern : spec.write_concern now ≡ spec.write_concern old
+  pub selection_criteria : spec.selection_criteria now ≡ spec.selection_criteria old
+
+-- so many statements may be in a command, by what earlier builds put there
+abbrev pub IsFixed : Option ℕ → ℕ → Type 0
+IsFixed None statements = Unit {0}
+IsFixed (Some fixed) statements = fixed ≡ statements
+
+-- a number that is fixed stays: what may be in a command now may have been before
+abbrev pub StaysFixed : Option ℕ → Option ℕ → Type 0
+StaysFixed old now = (statements : ℕ) → IsFixed now statements → IsFixed old statements
+
+-- the places of an operation's remaining writes, and how many statements its command has
+pub record Batch : Type 0 where
+  pub places : List Place
+  pub statements : ℕ
+
+-- these places, with so many statements in the command
+abbrev pub batch_of : List Place → ℕ → Batch
+batch_of places statements = record { places = places; statements = statements }
+
+-- the places of the command's own writes: the front
+abbrev pub front : Batch → List Place
+front batch = take batch.statements batch.places
+
+-- what a command of the batch asks for
+abbrev pub AsksFor : {A : Type 0} → OperationSpec A → Batch → SendBody → Type 0
+AsksFor spec batch body = spec.bodies batch.statements batch.places body
+
+-- for each command that it may build the operation asks for something, with these places
+abbrev pub HasBodies : {A : Type 0} → OperationSpec A → List Place → Type 0
+HasBodies spec places = (which : SendKind) (statements : ℕ) (command : Command) → spec.commands which statements command → ((body : SendBody) × spec.bodies statements places body)
 
 -- with the places of its writes a command asks for this, whichever of the executor's fields are appended
-pub record AsksFor (command : Command) (places : List Place) (body : SendBody) : Type 0 where
+pub record CommandAsks (command : Command) (places : List Place) (body : SendBody) : Type 0 where
   pub sequences : List Documents
   pub spelled : SpellSequences sequences command.sequences
   pub asks : (fields : List (Pair Bson)) → AreCommon fields → asks command.database (command.body ++ fields) sequences places ≡ Some body
 
--- a command of an operation, without the executor's fields, that has so many statements
-pub record IsBuilt {A : Type 0} (spec : OperationSpec A) (statements : ℕ) (command : Command) : Type 0 where
+-- a command of an operation, without the executor's fields, that has so many statements: it asks for the front of the places
+pub record IsBuilt {A : Type 0} (spec : OperationSpec A) (which : SendKind) (statements : ℕ) (command : Command) : Type 0 where
   pub name : command.name ≡ spec.name
-  pub is : spec.commands command
+  pub is : spec.commands which statements command
   pub plain : IsPlain command.body
-  pub asks : (places : List Place) (body : SendBody) → spec.asked places body → AsksFor command places body
-  pub counts : (places : List Place) (body : SendBody) → spec.asked places body → length places ≡ statements
-  pub spelling : (session : Option (List ℕ)) (number : Option ℤ) (fault : EncodeFault) → IsSixteen session → refusal (with_fields session number command).body ≡ Some fault
-      → spec.unspelled session number fault
+  pub asks : (places : List Place) (body : SendBody) → spec.bodies statements places body → CommandAsks command (take statements places) body
+  pub within : (places : List Place) (body : SendBody) → spec.bodies statements places body → statements ≤ length places
 
--- why a build is refused
-abbrev pub TellsUnbuilt : {A : Type 0} → OperationSpec A → ErrorKind → Type 0
-TellsUnbuilt spec (kind.InvalidArgument message) = spec.refused (kind.InvalidArgument message)
-TellsUnbuilt spec (kind.BsonSerialization fault) = spec.refused (kind.BsonSerialization fault)
-TellsUnbuilt spec kind.Memory = Unit {0}
-TellsUnbuilt spec _ = ⊥
+-- a built command, which has as many statements as those that were built before
+pub record BuildsCommand {A : Type 0} (spec : OperationSpec A) (which : SendKind) (before now : Option ℕ) (command : Command) : Type 0 where
+  pub statements : ℕ
+  pub built : IsBuilt spec which statements command
+  pub fixed : IsFixed before statements
+  pub now_is : now ≡ Some statements
 
--- a built command, or the error that tells why there is none
-abbrev pub Builds : {A : Type 0} → OperationSpec A → ℕ → Result Command Error → Type 0
-Builds spec statements (Ok command) = IsBuilt spec statements command
-Builds spec statements (Err error) = TellsUnbuilt spec (kind_of error)
+-- the kinds of error that a build may be refused with
+abbrev pub MayRefuse : ErrorKind → Type 0
+MayRefuse (kind.InvalidArgument message) = Unit {0}
+MayRefuse (kind.BsonSerialization fault) = Unit {0}
+MayRefuse (kind.IncompatibleServer message) = Unit {0}
+MayRefuse (kind.Internal message) = Unit {0}
+MayRefuse _ = ⊥
 
--- the send of what is asked for under a session and a number, where there are such, outside transactions
-abbrev pub plain_send : Option (List ℕ) → Option ℤ → SendBody → Send
-plain_send session number body = record { session = session; number = number; start = false; in_transaction = false; body = body }
+-- a build for a connection that is described so is refused with this error, which has its kind and nothing else
+pub record Refuses {A : Type 0} (spec : OperationSpec A) (description : Description) (error : Error) : Type 0 where
+  pub refused : spec.refused description error
+  pub may : MayRefuse (kind_of error)
+  pub alone : IsAlone (kind_of error) no_labels error
 
--- a frame reads as what is asked for, under a session and a number
-abbrev pub ReadsAsAsked : {A : Type 0} → OperationSpec A → Option (List ℕ) → Option ℤ → Framed → Type 0
-ReadsAsAsked spec session number frame =
-    (places : List Place) (body : SendBody) → spec.asked places body → Reads frame places (plain_send session number body)
+-- a built command for a connection that is described so, or why there is none: then the number of statements is as before
+abbrev pub Builds : {A : Type 0} → OperationSpec A → SendKind → Description → Option ℕ → Option ℕ → Result Command Error → Type 0
+Builds spec which description before now (Ok command) = BuildsCommand spec which before now command
+Builds spec which description before now (Err error) = (now ≡ before) × (Refuses spec description error ⊎ (kind_of error ≡ kind.Memory))
 
--- a frame is a built command with the executor's fields, under a session and a number
-pub record IsFramed {A : Type 0} (spec : OperationSpec A) (session : Option (List ℕ)) (number : Option ℤ) (frame : Framed) : Type 0 where
+-- the send of what is asked for, outside transactions
+abbrev pub send_of : SendContext → SendBody → Send
+send_of context body = record { session = context.session; number = context.number; start = false; in_transaction = false; body = body }
+
+-- a frame is a built command with the executor's fields
+pub record IsFramed {A : Type 0} (spec : OperationSpec A) (which : SendKind) (statements : ℕ) (context : SendContext) (frame : Framed) : Type 0 where
+  pub command : Command
+  pub built : IsBuilt spec which statements command
+  pub is : IsFrameOf (with_fields context command) frame
+
+-- with the front of the places the frame reads as what is asked for
+abbrev pub ReadsAsAsked : {A : Type 0} → OperationSpec A → Batch → SendContext → Framed → Type 0
+ReadsAsAsked spec batch context frame = (body : SendBody) → AsksFor spec batch body → Reads frame (front batch) (send_of context body)
+
+-- a built command with the executor's fields has no spelling
+pub record HasNoSpelling {A : Type 0} (spec : OperationSpec A) (context : SendContext) (fault : EncodeFault) : Type 0 where
+  pub which : SendKind
   pub statements : ℕ
   pub command : Command
-  pub built : IsBuilt spec statements command
-  pub is : IsFrameOf (with_fields session number command) frame
+  pub is : spec.commands which statements command
+  pub sixteen : IsSixteen context.session
+  pub refused : refusal (with_fields context command).body ≡ Some fault
 
--- it reads as what is asked for
-pub record GivesFrame {A : Type 0} (spec : OperationSpec A) (session : Option (List ℕ)) (number : Option ℤ) (frame : Framed) : Type 0 where
-  pub framed : IsFramed spec session number frame
-  pub reads : ReadsAsAsked spec session number frame
-
--- why there is no frame of a command under a session and a number
-abbrev pub TellsUnframed : {A : Type 0} → OperationSpec A → Option (List ℕ) → Option ℤ → ErrorKind → Type 0
-TellsUnframed spec session number (kind.InvalidArgument message) = spec.refused (kind.InvalidArgument message)
-TellsUnframed spec session number (kind.BsonSerialization fault) = spec.refused (kind.BsonSerialization fault) ⊎ spec.unspelled session number fault
-TellsUnframed spec session number kind.Memory = Unit {0}
-TellsUnframed spec session number _ = ⊥
-
--- the frame of an operation's command, or the error that tells why there is none
-abbrev pub BuildsFrame : {A : Type 0} → OperationSpec A → Option (List ℕ) → Option ℤ → Result Framed Error → Type 0
-BuildsFrame spec session number (Ok frame) = GivesFrame spec session number frame
-BuildsFrame spec session number (Err error) = TellsUnframed spec session number (kind_of error)
+-- why a built command has no frame: it has no spelling, or there was no memory
+abbrev pub TellsUnframed : {A : Type 0} → OperationSpec A → SendContext → ErrorKind → Type 0
+TellsUnframed spec context (kind.BsonSerialization fault) = HasNoSpelling spec context fault
+TellsUnframed spec context kind.Memory = Unit {0}
+TellsUnframed spec context _ = ⊥
 
 -- nothing is refused
-abbrev pub never : ErrorKind → Type 0
-never why = ⊥
+abbrev pub never : Description → Error → Type 0
+never description error = ⊥
 
 -- the error that an operation reads in a reply whose command was done, with the reply in it
 pub record ReadsError {A : Type 0} (spec : OperationSpec A) (bytes : List ℕ) (error : Error) : Type 0 where
   pub response : CommandResponse
   pub done : ReadsResponse bytes (Ok response)
   pub bare : Error
-  pub reads : spec.answers response.body (Err bare)
+  pub reads : spec.reads (Ok response.body ∷ []) (Err bare)
   pub kept : HasResponse (Some bytes) bare error
 
 -- the output that an operation reads in a reply whose command was done
 pub record ReadsOutput {A : Type 0} (spec : OperationSpec A) (bytes : List ℕ) (output : A) : Type 0 where
   pub response : CommandResponse
   pub done : ReadsResponse bytes (Ok response)
-  pub reads : spec.answers response.body (Ok output)
+  pub reads : spec.reads (Ok response.body ∷ []) (Ok (Done output))
 
 -- what a reply comes to: the output that the operation reads in it, the error that the reply or the operation spells, or want
 -- of memory

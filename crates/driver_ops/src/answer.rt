@@ -1,7 +1,8 @@
 //! What the reply to an operation's command comes to.
-ghost use Rattle.driver_ops.specs.Operations.{SameSpec, ReadsAnswer};
+ghost use Rattle.std.specs.Prelude.{◌≡◌};
+ghost use Rattle.driver_ops.specs.Operations.{ReadsAnswer, SameSpec};
 
-use crate::operation::Operation;
+use crate::operation::{Operation, Reading};
 use crate::response::{read_response, with_reply};
 use driver_error::Result;
 use std::alloc::Global;
@@ -11,10 +12,12 @@ use std::alloc::Global;
 pub fn read_answer<O: Operation>(alloc: Global, op: &mut O, reply: &[u8]) -> Result<O::Output>
     ensures reads { ReadsAnswer (O.spec op.old) reply.now result }
     ensures spec { SameSpec (O.spec op.old) (O.spec op.new) }
+    ensures built { O.built op.new ≡ O.built op.old }
+    ensures next { O.next op.new ≡ O.next op.old }
 {
     let response = read_response(alloc, reply)?;
     match op.read_reply(alloc, &response.body) {
-        Ok(output) => Ok(output),
+        Ok(Reading::Done(output)) => Ok(output),
         Err(error) => Err(with_reply(alloc, error, reply, &response.body)),
     }
 }

@@ -1,5 +1,5 @@
 //! The insert of one document: its command, and what the reply to it says.
-ghost use Rattle.std.specs.Prelude.{◌≡◌, IfOk};
+ghost use Rattle.std.specs.Prelude.{◌≡◌, IfOk, Some, ⊤};
 ghost use Rattle.driver_error.specs.declared.kind.ErrorKind.TheVariants.{InsertMany, InvalidResponse};
 ghost use Rattle.driver_error.specs.Conversions.{IsMade, IsNew};
 ghost use Rattle.driver_error.specs.LabelTexts.{no_labels};
@@ -7,17 +7,29 @@ ghost use Rattle.driver_ops.specs.InsertAnswers.{AnswersFound, ReadsInsert, coun
 ghost use Rattle.driver_ops.specs.Inserts.{insert_command, IsOneDocument};
 ghost use Rattle.driver_ops.specs.inside.Readings.{Gives};
 ghost use Rattle.driver_ops.specs.InsertSpec.{insert_spec};
+ghost use Rattle.driver_ops.specs.SendKinds.{first};
+ghost use Rattle.driver_ops.specs.Targets.{namespace_of};
+ghost use Rattle.driver_ops.specs.declared.target.OperationTarget.TheVariants.{Collection as Within};
 
 use crate::command::Command;
-use crate::operation::Operation;
-use crate::reading::{Unread, int_at, labels_at};
+use crate::defaults::{
+    lacks_option, repeats_under_backpressure, stays_for_retry, takes_sessions,
+    writes_after_cluster_time,
+};
+use crate::feature::Feature;
+use crate::operation::{Operation, Reading};
+use crate::reply_fields::{Unread, int_at, labels_at};
 use crate::response::odd_reply;
+use crate::target::{Collection, OperationTarget};
 use crate::write_reply::{concern_in, write_errors_in};
-use bson_lite::{Bson, ByIndex, Bytes, Document, List, Namespace, Text, TryClone};
+use bson_lite::{Bson, ByIndex, Bytes, Document, List, Text, TryClone};
 use driver_error::{
     Error, ErrorKind, IndexedWriteError, InsertManyError, Result, WriteConcernError,
 };
-use driver_link::{ClientOptions, CommandName, Description, Sequence, keys};
+use driver_link::{
+    ClientOptions, CommandName, Description, ReadConcern, SelectionCriteria, Sequence,
+    WriteConcern, keys,
+};
 use driver_session::Retryability;
 use std::alloc::{AllocError, Global};
 
@@ -26,46 +38,76 @@ const ODD_INSERT: &str = "the reply does not tell of one inserted document";
 
 /// The insert of one document, by its bytes, into a collection.
 #[derive(Drop)]
-pub struct Insert<'a> {
-    namespace: &'a Namespace,
+pub struct Insert {
+    target: OperationTarget,
     document: Bytes,
 }
 
-impl<'a> Insert<'a> {
-    pub fn new(namespace: &'a Namespace, document: Bytes) -> Insert<'a>
-        ensures namespace { result.namespace.now ≡ namespace.now }
+impl Insert {
+    /// The insert of a document into a collection.
+    pub fn new(collection: Collection, document: Bytes) -> Insert
+        ensures target { result.target ≡ Within collection }
         ensures document { result.document ≡ document }
     {
         Insert {
-            namespace,
+            target: OperationTarget::Collection(collection),
             document,
         }
     }
 }
 
-impl<'a> Operation for Insert<'a> {
+impl Operation for Insert {
     type Output = ();
 
-    ghost spec = { λ insert. insert_spec insert.namespace.now insert.document };
+    ghost spec = { λ insert. insert_spec insert.target insert.document };
 
-    ghost built = { λ insert. 1 };
+    ghost built = { λ insert. Some 1 };
+
+    ghost next = { λ insert. first };
+
+    ghost has_read = { λ insert pages. ⊤ };
 
     #[tactic(auto, unfolding(driver_link::specs::CommandNames::named))]
     fn name(&self) -> &'static str {
         keys::INSERT
     }
 
+    fn target(&self) -> &OperationTarget {
+        &self.target
+    }
+
     fn build(&mut self, alloc: Global, _description: &Description) -> Result<Command> {
         Ok(Command {
             name: CommandName::Insert,
-            database: self.namespace.db.try_clone(alloc)?,
-            body: insert_command(alloc, self.namespace)?,
+            database: Text::from_str(alloc, self.target.database())?,
+            body: insert_command(alloc, &self.target)?,
             sequences: one_sequence(alloc, self.document.try_clone(alloc)?)?,
         })
     }
 
     fn statements(&self) -> usize {
         1
+    }
+
+    fn read_reply(&mut self, alloc: Global, reply: &Document) -> Result<Reading<()>> {
+        read_insert_answer(alloc, reply)?;
+        Ok(Reading::Done(()))
+    }
+
+    fn write_concern(&self) -> Feature<&WriteConcern> {
+        Feature::Inherit
+    }
+
+    fn read_concern(&self) -> Feature<&ReadConcern> {
+        lacks_option()
+    }
+
+    fn selection_criteria(&self) -> Feature<&SelectionCriteria> {
+        Feature::Inherit
+    }
+
+    fn supports_sessions(&self) -> bool {
+        takes_sessions()
     }
 
     fn retryability(&self, options: &ClientOptions) -> Retryability {
@@ -75,22 +117,30 @@ impl<'a> Operation for Insert<'a> {
         }
     }
 
-    fn supports_sessions(&self) -> bool {
-        true
+    fn is_backpressure_retryable(&self, options: &ClientOptions) -> bool {
+        repeats_under_backpressure(self.retryability(options))
     }
 
-    fn read_reply(&mut self, alloc: Global, reply: &Document) -> Result<()> {
-        read_insert_answer(alloc, reply)
+    fn is_after_cluster_time_write(&self) -> bool {
+        writes_after_cluster_time(&self.write_concern())
+    }
+
+    fn update_for_retry(&mut self, _alloc: Global, _overloaded: bool) -> Result<()> {
+        stays_for_retry()
     }
 }
 
 /// The body of the command, field by field.
 #[tactic(auto, unfolding(crate::specs::Inserts::insert_command))]
-fn insert_command(alloc: Global, namespace: &Namespace) -> std::result::Result<Document, AllocError>
-    ensures { IfOk result (λ body. body ≡ insert_command namespace.now) }
+fn insert_command(
+    alloc: Global,
+    target: &OperationTarget,
+) -> std::result::Result<Document, AllocError>
+    ensures { IfOk result (λ body. body ≡ insert_command (namespace_of target.now)) }
 {
+    let collection = Text::from_str(alloc, target.collection())?;
     let mut body = Document::new(alloc);
-    body.push(keys::INSERT, Bson::String(namespace.coll.try_clone(alloc)?))?;
+    body.push(keys::INSERT, Bson::String(collection))?;
     body.push(keys::ORDERED, Bson::Boolean(true))?;
     Ok(body)
 }

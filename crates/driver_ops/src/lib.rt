@@ -3,18 +3,27 @@
 
 mod answer;
 mod command;
+mod defaults;
+mod feature;
 mod insert;
 mod operation;
-mod reading;
+mod reply_fields;
 mod response;
 mod spelling;
+mod target;
 mod write_reply;
 
 pub use answer::read_answer;
 pub use command::Command;
+pub use defaults::{
+    lacks_option, repeats_nothing, repeats_under_backpressure, stays_for_retry, takes_sessions,
+    writes_after_cluster_time,
+};
+pub use feature::Feature;
 pub use insert::Insert;
-pub use operation::Operation;
-pub use reading::{BASE_BACKOFF, CODE_NAME};
+pub use operation::{Operation, Reading};
+pub use reply_fields::{BASE_BACKOFF, CODE_NAME};
 pub use response::{CommandResponse, read_response};
 pub use spelling::encoded;
+pub use target::{Collection, Database, OperationTarget};
 pub use write_reply::ERROR_INFO;

@@ -1,50 +1,108 @@
 //! What is sent: an operation builds its command and reads the reply to it.
-ghost use Rattle.std.specs.Prelude.{◌≡◌, ℕ, Some};
+ghost use Rattle.std.specs.Prelude.{◌≡◌, ℕ, ◌∷◌, [], List, Option, Some, Ok, IfErr, IfSome, OnErr, OnOk};
+ghost use Rattle.driver_error.specs.declared.kind.ErrorKind.TheVariants.{Memory};
+ghost use Rattle.driver_error.specs.Error.{kind_of};
 ghost use Rattle.driver_link.specs.CommandNames.{named};
-ghost use Rattle.driver_ops.specs.Operations.{OperationSpec, SameSpec, Builds};
+ghost use Rattle.driver_ops.specs.Features.{feature_told};
+ghost use Rattle.driver_ops.specs.Operations.{Builds, OperationSpec, Page, SameAt, SameSpec};
+ghost use Rattle.driver_ops.specs.SendKinds.{SendKind, kind_after};
 
 use crate::command::Command;
+use crate::feature::Feature;
+use crate::target::OperationTarget;
 use bson_lite::Document;
 use driver_error::Result;
-use driver_link::{ClientOptions, Description};
+use driver_link::{ClientOptions, Description, ReadConcern, SelectionCriteria, WriteConcern};
 use driver_session::Retryability;
 use std::alloc::Global;
+
+/// What an operation read in a reply.
+#[derive(Debug, Drop)]
+pub enum Reading<O> {
+    /// All that it wants: this is its output.
+    Done(O),
+}
 
 /// An operation that is sent as a command. What it tells is for contracts alone.
 pub trait Operation {
     /// What a reply comes to.
     type Output;
 
-    // Its name, what it asks for, why it is refused, and how a reply is read.
+    // Its name, what it asks for, why it is refused, its options, and how a reply is read.
     ghost spec: { Self → OperationSpec Self.Output };
 
-    // How many statements the last build put into the command.
-    ghost built: { Self → ℕ };
+    // How many statements its command has: fixed once a build was Ok, and before that where there is no choice.
+    ghost built: { Self → Option ℕ };
+
+    // Which kind of send comes next.
+    ghost next: { Self → SendKind };
+
+    // The pages of an answer that it may have read, the newest first: a relation, so that it need keep none.
+    ghost has_read: { Self → List Page → Type 0 };
 
     /// The name of its command.
     fn name(&self) -> &'static str
         ensures { named result.now ≡ Some (spec self.now).name };
 
-    /// The command without the executor's fields.
+    /// What it goes to.
+    fn target(&self) -> &OperationTarget
+        ensures { result.now ≡ (spec self.now).target };
+
+    /// The command without the executor's fields, for a connection that is described so. The first build that is Ok
+    /// fixes how many statements it has: a later one has as many, or is refused.
     fn build(&mut self, alloc: Global, description: &Description) -> Result<Command>
-        ensures builds { Builds (spec self.old) (built self.new) result }
-        ensures spec { SameSpec (spec self.old) (spec self.new) };
+        ensures builds { Builds (spec self.old) (next self.old) description.now
+            (built self.old) (built self.new) result }
+        ensures spec { SameSpec (spec self.old) (spec self.new) }
+        ensures next { next self.new ≡ next self.old };
 
-    /// How many statements the last build put into the command.
+    /// How many statements the last build that was Ok put into the command. Before there was one it tells nothing.
     fn statements(&self) -> usize
-        ensures { result ≡ built self.now };
+        ensures { IfSome (built self.now) (λ statements. result ≡ statements) };
 
-    /// What of it may be repeated by its own rules.
-    fn retryability(&self, options: &ClientOptions) -> Retryability
-        ensures { result ≡ (spec self.now).own options.now };
+    /// What a reply comes to that says that the command was done: the first page of its answer.
+    fn read_reply(&mut self, alloc: Global, reply: &Document) -> Result<Reading<Self::Output>>
+        ensures reads { (spec self.old).reads (Ok reply.now ∷ []) result }
+        ensures read { OnOk result (has_read self.new (Ok reply.now ∷ [])) }
+        ensures spec { SameSpec (spec self.old) (spec self.new) }
+        ensures built { built self.new ≡ built self.old }
+        ensures next { next self.new ≡ next self.old };
+
+    /// Its write concern.
+    fn write_concern(&self) -> Feature<&WriteConcern>
+        ensures { feature_told result ≡ (spec self.now).write_concern (next self.now) };
+
+    /// Its read concern.
+    fn read_concern(&self) -> Feature<&ReadConcern>
+        ensures { feature_told result ≡ (spec self.now).read_concern };
+
+    /// Which servers may serve it.
+    fn selection_criteria(&self) -> Feature<&SelectionCriteria>
+        ensures { feature_told result ≡ (spec self.now).selection_criteria (next self.now) };
 
     /// Whether its command may be under a session.
     fn supports_sessions(&self) -> bool
         ensures { result ≡ (spec self.now).sessions };
 
-    /// What a reply comes to that says that the command was done.
-    fn read_reply(&mut self, alloc: Global, reply: &Document) -> Result<Self::Output>
-        ensures reads { (spec self.old).answers reply.now result }
+    /// What of it may be repeated by its own rules.
+    fn retryability(&self, options: &ClientOptions) -> Retryability
+        ensures { result ≡ (spec self.now).retryability options.now };
+
+    /// Whether it may be repeated after a server that was overloaded refused it.
+    fn is_backpressure_retryable(&self, options: &ClientOptions) -> bool
+        ensures { result ≡ (spec self.now).backpressure options.now };
+
+    /// Whether it is a write that a causally consistent session places after what it has seen.
+    fn is_after_cluster_time_write(&self) -> bool
+        ensures { result ≡ (spec self.now).after_cluster_time };
+
+    /// Makes it ready to be sent again after a failure, which told of overload or not. It fails only for want of
+    /// memory, and then stays as it was.
+    fn update_for_retry(&mut self, alloc: Global, overloaded: bool) -> Result<()>
+        ensures next { OnOk result
+            (SameAt (spec self.old) (kind_after overloaded (next self.old)) (next self.new)) }
+        ensures kept { OnErr result (next self.new ≡ next self.old) }
+        ensures memory { IfErr result (λ error. kind_of error ≡ Memory) }
         ensures spec { SameSpec (spec self.old) (spec self.new) }
         ensures built { built self.new ≡ built self.old };
 }

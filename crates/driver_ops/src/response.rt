@@ -8,7 +8,7 @@ ghost use Rattle.driver_ops.specs.Responses.{ReadsResponse, failed_with, said, s
 ghost use Rattle.driver_ops.specs.Readings.{command_error_in};
 ghost use Rattle.driver_ops.specs.inside.Responses.{IsSaid, KeepsReply, ReadsDocument};
 
-use crate::reading::{Unread, command_error};
+use crate::reply_fields::{Unread, command_error};
 use bson_lite::{Bytes, DecodeFault, Document, RawDocumentBuf, Text, decode, get_int};
 use driver_error::{Error, ErrorKind, Result};
 use driver_link::keys;

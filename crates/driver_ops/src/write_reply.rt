@@ -7,7 +7,7 @@ ghost use Rattle.driver_ops.specs.Readings.{natural_of};
 ghost use Rattle.driver_ops.specs.inside.Readings.{Gives};
 ghost use Rattle.driver_ops.specs.WriteReplies.{concern_error_in, concern_error_of, concern_in, indexed_error_in, indexed_error_of, indexed_errors, indexed_errors_of, write_errors_in};
 
-use crate::reading::{CODE_NAME, Unread, code_at, labels_at, natural_of, text_at};
+use crate::reply_fields::{CODE_NAME, Unread, code_at, labels_at, natural_of, text_at};
 use bson_lite::{Bson, Document, List, Text, TryClone};
 use driver_error::{IndexedWriteError, WriteConcernError};
 use driver_link::keys;

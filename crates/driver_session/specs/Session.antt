@@ -16,7 +16,7 @@ pub record Session : Type 0 where
 abbrev pub last_number : ℤ
 last_number = pos 9223372036854775807
 
--- what the error of such a session says
+-- what the error of a session says whose number is the last one
 unfoldable pub number_at_its_end : List ℕ
 number_at_its_end = codes "transaction number is at its end"
 

@@ -137,7 +137,7 @@ fn spelled(alloc: Global, document: &Document) -> Option<Bytes>
 /// The insert, with a count of sends over a ledger.
 fn counted<L: Link, Q: Ledger>(
     alloc: Global,
-    write: &PlacedWrite,
+    write: PlacedWrite,
     bytes: Bytes,
     link: L,
     blank: Blank,
@@ -145,7 +145,7 @@ fn counted<L: Link, Q: Ledger>(
     requires name { blank.name ≡ Q.name }
     requires parts { blank.parts ≡ Q.parts }
     requires some { 0 < blank.parts }
-    requires spelled { Spells write.now.written.document bytes }
+    requires spelled { Spells write.written.document bytes }
 {
     let options = ClientOptions {
         client_number: 1,
@@ -175,7 +175,7 @@ pub(crate) fn insert<L: Link + Drop>(alloc: Global, link: L) -> Option<(Seen, L)
         return None;
     };
     let bytes = spelled(alloc, &write.written.document)?;
-    let (result, link) = counted::<L, Brand>(alloc, &write, bytes, link, Blank::new(1));
+    let (result, link) = counted::<L, Brand>(alloc, write, bytes, link, Blank::new(1));
     let seen = seen_end(alloc, result)?;
     Some((seen, link))
 }

@@ -78,7 +78,7 @@ Called next fault call old now (Err (Fault found labels)) =
     × (fault (server_run_of old) ≡ Some (record { fault = found; labels = labels }))
 Called next fault call old now (Err Memory) = now ≡ record old { counts = next old.counts }
 
--- the counts after one call more of each kind
+-- the counts after one more call of a kind: a selection, a question about transactions, a check-out, a reauthentication
 abbrev pub one_select : CallCounts → CallCounts
 one_select counts = record counts { selects = one_more counts.selects }
 

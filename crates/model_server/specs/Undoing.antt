@@ -42,6 +42,7 @@ abbrev pub rewritten_at : List ℕ → (KnownSession → KnownSession) → Sessi
 rewritten_at id change sessions None = sessions
 rewritten_at id change sessions (Some known) = finite.insert sessions id (change known)
 
+-- the same by the session's id
 abbrev pub rewritten : List ℕ → (KnownSession → KnownSession) → Sessions → Sessions
 rewritten id change sessions = rewritten_at id change sessions (finite.get sessions id)
 

@@ -22,9 +22,13 @@ use Rattle.driver_link.specs.ServerRun.{ServerRun}
 use Rattle.driver_session.specs.Session.{Session, last_number}
 use Rattle.driver_session.specs.StoreTells.{DrawnApart, LendsSession, StoreTells}
 use Rattle.driver_ops.specs.InsertSpec.{insert_spec, own_of_insert}
+use Rattle.driver_ops.specs.Fields.{SendContext}
 use Rattle.driver_ops.specs.Inserts.{BodyRefused}
-use Rattle.driver_exec.specs.declared.attempt_end.Attempt.{Attempt}
-use Rattle.driver_exec.specs.declared.attempt_end.Attempt.TheVariants.{Done, Ended, Failed, Stopped, Unselected}
+use Rattle.driver_ops.specs.Operations.{batch_of}
+use Rattle.driver_ops.specs.SendKinds.{first}
+use Rattle.driver_ops.specs.Targets.{in_collection}
+use Rattle.driver_exec.specs.declared.attempt_end.AttemptEnd.{AttemptEnd}
+use Rattle.driver_exec.specs.declared.attempt_end.AttemptEnd.TheVariants.{Done, Ended, Failed, Stopped, Unfit, Unselected}
 use Rattle.driver_exec.specs.declared.attempt_end.AttemptFailure.{AttemptFailure}
 use Rattle.driver_exec.specs.declared.failure.FailurePhase.{FailurePhase}
 use Rattle.driver_exec.specs.Attempting.{AttemptState, EndsAtOnce, FailsIn, Stops, Tries, besides_out, is_nothing}
@@ -193,13 +197,14 @@ module _ (known : KnownInsert) where
         ]
 
         -- each end of the last attempt is quiet
-        last_quiet : (past : Option RetryState) (attempt : Attempt (Unit {0})) (result : Result (Unit {0}) Error) → Tries (trial known) past mid now attempt → EndsWith kept attempt result → EndsQuietly result
+        last_quiet : (past : Option RetryState) (attempt : AttemptEnd (Unit {0})) (result : Result (Unit {0}) Error) → Tries (trial known) past mid now attempt → EndsWith kept attempt result → EndsQuietly result
         last_quiet past (Done output) result tries ends = subst EndsQuietly (sym ends) tt
         last_quiet past (Failed failing) result tries ends = absurd ends
         last_quiet past (Unselected error) result tries ends =
             let here = prepares (selects_lead came_last.moment mid.link now.link (Err (Fault tries.fault tries.own)) came_last.is tries.selects.calls).leads in
             absurd (unselected_none known told_now gentle past here.moment mid here.prepared now told_now now_is (before_refl told_now) apart error tries)
         last_quiet past Stopped result tries ends = stopped_quiet result tries.1 ends
+        last_quiet past Unfit result tries ends = absurd tries.1.refused.refused
         last_quiet past (Ended error) result tries ends = quiet_memory error result ends (ended_quiet past error tries)
 
         -- the limit is not reached
@@ -261,11 +266,11 @@ pub gentle_ends : (write : PlacedWrite) (bytes : List ℕ) (spelled : Spells wri
     → (first_ready : (at : ℕ) (lent : StoreTells) (session : Session) (number : ℤ) → LendsSession before.store lent at session → DrawnApart lent
     → number ≡ session.number +ℤ pos 1 → Ready (insert_send (Some session.id) (Some number) write) told.server)
     → (bare_ready : (session : Option (List ℕ)) → Ready (insert_send session None write) told.server)
-    → (unspelled : (session : Option (List ℕ)) (number : Option ℤ) (fault : EncodeFault) → BodyRefused write.written.namespace session number fault → ⊥)
+    → (unspelled : (context : SendContext) (fault : EncodeFault) → BodyRefused write.written.namespace context fault → ⊥)
     → (not_last : (at : ℕ) (lent : StoreTells) (session : Session) → LendsSession before.store lent at session → session.number ≡ last_number → ⊥)
     → (count count_now : ℕ) (result : Result (Unit {0}) Error) → DrawnApart now.store
     → IsGentlePart (DrawsNumbers true (own_of_insert before.client.options) (setup_of before.link)) told told_now
-    → ExecutesSingle (insert_spec write.written.namespace bytes) (write.place ∷ []) before now count count_now result → EndsQuietly result
+    → ExecutesSingle (insert_spec (in_collection write.written.namespace) bytes) (batch_of (write.place ∷ []) 1) first before now count count_now result → EndsQuietly result
 gentle_ends write bytes spelled before now told told_now link_is now_is Ready ready_answers ready_again first_ready bare_ready unspelled not_last count count_now result drawn gentle single =
     let executes = single.executes in
     let last = executes.last in

@@ -21,6 +21,7 @@ use Rattle.driver_link.specs.ServerRun.{IsReply, ServerRun, TakesStep, run_after
 use Rattle.driver_session.specs.declared.retryability.Retryability.TheVariants as may
 use Rattle.driver_session.specs.Session.{Session}
 use Rattle.driver_session.specs.StoreTells.{DrawnApart}
+use Rattle.driver_ops.specs.Targets.{in_collection}
 use Rattle.driver_ops.proofs.InsertReading.{IsPlainDone, plain_read}
 use Rattle.driver_exec.specs.declared.failure.FailurePhase.{FailurePhase}
 use Rattle.driver_exec.specs.declared.failure.FailurePhase.TheVariants.{ConnectionEstablishment, Execution}
@@ -203,7 +204,7 @@ module _ (known : KnownInsert) where
       spelled_none address error fails =
           let bare = fails.is.is in
           let plain = plain_reply address fails.conn (Ok fails.reply) fails.sends fails.reply (steps address fails.conn (Ok fails.reply) fails.sends) in
-          let memory = plain_read write.written.namespace bytes fails.reply plain.reply plain.plain plain.spells bare.bare bare.reads in
+          let memory = plain_read (in_collection write.written.namespace) bytes fails.reply plain.reply plain.plain plain.spells bare.bare bare.reads in
           not_both (sym (ap is_memory memory) ∙ bare.labelled.told)
 
       -- an exchange that was lost leaves an error that lets the write be tried again

@@ -22,7 +22,11 @@ use Rattle.driver_session.specs.declared.retryability.Retryability.TheVariants a
 use Rattle.driver_session.specs.Session.{Numbers, Session, TellsEnd, last_number}
 use Rattle.driver_session.specs.StoreTells.{DrawnApart, LendsSession, StoreTells}
 use Rattle.driver_ops.specs.InsertSpec.{AsksInsert, insert_spec}
-use Rattle.driver_ops.specs.Operations.{TellsUnframed}
+use Rattle.driver_ops.specs.Fields.{SendContext}
+use Rattle.driver_ops.specs.Operations.{TellsUnframed, batch_of}
+use Rattle.driver_ops.specs.SendKinds.{first}
+use Rattle.driver_ops.specs.Targets.{in_collection}
+use Rattle.driver_ops.proofs.Inserting.{body_refused}
 use Rattle.driver_ops.specs.Inserts.{BodyRefused}
 use Rattle.driver_exec.specs.Attempting.{AttemptState, EndsRefused, Readies, Trial, asks_session, may_use, on_connection, trial_of}
 use Rattle.driver_exec.specs.Executing.{first_state}
@@ -61,7 +65,7 @@ pub record KnownInsert : Type 1 where
       → number ≡ session.number +ℤ pos 1 → Ready (insert_send (Some session.id) (Some number) write) told.server
   pub bare_ready : (session : Option (List ℕ)) → Ready (insert_send session None write) told.server
   -- its command has a spelling, and the number of its session is not the last
-  pub unspelled : (session : Option (List ℕ)) (number : Option ℤ) (fault : EncodeFault) → BodyRefused write.written.namespace session number fault → ⊥
+  pub unspelled : (context : SendContext) (fault : EncodeFault) → BodyRefused write.written.namespace context fault → ⊥
   pub not_last : (at : ℕ) (lent : StoreTells) (session : Session) → LendsSession store lent at session → session.number ≡ last_number → ⊥
 
 module _ (known : KnownInsert) where
@@ -69,11 +73,11 @@ module _ (known : KnownInsert) where
 
   -- the insert as its attempts see it
   abbrev pub trial : Trial (Unit {0})
-  trial = trial_of (insert_spec write.written.namespace bytes) (write.place ∷ []) own
+  trial = trial_of (insert_spec (in_collection write.written.namespace) bytes) (batch_of (write.place ∷ []) 1) first own
 
   -- what it asks for
-  pub asked : AsksInsert write.written.namespace bytes (write.place ∷ []) (insert_asked write)
-  asked = record { document = write.written.document; place = write.place; spelled = spelled; alone = refl; is = refl }
+  pub asked : AsksInsert write.written.namespace bytes 1 (write.place ∷ []) (insert_asked write)
+  asked = record { one = refl; document = write.written.document; place = write.place; spelled = spelled; alone = refl; is = refl }
 
   -- what may go out under what was drawn
   pub record MayGo (server : Server) (description : Description) (turn : Retryability) (held : ExecutionSession) (number : Option ℤ) : Type 0 where
@@ -205,11 +209,11 @@ module _ (known : KnownInsert) where
   }
 
   -- there is a frame, unless memory runs out
-  frame_memory : (session : Option (List ℕ)) (number : Option ℤ) (why : ErrorKind) → TellsUnframed trial.spec session number why → why ≡ kind.Memory
-  frame_memory session number (kind.InvalidArgument message) tells = absurd tells
-  frame_memory session number (kind.BsonSerialization fault) tells = elim tells [ inl none ↦ absurd none | inr refused ↦ absurd (unspelled session number fault refused) ]
-  frame_memory session number kind.Memory tells = refl
-  frame_memory session number _ tells = absurd tells
+  frame_memory : (context : SendContext) (why : ErrorKind) → TellsUnframed trial.spec context why → why ≡ kind.Memory
+  frame_memory context (kind.BsonSerialization fault) tells =
+      absurd (unspelled context fault (body_refused write.written.namespace bytes context tells.statements tells.command fault tells.is tells.sixteen tells.refused))
+  frame_memory context kind.Memory tells = refl
+  frame_memory context _ tells = absurd tells
 
   -- an attempt
   module _ (moment : ServerRun) (mid : AttemptState) (prepared : IsPrepared moment mid) where
@@ -234,6 +238,6 @@ module _ (known : KnownInsert) where
           | inl none ↦ absurd (here.allowed none.none)
           | inr other ↦ elim other [
             | inl none ↦ here.unnumbered (on_connection own refused.conn.description) now.held error none.draws
-            | inr none ↦ frame_memory _ none.number (kind_of error) none.why
+            | inr none ↦ elim none.why [ inl early ↦ absurd early.1.refused | inr unspelled ↦ frame_memory _ (kind_of error) unspelled ]
           ]
         ]

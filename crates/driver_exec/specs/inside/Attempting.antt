@@ -1,19 +1,25 @@
 -- The parts of an attempt, as the functions that make it say them.
-use Rattle.std.specs.Prelude.{◌≡◌, ℕ, ◌+◌, ℤ, List, Option, Some, ◌⊎◌, Result, Ok, Err}
+use Rattle.std.specs.Prelude.{◌≡◌, ℕ, ◌+◌, ℤ, Bool, true, false, List, Option, Some, ◌⊎◌, Result, Ok, Err}
 use Rattle.driver_error.specs.declared.error.Error.{Error}
+use Rattle.driver_error.specs.declared.kind.ErrorKind.TheVariants as kind
 use Rattle.driver_error.specs.Error.{kind_of}
 use Rattle.driver_link.specs.declared.fault.LinkError.{LinkError}
 use Rattle.driver_link.specs.declared.machine.Place.{Place}
 use Rattle.driver_link.specs.declared.options.Address.{Address}
 use Rattle.driver_link.specs.declared.options.Conn.{Conn}
+use Rattle.driver_link.specs.Framed.{Framed}
+use Rattle.driver_link.specs.LinkCalls.{ExchangesFrame}
 use Rattle.driver_link.specs.LinkState.{LinkState}
 use Rattle.driver_session.specs.declared.retryability.Retryability.{Retryability}
 use Rattle.driver_session.specs.StoreTells.{StoreTells}
-use Rattle.driver_ops.specs.Operations.{OperationSpec, TellsUnframed, ReadsAnswer}
-use Rattle.driver_exec.specs.declared.attempt_end.Attempt.{Attempt}
-use Rattle.driver_exec.specs.declared.attempt_end.Attempt.TheVariants.{Ended}
+use Rattle.driver_ops.specs.Fields.{under}
+use Rattle.driver_ops.specs.Operations.{Batch, OperationSpec, ReadsAnswer, Refuses, TellsUnframed}
+use Rattle.driver_ops.specs.SendKinds.{SendKind}
+use Rattle.driver_exec.specs.declared.attempt_end.AttemptEnd.{AttemptEnd}
+use Rattle.driver_exec.specs.declared.attempt_end.AttemptEnd.TheVariants.{Ended, Unfit}
 use Rattle.driver_exec.specs.Holding.{DrawsNumber, ExecutionSession, held_id, number_before}
-use Rattle.driver_exec.specs.Attempting.{besides_out, AttemptState, Exchanges, held_after}
+use Rattle.driver_exec.specs.Attempting.{AttemptState, Exchanges, besides_out, builds_again, held_after}
+use Rattle.driver_exec.specs.Failures.{is_memory}
 use Rattle.driver_exec.specs.inside.Failures.{EndsLost, EndsRead}
 
 -- the state of attempts, from what store and link tell, what is held and the count
@@ -21,26 +27,40 @@ abbrev pub attempt_state : StoreTells → LinkState → ExecutionSession → ℕ
 attempt_state store link held count = record { store = store; link = besides_out link; held = held; count = count }
 
 -- what comes of an exchange's result: its reply was read, or the exchange failed
-pub record ComesOfReply {A : Type 0} (spec : OperationSpec A) (turn : Retryability) (version : Option ℤ) (address : Address) (reply : List ℕ) (attempt : Attempt A) : Type 0 where
+pub record ComesOfReply {A : Type 0} (spec : OperationSpec A) (turn : Retryability) (version : Option ℤ) (address : Address) (reply : List ℕ) (attempt : AttemptEnd A) : Type 0 where
   pub answer : Result A Error
   pub reads : ReadsAnswer spec reply answer
   pub ends : EndsRead turn version address answer attempt
 
 -- what comes of an exchange, by its result
-abbrev pub Comes : {A : Type 0} → OperationSpec A → Retryability → Option ℤ → Address → Result (List ℕ) LinkError → Attempt A → Type 0
+abbrev pub Comes : {A : Type 0} → OperationSpec A → Retryability → Option ℤ → Address → Result (List ℕ) LinkError → AttemptEnd A → Type 0
 Comes spec turn version address (Ok reply) attempt = ComesOfReply spec turn version address reply attempt
 Comes spec turn version address (Err failure) attempt = EndsLost turn version address failure attempt
 
--- one exchange under what is held over a connection, and what came of it
-pub record Exchanging {A : Type 0} (spec : OperationSpec A) (places : List Place) (link link_now : LinkState) (turn : Retryability) (conn : Conn) (address : Address) (held held_now : ExecutionSession)
-    (attempt : Attempt A) : Type 0 where
+-- one exchange of a frame over a connection, and what came of it
+pub record ExchangesOnce {A : Type 0} (spec : OperationSpec A) (link link_now : LinkState) (turn : Retryability) (conn : Conn) (address : Address) (frame : Framed) (places : List Place)
+    (held held_now : ExecutionSession) (attempt : AttemptEnd A) : Type 0 where
   pub result : Result (List ℕ) LinkError
-  pub exchanges : Exchanges spec places link link_now conn (held_id held) (number_before held) result
+  pub exchanges : ExchangesFrame link link_now conn frame places result
   pub held_is : held_now ≡ held_after result held
   pub comes : Comes spec turn conn.description.max_wire_version address result attempt
 
+-- one exchange of the command under what is held, and what came of it
+pub record Exchanging {A : Type 0} (spec : OperationSpec A) (which : SendKind) (batch : Batch) (link link_now : LinkState) (turn : Retryability) (conn : Conn) (address : Address)
+    (held held_now : ExecutionSession) (attempt : AttemptEnd A) : Type 0 where
+  pub result : Result (List ℕ) LinkError
+  pub exchanges : Exchanges spec which batch link link_now conn (under (held_id held) (number_before held)) result
+  pub held_is : held_now ≡ held_after result held
+  pub comes : Comes spec turn conn.description.max_wire_version address result attempt
+
+-- the end of an attempt whose build was refused, or met want of memory: a first build's ends the operation
+abbrev pub EndsUnbuilt : {A : Type 0} → Bool → Error → AttemptEnd A → Type 0
+EndsUnbuilt again error (Ended now) = (now ≡ error) × ((again ≡ false) ⊎ (kind_of error ≡ kind.Memory))
+EndsUnbuilt again error Unfit = (again ≡ true) × (is_memory (kind_of error) ≡ false)
+EndsUnbuilt again error attempt = ⊥
+
 -- there was no number, and nothing went out
-pub record EndsUnnumbered {A : Type 0} (link link_now : LinkState) (turn : Retryability) (held held_now : ExecutionSession) (count count_now : ℕ) (attempt : Attempt A) : Type 0 where
+pub record EndsUnnumbered {A : Type 0} (link link_now : LinkState) (turn : Retryability) (held held_now : ExecutionSession) (count count_now : ℕ) (attempt : AttemptEnd A) : Type 0 where
   pub error : Error
   pub draws : DrawsNumber held.sent turn held held_now (Err error)
   pub link_is : link_now ≡ link
@@ -48,26 +68,41 @@ pub record EndsUnnumbered {A : Type 0} (link link_now : LinkState) (turn : Retry
   pub ends : attempt ≡ Ended error
 
 -- there was a number and no frame under it, and nothing went out
-pub record EndsUnframed {A : Type 0} (spec : OperationSpec A) (link link_now : LinkState) (turn : Retryability) (held held_now : ExecutionSession) (count count_now : ℕ) (attempt : Attempt A) : Type 0 where
+pub record EndsUnframed {A : Type 0} (spec : OperationSpec A) (again : Bool) (link link_now : LinkState) (turn : Retryability) (conn : Conn) (held held_now : ExecutionSession)
+    (count count_now : ℕ) (attempt : AttemptEnd A) : Type 0 where
   pub error : Error
   pub number : Option ℤ
   pub draws : DrawsNumber held.sent turn held held_now (Ok number)
-  pub why : TellsUnframed spec (held_id held_now) number (kind_of error)
+  pub why : ((builds_again again held ≡ false) × Refuses spec conn.description error) ⊎ TellsUnframed spec (under (held_id held_now) number) (kind_of error)
   pub link_is : link_now ≡ link
   pub uncounted : count_now ≡ count
   pub ends : attempt ≡ Ended error
 
+-- there was a number, and the command could not be built again
+pub record EndsUnfit {A : Type 0} (spec : OperationSpec A) (again : Bool) (link link_now : LinkState) (turn : Retryability) (conn : Conn) (held held_now : ExecutionSession)
+    (count count_now : ℕ) (attempt : AttemptEnd A) : Type 0 where
+  pub error : Error
+  pub number : Option ℤ
+  pub draws : DrawsNumber held.sent turn held held_now (Ok number)
+  pub again_is : builds_again again held ≡ true
+  pub refused : Refuses spec conn.description error
+  pub link_is : link_now ≡ link
+  pub uncounted : count_now ≡ count
+  pub ends : attempt ≡ Unfit
+
 -- the command went out under its number
-pub record SendsOut {A : Type 0} (spec : OperationSpec A) (places : List Place) (link link_now : LinkState) (turn : Retryability) (conn : Conn) (address : Address) (held held_now : ExecutionSession)
-    (count count_now : ℕ) (attempt : Attempt A) : Type 0 where
+pub record SendsOut {A : Type 0} (spec : OperationSpec A) (which : SendKind) (batch : Batch) (link link_now : LinkState) (turn : Retryability) (conn : Conn) (address : Address)
+    (held held_now : ExecutionSession) (count count_now : ℕ) (attempt : AttemptEnd A) : Type 0 where
   pub numbered : ExecutionSession
   pub number : Option ℤ
   pub draws : DrawsNumber held.sent turn held numbered (Ok number)
-  pub exchanging : Exchanging spec places link link_now turn conn address (record numbered { sent = Some number }) held_now attempt
+  pub exchanging : Exchanging spec which batch link link_now turn conn address (record numbered { sent = Some number }) held_now attempt
   pub counted : count_now ≡ count + 1
 
--- the command of an attempt
-abbrev pub Sending : {A : Type 0} → OperationSpec A → List Place → LinkState → LinkState → Retryability → Conn → Address → ExecutionSession → ExecutionSession → ℕ → ℕ → Attempt A → Type 0
-Sending spec places link link_now turn conn address held held_now count count_now attempt =
+-- the command of an attempt, of which a failure may be kept
+abbrev pub Sending : {A : Type 0} → OperationSpec A → SendKind → Batch → Bool → LinkState → LinkState → Retryability → Conn → Address → ExecutionSession → ExecutionSession → ℕ → ℕ → AttemptEnd A → Type 0
+Sending spec which batch again link link_now turn conn address held held_now count count_now attempt =
     EndsUnnumbered link link_now turn held held_now count count_now attempt
-    ⊎ (EndsUnframed spec link link_now turn held held_now count count_now attempt ⊎ SendsOut spec places link link_now turn conn address held held_now count count_now attempt)
+    ⊎ (EndsUnframed spec again link link_now turn conn held held_now count count_now attempt
+    ⊎ (EndsUnfit spec again link link_now turn conn held held_now count count_now attempt
+    ⊎ SendsOut spec which batch link link_now turn conn address held held_now count count_now attempt))

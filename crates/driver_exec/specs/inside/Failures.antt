@@ -8,8 +8,8 @@ use Rattle.driver_link.specs.declared.fault.LinkError.TheVariants.{Fault, Memory
 use Rattle.driver_link.specs.declared.options.Address.{Address}
 use Rattle.driver_session.specs.declared.retryability.Retryability.{Retryability}
 use Rattle.driver_session.specs.declared.retryability.Retryability.TheVariants as may
-use Rattle.driver_exec.specs.declared.attempt_end.Attempt.{Attempt}
-use Rattle.driver_exec.specs.declared.attempt_end.Attempt.TheVariants.{Done, Ended, Failed, Unselected}
+use Rattle.driver_exec.specs.declared.attempt_end.AttemptEnd.{AttemptEnd}
+use Rattle.driver_exec.specs.declared.attempt_end.AttemptEnd.TheVariants.{Done, Ended, Failed, Unselected}
 use Rattle.driver_exec.specs.declared.attempt_end.AttemptFailure.{AttemptFailure}
 use Rattle.driver_exec.specs.declared.failure.FailurePhase.{FailurePhase}
 use Rattle.driver_exec.specs.declared.failure.FailurePhase.TheVariants.{ConnectionEstablishment, Execution}
@@ -33,25 +33,25 @@ pub record IsFailing (phase : FailurePhase) (address : Address) (P : Error → T
   pub error : P failing.failure.error
 
 -- the end of an attempt that selected no server
-abbrev pub EndsUnselected : {A : Type 0} → LinkError → Attempt A → Type 0
+abbrev pub EndsUnselected : {A : Type 0} → LinkError → AttemptEnd A → Type 0
 EndsUnselected (Fault fault own) (Unselected error) = IsFaultOf fault own may.None error
 EndsUnselected failure (Ended error) = kind_of error ≡ kind.Memory
 EndsUnselected failure attempt = ⊥
 
 -- the end of an attempt that had no connection to its server
-abbrev pub EndsUnconnected : {A : Type 0} → Retryability → Address → LinkError → Attempt A → Type 0
+abbrev pub EndsUnconnected : {A : Type 0} → Retryability → Address → LinkError → AttemptEnd A → Type 0
 EndsUnconnected own address (Fault fault labels) (Failed failing) = IsFailing ConnectionEstablishment address (IsFaultOf fault labels own) failing
 EndsUnconnected own address failure (Ended error) = kind_of error ≡ kind.Memory
 EndsUnconnected own address failure attempt = ⊥
 
 -- the end of an attempt whose exchange failed, on a connection of a wire version
-abbrev pub EndsLost : {A : Type 0} → Retryability → Option ℤ → Address → LinkError → Attempt A → Type 0
+abbrev pub EndsLost : {A : Type 0} → Retryability → Option ℤ → Address → LinkError → AttemptEnd A → Type 0
 EndsLost turn version address (Fault fault own) (Failed failing) = IsFailing Execution address (IsVersioned (IsFaultOf fault own turn) version) failing
 EndsLost turn version address failure (Ended error) = kind_of error ≡ kind.Memory
 EndsLost turn version address failure attempt = ⊥
 
 -- the end of an attempt whose reply was read
-abbrev pub EndsRead : {A : Type 0} → Retryability → Option ℤ → Address → Result A Error → Attempt A → Type 0
+abbrev pub EndsRead : {A : Type 0} → Retryability → Option ℤ → Address → Result A Error → AttemptEnd A → Type 0
 EndsRead turn version address (Ok output) attempt = attempt ≡ Done output
 EndsRead turn version address (Err read) (Failed failing) = IsFailing Execution address (IsVersioned (IsLabelledRead turn read) version) failing
 EndsRead turn version address (Err read) (Ended error) = kind_of error ≡ kind.Memory

@@ -1,7 +1,9 @@
 -- The operation's attempts, and the session that came back, tell what it left and the cause of its end.
 use Rattle.std.proofs.Common.{refl, ap, ◌∙◌}
+use Rattle.driver_ops.specs.Operations.{batch_of}
 use Rattle.driver_exec.specs.Causes.{end_of}
 use Rattle.driver_exec.specs.Client.{store_of}
+use Rattle.driver_exec.proofs.Commanding.{fixed_some}
 use Rattle.driver_exec.proofs.KeepingCalls.{works_keeps, wrote_ends}
 use Rattle.driver_exec.proofs.OperationCausing.{executes_caused}
 use Rattle.driver_exec.proofs.Wrote.{works_wrote}
@@ -10,11 +12,11 @@ use Rattle.driver_exec.proofs.execute.execute_operation.Goals as goal
 use Rattle.driver_exec.specs.inside.Attempting.{attempt_state}
 
 pub returns-clause-executes : goal.returns-clause-executes
-returns-clause-executes g c = record {
+returns-clause-executes g c = λ statements fixed. record {
   sharded = c.is_sharded-sharded.result;
   sharded_is = c.is_sharded-sharded.ensures;
   last = attempt_state (g.S.SessionStore.tells (store_of c.execute_operation_with_retry-held.new.client)) (g.L.Link.tells c.execute_operation_with_retry-held.new.outside.link) c.execute_operation_with_retry-held.result.0 c.execute_operation_with_retry-held.new.sends;
-  attempts = c.execute_operation_with_retry-held.ensures.attempts;
+  attempts = c.execute_operation_with_retry-held.ensures.attempts statements fixed;
   link_is = refl;
   out = c.execute_operation_with_retry-held.ensures.out;
   count_is = refl;
@@ -23,22 +25,35 @@ returns-clause-executes g c = record {
 }
 
 pub returns-clause-one_command : goal.returns-clause-one_command
-returns-clause-one_command g c = executes_works (g.O.Operation.spec c.args.op.now) c.args.places.now _ _ c.args.sends.now c.execute_operation_with_retry-held.new.sends c.execute_operation_with_retry-held.result.1 (returns-clause-executes g c)
+returns-clause-one_command g c = λ statements fixed.
+    executes_works (g.O.Operation.spec c.args.op.now) (batch_of c.args.places.now statements) (g.O.Operation.next c.args.op.now) _ _ c.args.sends.now c.execute_operation_with_retry-held.new.sends
+    c.execute_operation_with_retry-held.result.1 (returns-clause-executes g c statements fixed)
 
+-- a number that is fixed, if one is
 pub returns-clause-caused : goal.returns-clause-caused
-returns-clause-caused g c = executes_caused (g.O.Operation.spec c.args.op.now) c.args.places.now _ _ c.args.sends.now c.execute_operation_with_retry-held.new.sends c.execute_operation_with_retry-held.result.1 (returns-clause-executes g c)
+returns-clause-caused g c =
+    let some = fixed_some (g.O.Operation.built c.execute_operation_with_retry-held.new.op) in
+    executes_caused (g.O.Operation.spec c.args.op.now) (batch_of c.args.places.now some.0) (g.O.Operation.next c.args.op.now) _ _ c.args.sends.now c.execute_operation_with_retry-held.new.sends
+    c.execute_operation_with_retry-held.result.1 (returns-clause-executes g c some.0 some.1)
 
 pub returns-clause-lent : goal.returns-clause-lent
-returns-clause-lent g c = executes_lends (g.O.Operation.spec c.args.op.now) c.args.places.now _ _ c.args.sends.now c.execute_operation_with_retry-held.new.sends c.execute_operation_with_retry-held.result.1 (returns-clause-executes g c)
+returns-clause-lent g c =
+    let some = fixed_some (g.O.Operation.built c.execute_operation_with_retry-held.new.op) in
+    executes_lends (g.O.Operation.spec c.args.op.now) (batch_of c.args.places.now some.0) (g.O.Operation.next c.args.op.now) _ _ c.args.sends.now c.execute_operation_with_retry-held.new.sends
+    c.execute_operation_with_retry-held.result.1 (returns-clause-executes g c some.0 some.1)
 
 pub returns-clause-drawn : goal.returns-clause-drawn
-returns-clause-drawn g c = executes_draws (g.O.Operation.spec c.args.op.now) c.args.places.now _ _ c.args.sends.now c.execute_operation_with_retry-held.new.sends c.execute_operation_with_retry-held.result.1 (returns-clause-executes g c)
+returns-clause-drawn g c =
+    let some = fixed_some (g.O.Operation.built c.execute_operation_with_retry-held.new.op) in
+    executes_draws (g.O.Operation.spec c.args.op.now) (batch_of c.args.places.now some.0) (g.O.Operation.next c.args.op.now) _ _ c.args.sends.now c.execute_operation_with_retry-held.new.sends
+    c.execute_operation_with_retry-held.result.1 (returns-clause-executes g c some.0 some.1)
 
 pub returns-clause-keeps : goal.returns-clause-keeps
-returns-clause-keeps g c = λ write asked.
-    works_keeps (g.O.Operation.spec c.args.op.now) c.args.places.now _ _ c.execute_operation_with_retry-held.result.1 (returns-clause-one_command g c) write asked
+returns-clause-keeps g c = λ statements fixed write asked.
+    works_keeps (g.O.Operation.spec c.args.op.now) (batch_of c.args.places.now statements) _ _ c.execute_operation_with_retry-held.result.1 (returns-clause-one_command g c statements fixed) write asked
 
 pub returns-clause-stands : goal.returns-clause-stands
-returns-clause-stands g c = λ write asked done.
+returns-clause-stands g c = λ statements fixed write asked done.
     wrote_ends _ _ write (end_of c.execute_operation_with_retry-held.result.1)
-    (works_wrote (g.O.Operation.spec c.args.op.now) c.args.places.now write asked done _ _ c.execute_operation_with_retry-held.result.1 (returns-clause-one_command g c))
+    (works_wrote (g.O.Operation.spec c.args.op.now) (batch_of c.args.places.now statements) write asked done _ _ c.execute_operation_with_retry-held.result.1
+    (returns-clause-one_command g c statements fixed))

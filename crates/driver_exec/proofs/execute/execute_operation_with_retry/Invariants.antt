@@ -1,6 +1,6 @@
 -- The failures so far, and what is kept of them.
-use Rattle.std.proofs.Common.{◌≡◌, ◌+◌, ◌≤◌}
-use Rattle.driver_ops.specs.Operations.{SameSpec}
+use Rattle.std.proofs.Common.{◌≡◌, ℕ, ◌+◌, ◌≤◌}
+use Rattle.driver_ops.specs.Operations.{HasBodies, IsFixed, SameSpec, StaysFixed, batch_of}
 use Rattle.driver_exec.specs.Attempting.{trial_of}
 use Rattle.driver_exec.specs.Client.{options_of, store_of}
 use Rattle.driver_exec.specs.Holding.{holds_nothing}
@@ -10,12 +10,16 @@ use Rattle.driver_exec.specs.inside.Attempting.{attempt_state}
 
 abbrev pub invariant-attempts : goal.invariant-attempts
 invariant-attempts g l = record {
-  far : SoFar (trial_of (g.O.Operation.spec l.fn.op) l.places ((g.O.Operation.spec l.fn.op).own (options_of l.fn.client))) l.sharded
+  far : (statements : ℕ) → IsFixed (g.O.Operation.built l.op) statements
+      → SoFar (trial_of (g.O.Operation.spec l.fn.op) (batch_of l.places statements) (g.O.Operation.next l.fn.op) ((g.O.Operation.spec l.fn.op).retryability (options_of l.fn.client))) l.sharded
       (attempt_state (g.S.SessionStore.tells (store_of l.fn.client)) (g.L.Link.tells l.fn.outside.link) holds_nothing l.fn.sends)
       l.kept
       (attempt_state (g.S.SessionStore.tells (store_of l.client)) (g.L.Link.tells l.outside.link) l.held l.sends);
   spec : SameSpec (g.O.Operation.spec l.fn.op) (g.O.Operation.spec l.op);
-  own : l.own ≡ (g.O.Operation.spec l.fn.op).own (options_of l.fn.client);
+  fixed : StaysFixed (g.O.Operation.built l.fn.op) (g.O.Operation.built l.op);
+  next : g.O.Operation.next l.op ≡ g.O.Operation.next l.fn.op;
+  bodies : HasBodies (g.O.Operation.spec l.op) l.places;
+  own : l.own ≡ (g.O.Operation.spec l.fn.op).retryability (options_of l.fn.client);
   options : options_of l.client ≡ options_of l.fn.client;
   out : (g.L.Link.tells l.outside.link).out ≡ (g.L.Link.tells l.fn.outside.link).out;
   call : l.outside.call ≡ l.fn.outside.call;

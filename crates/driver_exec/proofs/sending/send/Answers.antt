@@ -1,19 +1,60 @@
--- The frame reads as what is asked for, and the exchange is one under the number.
-use Rattle.std.proofs.Common.{inr, subst}
+-- The command is built for the connection, its frame goes out with the front of the places, and what comes of it.
+use Rattle.std.proofs.Common.{refl, subst}
+use Rattle.std.specs.Prelude.{Ok, Err}
+use Rattle.driver_ops.specs.Fields.{FramesUnder, under}
+use Rattle.driver_ops.specs.Operations.{IsFixed}
 use Rattle.driver_exec.specs.Attempting.{besides_out}
-use Rattle.driver_exec.specs.Holding.{DrawsNumber}
-use Rattle.driver_exec.proofs.Trying.{exchanging_same}
+use Rattle.driver_exec.specs.Holding.{DrawsNumber, held_id}
+use Rattle.driver_exec.specs.inside.Attempting.{ExchangesOnce}
+use Rattle.driver_exec.proofs.Commanding.{build_fixes, ends_unbuilt, ends_unframed, fixes_twice, reads_some, same_fixes, sends_out}
 use Rattle.driver_exec.proofs.sending.send.Goals as goal
-use Rattle.driver_exec.specs.inside.Attempting.{Exchanging}
+
+pub exchange-requires : goal.exchange-requires
+exchange-requires g c =
+    let built = c.in-Ok-build.ensures.builds in
+    reads_some c.args.places.now c.front-own.result.now (under (held_id c.draw_number-held.result.0) c.in-Ok.number) c.requires built
+    (subst (λ s. FramesUnder (under s c.in-Ok.number) c.in-Ok-build.command (Ok c.in-Ok-frame_of.frame)) c.id.ensures c.in-Ok-frame_of.ensures)
+    c.statements.result c.statements.ensures c.front-own.ensures
+
+pub returns-in-Err-build-clause-sending : goal.returns-in-Err-build-clause-sending
+returns-in-Err-build-clause-sending g c = λ statements fixed.
+    let link = besides_out (g.L.Link.tells c.args.link.now) in
+    let draws = subst (λ r. DrawsNumber c.args.held.sent c.args.turn.now.turn c.args.held c.draw_number-held.result.0 r) c.in-Ok.is c.draw_number-held.ensures in
+    ends_unbuilt (g.O.Operation.spec c.args.op.now) (g.O.Operation.next c.args.op.now) c.args.places.now statements c.args.turn.now.again link link c.args.turn.now.turn c.args.turn.now.conn.now
+    c.args.address c.args.held c.draw_number-held.result.0 c.in-Ok.number draws c.args.sends.now c.args.sends.now c.in-Err-build.error c.builds_again-again.result c.unbuilt.result
+    c.builds_again-again.ensures c.in-Err-build.ensures.builds.1 c.unbuilt.ensures refl refl
 
 pub returns-clause-sending : goal.returns-clause-sending
-returns-clause-sending g c =
-    let exchanging = exchanging_same (g.O.Operation.spec c.args.op.now) _ c.in-Ok-frame_of.ensures.spec c.args.places.now _ _ _ _ _ _ _ _ c.exchange.ensures.exchanging in
-    inr (inr (record {
-      numbered = c.draw_number-held.result.0;
-      number = c.in-Ok.number;
-      draws = subst (λ r. DrawsNumber c.args.held.sent c.args.turn.now.turn c.args.held c.draw_number-held.result.0 r) c.in-Ok.is c.draw_number-held.ensures;
-      exchanging = subst (λ h. Exchanging (g.O.Operation.spec c.args.op.now) c.args.places.now (besides_out (g.L.Link.tells c.args.link.now)) (besides_out (g.L.Link.tells c.exchange.new.link)) c.args.turn.now.turn
-          c.args.turn.now.conn.now c.args.address h c.exchange.result.0 c.exchange.result.1) c.sent_under.ensures exchanging;
-      counted = c.exchange.ensures.sends;
-    }))
+returns-clause-sending g c = λ statements fixed.
+    let built = c.in-Ok-build.ensures.builds in
+    let link = besides_out (g.L.Link.tells c.args.link.now) in
+    let link_now = besides_out (g.L.Link.tells c.exchange.new.link) in
+    let held = c.draw_number-held.result.0 in
+    let draws = subst (λ r. DrawsNumber c.args.held.sent c.args.turn.now.turn c.args.held held r) c.in-Ok.is c.draw_number-held.ensures in
+    sends_out (g.O.Operation.spec c.args.op.now) (g.O.Operation.next c.args.op.now) c.args.places.now statements c.args.turn.now.again link link_now c.args.turn.now.turn c.args.turn.now.conn.now
+    c.args.address c.args.held held c.in-Ok.number draws c.args.sends.now c.exchange.new.sends _ _ c.in-Ok-build.command built
+    (subst (λ o. IsFixed o statements) c.exchange.ensures.built fixed) _ c.in-Ok-build.ensures.spec c.in-Ok-frame_of.frame c.front-own.result.now c.exchange.result.0 c.exchange.result.1
+    (subst (λ s. FramesUnder (under s c.in-Ok.number) c.in-Ok-build.command (Ok c.in-Ok-frame_of.frame)) c.id.ensures c.in-Ok-frame_of.ensures)
+    c.statements.result c.statements.ensures c.front-own.ensures
+    (subst (λ h. ExchangesOnce (g.O.Operation.spec c.build.new.self) link link_now c.args.turn.now.turn c.args.turn.now.conn.now c.args.address c.in-Ok-frame_of.frame c.front-own.result.now h c.exchange.result.0 c.exchange.result.1)
+    c.sent_under-held.ensures c.exchange.ensures.exchanges) c.exchange.ensures.sends
+
+pub returns-in-Err-frame_of-clause-sending : goal.returns-in-Err-frame_of-clause-sending
+returns-in-Err-frame_of-clause-sending g c = λ statements fixed.
+    let link = besides_out (g.L.Link.tells c.args.link.now) in
+    let draws = subst (λ r. DrawsNumber c.args.held.sent c.args.turn.now.turn c.args.held c.draw_number-held.result.0 r) c.in-Ok.is c.draw_number-held.ensures in
+    ends_unframed (g.O.Operation.spec c.args.op.now) (g.O.Operation.next c.args.op.now) c.args.places.now statements c.args.turn.now.again link link c.args.turn.now.turn c.args.turn.now.conn.now
+    c.args.address c.args.held c.draw_number-held.result.0 c.in-Ok.number draws c.args.sends.now c.args.sends.now _ _ c.in-Ok-build.command c.in-Ok-build.ensures.builds c.in-Err-frame_of.error _
+    (subst (λ s. FramesUnder (under s c.in-Ok.number) c.in-Ok-build.command (Err c.in-Err-frame_of.error)) c.id.ensures c.in-Err-frame_of.ensures) refl refl refl
+
+pub returns-clause-fixed : goal.returns-clause-fixed
+returns-clause-fixed g c = fixes_twice _ _ _ (build_fixes c.in-Ok-build.ensures.builds) (same_fixes c.exchange.ensures.built)
+
+pub returns-in-Err-frame_of-clause-fixed : goal.returns-in-Err-frame_of-clause-fixed
+returns-in-Err-frame_of-clause-fixed g c = build_fixes c.in-Ok-build.ensures.builds
+
+pub returns-in-Err-build-clause-fixed : goal.returns-in-Err-build-clause-fixed
+returns-in-Err-build-clause-fixed g c = same_fixes c.in-Err-build.ensures.builds.0
+
+pub returns-in-Err-clause-fixed : goal.returns-in-Err-clause-fixed
+returns-in-Err-clause-fixed g c = λ statements fixed. fixed

@@ -3,6 +3,7 @@ use Rattle.std.proofs.Common.{ap, subst, ◌∙◌, sym}
 use Rattle.std.specs.Prelude.{Ok, Err}
 use Rattle.std.specs.Option.{option_copied}
 use Rattle.driver_link.specs.LinkState.{GainsAnswer}
+use Rattle.driver_ops.specs.Operations.{batch_of}
 use Rattle.driver_exec.specs.Attempting.{Tries, avoided, besides_out, trial_of}
 use Rattle.driver_exec.specs.Client.{options_of, store_of}
 use Rattle.driver_exec.proofs.Trying.{asks_avoided, checks_besides, handed_besides, out_again, unconnected_tries, unselected_tries}
@@ -10,29 +11,33 @@ use Rattle.driver_exec.proofs.try_once.try_once.Goals as goal
 use Rattle.driver_exec.specs.inside.Attempting.{attempt_state}
 
 pub returns-in-Err-clause-tries : goal.returns-in-Err-clause-tries
-returns-in-Err-clause-tries g c =
-    unselected_tries (g.O.Operation.spec c.args.op.now) c.args.places.now _ (option_copied c.args.kept) (g.S.SessionStore.tells (store_of c.args.client.now))
+returns-in-Err-clause-tries g c = λ statements fixed.
+    unselected_tries (g.O.Operation.spec c.args.op.now) (batch_of c.args.places.now statements) (g.O.Operation.next c.args.op.now) _ (option_copied c.args.kept) (g.S.SessionStore.tells (store_of c.args.client.now))
     (g.L.Link.tells c.args.outside.now.link) (g.L.Link.tells c.select.new.self) c.args.held c.args.sends.now c.in-Err.failure c.unselected.result
     (asks_avoided _ (avoided (option_copied c.args.kept)) (g.L.Link.tells c.args.outside.now.link) (g.L.Link.tells c.select.new.self) (Err c.in-Err.failure) c.avoided.ensures c.in-Err.ensures)
     c.unselected.ensures
 
 pub returns-in-Err-check_out-clause-tries : goal.returns-in-Err-check_out-clause-tries
-returns-in-Err-check_out-clause-tries g c =
+returns-in-Err-check_out-clause-tries g c = λ statements fixed.
+    let batch = batch_of c.args.places.now statements in
+    let which = g.O.Operation.next c.args.op.now in
     let spec = g.O.Operation.spec c.args.op.now in
     let store = g.S.SessionStore.tells (store_of c.args.client.now) in
     let link = g.L.Link.tells c.args.outside.now.link in
     let mid = g.L.Link.tells c.select.new.self in
     let checked = g.L.Link.tells c.check_out.new.self in
-    let tries = unconnected_tries spec c.args.places.now c.retryability-own.result (option_copied c.args.kept) store link (besides_out mid) checked
+    let tries = unconnected_tries spec batch which c.retryability-own.result (option_copied c.args.kept) store link (besides_out mid) checked
     c.args.held c.args.sends.now c.in-Ok.address c.in-Err-check_out.failure c.unconnected.result
     (asks_avoided _ (avoided (option_copied c.args.kept)) link mid (Ok c.in-Ok.address) c.avoided.ensures c.in-Ok.ensures)
     (checks_besides mid checked c.in-Ok.address (Err c.in-Err-check_out.failure) c.in-Err-check_out.ensures) c.unconnected.ensures in
-    subst (λ own. Tries (trial_of spec c.args.places.now own) (option_copied c.args.kept) (attempt_state store link c.args.held c.args.sends.now)
+    subst (λ own. Tries (trial_of spec batch which own) (option_copied c.args.kept) (attempt_state store link c.args.held c.args.sends.now)
     (attempt_state store checked c.args.held c.args.sends.now) c.unconnected.result)
-    (c.retryability-own.ensures ∙ ap (λ options. spec.own options) c.options.ensures) tries
+    (c.retryability-own.ensures ∙ ap (λ options. spec.retryability options) c.options.ensures) tries
 
 pub returns-clause-tries : goal.returns-clause-tries
-returns-clause-tries g c =
+returns-clause-tries g c = λ statements fixed.
+    let batch = batch_of c.args.places.now statements in
+    let which = g.O.Operation.next c.args.op.now in
     let spec = g.O.Operation.spec c.args.op.now in
     let store = g.S.SessionStore.tells (store_of c.args.client.now) in
     let store_now = g.S.SessionStore.tells (store_of c.execute_operation_on_connection-held.new.client) in
@@ -41,16 +46,16 @@ returns-clause-tries g c =
     let checked = g.L.Link.tells c.check_out.new.self in
     let sent = g.L.Link.tells c.execute_operation_on_connection-held.new.outside.link in
     let now = g.L.Link.tells c.check_in_connection.new.link in
-    let owned = c.retryability-own.ensures ∙ ap (λ options. spec.own options) c.options.ensures in
-    let tries = c.execute_operation_on_connection-held.ensures.tries c.retryability-own.result c.on_connection.ensures (option_copied c.args.kept) c.is_kept.ensures link (record {
+    let owned = c.retryability-own.ensures ∙ ap (λ options. spec.retryability options) c.options.ensures in
+    let tries = c.execute_operation_on_connection-held.ensures.tries statements fixed c.retryability-own.result c.on_connection.ensures (option_copied c.args.kept) c.is_kept.ensures link (record {
       mid = besides_out mid;
       selects = asks_avoided _ (avoided (option_copied c.args.kept)) link mid (Ok c.in-Ok.address) c.avoided.ensures c.in-Ok.ensures;
       checks_out = checks_besides mid checked c.in-Ok.address (Ok c.in-Ok-check_out.conn) c.in-Ok-check_out.ensures;
     }) in
-    subst (λ l. Tries (trial_of spec c.args.places.now (spec.own (options_of c.args.client.now))) (option_copied c.args.kept) (attempt_state store link c.args.held c.args.sends.now)
+    subst (λ l. Tries (trial_of spec batch which (spec.retryability (options_of c.args.client.now))) (option_copied c.args.kept) (attempt_state store link c.args.held c.args.sends.now)
     (record { store = store_now; link = l; held = c.execute_operation_on_connection-held.result.0; count = c.execute_operation_on_connection-held.new.sends }) c.execute_operation_on_connection-held.result.1)
     (sym (handed_besides sent now c.in-Ok-check_out.conn c.check_in_connection.ensures))
-    (subst (λ own. Tries (trial_of spec c.args.places.now own) (option_copied c.args.kept) (attempt_state store link c.args.held c.args.sends.now)
+    (subst (λ own. Tries (trial_of spec batch which own) (option_copied c.args.kept) (attempt_state store link c.args.held c.args.sends.now)
     (attempt_state store_now sent c.execute_operation_on_connection-held.result.0 c.execute_operation_on_connection-held.new.sends) c.execute_operation_on_connection-held.result.1) owned tries)
 
 -- what was checked out and handed back is out no more

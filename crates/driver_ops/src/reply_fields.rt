@@ -28,7 +28,7 @@ pub enum Unread {
 
 impl From<AllocError> for Unread {
     ghost use Rattle.std.specs.Prelude.{◌≡◌};
-    ghost use Rattle.driver_ops.specs.declared.reading.Unread.TheVariants.{Memory};
+    ghost use Rattle.driver_ops.specs.declared.reply_fields.Unread.TheVariants.{Memory};
 
     ghost from_gives = { λ _ unread. unread ≡ Memory };
 
