@@ -22,7 +22,8 @@ use Rattle.driver_actions.specs.declared.call.SingleAnswer.TheVariants.{Inserted
 use Rattle.driver_actions.specs.declared.call.SingleWrite.TheVariants.{InsertOne}
 use Rattle.driver_actions.specs.Calls.{OwnAt, IsOwn, Done, inserted, write_at, write_in, entry_at, entry_id, result_of, call_result}
 use Rattle.driver_actions.specs.MainTheorem.{answer_at}
-use Rattle.driver_actions.proofs.Logging.{first_place, done_left, entry_found, entry_left, stands_has}
+use Rattle.driver_actions.specs.SingleCalls.{first_place}
+use Rattle.driver_actions.proofs.Logging.{done_left, entry_found, entry_left, stands_has}
 
 -- what the log spells of the calls that answered
 pub record Answered (calls : List Call) (outcomes : List Outcome) (log : List Entry) : Type 0 where

@@ -110,6 +110,7 @@ module _ (calls more : List Call) (outcomes : List Outcome) (count : length outc
   ran_appended pool server ran = record {
     between = ran.between;
     sound = ran.sound;
+    below = ran.below;
     own = own_left calls more server.trace ran.own;
     answered = answered_same server.log ran.answered;
   }

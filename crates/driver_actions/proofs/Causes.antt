@@ -1,24 +1,28 @@
 -- The causes of ends, from those of their parts.
-use Rattle.std.proofs.Common.{◌≡◌, ℕ, List, refl, ap, subst, inl, inr}
+use Rattle.std.proofs.Common.{◌≡◌, List, refl, ap, subst, inl, inr}
 use Rattle.std.specs.Prelude.{None, Some, Result, Ok, Err}
 use Rattle.bson_lite.specs.declared.bson.Bson.{Bson}
 use Rattle.bson_lite.specs.declared.document.Pair.{Pair}
 use Rattle.bson_lite.specs.declared.namespace.Namespace.{Namespace}
 use Rattle.driver_error.specs.declared.error.Error.{Error}
+use Rattle.driver_error.specs.declared.results.InsertManyResult.{InsertManyResult}
 use Rattle.driver_error.specs.Error.{kind_of}
+use Rattle.driver_link.specs.declared.machine.PlacedWrite.{PlacedWrite}
 use Rattle.driver_ops.specs.InsertSpec.{insert_spec}
 use Rattle.driver_ops.specs.Targets.{in_collection}
 use Rattle.driver_exec.specs.Causes.{end_of, outline_of}
 use Rattle.driver_exec.specs.Moment.{Moment}
 use Rattle.driver_exec.specs.OperationCauses.{Caused}
-use Rattle.driver_exec.specs.Singles.{BecomesSingle, CausedSingle}
+use Rattle.driver_actions.specs.SingleCalls.{Inserts}
+use Rattle.driver_actions.specs.Singles.{BecomesSingle}
 use Rattle.driver_actions.specs.declared.call.Answer.{Answer}
 use Rattle.driver_actions.specs.declared.call.Answer.TheVariants as answer
+use Rattle.driver_actions.specs.declared.call.Call.{Call}
 use Rattle.driver_actions.specs.declared.call.Call.TheVariants.{Single}
 use Rattle.driver_actions.specs.declared.call.SingleAnswer.{SingleAnswer}
 use Rattle.driver_actions.specs.declared.call.SingleWrite.{SingleWrite}
 use Rattle.driver_actions.specs.declared.call.SingleWrite.TheVariants.{InsertOne}
-use Rattle.driver_actions.specs.Causes.{BecomesEnd, HasCause, MayDrawId, OperationCaused, WriteCaused}
+use Rattle.driver_actions.specs.Causes.{BecomesEnd, HasCause, OperationCaused, WriteCaused}
 use Rattle.driver_actions.specs.Inputs.{IsAccepted, TellsInput}
 use Rattle.driver_actions.proofs.Refusals.{input_first, refuses_nothing}
 
@@ -31,48 +35,48 @@ caused_input before now unasked namespace document error tells = record {
 }
 
 -- an operation's end in the form of its call's
-becomes_ok : (A : Type 0) (executed : Result (Unit {0}) Error) (done : Unit {0}) (given : A) → BecomesSingle executed (Ok done) → BecomesEnd {B = A} executed (Ok given)
+becomes_ok : (A : Type 0) (executed : Result InsertManyResult Error) (done : InsertManyResult) (given : A) → BecomesSingle executed (Ok done) → BecomesEnd {B = A} executed (Ok given)
 becomes_ok A (Ok output) done given becomes = tt
 becomes_ok A (Err error) done given becomes = becomes
 
-becomes_err : (A : Type 0) (executed : Result (Unit {0}) Error) (error : Error) → BecomesSingle executed (Err error) → BecomesEnd {B = A} executed (Err error)
-becomes_err A (Ok output) error becomes = absurd (let e : ◌≡◌ {A = Result (Unit {0}) Error} (Err error) (Ok output) = becomes in cc)
+becomes_err : (A : Type 0) (executed : Result InsertManyResult Error) (error : Error) → BecomesSingle executed (Err error) → BecomesEnd {B = A} executed (Err error)
+becomes_err A (Ok output) error becomes = absurd (let e : ◌≡◌ {A = Result InsertManyResult Error} (Err error) (Ok output) = becomes in cc)
 becomes_err A (Err before) error becomes = becomes
 
 -- the end of an insert, after an id was drawn for its document
-module _ (before mid now : Moment) (namespace sent : Namespace) (document : List (Pair Bson)) (bytes : List ℕ) (draws : MayDrawId before mid) (same : sent ≡ namespace)
+module _ (before now : Moment) (namespace : Namespace) (document : List (Pair Bson)) (write : PlacedWrite) (same : write.written.namespace ≡ namespace)
     (accepted : IsAccepted namespace document) where
   -- its cause over the caller's namespace
-  renamed : (executed : Result (Unit {0}) Error) → Caused {A = Unit {0}} (insert_spec (in_collection sent) bytes) mid now (end_of executed)
-      → Caused {A = Unit {0}} (insert_spec (in_collection namespace) bytes) mid now (end_of executed)
-  renamed executed caused = subst (λ n. Caused {A = Unit {0}} (insert_spec (in_collection n) bytes) mid now (end_of executed)) same caused
+  renamed : (ended : Result InsertManyResult Error) (inserts : Inserts before now write ended)
+      → Caused (insert_spec (in_collection namespace) inserts.bytes inserts.id) inserts.mid now (end_of inserts.executed)
+  renamed ended inserts = subst (λ n. Caused (insert_spec (in_collection n) inserts.bytes inserts.id) inserts.mid now (end_of inserts.executed)) same inserts.caused
 
   -- an insert that was done
-  pub caused_ok : (A : Type 0) (done : Unit {0}) (answer : A) → CausedSingle {A = Unit {0}} (insert_spec (in_collection sent) bytes) mid now (Ok done)
-      → WriteCaused {A = A} before now (InsertOne namespace document) (Ok answer)
-  caused_ok A done answer single = record {
+  pub caused_ok : (A : Type 0) (done : InsertManyResult) (answer : A) → Inserts before now write (Ok done) → WriteCaused {A = A} before now (InsertOne namespace document) (Ok answer)
+  caused_ok A done answer inserts = record {
     caused = inr (record {
-      bytes = bytes;
-      executed = single.executed;
-      mid = mid;
-      draws = draws;
-      caused = renamed single.executed single.caused;
-      becomes = becomes_ok A single.executed done answer single.becomes;
+      bytes = inserts.bytes;
+      id = inserts.id;
+      executed = inserts.executed;
+      mid = inserts.mid;
+      draws = inserts.draws;
+      caused = renamed (Ok done) inserts;
+      becomes = becomes_ok A inserts.executed done answer inserts.becomes;
     });
     refused = refuses_nothing before now namespace document None accepted;
   }
 
   -- an insert that failed
-  pub caused_err : (A : Type 0) (error : Error) → CausedSingle {A = Unit {0}} (insert_spec (in_collection sent) bytes) mid now (Err error)
-      → WriteCaused {A = A} before now (InsertOne namespace document) (Err error)
-  caused_err A error single = record {
+  pub caused_err : (A : Type 0) (error : Error) → Inserts before now write (Err error) → WriteCaused {A = A} before now (InsertOne namespace document) (Err error)
+  caused_err A error inserts = record {
     caused = inr (record {
-      bytes = bytes;
-      executed = single.executed;
-      mid = mid;
-      draws = draws;
-      caused = renamed single.executed single.caused;
-      becomes = becomes_err A single.executed error single.becomes;
+      bytes = inserts.bytes;
+      id = inserts.id;
+      executed = inserts.executed;
+      mid = inserts.mid;
+      draws = inserts.draws;
+      caused = renamed (Err error) inserts;
+      becomes = becomes_err A inserts.executed error inserts.becomes;
     });
     refused = refuses_nothing before now namespace document (Some (outline_of error)) accepted;
   }
@@ -81,18 +85,18 @@ module _ (before mid now : Moment) (namespace sent : Namespace) (document : List
 module _ (A B : Type 0) (before now : Moment) where
   operation_handed : (write : SingleWrite) (error : Error) → OperationCaused {A = A} before now write (Err error) → OperationCaused {A = B} before now write (Err error)
   operation_handed (InsertOne namespace document) error caused =
-      record { bytes = caused.bytes; executed = caused.executed; mid = caused.mid; draws = caused.draws; caused = caused.caused; becomes = handed caused.executed caused.becomes }
+      record { bytes = caused.bytes; id = caused.id; executed = caused.executed; mid = caused.mid; draws = caused.draws; caused = caused.caused; becomes = handed caused.executed caused.becomes }
     where
-      handed : (executed : Result (Unit {0}) Error) → BecomesEnd {B = A} executed (Err error) → BecomesEnd {B = B} executed (Err error)
+      handed : (executed : Result InsertManyResult Error) → BecomesEnd {B = A} executed (Err error) → BecomesEnd {B = B} executed (Err error)
       handed (Ok output) becomes = absurd becomes
       handed (Err before) becomes = becomes
 
   operation_answered : (write : SingleWrite) (given : A) (answer : B) → OperationCaused {A = A} before now write (Ok given)
       → OperationCaused {A = B} before now write (Ok answer)
   operation_answered (InsertOne namespace document) given answer caused =
-      record { bytes = caused.bytes; executed = caused.executed; mid = caused.mid; draws = caused.draws; caused = caused.caused; becomes = answered caused.executed caused.becomes }
+      record { bytes = caused.bytes; id = caused.id; executed = caused.executed; mid = caused.mid; draws = caused.draws; caused = caused.caused; becomes = answered caused.executed caused.becomes }
     where
-      answered : (executed : Result (Unit {0}) Error) → BecomesEnd {B = A} executed (Ok given) → BecomesEnd {B = B} executed (Ok answer)
+      answered : (executed : Result InsertManyResult Error) → BecomesEnd {B = A} executed (Ok given) → BecomesEnd {B = B} executed (Ok answer)
       answered (Ok output) becomes = tt
       answered (Err error) becomes = absurd becomes
 
@@ -125,3 +129,12 @@ call_cause_ok before now write given cause = cause_answered SingleAnswer Answer 
 pub call_cause_err : (before now : Moment) (write : SingleWrite) (error : Error) → WriteCaused {A = SingleAnswer} before now write (Err error)
     → HasCause {A = Answer} before now (Single write) (Err error)
 call_cause_err before now write error cause = cause_handed SingleAnswer Answer before now write error cause
+
+-- the single write of a call
+abbrev pub single_of : Call → SingleWrite
+single_of (Single write) = write
+
+-- the same of each call
+pub cause_err : (before now : Moment) (call : Call) (error : Error) → WriteCaused {A = SingleAnswer} before now (single_of call) (Err error)
+    → HasCause {A = Answer} before now call (Err error)
+cause_err before now (Single write) error cause = call_cause_err before now write error cause

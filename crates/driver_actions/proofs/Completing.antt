@@ -1,5 +1,5 @@
 -- A valid call whose part of the schedule is gentle ends well.
-use Rattle.std.proofs.Common.{◌≡◌, ℕ, List, length, take, refl, sym, ap, subst, ◌∙◌, inl, inr, arith}
+use Rattle.std.proofs.Common.{◌≡◌, ℕ, List, [], ◌∷◌, length, take, refl, sym, ap, subst, ◌∙◌, inl, inr, arith}
 use Rattle.std.specs.Prelude.{ℤ, pos, ◌+ℤ◌, ◌<ℤ◌, ◌≤ℤ◌, true, Option, None, Some, Result, Ok, Err}
 use Rattle.std.proofs.lemmas.Int.{ints}
 use Rattle.bson_lite.specs.declared.bson.Bson.{Bson}
@@ -9,6 +9,8 @@ use Rattle.bson_lite.specs.declared.namespace.Namespace.{Namespace}
 use Rattle.bson_lite.specs.Spelling.{refusal}
 use Rattle.driver_error.specs.declared.error.Error.{Error}
 use Rattle.driver_error.specs.declared.kind.ErrorKind.TheVariants as kind
+use Rattle.driver_error.specs.declared.results.InsertManyResult.{InsertManyResult}
+use Rattle.driver_error.specs.Conversions.{ConvertsKind}
 use Rattle.driver_error.specs.Error.{ErrorKind, kind_of}
 use Rattle.driver_link.specs.Clock.{ClockTells}
 use Rattle.driver_link.specs.declared.machine.Scheduled.{Scheduled}
@@ -21,17 +23,26 @@ use Rattle.driver_session.specs.Session.{Session, last_number}
 use Rattle.driver_session.specs.StoreTells.{DrawnApart, LendsSession, MayDrawObjectId, StoreTells}
 use Rattle.driver_ops.specs.Fields.{SendContext}
 use Rattle.driver_ops.specs.Inserts.{BodyRefused, insert_body}
-use Rattle.driver_ops.specs.InsertSpec.{own_of_insert}
-use Rattle.driver_ops.proofs.InsertReading.{inserted_plain}
+use Rattle.driver_ops.specs.InsertSpec.{insert_spec, own_of_insert}
+use Rattle.driver_ops.specs.Operations.{OperationSpec, TellsUnframed, batch_of}
+use Rattle.driver_ops.specs.SendKinds.{first}
+use Rattle.driver_ops.specs.Targets.{in_collection}
+use Rattle.driver_ops.proofs.InsertReading.{inserted_plain, plain_read}
+use Rattle.driver_ops.proofs.Inserting.{body_refused}
+use Rattle.driver_exec.specs.Attempting.{besides_out}
 use Rattle.driver_exec.specs.BetweenCalls.{Between, NumbersWithin, Sound}
 use Rattle.driver_exec.specs.Gentle.{IsGentlePart, IsGentleTold}
 use Rattle.driver_exec.specs.Moment.{Moment}
 use Rattle.driver_exec.specs.OperationCauses.{DrawsNumbers}
-use Rattle.driver_exec.specs.Writing.{insert_send}
+use Rattle.driver_actions.specs.Singles.{BecomesSingle}
+use Rattle.driver_actions.specs.Writing.{insert_asked, insert_send}
 use Rattle.driver_exec.proofs.Completing.Course.{gentle_ends}
+use Rattle.driver_actions.proofs.Inserting.Entries.{may_send, new_place}
+use Rattle.driver_actions.proofs.Inserting.Making.{inserts_ask}
 use Rattle.driver_exec.proofs.Completing.Ends.{AnswersPlainly, EndsQuietly}
+use Rattle.driver_exec.proofs.Completing.Sessions.{KnownCommand}
 use Rattle.driver_exec.proofs.Numbering.{lent_within}
-use Rattle.driver_exec.proofs.Readying.{MayGo, bare_goes, go_again, go_answered, lent_goes}
+use Rattle.driver_actions.proofs.Inserting.Readiness.{MayGo, bare_goes, go_again, go_answered, lent_goes}
 use Rattle.driver_actions.specs.declared.call.Answer.{Answer}
 use Rattle.driver_actions.specs.declared.call.Call.{Call}
 use Rattle.driver_actions.specs.declared.call.Call.TheVariants.{Single}
@@ -42,9 +53,8 @@ use Rattle.driver_actions.specs.CallByCall.{CallCaused, with_clock, with_reading
 use Rattle.driver_actions.specs.Calls.{inserted}
 use Rattle.driver_actions.specs.Inputs.{IsAccepted, TellsInput}
 use Rattle.driver_actions.specs.MainTheorem.{CallCompletes, CallEnds, EndsWell, IsValidInsert}
-use Rattle.driver_actions.specs.Standing.{LeavesTold, RunInvariant, RunState}
-use Rattle.driver_actions.specs.SingleCalls.{Made, MakesCall, TellsAnswer}
-use Rattle.driver_actions.proofs.Logging.{first_place}
+use Rattle.driver_actions.specs.Standing.{AllBelow, LeavesTold, RunInvariant, RunState}
+use Rattle.driver_actions.specs.SingleCalls.{Made, MakesCall, TellsAnswer, first_place}
 use Rattle.driver_actions.proofs.Refusals.{accepted_not_refused}
 use Rattle.driver_actions.proofs.Sending.{call_sends, sends_own}
 use Rattle.driver_actions.proofs.Standing.{stands_count}
@@ -58,10 +68,18 @@ accepted_memory namespace document (kind.BsonSerialization fault) accepted tells
 accepted_memory namespace document kind.Memory accepted tells = refl
 accepted_memory namespace document _ accepted tells = absurd tells
 
+-- the form of an error of a single write
+single_quiet : (executed result : Result InsertManyResult Error) → BecomesSingle executed result → EndsQuietly executed → EndsQuietly result
+single_quiet (Ok output) result becomes quiet = subst EndsQuietly (sym becomes) tt
+single_quiet (Err error) (Ok output) becomes quiet = absurd becomes
+single_quiet (Err error) (Err now) becomes memory =
+    let same : now ≡ error = subst (λ why. ConvertsKind why error now) memory becomes in ap kind_of same ∙ memory
+
 -- what holds before a call over a told pool and a told server
 record Ready (made : ℕ) (pool : Pool) (told : ServerRun) : Type 0 where
   between : Between pool told.server.trace
-  sound : Sound made told.server
+  sound : Sound told.server
+  below : AllBelow made told.server.trace
   numbers : NumbersWithin (pos made) pool.idle
 
 -- a session that has no further number is past the calls that were made
@@ -94,23 +112,26 @@ module _ (made : ℕ) (before now : Moment) (namespace : Namespace) (document : 
     mid_link : server_run mid.link ≡ Some told
     mid_link = ap (λ moment. server_run moment.link) sent.inserts.draws.rest ∙ link_is
 
-    placed : sent.write.place.call ≡ made
-    placed = ap (λ place. place.call) sent.placed
+    -- what its operation tells
+    abbrev spec : OperationSpec InsertManyResult
+    spec = insert_spec (in_collection sent.write.written.namespace) sent.inserts.bytes sent.inserts.id
 
     -- each send is answered that the insert was done
     answers : (session : Option (List ℕ)) (number : Option ℤ) (server : Server) (step : Scheduled) → MayGo sent.write (insert_send session number sent.write) server
-        → IsGentleItem step.item → AnswersPlainly server (insert_send session number sent.write) step
+        → IsGentleItem step.item → AnswersPlainly spec server (insert_send session number sent.write) step
     answers session number server step may gentle = record {
       reply = one_inserted;
       is = go_answered sent.write (insert_send session number sent.write) server step may gentle;
-      plain = inserted_plain;
+      plain = λ bytes spelled error reads.
+          plain_read (in_collection sent.write.written.namespace) sent.inserts.bytes sent.inserts.id bytes one_inserted inserted_plain spelled error reads;
     }
 
     -- the first may go out
-    first : (at : ℕ) (lent : StoreTells) (session : Session) (number : ℤ) → LendsSession mid.store lent at session → DrawnApart lent
+    first_goes : (at : ℕ) (lent : StoreTells) (session : Session) (number : ℤ) → LendsSession mid.store lent at session → DrawnApart lent
         → number ≡ (session.number +ℤ pos 1) → MayGo sent.write (insert_send (Some session.id) (Some number) sent.write) told.server
-    first at lent session number lends drawn is =
-        lent_goes sent.write made mid.store lent pool told.server mid_pool placed ready.sound ready.between at session number lends drawn is
+    first_goes at lent session number lends drawn is =
+        lent_goes sent.write mid.store lent pool told.server mid_pool (may_send told.server.trace (first_place made) sent.write sent.placed (new_place made told.server.trace ready.below))
+        ready.sound ready.between at session number lends drawn is
 
     -- its command has a spelling
     unspelled : (context : SendContext) (fault : EncodeFault) → BodyRefused sent.write.written.namespace context fault → ⊥
@@ -118,6 +139,14 @@ module _ (made : ℕ) (before now : Moment) (namespace : Namespace) (document : 
         let spelled : refusal (insert_body sent.write.written.namespace context) ≡ None
         = ap (λ n. refusal (insert_body n context)) sent.own.namespace ∙ valid.command context refused.sixteen in
         let e : ◌≡◌ {A = Option EncodeFault} None (Some fault) = sym spelled ∙ refused.is in cc
+
+    -- so there is a frame, unless memory runs out
+    unframed : (context : SendContext) (why : ErrorKind) → TellsUnframed spec context why → why ≡ kind.Memory
+    unframed context (kind.BsonSerialization fault) tells =
+        absurd (unspelled context fault
+        (body_refused sent.write.written.namespace sent.inserts.bytes context tells.statements tells.command fault tells.is tells.sixteen tells.refused))
+    unframed context kind.Memory tells = refl
+    unframed context _ tells = absurd tells
 
     -- its session has a further number
     not_last : (at : ℕ) (lent : StoreTells) (session : Session) → LendsSession mid.store lent at session → session.number ≡ last_number → ⊥
@@ -129,18 +158,42 @@ module _ (made : ℕ) (before now : Moment) (namespace : Namespace) (document : 
     gentle_mid gentle =
         subst (λ moment. IsGentlePart (DrawsNumbers true (own_of_insert moment.client.options) (setup_of moment.link)) told told_now) (sym sent.inserts.draws.rest) gentle
 
+    -- its operation, with what is known of its sends
+    known : KnownCommand InsertManyResult
+    known = record {
+      spec = spec;
+      batch = batch_of (sent.write.place ∷ []) 1;
+      which = first;
+      body = insert_asked sent.write;
+      asked = inserts_ask sent.inserts;
+      own = own_of_insert mid.client.options;
+      store = mid.store;
+      told = told;
+      link = besides_out mid.link;
+      link_is = mid_link;
+      Ready = MayGo sent.write;
+      ready_answers = answers;
+      ready_again = λ id number server step may lossy. go_again sent.write id number server step may lossy;
+      first_ready = first_goes;
+      bare_ready = λ session. bare_goes sent.write session told.server;
+      takes_sessions = refl;
+      unrefused = λ description error refuses. refuses.refused;
+      unframed = unframed;
+      not_last = not_last;
+    }
+
     -- so the insert ends well
     sent_quiet : IsGentleCall told told_now → EndsQuietly sent.ended
+    unfolding known
     sent_quiet gentle =
-        gentle_ends sent.write sent.inserts.bytes sent.inserts.spelled mid now told told_now mid_link now_is (MayGo sent.write) answers
-        (λ id number server step may lossy. go_again sent.write id number server step may lossy) first (λ session. bare_goes sent.write session told.server) unspelled not_last
-        0 sent.inserts.count sent.ended apart (gentle_mid gentle) sent.inserts.executes
+        single_quiet sent.inserts.executed sent.ended sent.inserts.becomes
+        (gentle_ends known mid now told_now refl refl refl now_is apart (gentle_mid gentle) 0 sent.inserts.count sent.inserts.executed sent.inserts.executes)
 
     -- so does its call
     sent_well : (error : Error) → result ≡ Err error → IsGentleCall told told_now → kind_of error ≡ kind.Memory
     sent_well error is gentle = by_ended sent.ended (sent_quiet gentle) (subst (TellsAnswer sent.write.written.document sent.ended) is sent.tells)
       where
-        by_ended : (ended : Result (Unit {0}) Error) → EndsQuietly ended → TellsAnswer sent.write.written.document ended (Err error) → kind_of error ≡ kind.Memory
+        by_ended : (ended : Result InsertManyResult Error) → EndsQuietly ended → TellsAnswer sent.write.written.document ended (Err error) → kind_of error ≡ kind.Memory
         by_ended (Ok done) quiet tells = absurd tells
         by_ended (Err failed) quiet tells = let same : error ≡ failed = cc tells in ap kind_of same ∙ quiet
 
@@ -169,7 +222,8 @@ module _ (run : RunState) (calls : List Call) (before now : Moment) (left : Leav
   by_told (Some pool) (Some told) (Some told_now) pool_is link_is now_is leaves namespace document result makes valid gentle =
       let ready : Ready run.made pool told = record {
         between = leaves.between;
-        sound = subst (λ n. Sound n told.server) count leaves.sound;
+        sound = leaves.sound;
+        below = subst (λ n. AllBelow n told.server.trace) count leaves.below;
         numbers = subst (λ n. NumbersWithin (pos n) pool.idle) count leaves.numbers;
       } in
       insert_well run.made before now namespace document valid pool told told_now ready pool_is link_is now_is apart gentle result makes

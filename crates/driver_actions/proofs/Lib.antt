@@ -10,4 +10,4 @@ pub mod Causes
 pub mod Refusals
 pub mod Ending
 pub mod Completing
-pub mod Keeping
+pub mod Inserting

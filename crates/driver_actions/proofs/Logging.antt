@@ -10,10 +10,6 @@ use Rattle.driver_link.specs.Settled.{Has}
 use Rattle.driver_actions.specs.declared.call.Call.{Call}
 use Rattle.driver_actions.specs.Calls.{OwnAt, Mine, HasPlace, Done, write_at, same_place, entry_at}
 
--- the first place of a call
-abbrev pub first_place : ℕ → Place
-first_place call = record { call = call; index = 0 }
-
 -- what has a place in a log has it in a longer one
 stands_left : (place : Place) (log more : List Entry) → HasPlace place log → HasPlace place (log ++ more)
 stands_left place [] more stands = absurd stands

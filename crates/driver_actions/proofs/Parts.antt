@@ -1,6 +1,6 @@
 -- One call of a single write, from its parts.
-use Rattle.std.proofs.Common.{◌≡◌, ℕ, ◌+◌, ◌≤◌, List, [], refl, sym, ap, subst, ◌∙◌, inl, inr, ◌∷◌, arith}
-use Rattle.std.specs.Prelude.{true, Option, Some, is_some, Result, Ok, Err}
+use Rattle.std.proofs.Common.{◌≡◌, ℕ, ◌≤◌, List, [], refl, sym, ap, subst, ◌∙◌, inl, inr, ◌∷◌}
+use Rattle.std.specs.Prelude.{true, Option, Some, is_some, Ok, Err}
 use Rattle.std.proofs.lemmas.Bool.{cond-true}
 use Rattle.bson_lite.specs.declared.bson.Bson.{Bson}
 use Rattle.bson_lite.specs.declared.document.Pair.{Pair}
@@ -8,16 +8,15 @@ use Rattle.bson_lite.specs.declared.namespace.Namespace.{Namespace}
 use Rattle.bson_lite.specs.Fields.{value_of, id_key}
 use Rattle.driver_error.specs.declared.error.Error.{Error}
 use Rattle.driver_error.specs.declared.kind.ErrorKind.TheVariants as kind
+use Rattle.driver_error.specs.declared.results.InsertManyResult.{InsertManyResult}
+use Rattle.driver_error.specs.declared.results.InsertOneResult.{InsertOneResult}
 use Rattle.driver_error.specs.Error.{ErrorKind, kind_of}
 use Rattle.driver_link.specs.Clock.{ClockTells}
 use Rattle.driver_link.specs.declared.machine.Place.{Place}
 use Rattle.driver_link.specs.declared.machine.PlacedWrite.{PlacedWrite}
 use Rattle.driver_link.specs.declared.options.ClientOptions.{ClientOptions}
 use Rattle.driver_session.specs.StoreTells.{MayDrawObjectId, StoreTells}
-use Rattle.driver_ops.specs.Operations.{Batch, OperationSpec}
-use Rattle.driver_ops.specs.SendKinds.{SendKind}
 use Rattle.driver_exec.specs.Moment.{Moment}
-use Rattle.driver_exec.specs.Singles.{ExecutesSingle}
 use Rattle.driver_actions.specs.declared.call.Call.{Call}
 use Rattle.driver_actions.specs.declared.call.Outcome.{Outcome}
 use Rattle.driver_actions.specs.declared.call.SingleAnswer.TheVariants.{Inserted}
@@ -40,21 +39,11 @@ has_own_id document value copy found same =
     }
 
 -- the write that is sent is the caller's own
-is_own : (namespace : Namespace) (document : List (Pair Bson)) (place : Place) (write : PlacedWrite) (bytes : List ℕ) (id : Bson)
-    → Owns namespace document place write bytes id
+is_own : (namespace : Namespace) (document : List (Pair Bson)) (place : Place) (write : PlacedWrite) (bytes : List ℕ) (id : Bson) (answer : InsertOneResult)
+    → Owns namespace document place write bytes id answer
     → IsOwn (inserted namespace document) write.written
-is_own namespace document place write bytes id owns =
+is_own namespace document place write bytes id answer owns =
     record { kind = owns.kind_is; namespace = owns.namespace_is; id = owns.document.id; twelve = owns.document.twelve; document = owns.document.document }
-
--- a count that began at nothing
-pub from_none : {A : Type 0} (spec : OperationSpec A) (batch : Batch) (which : SendKind) (before now : Moment) (from count : ℕ) (result : Result A Error) → from ≡ 0
-    → ExecutesSingle spec batch which before now from count result → ExecutesSingle spec batch which before now 0 count result
-from_none spec batch which before now from count result none executes =
-    subst (λ n. ExecutesSingle spec batch which before now n count result) none executes
-
--- two sends more than none are two
-pub two_at_most : (from count : ℕ) → from ≡ 0 → count ≤ from + 2 → count ≤ 2
-two_at_most from count none within = omega (arith, none, within)
 
 -- the store of a client drew an object id or not, and the options of the client stay
 pub may_draw : (before : Moment) (store : StoreTells) (options : ClientOptions) → options ≡ before.client.options → MayDrawObjectId before.store store
@@ -68,18 +57,18 @@ may_draw before store options is draws = record {
 pub draws_nothing : (at : Moment) → MayDrawId at at
 draws_nothing at = record { draws = inl refl; rest = refl }
 
-module _ (before now : Moment) (namespace : Namespace) (document : List (Pair Bson)) (place : Place) (write : PlacedWrite) (bytes : List ℕ) (id : Bson)
-    (owns : Owns namespace document place write bytes id) where
+module _ (before now : Moment) (namespace : Namespace) (document : List (Pair Bson)) (place : Place) (write : PlacedWrite) (bytes : List ℕ) (id : Bson) (answer : InsertOneResult)
+    (owns : Owns namespace document place write bytes id answer) where
   -- a write that was inserted
-  pub made_ok : (done : Unit {0}) → Inserts before now write (Ok done)
-      → Made before now (inserted namespace document) place (Ok (Inserted (record { inserted_id = id })))
+  pub made_ok : (done : InsertManyResult) → Inserts before now write (Ok done)
+      → Made before now (inserted namespace document) place (Ok (Inserted answer))
   made_ok done inserts = record {
     write = write;
     placed = owns.place_is;
-    own = is_own namespace document place write bytes id owns;
+    own = is_own namespace document place write bytes id answer owns;
     ended = Ok done;
     inserts = inserts;
-    tells = record { id = id; found = owns.document.found; answer_is = refl };
+    tells = record { id = id; found = owns.document.found; answer_is = ap (λ a. Inserted a) owns.answer_is };
   }
 
   -- a write whose insert failed
@@ -87,7 +76,7 @@ module _ (before now : Moment) (namespace : Namespace) (document : List (Pair Bs
   made_err error inserts = inr (record {
     write = write;
     placed = owns.place_is;
-    own = is_own namespace document place write bytes id owns;
+    own = is_own namespace document place write bytes id answer owns;
     ended = Err error;
     inserts = inserts;
     tells = refl;

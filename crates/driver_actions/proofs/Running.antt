@@ -1,12 +1,11 @@
 -- A run of calls over a told pool and a told server: each call keeps what holds of the calls before it.
-use Rattle.std.proofs.Common.{◌≡◌, ℕ, ◌+◌, List, [], ◌∷◌, ◌++◌, length, refl, sym, ap, subst, ◌∙◌, inl, inr, length-append}
+use Rattle.std.proofs.Common.{◌≡◌, ℕ, ◌+◌, ◌<◌, arith, List, [], ◌∷◌, ◌++◌, length, refl, sym, ap, subst, ◌∙◌, inl, inr, length-append}
 use Rattle.std.specs.Prelude.{Option, None, Some, Result, Ok, Err, slice_get}
 use Rattle.std.specs.Result.{result_ok}
 use Rattle.std.proofs.lemmas.List.{append-nil}
 use Rattle.bson_lite.specs.declared.bson.Bson.{Bson}
 use Rattle.bson_lite.specs.declared.document.Pair.{Pair}
 use Rattle.bson_lite.specs.declared.namespace.Namespace.{Namespace}
-use Rattle.bson_lite.specs.Fields.{value_of, id_key}
 use Rattle.driver_error.specs.declared.error.Error.{Error}
 use Rattle.driver_link.specs.declared.machine.Entry.{Entry}
 use Rattle.driver_link.specs.declared.machine.Send.{Send}
@@ -16,7 +15,6 @@ use Rattle.driver_link.specs.Cases.{writes_of}
 use Rattle.driver_link.specs.Exchange.{after_picks, empty_server}
 use Rattle.driver_link.specs.Once.{Once}
 use Rattle.driver_link.specs.Settled.{Has, IsFrom, IsSettled}
-use Rattle.driver_link.specs.Statements.{entry_of}
 use Rattle.driver_link.specs.LinkState.{server_run}
 use Rattle.driver_link.specs.ServerRun.{ServerRun}
 use Rattle.driver_link.proofs.Exchanged.{after_settled, empty_orderly, empty_settled, entry_is_from}
@@ -24,30 +22,32 @@ use Rattle.driver_link.specs.Apart.{AllApart}
 use Rattle.driver_session.specs.Pool.{Pool, empty_pool}
 use Rattle.driver_session.proofs.PoolTells.{same_told}
 use Rattle.driver_exec.specs.BetweenCalls.{Between, Sound}
-use Rattle.driver_exec.specs.Causes.{end_of}
 use Rattle.driver_exec.specs.Moment.{Moment}
-use Rattle.driver_exec.specs.Writing.{placed_write}
-use Rattle.driver_exec.proofs.Written.{Left, Stands, only_write, sound_later, wrote_leaves, wrote_stands}
+use Rattle.driver_actions.specs.Writing.{insert_asked, placed_write}
+use Rattle.driver_exec.proofs.Keeping.Leaving.{Left, left_of}
 use Rattle.driver_actions.specs.declared.call.Answer.{Answer}
 use Rattle.driver_actions.specs.declared.call.Answer.TheVariants as answer
 use Rattle.driver_actions.specs.declared.call.Call.{Call}
 use Rattle.driver_actions.specs.declared.call.Call.TheVariants.{Single}
 use Rattle.driver_actions.specs.declared.call.Outcome.{Outcome}
 use Rattle.driver_actions.specs.declared.call.SingleAnswer.{SingleAnswer}
-use Rattle.driver_actions.specs.declared.call.SingleAnswer.TheVariants.{Inserted}
 use Rattle.driver_actions.specs.declared.call.SingleWrite.TheVariants.{InsertOne}
 use Rattle.driver_actions.specs.Calls.{IsOwn, OwnAt, inserted, write_at}
 use Rattle.driver_actions.specs.MainTheorem.{MainTheorem}
-use Rattle.driver_actions.specs.Standing.{AllOwn}
-use Rattle.driver_actions.specs.SingleCalls.{TellsAnswer}
+use Rattle.driver_actions.specs.SingleEntries.{HasOwnEntry, MayWrite}
+use Rattle.driver_actions.specs.Standing.{AllBelow, AllOwn}
+use Rattle.driver_actions.specs.SingleCalls.{Made, first_place}
 use Rattle.driver_actions.proofs.Answering.{Answered, answered_none, answered_more, own_at}
-use Rattle.driver_actions.proofs.Logging.{first_place, mine_all}
-use Rattle.driver_actions.proofs.Sending.{Sends, SendsCall, Sent, mid_pool, mid_run}
+use Rattle.driver_actions.proofs.Logging.{mine_all}
+use Rattle.driver_actions.proofs.Inserting.Entries.{entry_told, makes_entry, may_stand, new_place, only_write}
+use Rattle.driver_actions.proofs.Inserting.Making.{inserts_sends}
+use Rattle.driver_actions.proofs.Sending.{Sends, SendsCall, mid_pool, mid_run}
 
 -- what holds after a number of calls
 pub record Ran (calls : List Call) (outcomes : List Outcome) (pool : Pool) (server : Server) : Type 0 where
   pub between : Between pool server.trace
-  pub sound : Sound (length outcomes) server
+  pub sound : Sound server
+  pub below : AllBelow (length outcomes) server.trace
   pub own : AllOwn calls server.trace
   pub answered : Answered calls outcomes server.log
 
@@ -56,11 +56,15 @@ own_sent : (namespace : Namespace) (document : List (Pair Bson)) (sent : Written
     → IsOwn (inserted namespace document) (inserted sent.namespace sent.document)
 own_sent namespace document sent own = record { kind = refl; namespace = own.namespace; id = own.id; twelve = own.twelve; document = own.document }
 
+-- places below the calls that were made are so once one more was
+below_later : (made : ℕ) (trace : List Send) → AllBelow made trace → AllBelow (made + 1) trace
+below_later made trace below = λ send at write has stands. let before : write.place.call < made = below send at write has stands in omega arith
+
 -- the number of calls, once one more was made
-one_more : (outcomes : List Outcome) (last : Outcome) (server : Server) → Sound (length outcomes + 1) server → Sound (length (outcomes ++ last ∷ [])) server
-one_more outcomes last server sound =
+one_more : (outcomes : List Outcome) (last : Outcome) (trace : List Send) → AllBelow (length outcomes + 1) trace → AllBelow (length (outcomes ++ last ∷ [])) trace
+one_more outcomes last trace below =
     let count : length outcomes + 1 ≡ length (outcomes ++ last ∷ []) = sym (length-append outcomes (last ∷ [])) in
-    subst (λ n. Sound n server) count sound
+    subst (λ n. AllBelow n trace) count below
 
 -- one call between two moments of a told pool and a told server
 module _ (calls : List Call) (outcomes : List Outcome) (before now : Moment) (pool pool_now : Pool) (run run_now : ServerRun) (pool_is : before.store.pool ≡ Some pool)
@@ -72,7 +76,8 @@ module _ (calls : List Call) (outcomes : List Outcome) (before now : Moment) (po
       let P : Server → Type 0 = λ s. Ran calls (outcomes ++ last ∷ []) pool_now s in
       subst P (sym same) (record {
         between = subst (λ p. Between p run.server.trace) (sym same_pool) ran.between;
-        sound = one_more outcomes last run.server (sound_later (length outcomes) run.server ran.sound);
+        sound = ran.sound;
+        below = one_more outcomes last run.server.trace (below_later (length outcomes) run.server.trace ran.below);
         own = ran.own;
         answered =
             subst (λ log. Answered calls (outcomes ++ last ∷ []) log) (append-nil run.server.log)
@@ -80,14 +85,14 @@ module _ (calls : List Call) (outcomes : List Outcome) (before now : Moment) (po
       })
 
   module _ (namespace : Namespace) (document : List (Pair Bson)) (at : slice_get calls (length outcomes) ≡ Some (Single (InsertOne namespace document)))
-      (result : Result SingleAnswer Error) (sent : Sent before now (inserted namespace document) (first_place (length outcomes)) result) where
+      (result : Result SingleAnswer Error) (sent : Made before now (inserted namespace document) (first_place (length outcomes)) result) where
     -- the told pool before the write
-    pool_here : sent.mid.store.pool ≡ Some pool
-    pool_here = mid_pool before sent.mid pool sent.draws pool_is
+    pool_here : sent.inserts.mid.store.pool ≡ Some pool
+    pool_here = mid_pool before sent.inserts.mid pool sent.inserts.draws pool_is
 
     -- the told server before it
-    run_here : server_run sent.mid.link ≡ Some run
-    run_here = mid_run before sent.mid sent.draws ∙ run_is
+    run_here : server_run sent.inserts.mid.link ≡ Some run
+    run_here = mid_run before sent.inserts.mid sent.inserts.draws ∙ run_is
 
     -- the write is the caller's own
     own_here : OwnAt (write_at calls sent.write.place) (placed_write sent.write).written
@@ -95,21 +100,33 @@ module _ (calls : List Call) (outcomes : List Outcome) (before now : Moment) (po
         subst (λ place. OwnAt (write_at calls place) (placed_write sent.write).written) (sym sent.placed)
         (own_at calls (length outcomes) namespace document (placed_write sent.write).written at (own_sent namespace document sent.write.written sent.own))
 
-    -- its place is of the call that is made
-    placed_call : sent.write.place.call ≡ length outcomes
-    placed_call = ap (λ place. place.call) sent.placed
+    -- it may be made
+    may_write : MayWrite pool pool_now run (first_place (length outcomes))
+    may_write = record { between = ran.between; sound = ran.sound; new = new_place (length outcomes) run.server.trace ran.below; apart = apart }
 
     -- what its insert left
-    left : Left (length outcomes) sent.wrote.session sent.wrote.number sent.write pool_now run.server run_now.server
-    left = wrote_leaves (length outcomes) sent.mid now pool pool_now run run_now pool_here pool_now_is run_here run_now_is sent.write placed_call apart ran.between ran.sound
-        (end_of sent.ended) sent.wrote
+    left : Left sent.inserts.one_command.session sent.inserts.one_command.number (insert_asked sent.write) pool_now run.server run_now.server
+    left =
+        let sends = inserts_sends sent.inserts in
+        left_of sent.inserts.mid now pool pool_now run run_now pool_here pool_now_is run_here run_now_is (insert_asked sent.write)
+        (may_stand pool pool_now run (first_place (length outcomes)) sent.write sent.placed may_write)
+        sent.inserts.one_command.session sent.inserts.one_command.number sends.count sent.inserts.one_command.borrows sends.once sends.sends
+
+    -- all that was sent is of the calls that were made
+    below_now : AllBelow (length outcomes + 1) run_now.server.trace
+    below_now = λ send at found has stands. elim (left.which send has) [
+      | inl earlier ↦ below_later (length outcomes) run.server.trace ran.below send at found earlier stands
+      | inr same ↦
+          let only = only_write sent.write at found (ap (λ s. slice_get (writes_of s) at) same ∙ stands) in
+          let is : found.place.call ≡ length outcomes = ap (λ w. w.place.call) only.1 ∙ ap (λ place. place.call) sent.placed in omega arith
+    ]
 
     -- all that was sent is the caller's own
     own_now : AllOwn calls run_now.server.trace
     own_now = λ send at found has stands. elim (left.which send has) [
       | inl earlier ↦ ran.own send at found earlier stands
       | inr same ↦
-          let only = only_write sent.wrote.session sent.wrote.number sent.write at found (ap (λ s. slice_get (writes_of s) at) same ∙ stands) in
+          let only = only_write sent.write at found (ap (λ s. slice_get (writes_of s) at) same ∙ stands) in
           subst (λ w. OwnAt (write_at calls w.place) w.written) (sym only.1) own_here
     ]
 
@@ -117,7 +134,8 @@ module _ (calls : List Call) (outcomes : List Outcome) (before now : Moment) (po
     ran_unanswered : result_ok last.result ≡ None → Ran calls (outcomes ++ last ∷ []) pool_now run_now.server
     ran_unanswered none = record {
       between = left.between;
-      sound = one_more outcomes last run_now.server left.sound;
+      sound = left.sound;
+      below = one_more outcomes last run_now.server.trace below_now;
       own = own_now;
       answered =
           subst (λ log. Answered calls (outcomes ++ last ∷ []) log) (sym left.log)
@@ -125,20 +143,19 @@ module _ (calls : List Call) (outcomes : List Outcome) (before now : Moment) (po
     }
 
     -- a call that answered, whose entry stands
-    ran_answered : (id : Bson) → value_of id_key sent.write.written.document ≡ Some id
-        → result_ok last.result ≡ Some (answer.Single (Inserted (record { inserted_id = id })))
-        → Stands sent.wrote.session sent.wrote.number sent.write run_now.server.log → Ran calls (outcomes ++ last ∷ []) pool_now run_now.server
-    ran_answered id found is stands =
-        let entry = entry_of sent.wrote.session sent.wrote.number (placed_write sent.write) stands.result in
-        record {
-          between = left.between;
-          sound = one_more outcomes last run_now.server left.sound;
-          own = own_now;
-          answered =
-              subst (λ log. Answered calls (outcomes ++ last ∷ []) log) (sym left.log)
-              (answered_more calls outcomes namespace document run.server.log left.more entry id last at
-              (subst (λ log. Once log) left.log left.sound.settled.once) (subst (λ log. Has log entry) left.log stands.has) sent.placed found is ran.answered);
-        }
+    ran_answered : (given : SingleAnswer) → result_ok last.result ≡ Some (answer.Single given)
+        → HasOwnEntry (inserted namespace document) (first_place (length outcomes)) run_now.server.log given → Ran calls (outcomes ++ last ∷ []) pool_now run_now.server
+    ran_answered given is stands = record {
+      between = left.between;
+      sound = left.sound;
+      below = one_more outcomes last run_now.server.trace below_now;
+      own = own_now;
+      answered =
+          subst (λ log. Answered calls (outcomes ++ last ∷ []) log) (sym left.log)
+          (answered_more calls outcomes namespace document run.server.log left.more stands.entry stands.tells.id last at
+          (subst (λ log. Once log) left.log left.sound.settled.once) (subst (λ log. Has log stands.entry) left.log stands.has) stands.placed stands.tells.found
+          (is ∙ ap (λ a. Some (answer.Single a)) stands.tells.answer_is) ran.answered);
+    }
 
   -- a call that failed
   ran_failed : (namespace : Namespace) (document : List (Pair Bson)) (error : Error)
@@ -153,24 +170,16 @@ module _ (calls : List Call) (outcomes : List Outcome) (before now : Moment) (po
     | inr sent ↦ ran_unanswered namespace document at (Err error) sent none
   ]
 
-  -- a call that was done: its insert was, and its entry stands
+  -- a call that was done: its entry stands
   ran_done : (namespace : Namespace) (document : List (Pair Bson)) (given : SingleAnswer)
       → slice_get calls (length outcomes) ≡ Some (Single (InsertOne namespace document))
-      → (sent : Sent before now (inserted namespace document) (first_place (length outcomes)) (Ok given))
+      → (sent : Made before now (inserted namespace document) (first_place (length outcomes)) (Ok given))
       → result_ok last.result ≡ Some (answer.Single given) → Ran calls (outcomes ++ last ∷ []) pool_now run_now.server
-  ran_done namespace document given at sent is = by_ended sent.ended refl sent.tells
-    where
-      -- by how its insert ended
-      by_ended : (ended : Result (Unit {0}) Error) → sent.ended ≡ ended → TellsAnswer sent.write.written.document ended (Ok given)
-          → Ran calls (outcomes ++ last ∷ []) pool_now run_now.server
-      by_ended (Err error) ended tells = absurd (let e : ◌≡◌ {A = Result SingleAnswer Error} (Ok given) (Err error) = tells in cc)
-      by_ended (Ok done) ended tells =
-          let answer_is : result_ok last.result ≡ Some (answer.Single (Inserted (record { inserted_id = tells.id })))
-          = is ∙ ap (λ a. Some (answer.Single a)) tells.answer_is in
-          let stands = wrote_stands (length outcomes) sent.mid now pool pool_now run run_now (pool_here namespace document at (Ok given) sent) pool_now_is
-          (run_here namespace document at (Ok given) sent) run_now_is sent.write (placed_call namespace document at (Ok given) sent) apart ran.between ran.sound
-          (end_of sent.ended) sent.wrote (ap (λ e. end_of e) ended) in
-          ran_answered namespace document at (Ok given) sent tells.id tells.found answer_is stands
+  ran_done namespace document given at sent is =
+      ran_answered namespace document at (Ok given) sent given is
+      (entry_told (first_place (length outcomes)) before.store.pool now.store.pool (server_run before.link) (server_run now.link) pool pool_now run run_now pool_is pool_now_is run_is run_now_is
+      (inserted namespace document) given (makes_entry before now (first_place (length outcomes)) namespace document (Ok given) sent)
+      (may_write namespace document at (Ok given) sent))
 
   -- one call more
   pub ran_more : (call : Call) (result : Result Answer Error) → last.result ≡ result → slice_get calls (length outcomes) ≡ Some call
@@ -184,11 +193,8 @@ pub ran_none : (calls : List Call) (pool : Pool) (server : Server) → pool ≡ 
 ran_none calls pool server new fresh =
     subst (λ p. Ran calls [] p server) (sym new) (subst (λ s. Ran calls [] empty_pool s) (sym fresh) (record {
       between = record { lent = refl; knows = record { strangers = λ id not send n has under. has; fits = tt } };
-      sound = record {
-        orderly = empty_orderly;
-        settled = empty_settled;
-        below = λ send at write has stands. absurd has;
-      };
+      sound = record { orderly = empty_orderly; settled = empty_settled };
+      below = λ send at write has stands. absurd has;
       own = λ send at write has stands. absurd has;
       answered = record {
         done = λ call given is. absurd (let e : ◌≡◌ {A = Option Answer} None (Some given) = is in cc);

@@ -30,6 +30,7 @@ leaves_none pool run new fresh =
       holds = ran_holds [] [] pool run.server refl ran;
       between = ran.between;
       sound = ran.sound;
+      below = ran.below;
       own = ran.own;
       numbers = subst (λ p. NumbersWithin (pos 0) p.idle) (sym new) tt;
     }
@@ -45,6 +46,7 @@ ran_of : (calls : List Call) (outcomes : List Outcome) (pool : Pool) (run : Serv
 ran_of calls outcomes pool run leaves = record {
   between = leaves.between;
   sound = leaves.sound;
+  below = leaves.below;
   own = leaves.own;
   answered = record { done = leaves.holds.done; result = leaves.holds.result };
 }
@@ -73,6 +75,7 @@ module _ (calls : List Call) (call : Call) (outcomes : List Outcome) (last : Out
           holds = ran_holds longer more pool_now run_now.server counts ran_now;
           between = ran_now.between;
           sound = ran_now.sound;
+          below = ran_now.below;
           own = ran_now.own;
           numbers = subst (λ n. NumbersWithin (pos n) pool_now.idle) (sym (length-append outcomes (last ∷ []))) numbers;
         }

@@ -8,6 +8,7 @@ use Rattle.bson_lite.specs.Fields.{with_id}
 use Rattle.bson_lite.specs.Spelling.{refusal}
 use Rattle.driver_error.specs.declared.error.Error.{Error}
 use Rattle.driver_error.specs.declared.kind.ErrorKind.TheVariants as kind
+use Rattle.driver_error.specs.declared.results.InsertManyResult.{InsertManyResult}
 use Rattle.driver_error.specs.Conversions.{Converts}
 use Rattle.driver_error.specs.Error.{ErrorKind, kind_of}
 use Rattle.driver_session.specs.StoreTells.{MayDrawObjectId}
@@ -67,10 +68,11 @@ BecomesEnd executed result = ⊥
 -- the operation of an insert ended with its cause, and so did its call
 pub record InsertCaused {A : Type 0} (before now : Moment) (namespace : Namespace) (result : Result A Error) : Type 0 where
   pub bytes : List ℕ
-  pub executed : Result (Unit {0}) Error
+  pub id : Bson
+  pub executed : Result InsertManyResult Error
   pub mid : Moment
   pub draws : MayDrawId before mid
-  pub caused : Caused {A = Unit {0}} (insert_spec (in_collection namespace) bytes) mid now (end_of executed)
+  pub caused : Caused (insert_spec (in_collection namespace) bytes id) mid now (end_of executed)
   pub becomes : BecomesEnd executed result
 
 -- the operation of a write ended with its cause

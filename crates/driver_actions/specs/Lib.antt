@@ -4,4 +4,7 @@ pub mod Causes
 pub mod Inputs
 pub mod MainTheorem
 pub mod SingleCalls
+pub mod SingleEntries
+pub mod Singles
 pub mod Standing
+pub mod Writing

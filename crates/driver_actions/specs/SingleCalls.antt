@@ -8,6 +8,8 @@ use Rattle.bson_lite.specs.Fields.{value_of, id_key, with_id}
 use Rattle.bson_lite.specs.Spelling.{Spells}
 use Rattle.driver_error.specs.declared.error.Error.{Error}
 use Rattle.driver_error.specs.declared.kind.ErrorKind.TheVariants as kind
+use Rattle.driver_error.specs.declared.results.InsertManyResult.{InsertManyResult}
+use Rattle.driver_error.specs.declared.results.InsertOneResult.{InsertOneResult}
 use Rattle.driver_error.specs.Error.{kind_of}
 use Rattle.driver_link.specs.declared.machine.Place.{Place}
 use Rattle.driver_link.specs.declared.machine.PlacedWrite.{PlacedWrite}
@@ -19,9 +21,11 @@ use Rattle.driver_ops.specs.Operations.{batch_of}
 use Rattle.driver_ops.specs.SendKinds.{first}
 use Rattle.driver_ops.specs.Targets.{in_collection}
 use Rattle.driver_exec.specs.Causes.{end_of}
+use Rattle.driver_exec.specs.Executing.{Executes}
+use Rattle.driver_exec.specs.Keeping.{KeepsInvariant, OkHasEntries}
 use Rattle.driver_exec.specs.Moment.{Moment}
-use Rattle.driver_exec.specs.Singles.{ExecutesSingle}
-use Rattle.driver_exec.specs.Writing.{Wrote}
+use Rattle.driver_exec.specs.OperationCauses.{Caused}
+use Rattle.driver_exec.specs.Resending.{SendsOneCommand}
 use Rattle.driver_actions.specs.declared.call.Answer.{Answer}
 use Rattle.driver_actions.specs.declared.call.Answer.TheVariants as answer
 use Rattle.driver_actions.specs.declared.call.Call.{Call}
@@ -31,6 +35,8 @@ use Rattle.driver_actions.specs.declared.call.SingleAnswer.TheVariants.{Inserted
 use Rattle.driver_actions.specs.Calls.{IsOwn, written}
 use Rattle.driver_actions.specs.Causes.{MayDrawId}
 use Rattle.driver_actions.specs.Inputs.{TellsInput}
+use Rattle.driver_actions.specs.Singles.{BecomesSingle}
+use Rattle.driver_actions.specs.Writing.{insert_asked}
 
 -- a document has an id, at its front where it had none
 pub record HasOwnId (given now : List (Pair Bson)) (value : Bson) : Type 0 where
@@ -44,13 +50,14 @@ abbrev pub PutsId : List (Pair Bson) → List (Pair Bson) → Result Bson Error 
 PutsId given now (Ok value) = HasOwnId given now value
 PutsId given now (Err error) = kind_of error ≡ kind.Memory
 
--- a write as it is sent for a caller's document, in bytes too, with the document's id
-pub record Owns (namespace : Namespace) (given : List (Pair Bson)) (place : Place) (write : PlacedWrite) (bytes : List ℕ) (id : Bson) : Type 0 where
+-- a write as it is sent for a caller's document, in bytes too, with the document's id and the answer that tells it
+pub record Owns (namespace : Namespace) (given : List (Pair Bson)) (place : Place) (write : PlacedWrite) (bytes : List ℕ) (id : Bson) (answer : InsertOneResult) : Type 0 where
   pub place_is : write.place ≡ place
   pub kind_is : write.written.kind ≡ write_kind.Insert
   pub namespace_is : write.written.namespace ≡ namespace
   pub document : HasOwnId given write.written.document id
   pub spelled : Spells write.written.document bytes
+  pub answer_is : answer ≡ record { inserted_id = id }
 
 -- an answer tells the id of the document that was sent
 pub record TellsId (document : List (Pair Bson)) (given : SingleAnswer) : Type 0 where
@@ -59,21 +66,29 @@ pub record TellsId (document : List (Pair Bson)) (given : SingleAnswer) : Type 0
   pub answer_is : given ≡ Inserted (record { inserted_id = id })
 
 -- an insert that was done tells the id, and an error of one is handed on
-abbrev pub TellsAnswer : List (Pair Bson) → Result (Unit {0}) Error → Result SingleAnswer Error → Type 0
+abbrev pub TellsAnswer : List (Pair Bson) → Result InsertManyResult Error → Result SingleAnswer Error → Type 0
 TellsAnswer document (Ok done) (Ok given) = TellsId document given
 TellsAnswer document (Ok done) (Err error) = ⊥
 TellsAnswer document (Err error) result = result ≡ Err error
 
--- the insert of a write was executed, with two sends at most, once an id was drawn, if any
-pub record Inserts (before now : Moment) (write : PlacedWrite) (ended : Result (Unit {0}) Error) : Type 0 where
+-- the insert of a write was executed, with two sends of one command at most, once an id was drawn, if any; it ended with its
+-- cause, and its error took the form of a single write's; it kept what stands, and has its entry where it was done
+pub record Inserts (before now : Moment) (write : PlacedWrite) (ended : Result InsertManyResult Error) : Type 0 where
   pub mid : Moment
   pub draws : MayDrawId before mid
   pub bytes : List ℕ
   pub spelled : Spells write.written.document bytes
+  pub id : Bson
+  pub found : value_of id_key write.written.document ≡ Some id
+  pub executed : Result InsertManyResult Error
   pub count : ℕ
-  pub executes : ExecutesSingle (insert_spec (in_collection write.written.namespace) bytes) (batch_of (write.place ∷ []) 1) first mid now 0 count ended
+  pub executes : Executes (insert_spec (in_collection write.written.namespace) bytes id) (batch_of (write.place ∷ []) 1) first mid now 0 count executed
   pub twice : count ≤ 2
-  pub wrote : Wrote mid now write (end_of ended)
+  pub one_command : SendsOneCommand (insert_spec (in_collection write.written.namespace) bytes id) (batch_of (write.place ∷ []) 1) mid now executed
+  pub caused : Caused (insert_spec (in_collection write.written.namespace) bytes id) mid now (end_of executed)
+  pub becomes : BecomesSingle executed ended
+  pub keeps : KeepsInvariant mid now (insert_asked write)
+  pub entries : OkHasEntries (insert_spec (in_collection write.written.namespace) bytes id) (insert_asked write) mid now executed
   pub lent : LendsAsBefore mid.store now.store
   pub drawn : Draws mid.store now.store
 
@@ -82,7 +97,7 @@ pub record Made (before now : Moment) (given : Written) (place : Place) (result 
   pub write : PlacedWrite
   pub placed : write.place ≡ place
   pub own : IsOwn given write.written
-  pub ended : Result (Unit {0}) Error
+  pub ended : Result InsertManyResult Error
   pub inserts : Inserts before now write ended
   pub tells : TellsAnswer write.written.document ended result
 
@@ -96,7 +111,11 @@ abbrev pub Makes : Moment → Moment → Written → Place → Result SingleAnsw
 Makes before now given place (Ok answer) = Made before now given place (Ok answer)
 Makes before now given place (Err error) = Unmade before now given error ⊎ Made before now given place (Err error)
 
+-- the first place of a call
+abbrev pub first_place : ℕ → Place
+first_place call = record { call = call; index = 0 }
+
 -- one call of a list, by its number
 abbrev pub MakesCall : Moment → Moment → Call → ℕ → Result Answer Error → Type 0
-MakesCall before now (Single write) call (Ok (answer.Single given)) = Made before now (written write) (record { call = call; index = 0 }) (Ok given)
-MakesCall before now (Single write) call (Err error) = Makes before now (written write) (record { call = call; index = 0 }) (Err error)
+MakesCall before now (Single write) call (Ok (answer.Single given)) = Made before now (written write) (first_place call) (Ok given)
+MakesCall before now (Single write) call (Err error) = Makes before now (written write) (first_place call) (Err error)

@@ -1,6 +1,6 @@
 -- A run of calls between two of its calls: the main theorem holds of the calls that were made, and with it the invariant of
 -- one client's writes, of its pool and of the server.
-use Rattle.std.specs.Prelude.{◌≡◌, ℕ, ◌+◌, ◌≤◌, pos, List, [], ◌∷◌, ◌++◌, length, take, Option, None, Some, slice_get}
+use Rattle.std.specs.Prelude.{◌≡◌, ℕ, ◌+◌, ◌<◌, ◌≤◌, pos, List, [], ◌∷◌, ◌++◌, length, take, Option, None, Some, slice_get}
 use Rattle.driver_link.specs.declared.machine.PlacedWrite.{PlacedWrite}
 use Rattle.driver_link.specs.declared.machine.Send.{Send}
 use Rattle.driver_link.specs.Cases.{writes_of}
@@ -53,13 +53,18 @@ MakesEnded run now calls before after = MakesNext run now calls (λ call outcome
 abbrev pub AllOwn : List Call → List Send → Type 0
 AllOwn calls trace = (send : Send) (at : ℕ) (write : PlacedWrite) → Has trace send → slice_get (writes_of send) at ≡ Some write → OwnAt (write_at calls write.place) write.written
 
+-- all places of a trace are of calls before this one
+abbrev pub AllBelow : ℕ → List Send → Type 0
+AllBelow made trace = (send : Send) (at : ℕ) (write : PlacedWrite) → Has trace send → slice_get (writes_of send) at ≡ Some write → write.place.call < made
+
 -- what these calls with these outcomes left: the main theorem holds of them; nothing is lent, and no
 -- number that was sent is above its session's; the trace is orderly, the server settled, and each write that was
--- sent is of one of the calls; and no idle session's number is above the count of the calls
+-- sent is of one of the calls, in a place of a call that was made; and no idle session's number is above the count of the calls
 pub record Leaves (calls : List Call) (outcomes : List Outcome) (pool : Pool) (run : ServerRun) : Type 0 where
   pub holds : MainTheorem calls outcomes run.server
   pub between : Between pool run.server.trace
-  pub sound : Sound (length outcomes) run.server
+  pub sound : Sound run.server
+  pub below : AllBelow (length outcomes) run.server.trace
   pub own : AllOwn calls run.server.trace
   pub numbers : NumbersWithin (pos (length outcomes)) pool.idle
 

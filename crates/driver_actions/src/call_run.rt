@@ -111,7 +111,7 @@ impl CallRun {
         let number = self.made() as u64;
         outside.call = number;
         let call = self.next(calls);
-        let outcome = make_call(alloc, client, outside, call, number);
+        let outcome = make_call(alloc, client, outside, call);
         self.add(outcome);
     }
 

@@ -1,15 +1,11 @@
-//! Laws: of a run of calls between two of its calls, of one insert, and of one exchange.
-ghost use Rattle.std.specs.Prelude.{◌++◌, ◌∷◌, ℕ, List, [], Option};
-ghost use Rattle.driver_link.specs.declared.machine.PlacedWrite.{PlacedWrite};
+//! Laws: of a run of calls between two of its calls, and of one exchange.
+ghost use Rattle.std.specs.Prelude.{◌++◌, ◌∷◌, ℕ, List, []};
 ghost use Rattle.driver_link.specs.declared.machine.Scheduled.{Scheduled};
 ghost use Rattle.driver_link.specs.declared.machine.Send.{Send};
 ghost use Rattle.driver_link.specs.declared.machine.Server.{Server};
 ghost use Rattle.driver_link.specs.Exchange.{after_picks, exchanged};
 ghost use Rattle.driver_link.specs.Settled.{Has, IsOrderly, IsPlain, IsSettled, MayJoin};
-ghost use Rattle.driver_exec.specs.Causes.{ErrorOutline};
-ghost use Rattle.driver_exec.specs.Keeping.{KeepsInvariant, OkHasEntries};
 ghost use Rattle.driver_exec.specs.Moment.{Moment};
-ghost use Rattle.driver_exec.specs.Writing.{Wrote};
 ghost use Rattle.driver_actions.specs.Standing.{RunInvariant, RunState};
 ghost use Rattle.driver_actions.specs.declared.call.Call.{Call};
 
@@ -18,18 +14,6 @@ ghost use Rattle.driver_actions.specs.declared.call.Call.{Call};
 pub fn appended_calls_change_nothing()
     ensures { (run : RunState) (calls more : List Call) (now : Moment) →
         RunInvariant run calls now → RunInvariant run (calls ++ more) now }
-{}
-
-/// What the insert of a call leaves keeps the invariant of one client's writes, whatever the link answered.
-pub fn an_insert_keeps_the_invariant()
-    ensures { (before now : Moment) (write : PlacedWrite) (ended : Option ErrorOutline) →
-        Wrote before now write ended → KeepsInvariant before now write }
-{}
-
-/// Under that invariant an insert that was done has its entry.
-pub fn an_insert_that_was_done_stands()
-    ensures { (before now : Moment) (write : PlacedWrite) (ended : Option ErrorOutline) →
-        Wrote before now write ended → OkHasEntries before now write ended }
 {}
 
 /// A send under a number that went out may go out again, however often it did.

@@ -6,6 +6,7 @@
 
 pub mod call;
 pub mod call_run;
+mod insert;
 pub mod laws;
 mod making;
 mod refusal;
@@ -17,3 +18,4 @@ mod tests;
 pub use call::{Answer, Call, Outcome, SingleAnswer, SingleWrite};
 pub use call_run::CallRun;
 pub use run::run_calls;
+pub use single::SingleWrites;

@@ -7,23 +7,23 @@ ghost use Rattle.driver_actions.specs.Causes.{HasCause};
 ghost use Rattle.driver_actions.specs.SingleCalls.{MakesCall};
 
 use crate::call::{Answer, Call, Outcome};
-use crate::single::single;
+use crate::single::SingleWrites;
 use driver_error::Result;
 use driver_exec::{Client, Outside};
-use driver_link::{Clock, Link, Place};
+use driver_link::{Clock, Link};
 use driver_session::SessionStore;
 use rand_core::Rng;
 use std::alloc::Global;
 
-/// Makes the call of a number, and reads the clock before and after it.
+/// Makes a call, whose number is that of the current one (`outside.call`), and reads the clock before and
+/// after it.
 pub(crate) fn make_call<S: SessionStore, L: Link, K: Clock, R: Rng>(
     alloc: Global,
     client: &mut Client<S>,
     outside: &mut Outside<L, K, R>,
     call: &Call,
-    number: u64,
 ) -> Outcome
-    ensures caused { CallCaused number
+    ensures caused { CallCaused outside.old.call
         (moment_of S.tells L.tells K.tells R.stream client.old outside.old)
         (moment_of S.tells L.tells K.tells R.stream client.new outside.new)
         call.now result }
@@ -31,7 +31,7 @@ pub(crate) fn make_call<S: SessionStore, L: Link, K: Clock, R: Rng>(
     ensures call { outside.new.call ≡ outside.old.call }
 {
     let started_ms = outside.clock.now_ms();
-    let result = answer_call(alloc, client, outside, call, number);
+    let result = answer_call(alloc, client, outside, call);
     let ended_ms = outside.clock.now_ms();
     Outcome {
         result,
@@ -40,18 +40,17 @@ pub(crate) fn make_call<S: SessionStore, L: Link, K: Clock, R: Rng>(
     }
 }
 
-/// Makes the call of a number: a single write has the first place of its call.
+/// Makes a call: a single write has the first place of its call.
 fn answer_call<S: SessionStore, L: Link, K: Clock, R: Rng>(
     alloc: Global,
     client: &mut Client<S>,
     outside: &mut Outside<L, K, R>,
     call: &Call,
-    number: u64,
 ) -> Result<Answer>
     ensures makes { MakesCall
         (moment_of S.tells L.tells K.tells R.stream client.old outside.old)
         (moment_of S.tells L.tells K.tells R.stream client.new outside.new)
-        call.now number result }
+        call.now outside.old.call result }
     ensures cause { HasCause
         (moment_of S.tells L.tells K.tells R.stream client.old outside.old)
         (moment_of S.tells L.tells K.tells R.stream client.new outside.new)
@@ -60,15 +59,9 @@ fn answer_call<S: SessionStore, L: Link, K: Clock, R: Rng>(
     ensures call { outside.new.call ≡ outside.old.call }
 {
     match call {
-        Call::Single { write } => {
-            let place = Place {
-                call: number,
-                index: 0,
-            };
-            match single(alloc, client, outside, write, place) {
-                Ok(answer) => Ok(Answer::Single(answer)),
-                Err(error) => Err(error),
-            }
-        }
+        Call::Single { write } => match client.single(alloc, write, outside) {
+            Ok(answer) => Ok(Answer::Single(answer)),
+            Err(error) => Err(error),
+        },
     }
 }

@@ -14,7 +14,7 @@ use Rattle.driver_session.specs.StoreTells.{StoreTells}
 use Rattle.driver_ops.specs.Fields.{under}
 use Rattle.driver_ops.specs.Operations.{ReadsOutput, send_of}
 use Rattle.driver_exec.specs.declared.attempt_end.AttemptEnd.TheVariants.{Failed}
-use Rattle.driver_exec.specs.declared.attempt_end.AttemptFailure.{AttemptFailure}
+use Rattle.driver_exec.specs.declared.failure.AttemptFailure.{AttemptFailure}
 use Rattle.driver_exec.specs.declared.failure.FailurePhase.{FailurePhase}
 use Rattle.driver_exec.specs.declared.failure.FailurePhase.TheVariants.{ConnectionEstablishment, Execution}
 use Rattle.driver_exec.specs.Attempting.{FailsIn, OnlyLink, Readies, AttemptState, Sends, Trial, Tries, asks_session, held_after, on_connection}
@@ -113,7 +113,7 @@ module _ {A : Type 0} (trial : Trial A) (store : StoreTells) (link : LinkState) 
     ]
 
     pub failed_course : (now : AttemptState) (failing : AttemptFailure) → Tries trial past mid now (Failed failing) → CourseAt (suc most) now
-    failed_course now failing tries = fails_in now failing.address failing.failure.phase failing.failure.error tries
+    failed_course now failing tries = fails_in now failing.address failing.phase failing.error tries.0
 
     -- where the decision allows a further attempt, its sends have a number
     pub goes_phase : (now : AttemptState) (address : Address) (phase : FailurePhase) (error : Error) → FailsIn trial past mid now address phase error

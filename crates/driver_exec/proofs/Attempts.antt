@@ -1,13 +1,19 @@
--- What the calls of an attempt leave: the numbers of a session, a document by its bytes, and a server whose calls were
--- only counted.
-use Rattle.std.proofs.Common.{◌≡◌, refl, sym, ap, subst, ◌∙◌, inl, inr, arith}
-use Rattle.std.specs.Prelude.{ℤ, pos, ◌+ℤ◌, ◌≤ℤ◌, Option, None, Some, Result, Ok, Err}
+-- What the calls of an attempt leave: the numbers of a session, a document by its bytes, a server whose calls were only
+-- counted, and the number of the attempt's send.
+use Rattle.std.proofs.Common.{◌≡◌, ℕ, List, refl, sym, ap, subst, ◌∙◌, inl, inr, arith}
+use Rattle.std.specs.Prelude.{ℤ, pos, ◌+ℤ◌, ◌≤ℤ◌, Bool, true, false, Option, None, Some, Result, Ok, Err, if◌then◌else◌}
 use Rattle.std.proofs.lemmas.Int.{ints}
 use Rattle.driver_link.specs.declared.fault.LinkError.{LinkError}
 use Rattle.driver_link.specs.declared.fault.LinkError.TheVariants.{Fault, Memory}
+use Rattle.driver_link.specs.declared.options.Address.{Address}
+use Rattle.driver_link.specs.declared.options.Conn.{Conn}
 use Rattle.driver_link.specs.Counting.{Counts, KeepsServer, Listed, OnlyCounts, check_out_fault, checked_out, select_fault, selected}
+use Rattle.driver_link.specs.Failures.{is_network}
 use Rattle.driver_link.specs.ServerRun.{ServerRun}
 use Rattle.driver_session.specs.Session.{MayRaise, Numbers, Raises, Session}
+use Rattle.driver_exec.specs.Attempting.{AttemptState, Sends, Trial, held_after}
+use Rattle.driver_exec.specs.Holding.{ExecutionSession, dirty_held, number_before}
+use Rattle.driver_exec.specs.Retry.{RetryState}
 
 -- a next number is the last one and one more
 pub raises : (old now : Session) (number : ℤ) → Numbers old now (Ok number) → Raises old now
@@ -64,3 +70,18 @@ select_counts A link now result counts = only_counts A selected select_fault kee
 
 pub check_out_counts : (A : Type 0) (link now : Option ServerRun) (result : Result A LinkError) → Counts {A = A} checked_out check_out_fault link now result → OnlyCounts link now
 check_out_counts A link now result counts = only_counts A checked_out check_out_fault keeps_checked link now result counts
+
+-- a failed exchange changes no number
+number_after : (result : Result (List ℕ) LinkError) (held : ExecutionSession) → number_before (held_after result held) ≡ number_before held
+number_after (Ok reply) held = refl
+number_after (Err (Fault fault own)) held = by_network (is_network fault)
+  where
+    by_network : (dirty : Bool) → number_before (if dirty then dirty_held held else held) ≡ number_before held
+    by_network true = refl
+    by_network false = refl
+number_after (Err Memory) held = refl
+
+-- so the number of the last send before the end of an attempt is that of its own send
+pub sent_number : {A : Type 0} {trial : Trial A} {past : Option RetryState} {before now : AttemptState} {address : Address} {conn : Conn} (result : Result (List ℕ) LinkError)
+    (sends : Sends trial past before now address conn result) → number_before now.held ≡ sends.number
+sent_number result sends = ap number_before sends.held_is ∙ number_after result (record sends.numbered { sent = Some sends.number })

@@ -1,6 +1,6 @@
 -- The command of an attempt, from its build, its frame and its exchange.
-use Rattle.std.proofs.Common.{◌≡◌, ℕ, ◌+◌, ◌≤◌, List, refl, sym, ap, subst, ◌∙◌, inl, inr}
-use Rattle.std.specs.Prelude.{ℤ, Bool, true, false, length, take, Option, None, Some, IfSome, ◌⊎◌, Ok, Err}
+use Rattle.std.proofs.Common.{◌≡◌, ℕ, suc, ◌+◌, ◌≤◌, List, refl, sym, ap, subst, ◌∙◌, inl, inr, arith}
+use Rattle.std.specs.Prelude.{ℤ, Bool, true, false, length, take, Option, None, Some, IfSome, IsSome, ◌⊎◌, Ok, Err}
 use Rattle.driver_error.specs.declared.error.Error.{Error}
 use Rattle.driver_error.specs.declared.kind.ErrorKind.TheVariants as kind
 use Rattle.driver_error.specs.Error.{kind_of}
@@ -44,6 +44,26 @@ fixed_some (Some fixed) = (fixed, refl)
 -- what stays fixed twice
 pub fixes_twice : (a b c : Option ℕ) → StaysFixed a b → StaysFixed b c → StaysFixed a c
 fixes_twice a b c first second = λ statements fixed. first statements (second statements fixed)
+
+-- a build that was Ok fixes a number
+pub build_some : {A : Type 0} {spec : OperationSpec A} {which : SendKind} {before now : Option ℕ} {command : Command} → BuildsCommand spec which before now command → IsSome now
+build_some built = subst (λ o. IsSome o) (sym built.now_is) refl
+
+-- a number that is fixed stays so
+pub stays_some : (before now : Option ℕ) → StaysFixed before now → IsSome before → IsSome now
+stays_some before (Some fixed) stays some = refl
+stays_some (Some fixed) None stays some = absurd (none_follows fixed (stays (suc fixed) tt))
+  where
+    none_follows : (n : ℕ) → n ≡ suc n → ⊥
+    none_follows n is = omega arith
+stays_some None None stays some = some
+
+-- once a send was counted the number is fixed, also after further sends
+pub counted_twice : (first mid last : ℕ) (before now : Option ℕ) → ((mid ≡ first) ⊎ IsSome before) → ((last ≡ mid) ⊎ IsSome now) → StaysFixed before now → (last ≡ first) ⊎ IsSome now
+counted_twice first mid last before now counted more stays = elim more [
+  | inl same ↦ elim counted [ inl was ↦ inl (same ∙ was) | inr some ↦ inr (stays_some before now stays some) ]
+  | inr some ↦ inr some
+]
 
 -- an operation that tells the same has bodies where it had them
 pub bodies_same : {A : Type 0} {old now : OperationSpec A} (places : List Place) → SameSpec old now → HasBodies old places → HasBodies now places
@@ -157,7 +177,7 @@ module _ {A : Type 0} (spec : OperationSpec A) (which : SendKind) (places : List
               exchanges = subst (λ p. ExchangesFrame link link_now conn frame p once.result) (front_is ∙ ap (λ n. take n places) (so_many built told tells ∙ same_number)) once.exchanges;
             };
             held_is = once.held_is;
-            comes = comes_same spec mid same turn conn.description.max_wire_version address once.result attempt once.comes;
+            comes = comes_same spec mid same turn conn.description.max_wire_version address number once.result attempt once.comes;
           };
           counted = counted;
         })))

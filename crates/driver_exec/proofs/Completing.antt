@@ -1,5 +1,5 @@
--- An insert whose part of the schedule is gentle ends well: it was done, or memory ran out.
-pub mod Ends
-pub mod Sessions
-pub mod Losses
+-- An operation whose part of the schedule is gentle ends well: it was done, or memory ran out.
 pub mod Course
+pub mod Ends
+pub mod Losses
+pub mod Sessions

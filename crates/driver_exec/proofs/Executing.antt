@@ -1,21 +1,26 @@
 -- The attempts of an operation one after another: what is kept of their failures, and how they end.
 use Rattle.std.proofs.Common.{◌≡◌, ℕ, ◌+◌, ◌-◌, ◌<◌, ◌≤◌, List, [], ◌∷◌, refl, sym, ap, subst, ◌∙◌, inl, inr, arith}
-use Rattle.std.specs.Prelude.{ℤ, Bool, true, false, if◌then◌else◌, Option, None, Some, Result, Ok, Err}
+use Rattle.std.specs.Prelude.{Bool, true, false, if◌then◌else◌, Option, None, Some, Result, Ok, Err}
 use Rattle.driver_error.specs.declared.error.Error.{Error}
+use Rattle.driver_error.specs.declared.labels.TheConstants.{RETRYABLE_WRITE_ERROR}
+use Rattle.driver_error.specs.Error.{labels_of}
+use Rattle.driver_error.specs.LabelTexts.{has_label}
 use Rattle.driver_link.specs.declared.options.Address.{Address}
 use Rattle.driver_session.specs.declared.retryability.Retryability.{Retryability}
+use Rattle.driver_session.specs.declared.retryability.Retryability.TheVariants as may
 use Rattle.driver_ops.specs.Operations.{Batch, OperationSpec, SameSpec}
 use Rattle.driver_ops.specs.SendKinds.{SendKind}
 use Rattle.driver_exec.specs.declared.attempt_end.AttemptEnd.{AttemptEnd}
 use Rattle.driver_exec.specs.declared.attempt_end.AttemptEnd.TheVariants.{Done, Ended, Failed, Stopped, Unfit, Unselected}
-use Rattle.driver_exec.specs.declared.attempt_end.AttemptFailure.{AttemptFailure}
-use Rattle.driver_exec.specs.declared.failure.Failure.{Failure}
+use Rattle.driver_exec.specs.declared.failure.AttemptFailure.{AttemptFailure}
 use Rattle.driver_exec.specs.Attempting.{AttemptState, Trial, Tries, trial_of}
 use Rattle.driver_exec.proofs.Sameness.{tries_same}
 use borrow.Author.Tests.{ltb-false}
-use Rattle.driver_exec.specs.Executing.{EndsWith, Reaches, Attempts, decided, limit_reached}
-use Rattle.driver_exec.specs.Retry.{Decides, RetryState, after, after_first, after_further, avoiding, decide, decide_told, may_be_retried, one_more, told}
-use Rattle.driver_exec.specs.inside.Executing.{FailureOf, IsLastError, MayAnswer}
+use Rattle.driver_exec.specs.Executing.{EndsWith, Attempts, limit_reached}
+use Rattle.driver_exec.specs.Retry.{Decides, RetryState, after, after_first, after_further, avoiding, decide, decide_told, may_be_retried, may_be_sent, one_more, told}
+use Rattle.driver_exec.specs.inside.Executing.{FailureOf, IsLastError, MayAnswer, Reaches}
+use Rattle.driver_exec.proofs.Folding.{attempts_of}
+use Rattle.driver_exec.proofs.Trying.{both_true}
 
 -- an attempt that did not fail is its end
 end_is : {A : Type 0} (attempt end : AttemptEnd A) → FailureOf attempt (Err end) → end ≡ attempt
@@ -64,39 +69,27 @@ module _ {A : Type 0} (trial : Trial A) (sharded : Bool) (before : AttemptState)
       where
         by_kept : (kept : Option RetryState) → SoFar kept mid → limit_reached kept ≡ true → IsLastError kept error → Attempts trial sharded before mid (Err error)
         by_kept None far reached last = absurd last
-        by_kept (Some retry) far reached last = record {
-          failures = far.failures;
-          kept = Some retry;
-          mid = mid;
-          reaches = far.reaches;
-          ends = inr (inl (record { retry = retry; is = refl; reached = reached; same = refl; answers = ap (λ e. Err e) last }));
-        }
+        by_kept (Some retry) far reached last =
+            attempts_of trial sharded before far.failures (Some retry) mid mid (Err error) far.reaches
+            (inr (inl (record { retry = retry; is = refl; reached = reached; same = refl; answers = ap (λ e. Err e) last })))
 
     module _ (now : AttemptState) (goes_on : limit_reached kept ≡ false) where
       -- the last attempt did not fail
       pub ends_last : (attempt end : AttemptEnd A) (result : Result A Error) → Tries trial kept mid now attempt → FailureOf attempt (Err end) → EndsWith kept end result
           → Attempts trial sharded before now result
-      ends_last attempt end result tries is ends = record {
-        failures = far.failures;
-        kept = kept;
-        mid = mid;
-        reaches = far.reaches;
-        ends = inl (record { goes_on = goes_on; attempt = attempt; tries = tries; ends = subst (λ e. EndsWith kept e result) (end_is attempt end is) ends });
-      }
+      ends_last attempt end result tries is ends =
+          attempts_of trial sharded before far.failures kept mid now result far.reaches
+          (inl (record { goes_on = goes_on; attempt = attempt; tries = tries; ends = subst (λ e. EndsWith kept e result) (end_is attempt end is) ends }))
 
       -- the decision allows no further attempt
-      pub ends_refused : (failing : AttemptFailure) (error : Error) → Tries trial kept mid now (Failed failing) → Decides (decided trial sharded kept failing now) (Err error)
+      pub ends_refused : (failing : AttemptFailure) (error : Error) → Tries trial kept mid now (Failed failing) → Decides (decide kept failing trial.own sharded) (Err error)
           → Attempts trial sharded before now (Err error)
-      ends_refused failing error tries decides = record {
-        failures = far.failures;
-        kept = kept;
-        mid = mid;
-        reaches = far.reaches;
-        ends = inr (inr (record { goes_on = goes_on; failing = failing; tries = tries; error = error; answers = refl; refused = decides }));
-      }
+      ends_refused failing error tries decides =
+          attempts_of trial sharded before far.failures kept mid now (Err error) far.reaches
+          (inr (inr (record { goes_on = goes_on; failing = failing; tries = tries; error = error; answers = refl; refused = decides })))
 
       -- it allows one
-      pub goes_further : (failing : AttemptFailure) (retry : RetryState) → Tries trial kept mid now (Failed failing) → Decides (decided trial sharded kept failing now) (Ok retry)
+      pub goes_further : (failing : AttemptFailure) (retry : RetryState) → Tries trial kept mid now (Failed failing) → Decides (decide kept failing trial.own sharded) (Ok retry)
           → SoFar (Some retry) now
       goes_further failing retry tries decides = record {
         failures = failing ∷ far.failures;
@@ -142,6 +135,10 @@ same_twice a b c first second = record {
     λ x. (second.reads pages result).0 ((first.reads pages result).0 x),
     λ x. (first.reads pages result).1 ((second.reads pages result).1 x),
   );
+  output = λ entries output. (
+    λ x. (second.output entries output).0 ((first.output entries output).0 x),
+    λ x. (first.output entries output).1 ((second.output entries output).1 x),
+  );
 }
 
 -- there is one retry
@@ -164,34 +161,53 @@ unfolding avoiding
 avoids true address kept = (refl, refl)
 avoids false address kept = (refl, refl)
 
-module _ (failure : Failure) (number : Option ℤ) (address : Address) (own : Retryability) (sharded : Bool) where
-  leaves : (kept : Option RetryState) (retry : RetryState) → AtMostOne kept → limit_reached kept ≡ false → avoiding sharded address (after kept failure number) ≡ retry → LeavesFewer kept retry
+module _ (failure : AttemptFailure) (own : Retryability) (sharded : Bool) where
+  leaves : (kept : Option RetryState) (retry : RetryState) → AtMostOne kept → limit_reached kept ≡ false → avoiding sharded failure.address (after kept failure) ≡ retry → LeavesFewer kept retry
   unfolding after after_further
   leaves None retry once goes_on is =
-      let kept = after_first failure number in
-      let attempt : retry.attempt ≡ 1 = sym (ap (λ k. k.attempt) is) ∙ (avoids sharded address kept).0 in
-      let limit : retry.limit ≡ 1 = sym (ap (λ k. k.limit) is) ∙ (avoids sharded address kept).1 in
+      let kept = after_first failure in
+      let attempt : retry.attempt ≡ 1 = sym (ap (λ k. k.attempt) is) ∙ (avoids sharded failure.address kept).0 in
+      let limit : retry.limit ≡ 1 = sym (ap (λ k. k.limit) is) ∙ (avoids sharded failure.address kept).1 in
       record { once = (limit, omega arith); fewer = omega arith }
   leaves (Some kept) retry once goes_on is =
-      let more = after_further kept failure number in
-      let attempt : retry.attempt ≡ one_more kept.attempt = sym (ap (λ k. k.attempt) is) ∙ (avoids sharded address more).0 in
-      let limit : retry.limit ≡ kept.limit = sym (ap (λ k. k.limit) is) ∙ (avoids sharded address more).1 in
+      let more = after_further kept failure in
+      let attempt : retry.attempt ≡ one_more kept.attempt = sym (ap (λ k. k.attempt) is) ∙ (avoids sharded failure.address more).0 in
+      let limit : retry.limit ≡ kept.limit = sym (ap (λ k. k.limit) is) ∙ (avoids sharded failure.address more).1 in
       let within : kept.attempt ≤ kept.limit = omega (arith, ltb-false) in
       record { once = (limit ∙ once.0, omega arith); fewer = omega arith }
 
-  told_fewer : (kept : Option RetryState) (retry : RetryState) → AtMostOne kept → limit_reached kept ≡ false → decide_told kept failure number address own sharded ≡ Ok retry
+  told_fewer : (kept : Option RetryState) (retry : RetryState) → AtMostOne kept → limit_reached kept ≡ false → decide_told kept failure own sharded ≡ Ok retry
       → LeavesFewer kept retry
-  told_fewer kept retry once goes_on is = by_test (may_be_retried failure number own) is
+  told_fewer kept retry once goes_on is = by_test (may_be_retried failure own) is
     where
-      by_test : (may : Bool) → (if may then Ok (avoiding sharded address (after kept failure number)) else Err (after kept failure number).failure.error) ≡ Ok retry
+      by_test : (may : Bool) → (if may then Ok (avoiding sharded failure.address (after kept failure)) else Err (after kept failure).failure.error) ≡ Ok retry
           → LeavesFewer kept retry
-      by_test true is = leaves kept retry once goes_on (let e : avoiding sharded address (after kept failure number) ≡ retry = cc in e)
-      by_test false is = absurd (let e : ◌≡◌ {A = Result RetryState Error} (Err (after kept failure number).failure.error) (Ok retry) = is in cc)
+      by_test true is = leaves kept retry once goes_on (let e : avoiding sharded failure.address (after kept failure) ≡ retry = cc in e)
+      by_test false is = absurd (let e : ◌≡◌ {A = Result RetryState Error} (Err (after kept failure).failure.error) (Ok retry) = is in cc)
 
-pub decided_fewer : (failure : Failure) (number : Option ℤ) (address : Address) (own : Retryability) (sharded : Bool) (kept : Option RetryState) (retry : RetryState)
-    → AtMostOne kept → limit_reached kept ≡ false → decide kept failure number address own sharded ≡ Ok retry → LeavesFewer kept retry
+pub decided_fewer : (failure : AttemptFailure) (own : Retryability) (sharded : Bool) (kept : Option RetryState) (retry : RetryState)
+    → AtMostOne kept → limit_reached kept ≡ false → decide kept failure own sharded ≡ Ok retry → LeavesFewer kept retry
 unfolding decide
-decided_fewer failure number address own sharded kept retry once goes_on is = told_fewer (told failure) number address own sharded kept retry once goes_on is
+decided_fewer failure own sharded kept retry once goes_on is = told_fewer (told failure) own sharded kept retry once goes_on is
+
+-- a failure that may be followed by another attempt may be sent
+retried_sent : (failure : AttemptFailure) (own : Retryability) → may_be_retried failure own ≡ true → may_be_sent failure.phase failure.number ≡ true
+unfolding may_be_retried
+retried_sent failure may.Write is = (both_true (has_label (labels_of failure.error) RETRYABLE_WRITE_ERROR.now) (may_be_sent failure.phase failure.number) is).1
+retried_sent failure may.Read is = absurd (let e : false ≡ true = is in cc)
+retried_sent failure may.None is = absurd (let e : false ≡ true = is in cc)
+
+-- so where the decision allows one
+pub decided_sent : (kept : Option RetryState) (failure : AttemptFailure) (own : Retryability) (sharded : Bool) (retry : RetryState)
+    → decide kept failure own sharded ≡ Ok retry → may_be_sent failure.phase failure.number ≡ true
+unfolding decide
+decided_sent kept failure own sharded retry is = by_test (may_be_retried (told failure) own) refl is
+  where
+    by_test : (may : Bool) → may_be_retried (told failure) own ≡ may
+        → (if may then Ok (avoiding sharded failure.address (after kept (told failure))) else Err (after kept (told failure)).failure.error) ≡ Ok retry
+        → may_be_sent failure.phase failure.number ≡ true
+    by_test true test is = retried_sent (told failure) own test
+    by_test false test is = absurd (let e : ◌≡◌ {A = Result RetryState Error} (Err (after kept (told failure)).failure.error) (Ok retry) = is in cc)
 
 -- one is left where the limit is not reached
 pub one_left : (kept : Option RetryState) → AtMostOne kept → limit_reached kept ≡ false → 0 < attempts_left kept

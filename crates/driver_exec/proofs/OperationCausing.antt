@@ -35,21 +35,22 @@ use Rattle.driver_ops.specs.Operations.{Batch, OperationSpec, Refuses, TellsUnfr
 use Rattle.driver_ops.specs.SendKinds.{SendKind}
 use Rattle.driver_exec.specs.declared.attempt_end.AttemptEnd.{AttemptEnd}
 use Rattle.driver_exec.specs.declared.attempt_end.AttemptEnd.TheVariants.{Done, Ended, Failed, Stopped, Unfit, Unselected}
-use Rattle.driver_exec.specs.declared.attempt_end.AttemptFailure.{AttemptFailure}
-use Rattle.driver_exec.specs.declared.failure.Failure.{Failure}
+use Rattle.driver_exec.specs.declared.failure.AttemptFailure.{AttemptFailure}
 use Rattle.driver_exec.specs.declared.failure.FailurePhase.{FailurePhase}
 use Rattle.driver_exec.specs.declared.failure.FailurePhase.TheVariants.{ConnectionEstablishment, Execution}
 use Rattle.driver_exec.specs.Attempting.{Connects, EndsAtOnce, EndsRefused, EndsSent, EndsUnready, FailsIn, IsAnswered, LosesExchange, NoFrame, NoNumber, NoSessions, NotConnected, NotSelected, Readies, AttemptState, Sends, SpellsFailure, Trial, Tries, besides_out, on_connection, trial_of}
 use Rattle.driver_exec.specs.Causes as causes
 use Rattle.driver_exec.specs.Causes.{AllEarly, IsLast, KindAtLast, end_of, outline_of, next_number}
-use Rattle.driver_exec.specs.Executing.{Ends, EndsWith, Executes, Reaches, decided, first_state}
+use Rattle.driver_exec.specs.Executing.{Ends, EndsWith, Executes, first_state}
 use Rattle.driver_exec.specs.Failures.{IsFaultOf}
-use Rattle.driver_exec.specs.Holding.{DrawsNumber, ExecutionSession, held_id, number_before}
+use Rattle.driver_exec.specs.Holding.{DrawsNumber, ExecutionSession, held_id}
 use Rattle.driver_exec.specs.LabelTable.{labels_outside_transactions}
 use Rattle.driver_exec.specs.Moment.{Moment}
 use Rattle.driver_exec.specs.OldDeployment.{reworded, reworded_kind}
 use Rattle.driver_exec.specs.OperationCauses.{Caused, DrawsNumbers, EndAtLast, EndNeeds, EndsCaused, FaultLabels, Grounds, KindNeeds, SpellsEnd, grounds, labels_after}
-use Rattle.driver_exec.specs.Retry.{RetryState, after, after_further, avoiding, decide, may_be_retried, stays, told}
+use Rattle.driver_exec.specs.Retry.{RetryState, after, after_further, avoiding, decide, in_phase, may_be_retried, stays, told}
+use Rattle.driver_exec.specs.inside.Executing.{Reaches}
+use Rattle.driver_exec.proofs.Folding.{came_of}
 use Rattle.driver_exec.proofs.Causes.{notes_nothing}
 use Rattle.driver_exec.proofs.HeldSessions.{AtEnd, IsOf, Stands, draw_holds, draws_on, exchange_holds, is_of, last_draws_none, none_draws, ready_holds, ready_stands, sent_stands, sessionless, stands_at_first, unnumbered_at_end}
 use Rattle.driver_exec.proofs.MoreAnswers.{early_twice, end_after, end_before, last_after, notes_twice}
@@ -189,12 +190,12 @@ kept_has P Q (Some kept) then_has has = then_has kept.failure.error has
 
 module _ (P : Error → Type 0) where
   -- a property of the kept error and of the new one is one of what is kept of both
-  after_has : (kept : Option RetryState) (failure : Failure) (number : Option ℤ) → KeptHas P kept → P failure.error → P (after kept failure number).failure.error
+  after_has : (kept : Option RetryState) (failure : AttemptFailure) → KeptHas P kept → P failure.error → P (after kept failure).failure.error
   unfolding after after_further
-  after_has None failure number has new = new
-  after_has (Some kept) failure number has new = by_test (stays kept.failure failure)
+  after_has None failure has new = new
+  after_has (Some kept) failure has new = by_test (stays kept.failure (in_phase failure))
     where
-      by_test : (stay : Bool) → P (if stay then kept.failure else failure).error
+      by_test : (stay : Bool) → P (if stay then kept.failure else in_phase failure).error
       by_test true = has
       by_test false = new
 
@@ -205,23 +206,22 @@ module _ (P : Error → Type 0) where
   avoiding_has false address kept has = has
 
   -- so it is after the decision
-  decide_has : (kept : Option RetryState) (failure : Failure) (number : Option ℤ) (address : Address) (own : Retryability) (sharded : Bool) → KeptHas P kept
-      → P (reworded failure.error) → ResultHas P (decide kept failure number address own sharded)
+  decide_has : (kept : Option RetryState) (failure : AttemptFailure) (own : Retryability) (sharded : Bool) → KeptHas P kept
+      → P (reworded failure.error) → ResultHas P (decide kept failure own sharded)
   unfolding decide
-  decide_has kept failure number address own sharded has new = by_test (may_be_retried (told failure) number own)
+  decide_has kept failure own sharded has new = by_test (may_be_retried (told failure) own)
     where
-      holds : P (after kept (told failure) number).failure.error
-      holds = after_has kept (told failure) number has new
+      holds : P (after kept (told failure)).failure.error
+      holds = after_has kept (told failure) has new
 
-      by_test : (may : Bool) → ResultHas P (if may then Ok (avoiding sharded address (after kept (told failure) number)) else Err (after kept (told failure) number).failure.error)
-      by_test true = avoiding_has sharded address (after kept (told failure) number) holds
+      by_test : (may : Bool) → ResultHas P (if may then Ok (avoiding sharded failure.address (after kept (told failure))) else Err (after kept (told failure)).failure.error)
+      by_test true = avoiding_has sharded failure.address (after kept (told failure)) holds
       by_test false = holds
 
   -- and after what is decided in an operation
-  decided_has : {A : Type 0} (trial : Trial A) (sharded : Bool) (kept : Option RetryState) (failing : AttemptFailure) (now : AttemptState) (result : Result RetryState Error) → KeptHas P kept
-      → P (reworded failing.failure.error) → decided trial sharded kept failing now ≡ result → ResultHas P result
-  decided_has trial sharded kept failing now result has new is =
-      subst (ResultHas P) is (decide_has kept failing.failure (number_before now.held) failing.address trial.own sharded has new)
+  decided_has : {A : Type 0} (trial : Trial A) (sharded : Bool) (kept : Option RetryState) (failing : AttemptFailure) (result : Result RetryState Error) → KeptHas P kept
+      → P (reworded failing.error) → decide kept failing trial.own sharded ≡ result → ResultHas P result
+  decided_has trial sharded kept failing result has new is = subst (ResultHas P) is (decide_has kept failing trial.own sharded has new)
 
 -- what each end of an attempt needs
 module _ {A : Type 0} (on : Grounds A) (before now : ℕ) (items : List Answered) (error : Error) where
@@ -557,8 +557,8 @@ module _ {A : Type 0} (spec : OperationSpec A) (batch : Batch) (which : SendKind
   -- one more failure, and what is decided after it
   module _ (sharded : Bool) (kept : Option RetryState) (mid now : AttemptState) (far : SoFar kept mid) (failing : AttemptFailure) (past : Option RetryState) (tries : Tries trial past mid now (Failed failing)) where
     -- what the failure needs
-    failed : Fails past mid far.adds.setup far.stands now (reworded failing.failure.error)
-    failed = fails_in past mid far.adds.setup far.stands now failing.address failing.failure.phase failing.failure.error tries
+    failed : Fails past mid far.adds.setup far.stands now (reworded failing.error)
+    failed = fails_in past mid far.adds.setup far.stands now failing.address failing.phase failing.error tries.0
 
     -- what the link noted so far
     abbrev items : List Answered
@@ -573,13 +573,13 @@ module _ {A : Type 0} (spec : OperationSpec A) (batch : Batch) (which : SendKind
     older error needs = end_before on far.items failed.more link.faults mid.link.faults now.link.faults (Some (outline_of error)) failed.adds.later needs
 
     -- the new error has its needs too
-    newer : NeedsNow (reworded failing.failure.error)
-    newer = end_after on far.items failed.more link.faults mid.link.faults now.link.faults (Some (outline_of (reworded failing.failure.error))) far.adds.later failed.needs
+    newer : NeedsNow (reworded failing.error)
+    newer = end_after on far.items failed.more link.faults mid.link.faults now.link.faults (Some (outline_of (reworded failing.error))) far.adds.later failed.needs
 
     -- so has what is decided
-    decided_needs : (result : Result RetryState Error) → decided trial sharded kept failing now ≡ result → ResultHas NeedsNow result
+    decided_needs : (result : Result RetryState Error) → decide kept failing trial.own sharded ≡ result → ResultHas NeedsNow result
     decided_needs result is =
-        decided_has NeedsNow trial sharded kept failing now result (kept_has (Needs link.faults mid.link.faults far.items) NeedsNow kept older far.needs) newer is
+        decided_has NeedsNow trial sharded kept failing result (kept_has (Needs link.faults mid.link.faults far.items) NeedsNow kept older far.needs) newer is
 
     -- where the numbers are at their end, nothing was exchanged, and what is decided may be the end
     record Early (result : Result RetryState Error) : Type 0 where
@@ -588,17 +588,17 @@ module _ {A : Type 0} (spec : OperationSpec A) (batch : Batch) (which : SendKind
       lasts : ResultHas Lasts result
 
     -- it is so after the decision
-    decided_early : (result : Result RetryState Error) → decided trial sharded kept failing now ≡ result → AtLast → Early result
+    decided_early : (result : Result RetryState Error) → decide kept failing trial.own sharded ≡ result → AtLast → Early result
     decided_early result is at =
         let was = far.early at in
         let here = failed.early at was.1 in record {
           items_are = early_twice far.items failed.more was.0 here.0;
           unsent = here.1;
-          lasts = decided_has Lasts trial sharded kept failing now result was.2 here.2 is;
+          lasts = decided_has Lasts trial sharded kept failing result was.2 here.2 is;
         }
 
     -- a decision that allows a further attempt
-    goes_further : (retry : RetryState) → decided trial sharded kept failing now ≡ Ok retry → SoFar (Some retry) now
+    goes_further : (retry : RetryState) → decide kept failing trial.own sharded ≡ Ok retry → SoFar (Some retry) now
     goes_further retry is = record {
       items = items;
       adds = adds_twice link mid.link now.link far.items failed.more far.adds failed.adds;
@@ -704,7 +704,7 @@ module _ {A : Type 0} (spec : OperationSpec A) (batch : Batch) (which : SendKind
 
     -- the last failure may not be followed by another attempt
     caused_refused : (failing : AttemptFailure) (past : Option RetryState) (error : Error) → Tries trial past mid now (Failed failing)
-        → (decided trial sharded kept failing now ≡ Err error) ⊎ (kind_of error ≡ kind.Memory) → CausedAt now (Some (outline_of error))
+        → (decide kept failing trial.own sharded ≡ Err error) ⊎ (kind_of error ≡ kind.Memory) → CausedAt now (Some (outline_of error))
     caused_refused failing past error tries refused =
         let fails = failed sharded kept mid now far failing past tries in
         let adds = adds_twice link mid.link now.link far.items fails.more far.adds fails.adds in
@@ -746,7 +746,8 @@ executes_caused spec batch which before now count count_now result executes =
     let own = spec.retryability before.client.options in
     let link = besides_out before.link in
     let attempts = executes.attempts in
-    let far = reaches_far spec batch which own before.store link count executes.sharded attempts.failures attempts.kept attempts.mid attempts.reaches in
+    let came = came_of (trial_of spec batch which own) executes.sharded (first_state before.store link count) executes.last result attempts in
+    let far = reaches_far spec batch which own before.store link count executes.sharded came.0 attempts.kept attempts.mid came.1 in
     let caused = caused_ends spec batch which own before.store link executes.sharded attempts.kept attempts.mid executes.last far result attempts.ends in
     let ends = subst (λ l. EndsCaused (grounds spec before) link l (end_of result)) (sym executes.link_is) caused in
     record { items = ends.items; noted = ends.noted; never_falls = ends.never_falls; needs = ends.needs; at_last = ends.at_last }

@@ -1,12 +1,8 @@
 -- The sends of an operation are one and the same, at most two, and the session that they are under was borrowed.
 use Rattle.std.proofs.Common.{◌≡◌, ℕ, suc, ◌+◌, ◌≤◌, List, [], ◌∷◌, length, refl, sym, ap, subst, ◌∙◌, inl, inr, arith}
-use Rattle.std.specs.Prelude.{ℤ, Bool, true, false, Option, None, Some, Result, Ok, Err, if◌then◌else◌}
+use Rattle.std.specs.Prelude.{ℤ, Bool, true, Option, None, Some, Result, Ok, Err}
 use Rattle.driver_error.specs.declared.error.Error.{Error}
-use Rattle.driver_error.specs.declared.labels.TheConstants.{RETRYABLE_WRITE_ERROR}
-use Rattle.driver_error.specs.Error.{labels_of}
-use Rattle.driver_error.specs.LabelTexts.{has_label}
 use Rattle.driver_link.specs.declared.fault.LinkError.TheVariants.{Fault}
-use Rattle.driver_link.specs.declared.options.Address.{Address}
 use Rattle.driver_link.specs.LinkState.{LinkState, server_run}
 use Rattle.driver_session.specs.declared.retryability.Retryability.{Retryability}
 use Rattle.driver_session.specs.declared.retryability.Retryability.TheVariants as may
@@ -19,38 +15,22 @@ use Rattle.driver_ops.specs.Operations.{Batch, OperationSpec, send_of}
 use Rattle.driver_ops.specs.SendKinds.{SendKind}
 use Rattle.driver_exec.specs.declared.attempt_end.AttemptEnd.{AttemptEnd}
 use Rattle.driver_exec.specs.declared.attempt_end.AttemptEnd.TheVariants.{Done, Ended, Failed, Stopped, Unfit, Unselected}
-use Rattle.driver_exec.specs.declared.attempt_end.AttemptFailure.{AttemptFailure}
-use Rattle.driver_exec.specs.declared.failure.Failure.{Failure}
+use Rattle.driver_exec.specs.declared.failure.AttemptFailure.{AttemptFailure}
 use Rattle.driver_exec.specs.Attempting.{AttemptState, EndsAtOnce, EndsRefused, RefusedAgain, Trial, Tries, besides_out, on_connection, trial_of}
-use Rattle.driver_exec.specs.Executing.{Ends, EndsWith, Executes, Reaches, first_state}
-use Rattle.driver_exec.specs.Holding.{DrawsNumber, DrawsSession, GivesBack, GivesNumber, ExecutionSession, number_before}
+use Rattle.driver_exec.specs.Executing.{Ends, EndsWith, Executes, first_state}
+use Rattle.driver_exec.specs.Holding.{DrawsNumber, DrawsSession, GivesBack, GivesNumber, ExecutionSession}
 use Rattle.driver_exec.specs.Moment.{Moment}
 use Rattle.driver_exec.specs.Resending.{Borrows, EndsWithReading, SendsOneCommand, SentWithin}
-use Rattle.driver_exec.specs.Retry.{RetryState, after, avoiding, decide, may_be_retried, may_be_sent, told}
+use Rattle.driver_exec.specs.Retry.{RetryState, may_be_sent}
+use Rattle.driver_exec.specs.inside.Executing.{Reaches}
 use Rattle.driver_exec.proofs.Attempts.{may_raise, stays}
-use Rattle.driver_exec.proofs.Executing.{AtMostOne, attempts_left, decided_fewer, one_left}
-use Rattle.driver_exec.proofs.Trying.{both_true, early_counted, selected_counted}
+use Rattle.driver_exec.proofs.Executing.{AtMostOne, attempts_left, decided_fewer, decided_sent, one_left}
+use Rattle.driver_exec.proofs.Folding.{Came, came_of}
+use Rattle.driver_exec.proofs.Trying.{early_counted, selected_counted}
 use Rattle.driver_exec.proofs.Resends.{none_sent}
 use Rattle.driver_exec.proofs.Borrowing.{CountFits, HoldsFrom, HoldsLast, MayGoOn, NumberFits, id_of, number_of}
 use Rattle.driver_exec.proofs.Courses.{Course, Drawn, Over, counted, course_over, drawn, one_more, starts, store_stays}
 use Rattle.driver_exec.proofs.Attempted.{CourseAt, OverAt, failed_course, goes_phase, only_link, over_at, reads_at, ready_course}
-
-retried_sent : (failure : Failure) (number : Option ℤ) (own : Retryability) → may_be_retried failure number own ≡ true → may_be_sent failure.phase number ≡ true
-unfolding may_be_retried
-retried_sent failure number may.Write is = (both_true (has_label (labels_of failure.error) RETRYABLE_WRITE_ERROR.now) (may_be_sent failure.phase number) is).1
-retried_sent failure number may.Read is = absurd (let e : false ≡ true = is in cc)
-retried_sent failure number may.None is = absurd (let e : false ≡ true = is in cc)
-
-decided_sent : (kept : Option RetryState) (failure : Failure) (number : Option ℤ) (address : Address) (own : Retryability) (sharded : Bool) (retry : RetryState)
-    → decide kept failure number address own sharded ≡ Ok retry → may_be_sent failure.phase number ≡ true
-unfolding decide
-decided_sent kept failure number address own sharded retry is = by_test (may_be_retried (told failure) number own) refl is
-  where
-    by_test : (may : Bool) → may_be_retried (told failure) number own ≡ may
-        → (if may then Ok (avoiding sharded address (after kept (told failure) number)) else Err (after kept (told failure) number).failure.error) ≡ Ok retry
-        → may_be_sent failure.phase number ≡ true
-    by_test true test is = retried_sent (told failure) number own test
-    by_test false test is = absurd (let e : ◌≡◌ {A = Result RetryState Error} (Err (after kept (told failure) number).failure.error) (Ok retry) = is in cc)
 
 module _ {A : Type 0} (trial : Trial A) (sharded : Bool) (store : StoreTells) (link : LinkState) where
   -- where an operation has come so far
@@ -65,8 +45,8 @@ module _ {A : Type 0} (trial : Trial A) (sharded : Bool) (store : StoreTells) (l
       let came = reaches_course count failures earlier mid rest.1.0 in
       let fails = rest.1.1 in (
         failed_course trial store link earlier (length failures) mid came.1 came.0 now failing fails.tries,
-        goes_phase trial store link earlier (length failures) mid came.1 came.0 now failing.address failing.failure.phase failing.failure.error fails.tries
-            (decided_sent earlier failing.failure (number_before now.held) failing.address trial.own sharded reaches.0 fails.decides),
+        goes_phase trial store link earlier (length failures) mid came.1 came.0 now failing.address failing.phase failing.error fails.tries.0
+            (subst (λ n. may_be_sent failing.phase n ≡ true) fails.tries.1 (decided_sent earlier failing trial.own sharded reaches.0 fails.decides)),
       )
 
   -- how many attempts there were
@@ -82,7 +62,7 @@ module _ {A : Type 0} (trial : Trial A) (sharded : Bool) (store : StoreTells) (l
       let earlier = rest.0 in
       let few = reaches_few count failures earlier mid rest.1.0 in
       let fails = rest.1.1 in
-      let fewer = decided_fewer failing.failure (number_before now.held) failing.address trial.own sharded earlier reaches.0 few.once fails.goes_on fails.decides in
+      let fewer = decided_fewer failing trial.own sharded earlier reaches.0 few.once fails.goes_on fails.decides in
       subst (Few (failing ∷ failures)) (sym reaches.1.0) (record { once = fewer.once; left = omega (arith, few.left, fewer.fewer) })
 
   -- the last attempt
@@ -318,8 +298,13 @@ module _ {A : Type 0} (spec : OperationSpec A) (batch : Batch) (which : SendKind
   abbrev trial : Trial A
   trial = trial_of spec batch which (spec.retryability before.client.options)
 
+  -- its attempts are those of a loop
+  came : Came trial executes.sharded (first_state before.store (besides_out before.link) count) executes.attempts.kept executes.attempts.mid
+  came = came_of trial executes.sharded (first_state before.store (besides_out before.link) count) executes.last result executes.attempts
+
+  -- so it is over
   done : Finished trial executes.sharded before.store (besides_out before.link) executes.last result
-  done = finishes trial executes.sharded before.store (besides_out before.link) count executes.attempts.failures executes.attempts.kept executes.attempts.mid executes.last result executes.attempts.reaches executes.attempts.ends
+  done = finishes trial executes.sharded before.store (besides_out before.link) count came.0 executes.attempts.kept executes.attempts.mid executes.last result came.1 executes.attempts.ends
 
   -- the server is that of the last attempt
   server_is : server_run now.link ≡ server_run executes.last.link

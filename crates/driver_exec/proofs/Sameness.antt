@@ -142,7 +142,7 @@ module _ {A : Type 0} (old now : OperationSpec A) (same : SameSpec old now) (bat
     sends = sends_same past before after tries.address tries.conn (Ok tries.reply) tries.sends;
     reads = answers_same old now same tries.reply (Ok output) tries.reads;
   }
-  tries_same past before after (Failed failing) tries = fails_same past before after failing.address failing.failure.phase failing.failure.error tries
+  tries_same past before after (Failed failing) tries = (fails_same past before after failing.address failing.phase failing.error tries.0, tries.1)
   tries_same past before after (Unselected error) tries = tries
   tries_same past before after Stopped tries = (
     tries.0,

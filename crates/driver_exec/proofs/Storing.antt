@@ -44,7 +44,7 @@ module _ {A : Type 0} (trial : Trial A) (past : Option RetryState) (mid now : At
 
   pub tries_draws : (attempt : AttemptEnd A) → Tries trial past mid now attempt → Draws mid.store now.store
   tries_draws (Done output) tries = sends_draws tries.address tries.conn _ tries.sends
-  tries_draws (Failed failing) tries = fails_draws failing.address failing.failure.phase failing.failure.error tries
+  tries_draws (Failed failing) tries = fails_draws failing.address failing.phase failing.error tries.0
   tries_draws (Unselected error) tries = draws_same mid.store now.store tries.rest.store
   tries_draws Stopped tries = readies_draws trial mid now tries.1.address tries.1.conn tries.1.readies
   tries_draws Unfit tries = subst (Draws mid.store) (sym tries.1.store) (readies_draws trial mid tries.1.ready tries.1.address tries.1.conn tries.1.readies)
@@ -67,7 +67,7 @@ module _ {A : Type 0} (trial : Trial A) (mid now : AttemptState) where
     | inl last ↦ apart_before mid.store now.store (tries_draws trial kept mid now last.attempt last.tries) apart
     | inr other ↦ elim other [
       | inl limit ↦ subst (λ s. DrawnApart s.store) limit.same apart
-      | inr refused ↦ fails_apart trial kept mid now refused.failing.address refused.failing.failure.phase refused.failing.failure.error refused.tries apart
+      | inr refused ↦ fails_apart trial kept mid now refused.failing.address refused.failing.phase refused.failing.error refused.tries.0 apart
     ]
   ]
 

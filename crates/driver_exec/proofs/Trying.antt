@@ -32,9 +32,9 @@ use Rattle.driver_exec.specs.declared.attempt_end.AttemptEnd.{AttemptEnd}
 use Rattle.driver_exec.specs.declared.attempt_end.AttemptEnd.TheVariants.{Ended, Failed, Stopped, Unselected}
 use Rattle.driver_exec.specs.Attempting.{AsksEarly, AttemptState, Connects, FailsIn, LosesExchange, NotConnected, Readies, Selects, Sends, SpellsFailure, Trial, Tries, asked_for, asks_session, avoided, besides_out, is_nothing, may_use, on_connection, stops, trial_of}
 use Rattle.driver_exec.specs.Causes.{AllEarly}
-use Rattle.driver_exec.specs.Holding.{ExecutionSession, HoldsSession, needs_session}
+use Rattle.driver_exec.specs.Holding.{ExecutionSession, HoldsSession, needs_session, number_before}
 use Rattle.driver_exec.specs.Retry.{RetryState}
-use Rattle.driver_exec.proofs.Attempts.{check_out_counts, counts_twice, select_counts}
+use Rattle.driver_exec.proofs.Attempts.{check_out_counts, counts_twice, select_counts, sent_number}
 use Rattle.driver_exec.proofs.Causes.{notes_since}
 use Rattle.driver_exec.specs.inside.Attempting.{Comes, Sending, attempt_state}
 use Rattle.driver_exec.specs.inside.Failures.{EndsLost, EndsRead, EndsUnconnected, EndsUnselected}
@@ -198,6 +198,7 @@ same_back old now same = record {
   backpressure = λ options. sym (same.backpressure options);
   after_cluster_time = sym same.after_cluster_time;
   reads = λ pages result. ((same.reads pages result).1, (same.reads pages result).0);
+  output = λ entries output. ((same.output entries output).1, (same.output entries output).0);
 }
 
 -- an operation tells before and now the same
@@ -251,11 +252,11 @@ module _ {A : Type 0} (old now : OperationSpec A) (same : SameSpec old now) wher
     ]
   ]
 
-  pub comes_same : (turn : Retryability) (version : Option ℤ) (address : Address) (result : Result (List ℕ) LinkError) (attempt : AttemptEnd A)
-      → Comes now turn version address result attempt → Comes old turn version address result attempt
-  comes_same turn version address (Ok reply) attempt comes =
+  pub comes_same : (turn : Retryability) (version : Option ℤ) (address : Address) (number : Option ℤ) (result : Result (List ℕ) LinkError) (attempt : AttemptEnd A)
+      → Comes now turn version address number result attempt → Comes old turn version address number result attempt
+  comes_same turn version address number (Ok reply) attempt comes =
       record { answer = comes.answer; reads = answers_same reply comes.answer comes.reads; ends = comes.ends }
-  comes_same turn version address (Err failure) attempt comes = comes
+  comes_same turn version address number (Err failure) attempt comes = comes
 
 module _ {A : Type 0} (spec : OperationSpec A) (batch : Batch) (which : SendKind) (own : Retryability) (past : Option RetryState) where
   abbrev trial : Trial A
@@ -275,19 +276,21 @@ module _ {A : Type 0} (spec : OperationSpec A) (batch : Batch) (which : SendKind
 
   -- no connection was had
   pub unconnected_tries : (store : StoreTells) (link mid now : LinkState) (held : ExecutionSession) (count : ℕ) (address : Address) (failure : LinkError) (attempt : AttemptEnd A)
-      → Selects (avoided past) (besides_out link) mid (Ok address) → ChecksOutConnection mid (besides_out now) address (Err failure) → EndsUnconnected own address failure attempt
+      → Selects (avoided past) (besides_out link) mid (Ok address) → ChecksOutConnection mid (besides_out now) address (Err failure) → EndsUnconnected own address (number_before held) failure attempt
       → Tries trial past (attempt_state store link held count) (attempt_state store now held count) attempt
-  unconnected_tries store link mid now held count address (Fault fault labels) (Failed failing) selects checks ends =
-      subst (λ phase. FailsIn trial past (attempt_state store link held count) (attempt_state store now held count) failing.address phase failing.failure.error) (sym ends.phase_is)
-      (subst (λ at. NotConnected trial past (attempt_state store link held count) (attempt_state store now held count) at failing.failure.error) (sym ends.address_is) (record {
-        mid = mid;
-        selects = selects;
-        fault = fault;
-        own = labels;
-        checks_out = checks;
-        is = ends.error;
-        rest = record { store = refl; held = refl; count = refl };
-      }))
+  unconnected_tries store link mid now held count address (Fault fault labels) (Failed failing) selects checks ends = (
+    subst (λ phase. FailsIn trial past (attempt_state store link held count) (attempt_state store now held count) failing.address phase failing.error) (sym ends.phase_is)
+        (subst (λ at. NotConnected trial past (attempt_state store link held count) (attempt_state store now held count) at failing.error) (sym ends.address_is) (record {
+          mid = mid;
+          selects = selects;
+          fault = fault;
+          own = labels;
+          checks_out = checks;
+          is = ends.error;
+          rest = record { store = refl; held = refl; count = refl };
+        })),
+    ends.number_is,
+  )
   unconnected_tries store link mid now held count address (Fault fault labels) (Ended error) selects checks memory =
       inl (record { asks = asks_connection (avoided past) (besides_out link) mid (besides_out now) address (Err (Fault fault labels)) selects checks; store = refl; held = refl; count = refl; why = memory })
   unconnected_tries store link mid now held count address Memory (Ended error) selects checks memory =
@@ -352,45 +355,49 @@ module _ {A : Type 0} (spec : OperationSpec A) (batch : Batch) (which : SendKind
         came = attempt_state store_now link_now held_now count_now
 
         -- the command's reply was read
-        read_tries : (reply : List ℕ) (answer : Result A Error) (attempt : AttemptEnd A) → Sends trial past began came address conn (Ok reply) → ReadsAnswer spec reply answer
-            → EndsRead turn version address answer attempt → Tries trial past began came attempt
+        read_tries : (reply : List ℕ) (answer : Result A Error) (attempt : AttemptEnd A) (sends : Sends trial past began came address conn (Ok reply)) → ReadsAnswer spec reply answer
+            → EndsRead turn version address sends.number answer attempt → Tries trial past began came attempt
         read_tries reply (Ok output) attempt sends reads ends =
             subst (λ a. Tries trial past began came a) (sym ends) (record { address = address; conn = conn; reply = reply; sends = sends; reads = reads })
-        read_tries reply (Err read) (Failed failing) sends reads ends =
-            subst (λ phase. FailsIn trial past began came failing.address phase failing.failure.error) (sym ends.phase_is)
-            (inr (subst (λ at. SpellsFailure trial past began came at failing.failure.error) (sym ends.address_is) (record {
-              conn = conn;
-              reply = reply;
-              sends = sends;
-              is = record {
-                bare = ends.error.bare;
-                is = record { bare = read; reads = reads; labelled = ends.error.is };
-                versioned = ends.error.versioned;
-              };
-            })))
+        read_tries reply (Err read) (Failed failing) sends reads ends = (
+          subst (λ phase. FailsIn trial past began came failing.address phase failing.error) (sym ends.phase_is)
+              (inr (subst (λ at. SpellsFailure trial past began came at failing.error) (sym ends.address_is) (record {
+                conn = conn;
+                reply = reply;
+                sends = sends;
+                is = record {
+                  bare = ends.error.bare;
+                  is = record { bare = read; reads = reads; labelled = ends.error.is };
+                  versioned = ends.error.versioned;
+                };
+              }))),
+          ends.number_is ∙ sym (sent_number (Ok reply) sends),
+        )
         read_tries reply (Err read) (Ended error) sends reads memory =
             inr (inr (record { address = address; conn = conn; result = Ok reply; sends = sends; why = memory }))
         read_tries reply (Err read) _ sends reads ends = absurd ends
 
         -- its exchange failed
-        lost_tries : (failure : LinkError) (attempt : AttemptEnd A) → Sends trial past began came address conn (Err failure) → EndsLost turn version address failure attempt
+        lost_tries : (failure : LinkError) (attempt : AttemptEnd A) (sends : Sends trial past began came address conn (Err failure)) → EndsLost turn version address sends.number failure attempt
             → Tries trial past began came attempt
-        lost_tries (Fault fault labels) (Failed failing) sends ends =
-            subst (λ phase. FailsIn trial past began came failing.address phase failing.failure.error) (sym ends.phase_is)
-            (inl (subst (λ at. LosesExchange trial past began came at failing.failure.error) (sym ends.address_is) (record {
-              conn = conn;
-              fault = fault;
-              own = labels;
-              sends = sends;
-              is = ends.error;
-            })))
+        lost_tries (Fault fault labels) (Failed failing) sends ends = (
+          subst (λ phase. FailsIn trial past began came failing.address phase failing.error) (sym ends.phase_is)
+              (inl (subst (λ at. LosesExchange trial past began came at failing.error) (sym ends.address_is) (record {
+                conn = conn;
+                fault = fault;
+                own = labels;
+                sends = sends;
+                is = ends.error;
+              }))),
+          ends.number_is ∙ sym (sent_number (Err (Fault fault labels)) sends),
+        )
         lost_tries (Fault fault labels) (Ended error) sends memory =
             inr (inr (record { address = address; conn = conn; result = Err (Fault fault labels); sends = sends; why = memory }))
         lost_tries Memory (Ended error) sends memory = inr (inr (record { address = address; conn = conn; result = Err Memory; sends = sends; why = memory }))
         lost_tries (Fault fault labels) _ sends ends = absurd ends
         lost_tries Memory _ sends ends = absurd ends
 
-        came_tries : (result : Result (List ℕ) LinkError) (attempt : AttemptEnd A) → Sends trial past began came address conn result → Comes spec turn version address result attempt
+        came_tries : (result : Result (List ℕ) LinkError) (attempt : AttemptEnd A) (sends : Sends trial past began came address conn result) → Comes spec turn version address sends.number result attempt
             → Tries trial past began came attempt
         came_tries (Ok reply) attempt sends comes = read_tries reply comes.answer attempt sends comes.reads comes.ends
         came_tries (Err failure) attempt sends comes = lost_tries failure attempt sends comes

@@ -26,7 +26,7 @@ use Rattle.driver_exec.specs.declared.attempt_end.AttemptEnd.TheVariants.{Done, 
 use Rattle.driver_exec.specs.declared.failure.FailurePhase.{FailurePhase}
 use Rattle.driver_exec.specs.declared.failure.FailurePhase.TheVariants.{ConnectionEstablishment, Execution}
 use Rattle.driver_exec.specs.Failures.{IsFaultOf, IsLabelledRead, IsVersioned}
-use Rattle.driver_exec.specs.Holding.{DrawsNumber, ExecutionSession, HoldsSession, held_after_failure, held_id, needs_session}
+use Rattle.driver_exec.specs.Holding.{DrawsNumber, ExecutionSession, HoldsSession, held_after_failure, held_id, needs_session, number_before}
 use Rattle.driver_exec.specs.Retry.{RetryState}
 
 -- what a link tells besides the connections that are out
@@ -284,11 +284,11 @@ pub record EndsSent {A : Type 0} (trial : Trial A) (kept : Option RetryState) (b
 abbrev pub EndsAtOnce : {A : Type 0} → Trial A → Option RetryState → AttemptState → AttemptState → Error → Type 0
 EndsAtOnce trial kept before now error = EndsUnready kept before now error ⊎ (EndsRefused trial kept before now error ⊎ EndsSent trial kept before now error)
 
--- one attempt, by what is kept of the failures before and how it ended; only one that is not the first stops, or builds its
--- command again
+-- one attempt, by what is kept of the failures before and how it ended: a failure has the number of the last send before it;
+-- only an attempt that is not the first stops, or builds its command again
 abbrev pub Tries : {A : Type 0} → Trial A → Option RetryState → AttemptState → AttemptState → AttemptEnd A → Type 0
 Tries trial kept before now (Done output) = IsAnswered trial kept before now output
-Tries trial kept before now (Failed failing) = FailsIn trial kept before now failing.address failing.failure.phase failing.failure.error
+Tries trial kept before now (Failed failing) = FailsIn trial kept before now failing.address failing.phase failing.error × (failing.number ≡ number_before now.held)
 Tries trial kept before now (Unselected error) = NotSelected kept before now error
 Tries trial kept before now Stopped = (is_some kept ≡ true) × Stops trial kept before now
 Tries trial kept before now Unfit = (is_some kept ≡ true) × RefusedAgain trial kept before now

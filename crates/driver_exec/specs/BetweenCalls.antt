@@ -1,11 +1,12 @@
--- What holds between the calls of one client's plain writes: what the sends so far say of the pool of sessions,
--- and the invariant of the trace.
-use Rattle.std.specs.Prelude.{◌≡◌, ℕ, ℤ, ◌<◌, ◌≤ℤ◌, List, [], ◌∷◌, map, Some, slice_get}
+-- What holds between the operations of one client outside transactions: what the sends so far say of the pool of sessions,
+-- the invariant of the trace, and which places may be sent next.
+use Rattle.std.specs.Prelude.{◌≡◌, ℕ, ℤ, ◌≤ℤ◌, List, [], ◌∷◌, map, Some, slice_get}
 use Rattle.driver_link.specs.declared.machine.PlacedWrite.{PlacedWrite}
 use Rattle.driver_link.specs.declared.machine.Send.{Send}
+use Rattle.driver_link.specs.declared.machine.SendBody.{SendBody}
 use Rattle.driver_link.specs.declared.machine.Server.{Server}
-use Rattle.driver_link.specs.Cases.{writes_of}
-use Rattle.driver_link.specs.Settled.{Has, IsOrderly, IsSettled, IsUnder}
+use Rattle.driver_link.specs.Cases.{body_writes, writes_of}
+use Rattle.driver_link.specs.Settled.{Has, IsOrderly, IsSettled, IsUnder, IsWrite}
 use Rattle.driver_link.specs.Apart.{NotAmong}
 use Rattle.driver_session.specs.declared.pool.IdleSession.{IdleSession}
 use Rattle.driver_session.specs.Pool.{Pool, Among}
@@ -38,15 +39,27 @@ pub record Between (pool : Pool) (trace : List Send) : Type 0 where
   pub lent : pool.lent ≡ []
   pub knows : Knows pool.drawn pool.idle trace
 
--- all places of a trace are of calls before this one
-abbrev pub AllBelow : ℕ → List Send → Type 0
-AllBelow made trace = (send : Send) (at : ℕ) (write : PlacedWrite) → Has trace send → slice_get (writes_of send) at ≡ Some write → write.place.call < made
-
--- the sends of the calls so far: they are orderly, the server is settled, and their places are below the calls made
-pub record Sound (made : ℕ) (server : Server) : Type 0 where
+-- the sends so far are orderly, and the server is settled
+pub record Sound (server : Server) : Type 0 where
   pub orderly : IsOrderly server.trace
   pub settled : IsSettled server.trace server
-  pub below : AllBelow made server.trace
+
+-- no place stands twice among writes
+abbrev pub PlacesApart : List PlacedWrite → Type 0
+PlacesApart writes =
+    (i j : ℕ) (one other : PlacedWrite) → slice_get writes i ≡ Some one → slice_get writes j ≡ Some other → one.place ≡ other.place → i ≡ j
+
+-- none of the places of writes stands in a trace
+abbrev pub PlacesNew : List Send → List PlacedWrite → Type 0
+PlacesNew trace writes =
+    (earlier : Send) (i j : ℕ) (one other : PlacedWrite) → Has trace earlier
+    → slice_get (writes_of earlier) i ≡ Some one → slice_get writes j ≡ Some other → one.place ≡ other.place → ⊥
+
+-- what carries writes may be sent: their places are apart, and stand in no earlier send
+pub record MaySendPlaces (trace : List Send) (body : SendBody) : Type 0 where
+  pub writes : IsWrite body
+  pub apart : PlacesApart (body_writes body)
+  pub new : PlacesNew trace (body_writes body)
 
 -- each idle session's number is at most this one
 abbrev pub NumbersWithin : ℤ → List IdleSession → Type 0

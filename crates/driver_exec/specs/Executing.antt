@@ -1,6 +1,6 @@
--- An operation outside transactions as a whole: attempts that failed, each of which the decision allowed to be followed
--- by another, and the one after them.
-use Rattle.std.specs.Prelude.{◌≡◌, ℕ, Bool, true, false, List, [], ◌∷◌, Option, None, Some, IfSome, ◌⊎◌, Result, Ok, Err, nat_lt}
+-- An operation outside transactions as a whole: attempts that failed, of which each was made under what is kept of the
+-- failures before it, and the one after them.
+use Rattle.std.specs.Prelude.{◌≡◌, ℕ, Bool, true, false, List, [], ◌∷◌, ◌++◌, Option, None, Some, IfSome, ◌⊎◌, Result, Ok, Err, nat_lt}
 use Rattle.driver_error.specs.declared.error.Error.{Error}
 use Rattle.driver_error.specs.declared.kind.ErrorKind.TheVariants as kind
 use Rattle.driver_error.specs.Error.{kind_of}
@@ -10,33 +10,33 @@ use Rattle.driver_ops.specs.Operations.{Batch, OperationSpec}
 use Rattle.driver_ops.specs.SendKinds.{SendKind}
 use Rattle.driver_exec.specs.declared.attempt_end.AttemptEnd.{AttemptEnd}
 use Rattle.driver_exec.specs.declared.attempt_end.AttemptEnd.TheVariants.{Done, Ended, Failed, Stopped, Unfit, Unselected}
-use Rattle.driver_exec.specs.declared.attempt_end.AttemptFailure.{AttemptFailure}
+use Rattle.driver_exec.specs.declared.failure.AttemptFailure.{AttemptFailure}
 use Rattle.driver_exec.specs.Attempting.{AttemptState, Trial, Tries, besides_out, trial_of}
-use Rattle.driver_exec.specs.Holding.{GivesBack, holds_nothing, number_before}
+use Rattle.driver_exec.specs.Holding.{GivesBack, holds_nothing}
 use Rattle.driver_exec.specs.Moment.{Moment}
-use Rattle.driver_exec.specs.Retry.{RetryState, decide}
+use Rattle.driver_exec.specs.Retry.{RetryState, decide, folded}
 
 -- no further attempt is made
 abbrev pub limit_reached : Option RetryState → Bool
 limit_reached None = false
 limit_reached (Some kept) = nat_lt kept.limit kept.attempt
 
--- what is decided after a failure
-abbrev pub decided : {A : Type 0} → Trial A → Bool → Option RetryState → AttemptFailure → AttemptState → Result RetryState Error
-decided trial sharded kept failing now = decide kept failing.failure (number_before now.held) failing.address trial.own sharded
+-- what is kept after failures of an operation's attempts, the oldest first
+abbrev pub kept_after : {A : Type 0} → Trial A → Bool → List AttemptFailure → Result (Option RetryState) Error
+kept_after trial sharded failures = folded trial.own sharded None failures
 
--- one more failure, after which the decision keeps this
-pub record FailsOnce {A : Type 0} (trial : Trial A) (sharded : Bool) (kept : Option RetryState) (mid : AttemptState) (failing : AttemptFailure) (retry : RetryState) (now : AttemptState) : Type 0 where
+-- an attempt failed, under what is kept of the failures before it
+pub record FailsUnder {A : Type 0} (trial : Trial A) (sharded : Bool) (earlier : List AttemptFailure) (before : AttemptState) (failing : AttemptFailure) (now : AttemptState) : Type 0 where
+  pub kept : Option RetryState
+  pub kept_is : kept_after trial sharded earlier ≡ Ok kept
   pub goes_on : limit_reached kept ≡ false
-  pub tries : Tries trial kept mid now (Failed failing)
-  pub decides : decided trial sharded kept failing now ≡ Ok retry
+  pub tries : Tries trial kept before now (Failed failing)
 
--- an operation came to a moment by these failures, the newest first, and this is kept of them
-abbrev pub Reaches : {A : Type 0} → Trial A → Bool → AttemptState → List AttemptFailure → Option RetryState → AttemptState → Type 0
-Reaches trial sharded before [] kept now = (kept ≡ None) × (now ≡ before)
-Reaches trial sharded before (failing ∷ failures) kept now =
-    (retry : RetryState) × ((kept ≡ Some retry)
-    × ((mid : AttemptState) × ((earlier : Option RetryState) × (Reaches trial sharded before failures earlier mid × FailsOnce trial sharded earlier mid failing retry now))))
+-- attempts that failed one after another, the oldest first, behind earlier ones
+abbrev pub AttemptsFail : {A : Type 0} → Trial A → Bool → List AttemptFailure → AttemptState → List AttemptFailure → AttemptState → Type 0
+AttemptsFail trial sharded earlier before [] now = now ≡ before
+AttemptsFail trial sharded earlier before (failing ∷ failures) now =
+    (mid : AttemptState) × (FailsUnder trial sharded earlier before failing mid × AttemptsFail trial sharded (earlier ++ failing ∷ []) mid failures now)
 
 -- the result of an attempt after which there is no other: where no server was selected the failure that is kept is answered,
 -- else the selection's; where nothing may be repeated, or the command could not be built again, the failure that is kept
@@ -74,7 +74,7 @@ pub record EndsNotAllowed {A : Type 0} (trial : Trial A) (sharded : Bool) (kept 
   pub tries : Tries trial kept mid now (Failed failing)
   pub error : Error
   pub answers : result ≡ Err error
-  pub refused : (decided trial sharded kept failing now ≡ Err error) ⊎ (kind_of error ≡ kind.Memory)
+  pub refused : (decide kept failing trial.own sharded ≡ Err error) ⊎ (kind_of error ≡ kind.Memory)
 
 -- an operation ends with its last attempt, at the limit, or where a failure may not be followed by another attempt
 abbrev pub Ends : {A : Type 0} → Trial A → Bool → Option RetryState → AttemptState → AttemptState → Result A Error → Type 0
@@ -84,12 +84,13 @@ Ends trial sharded kept mid now result = EndsLast trial kept mid now result ⊎ 
 abbrev pub first_state : StoreTells → LinkState → ℕ → AttemptState
 first_state store link count = record { store = store; link = link; held = holds_nothing; count = count }
 
--- the attempts of an operation: its failures, and its end
+-- the attempts of an operation: its failures, the oldest first, what is kept of them all, and its end
 pub record Attempts {A : Type 0} (trial : Trial A) (sharded : Bool) (before now : AttemptState) (result : Result A Error) : Type 0 where
   pub failures : List AttemptFailure
-  pub kept : Option RetryState
   pub mid : AttemptState
-  pub reaches : Reaches trial sharded before failures kept mid
+  pub fails : AttemptsFail trial sharded [] before failures mid
+  pub kept : Option RetryState
+  pub kept_is : kept_after trial sharded failures ≡ Ok kept
   pub ends : Ends trial sharded kept mid now result
 
 -- an operation outside transactions, with the places of its writes and the number of its command's statements: its

@@ -1,63 +1,61 @@
--- What an insert does to what stands between the calls of one client's plain writes: whatever is lost, late or answered,
--- it keeps it, and where it was done its entry stands.
-use Rattle.std.specs.Prelude.{◌≡◌, ℕ, ◌+◌, ℤ, true, List, Option, None, Some}
-use Rattle.driver_link.specs.declared.machine.Counted.{Counted}
+-- What an operation outside transactions does to what stands between the operations of one client: whatever is lost, late or
+-- answered, it keeps it, and where it was done the entries of its writes stand and tell its output.
+use Rattle.std.specs.Prelude.{◌≡◌, ℕ, ℤ, List, Option, Some, ◌⊎◌, Result, Ok, Err}
+use Rattle.driver_error.specs.declared.error.Error.{Error}
 use Rattle.driver_link.specs.declared.machine.Entry.{Entry}
-use Rattle.driver_link.specs.declared.machine.PlacedWrite.{PlacedWrite}
-use Rattle.driver_link.specs.Settled.{Has}
-use Rattle.driver_link.specs.Statements.{entry_of}
+use Rattle.driver_link.specs.declared.machine.Send.{Send}
+use Rattle.driver_link.specs.declared.machine.SendBody.{SendBody}
+use Rattle.driver_link.specs.Apart.{AllApart}
+use Rattle.driver_link.specs.Cases.{body_writes}
 use Rattle.driver_link.specs.LinkState.{server_run}
 use Rattle.driver_link.specs.ServerRun.{ServerRun}
-use Rattle.driver_link.specs.Apart.{AllApart}
+use Rattle.driver_link.specs.Settled.{Has}
 use Rattle.driver_session.specs.Pool.{Pool}
-use Rattle.driver_ops.specs.Inserts.{is_done_reply}
-use Rattle.driver_ops.specs.Operations.{OperationSpec, ReadsOutput}
-use Rattle.driver_exec.specs.BetweenCalls.{Between, Sound}
-use Rattle.driver_exec.specs.Causes.{ErrorOutline}
+use Rattle.driver_ops.specs.Operations.{OperationSpec}
+use Rattle.driver_ops.specs.Served.{AreEntries}
+use Rattle.driver_exec.specs.BetweenCalls.{Between, MaySendPlaces, Sound}
 use Rattle.driver_exec.specs.Moment.{Moment}
-use Rattle.driver_exec.specs.Writing.{placed_write}
 
--- what stands before a call: the write's place is of this call, nothing is lent, the sends so far are sound, and the ids
--- that are drawn by its end are apart
-pub record StandsBefore (made : ℕ) (pool pool_now : Pool) (run : ServerRun) (write : PlacedWrite) : Type 0 where
-  pub placed : write.place.call ≡ made
+-- what stands before an operation that asks for this: nothing is lent, the sends so far are sound, its places may be sent, and
+-- the ids that are drawn by its end are apart
+pub record StandsBefore (pool pool_now : Pool) (run : ServerRun) (body : SendBody) : Type 0 where
   pub between : Between pool run.server.trace
-  pub sound : Sound made run.server
+  pub sound : Sound run.server
+  pub may_send : MaySendPlaces run.server.trace body
   pub apart : AllApart pool_now.drawn
 
--- what stands after it
-pub record StandsAfter (made : ℕ) (pool_now : Pool) (run_now : ServerRun) : Type 0 where
+-- what stands after it: the same, and each send of the trace was there before or is one of this
+pub record StandsAfter (pool_now : Pool) (run run_now : ServerRun) (body : SendBody) : Type 0 where
   pub between : Between pool_now run_now.server.trace
-  pub sound : Sound (made + 1) run_now.server
+  pub sound : Sound run_now.server
+  pub which : (send : Send) → Has run_now.server.trace send → Has run.server.trace send ⊎ (send.body ≡ body)
 
--- what stands before the call of a write stands after it, where pool and server are told
-abbrev pub KeepsTold : Option Pool → Option Pool → Option ServerRun → Option ServerRun → PlacedWrite → Type 0
-KeepsTold (Some pool) (Some pool_now) (Some run) (Some run_now) write =
-    (made : ℕ) → StandsBefore made pool pool_now run write → StandsAfter made pool_now run_now
-KeepsTold pool pool_now run run_now write = Unit {0}
+-- what stands before the operation stands after it, where pool and server are told
+abbrev pub KeepsTold : Option Pool → Option Pool → Option ServerRun → Option ServerRun → SendBody → Type 0
+KeepsTold (Some pool) (Some pool_now) (Some run) (Some run_now) body = StandsBefore pool pool_now run body → StandsAfter pool_now run run_now body
+KeepsTold pool pool_now run run_now body = Unit {0}
 
 -- the same of two moments
-abbrev pub KeepsInvariant : Moment → Moment → PlacedWrite → Type 0
-KeepsInvariant before now write = KeepsTold before.store.pool now.store.pool (server_run before.link) (server_run now.link) write
+abbrev pub KeepsInvariant : Moment → Moment → SendBody → Type 0
+KeepsInvariant before now body = KeepsTold before.store.pool now.store.pool (server_run before.link) (server_run now.link) body
 
--- a log has the entry of a write, under a session and a number, where there are such
-pub record HasEntry (write : PlacedWrite) (log : List Entry) : Type 0 where
+-- each write of what was asked for has its entry in a log, under one session and one number where there are such, and these
+-- entries tell the output
+pub record HasEntries {A : Type 0} (spec : OperationSpec A) (body : SendBody) (log : List Entry) (output : A) : Type 0 where
   pub session : Option (List ℕ)
   pub number : Option ℤ
-  pub result : Counted
-  pub has : Has log (entry_of session number (placed_write write) result)
+  pub entries : List Entry
+  pub are : AreEntries session number (body_writes body) entries
+  pub stand : (entry : Entry) → Has entries entry → Has log entry
+  pub told : spec.output entries output
 
--- an operation reads only a reply that tells of an insert that was done
-abbrev pub ReadsDone : {A : Type 0} → OperationSpec A → Type 0
-ReadsDone {A} spec = (bytes : List ℕ) (output : A) (reads : ReadsOutput spec bytes output) → is_done_reply reads.response.body ≡ true
+-- so it is in the log that is told after an operation before which all stood
+abbrev pub AreWritten : {A : Type 0} → OperationSpec A → SendBody → A → Option Pool → Option Pool → Option ServerRun → Option ServerRun → Type 0
+AreWritten spec body output (Some pool) (Some pool_now) (Some run) (Some run_now) =
+    StandsBefore pool pool_now run body → HasEntries spec body run_now.server.log output
+AreWritten spec body output pool pool_now run run_now = Unit {0}
 
--- its entry stands after its call
-abbrev pub IsWritten : Option Pool → Option Pool → Option ServerRun → Option ServerRun → PlacedWrite → Type 0
-IsWritten (Some pool) (Some pool_now) (Some run) (Some run_now) write =
-    (made : ℕ) → StandsBefore made pool pool_now run write → HasEntry write run_now.server.log
-IsWritten pool pool_now run run_now write = Unit {0}
-
--- where the call was done its entry stands
-abbrev pub OkHasEntries : Moment → Moment → PlacedWrite → Option ErrorOutline → Type 0
-OkHasEntries before now write None = IsWritten before.store.pool now.store.pool (server_run before.link) (server_run now.link) write
-OkHasEntries before now write (Some why) = Unit {0}
+-- where an operation was done its entries stand
+abbrev pub OkHasEntries : {A : Type 0} → OperationSpec A → SendBody → Moment → Moment → Result A Error → Type 0
+OkHasEntries spec body before now (Ok output) = AreWritten spec body output before.store.pool now.store.pool (server_run before.link) (server_run now.link)
+OkHasEntries spec body before now (Err error) = Unit {0}

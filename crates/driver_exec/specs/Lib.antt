@@ -13,6 +13,4 @@ pub mod OldDeployment
 pub mod OperationCauses
 pub mod Resending
 pub mod Retry
-pub mod Singles
-pub mod Writing
 pub mod inside

@@ -12,6 +12,7 @@ use Rattle.driver_error.specs.Predicates.{is_server_error, is_read_retryable, is
 use Rattle.driver_link.specs.declared.options.Address.{Address}
 use Rattle.driver_session.specs.declared.retryability.Retryability.{Retryability}
 use Rattle.driver_session.specs.declared.retryability.Retryability.TheVariants.{Write}
+use Rattle.driver_exec.specs.declared.failure.AttemptFailure.{AttemptFailure}
 use Rattle.driver_exec.specs.declared.failure.Failure.{Failure}
 use Rattle.driver_exec.specs.declared.failure.FailurePhase.{FailurePhase}
 use Rattle.driver_exec.specs.declared.failure.FailurePhase.TheVariants.{ConnectionEstablishment, Execution}
@@ -33,9 +34,9 @@ may_be_sent Execution number = is_some number
 
 -- a failure after which the operation may be tried again: the error itself, and not one below it, has the label
 -- of a retryable write, and the operation is a write that may be repeated and may be sent
-unfoldable pub may_be_retried : Failure → Option ℤ → Retryability → Bool
-may_be_retried failure number Write = has_label (labels_of failure.error) RETRYABLE_WRITE_ERROR.now && may_be_sent failure.phase number
-may_be_retried failure number other = false
+unfoldable pub may_be_retried : AttemptFailure → Retryability → Bool
+may_be_retried failure Write = has_label (labels_of failure.error) RETRYABLE_WRITE_ERROR.now && may_be_sent failure.phase failure.number
+may_be_retried failure other = false
 
 -- an error that tells of performed writes: neither it nor one below it says that no write was performed, and it
 -- is a server's, or one after which a read or a write may be tried again
@@ -76,40 +77,56 @@ with_server address servers = if list_any (is_server address) servers then serve
 abbrev pub one_more : ℕ → ℕ
 one_more attempt = min (attempt + 1) (2 ^ 32 - 1)
 
+-- of a failure of an attempt its error and its phase
+abbrev pub in_phase : AttemptFailure → Failure
+in_phase failure = record { error = failure.error; phase = failure.phase }
+
 -- the first failure makes the first attempt to retry, of one
-abbrev pub after_first : Failure → Option ℤ → RetryState
-after_first failure number = record { attempt = 1; limit = 1; failure = failure; number = number; deprioritized = [] }
+abbrev pub after_first : AttemptFailure → RetryState
+after_first failure = record { attempt = 1; limit = 1; failure = in_phase failure; number = failure.number; deprioritized = [] }
 
 -- each further failure makes one more
-unfoldable pub after_further : RetryState → Failure → Option ℤ → RetryState
-after_further kept failure number = record kept { attempt = one_more kept.attempt; failure = failure_kept kept.failure failure; number = number_kept kept.number number }
+unfoldable pub after_further : RetryState → AttemptFailure → RetryState
+after_further kept failure =
+    record kept { attempt = one_more kept.attempt; failure = failure_kept kept.failure (in_phase failure); number = number_kept kept.number failure.number }
 
 -- what is kept after a failure
-unfoldable pub after : Option RetryState → Failure → Option ℤ → RetryState
-after None failure number = after_first failure number
-after (Some kept) failure number = after_further kept failure number
+unfoldable pub after : Option RetryState → AttemptFailure → RetryState
+after None failure = after_first failure
+after (Some kept) failure = after_further kept failure
 
 -- on a sharded link the server that failed is avoided
 unfoldable pub avoiding : Bool → Address → RetryState → RetryState
 avoiding sharded address kept = if sharded then record kept { deprioritized = with_server address kept.deprioritized } else kept
 
 -- the failure in words for the caller
-abbrev pub told : Failure → Failure
+abbrev pub told : AttemptFailure → AttemptFailure
 told failure = record failure { error = reworded failure.error }
 
 -- the next retry after a failure in words for the caller, or the error of the failure that is kept where it may not be
 -- tried again
-abbrev pub decide_told : Option RetryState → Failure → Option ℤ → Address → Retryability → Bool → Result RetryState Error
-decide_told kept failure number address retryability sharded =
-    if may_be_retried failure number retryability
-    then Ok (avoiding sharded address (after kept failure number))
-    else Err (after kept failure number).failure.error
+abbrev pub decide_told : Option RetryState → AttemptFailure → Retryability → Bool → Result RetryState Error
+decide_told kept failure retryability sharded =
+    if may_be_retried failure retryability
+    then Ok (avoiding sharded failure.address (after kept failure))
+    else Err (after kept failure).failure.error
 
 -- the same, once the failure is in words for the caller
-unfoldable pub decide : Option RetryState → Failure → Option ℤ → Address → Retryability → Bool → Result RetryState Error
-decide kept failure number address retryability sharded = decide_told kept (told failure) number address retryability sharded
+unfoldable pub decide : Option RetryState → AttemptFailure → Retryability → Bool → Result RetryState Error
+decide kept failure retryability sharded = decide_told kept (told failure) retryability sharded
 
 -- a call gives what is decided, or want of memory
 abbrev pub Decides : Result RetryState Error → Result RetryState Error → Type 0
 Decides decision (Ok retry) = decision ≡ Ok retry
 Decides decision (Err error) = (decision ≡ Err error) ⊎ (kind_of error ≡ Memory)
+
+-- what comes after a decision that allows a further attempt
+abbrev pub and_then : Result RetryState Error → (RetryState → Result (Option RetryState) Error) → Result (Option RetryState) Error
+and_then (Ok retry) rest = rest retry
+and_then (Err error) rest = Err error
+
+-- what is decided after failures, the oldest first: what is then kept, where each of them may be followed by another
+-- attempt, or the error of the first that may not
+abbrev pub folded : Retryability → Bool → Option RetryState → List AttemptFailure → Result (Option RetryState) Error
+folded own sharded kept [] = Ok kept
+folded own sharded kept (failure ∷ failures) = and_then (decide kept failure own sharded) (λ retry. folded own sharded (Some retry) failures)

@@ -3,3 +3,4 @@ pub mod Attempting
 pub mod Executing
 pub mod Failures
 pub mod OldDeployment
+pub mod Retry

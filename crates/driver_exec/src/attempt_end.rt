@@ -6,7 +6,7 @@ ghost use Rattle.driver_exec.specs.Failures.{is_memory};
 ghost use Rattle.driver_exec.specs.inside.Attempting.{EndsUnbuilt};
 ghost use Rattle.driver_exec.specs.inside.Failures.{EndsLost, EndsRead, EndsUnconnected, EndsUnselected, FaultError, IsLabelledBy};
 
-use crate::failure::{Failure, FailurePhase};
+use crate::failure::{AttemptFailure, FailurePhase};
 use crate::labels::add_labels;
 use driver_error::{Error, ErrorKind};
 use driver_link::{Address, LinkError};
@@ -27,13 +27,6 @@ pub(crate) enum AttemptEnd<T> {
     Unfit,
     /// The operation ends at once: something was refused, or there was no memory.
     Ended(Error),
-}
-
-/// A failure of an attempt, with the address of its server.
-#[derive(Drop)]
-pub(crate) struct AttemptFailure {
-    pub failure: Failure,
-    pub address: Address,
 }
 
 /// Whether there was no memory.
@@ -78,14 +71,21 @@ pub(crate) fn fault_error(
     labelled(alloc, error, retryability)
 }
 
-/// A failure in a phase, at the server of an address.
-fn fails_at<T>(error: Error, phase: FailurePhase, address: Address) -> AttemptEnd<T>
+/// A failure in a phase, at the server of an address, after a last send under a number.
+fn fails_at<T>(
+    error: Error,
+    phase: FailurePhase,
+    address: Address,
+    number: Option<i64>,
+) -> AttemptEnd<T>
     ensures { result ≡ Failed
-        (record { failure = record { error = error; phase = phase }; address = address }) }
+        (record { error = error; phase = phase; address = address; number = number }) }
 {
     AttemptEnd::Failed(AttemptFailure {
-        failure: Failure { error, phase },
+        error,
+        phase,
         address,
+        number,
     })
 }
 
@@ -99,17 +99,23 @@ pub(crate) fn unselected<T>(alloc: Global, failure: LinkError) -> AttemptEnd<T>
     }
 }
 
-/// The end of an attempt that had no connection to its server.
+/// The end of an attempt that had no connection to its server, after a last send under a number.
 pub(crate) fn unconnected<T>(
     alloc: Global,
     failure: LinkError,
     own: Retryability,
     address: Address,
+    number: Option<i64>,
 ) -> AttemptEnd<T>
-    ensures { EndsUnconnected own address failure result }
+    ensures { EndsUnconnected own address number failure result }
 {
     match fault_error(alloc, failure, own) {
-        Ok(error) => fails_at(error, FailurePhase::ConnectionEstablishment, address),
+        Ok(error) => fails_at(
+            error,
+            FailurePhase::ConnectionEstablishment,
+            address,
+            number,
+        ),
         Err(error) => AttemptEnd::Ended(error),
     }
 }
@@ -132,14 +138,16 @@ pub(crate) fn lost<T>(
     turn: Retryability,
     version: Option<i32>,
     address: Address,
+    number: Option<i64>,
 ) -> AttemptEnd<T>
-    ensures { EndsLost turn version address failure result }
+    ensures { EndsLost turn version address number failure result }
 {
     match fault_error(alloc, failure, turn) {
         Ok(error) => fails_at(
             error.with_wire_version(version),
             FailurePhase::Execution,
             address,
+            number,
         ),
         Err(error) => AttemptEnd::Ended(error),
     }
@@ -152,12 +160,13 @@ pub(crate) fn read<T>(
     turn: Retryability,
     version: Option<i32>,
     address: Address,
+    number: Option<i64>,
 ) -> AttemptEnd<T>
-    ensures { EndsRead turn version address answer result }
+    ensures { EndsRead turn version address number answer result }
 {
     match answer {
         Ok(output) => AttemptEnd::Done(output),
-        Err(error) => spelled(alloc, error, turn, version, address),
+        Err(error) => spelled(alloc, error, turn, version, address, number),
     }
 }
 
@@ -168,8 +177,9 @@ fn spelled<T>(
     turn: Retryability,
     version: Option<i32>,
     address: Address,
+    number: Option<i64>,
 ) -> AttemptEnd<T>
-    ensures { EndsRead turn version address (Err error) result }
+    ensures { EndsRead turn version address number (Err error) result }
 {
     if is_memory(&error) {
         return AttemptEnd::Ended(error);
@@ -179,6 +189,7 @@ fn spelled<T>(
             error.with_wire_version(version),
             FailurePhase::Execution,
             address,
+            number,
         ),
         Err(error) => AttemptEnd::Ended(error),
     }

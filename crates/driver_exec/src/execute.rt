@@ -1,42 +1,42 @@
 //! An operation outside transactions: attempts, and between them the decision on a retry.
-ghost use Rattle.std.specs.Prelude.{◌≡◌, ◌≤◌, ◌+◌, ℕ, IsSome};
-ghost use Rattle.driver_link.specs.declared.machine.PlacedWrite.{PlacedWrite};
+ghost use Rattle.std.specs.Prelude.{◌≡◌, ◌≤◌, ◌+◌, ◌⊎◌, ℕ, IsSome};
+ghost use Rattle.driver_link.specs.declared.machine.SendBody.{SendBody};
 ghost use Rattle.driver_ops.specs.Operations.{AsksFor, HasBodies, IsFixed, SameSpec, StaysFixed, batch_of};
 ghost use Rattle.driver_exec.specs.Attempting.{trial_of};
 ghost use Rattle.driver_exec.specs.Causes.{end_of};
 ghost use Rattle.driver_exec.specs.Client.{options_of, store_of};
 ghost use Rattle.driver_exec.specs.Executing.{Attempts, EndsWith, Executes, limit_reached};
 ghost use Rattle.driver_exec.specs.Holding.{holds_nothing};
-ghost use Rattle.driver_exec.specs.Keeping.{KeepsInvariant, OkHasEntries, ReadsDone};
+ghost use Rattle.driver_exec.specs.Keeping.{KeepsInvariant, OkHasEntries};
 ghost use Rattle.driver_exec.specs.Moment.{DrawsInOrder, KeepsLent, moment_of};
 ghost use Rattle.driver_exec.specs.OperationCauses.{Caused};
 ghost use Rattle.driver_exec.specs.Resending.{SendsOneCommand};
 ghost use Rattle.driver_exec.specs.Retry.{Decides, decide};
-ghost use Rattle.driver_exec.specs.Writing.{insert_asked};
 ghost use Rattle.driver_exec.specs.inside.Attempting.{attempt_state};
 ghost use Rattle.driver_exec.specs.inside.Executing.{FailureOf, IsLastError, MayAnswer, kept_or};
 
-use crate::attempt_end::{AttemptEnd, AttemptFailure};
+use crate::attempt_end::AttemptEnd;
 use crate::client::Client;
 use crate::execution_session::{ExecutionSession, check_in_session};
-use crate::failure::FailurePhase;
+use crate::failure::{AttemptFailure, FailurePhase};
 use crate::outside::Outside;
 use crate::retry::Retry;
 use crate::steps::Steps;
 use crate::try_once::try_once;
 use driver_error::{Error, Result};
-use driver_link::{Clock, Link, Place};
+use driver_link::{ClientOptions, Clock, Link, Place};
 use driver_ops::Operation;
 use driver_session::{Retryability, SessionStore};
 use rand_core::Rng;
 use std::alloc::Global;
 use std::sync::ledger::Ledger;
 
-/// Runs an operation, with the places of its writes: attempts until one ends it, or its failure may not be
-/// followed by another. An error is that of the failure which is kept, or what ended the operation at once.
-/// `sends` counts the sends of its command, each once, of which there are two at most. An insert that it runs
-/// keeps what stands between the calls of one client's plain writes (`keeps`), and where its reply is read as
-/// done its entry stands (`stands`).
+/// Runs an operation outside transactions, with the places of its writes: attempts until one ends it, or its
+/// failure may not be followed by another. An error is that of the failure which is kept, or what ended the
+/// operation at once. `sends` counts the sends of its command, each once, of which there are two at most.
+/// Where store and link tell, and its places are new, it keeps what stands between the operations of one
+/// client (`keeps`), and an Ok has the entry of each of its writes in the log, which tell the output
+/// (`entries`).
 pub fn execute_operation<O: Operation, S: SessionStore, L: Link, K: Clock, R: Rng, Q: Ledger>(
     alloc: Global,
     client: &mut Client<S>,
@@ -56,20 +56,16 @@ pub fn execute_operation<O: Operation, S: SessionStore, L: Link, K: Clock, R: Rn
         (moment_of S.tells L.tells K.tells R.stream client.old outside.old)
         (moment_of S.tells L.tells K.tells R.stream client.new outside.new)
         result }
-    ensures keeps { (statements : ℕ) → IsFixed (O.built op.new) statements →
-        (write : PlacedWrite) →
-        AsksFor (O.spec op.old) (batch_of places.now statements) (insert_asked write) →
-        KeepsInvariant
+    ensures keeps { (statements : ℕ) → IsFixed (O.built op.new) statements → (body : SendBody) →
+        AsksFor (O.spec op.old) (batch_of places.now statements) body → KeepsInvariant
         (moment_of S.tells L.tells K.tells R.stream client.old outside.old)
         (moment_of S.tells L.tells K.tells R.stream client.new outside.new)
-        write }
-    ensures stands { (statements : ℕ) → IsFixed (O.built op.new) statements →
-        (write : PlacedWrite) →
-        AsksFor (O.spec op.old) (batch_of places.now statements) (insert_asked write) →
-        ReadsDone (O.spec op.old) → OkHasEntries
+        body }
+    ensures entries { (statements : ℕ) → IsFixed (O.built op.new) statements → (body : SendBody) →
+        AsksFor (O.spec op.old) (batch_of places.now statements) body → OkHasEntries (O.spec op.old) body
         (moment_of S.tells L.tells K.tells R.stream client.old outside.old)
         (moment_of S.tells L.tells K.tells R.stream client.new outside.new)
-        write (end_of result) }
+        result }
     ensures lent { KeepsLent
         (moment_of S.tells L.tells K.tells R.stream client.old outside.old)
         (moment_of S.tells L.tells K.tells R.stream client.new outside.new) }
@@ -82,7 +78,9 @@ pub fn execute_operation<O: Operation, S: SessionStore, L: Link, K: Clock, R: Rn
         (end_of result) }
     ensures spec { SameSpec (O.spec op.old) (O.spec op.new) }
     ensures fixed { StaysFixed (O.built op.old) (O.built op.new) }
+    ensures next { O.next op.new ≡ O.next op.old }
     ensures call { outside.new.call ≡ outside.old.call }
+    ensures counted { (sends.new ≡ sends.old) ⊎ IsSome (O.built op.new) }
     ensures sends { sends.new ≤ sends.old + 2 }
 {
     let sharded = outside.link.is_sharded();
@@ -116,6 +114,7 @@ fn execute_operation_with_retry<O: Operation, S: SessionStore, L: Link, K: Clock
     ensures next { O.next op.new ≡ O.next op.old }
     ensures out { (L.tells outside.new.link).out ≡ (L.tells outside.old.link).out }
     ensures call { outside.new.call ≡ outside.old.call }
+    ensures counted { (sends.new ≡ sends.old) ⊎ IsSome (O.built op.new) }
     ensures sends { sends.new ≤ sends.old + 2 }
 {
     let own = op.retryability(client.options());
@@ -140,7 +139,7 @@ fn execute_operation_with_retry<O: Operation, S: SessionStore, L: Link, K: Clock
             Ok(failing) => failing,
             Err(end) => return (held, answer_of(end, kept)),
         };
-        match decide(alloc, kept, failing, held.number(), own, sharded) {
+        match decide(alloc, kept, failing, op, own, client.options(), sharded) {
             Ok(retry) => kept = Some(retry),
             Err(error) => return (held, Err(error)),
         }
@@ -212,35 +211,29 @@ fn kept_or(kept: Option<Retry>, error: Error) -> Error
 }
 
 /// What is decided after a failure.
-fn decide(
+fn decide<O: Operation>(
     alloc: Global,
     kept: Option<Retry>,
     failing: AttemptFailure,
-    number: Option<i64>,
+    op: &O,
     own: Retryability,
+    options: &ClientOptions,
     sharded: bool,
 ) -> Result<Retry>
-    ensures { Decides (decide kept failing.failure number failing.address own sharded) result }
+    ensures { Decides (decide kept failing own sharded) result }
 {
-    let AttemptFailure { failure, address } = failing;
-    match failure.phase {
+    let AttemptFailure {
+        error,
+        phase,
+        address,
+        number,
+    } = failing;
+    match phase {
         FailurePhase::ConnectionEstablishment => Retry::for_connection_establishment_failure(
-            alloc,
-            kept,
-            failure.error,
-            number,
-            &address,
-            own,
-            sharded,
+            alloc, kept, error, number, &address, op, own, options, sharded,
         ),
         FailurePhase::Execution => Retry::for_execution_failure(
-            alloc,
-            kept,
-            failure.error,
-            number,
-            &address,
-            own,
-            sharded,
+            alloc, kept, error, number, &address, op, own, options, sharded,
         ),
     }
 }

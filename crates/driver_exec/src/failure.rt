@@ -1,9 +1,13 @@
 //! The failures of an operation's attempts: which may be followed by another attempt, and which of two is kept.
 ghost use Rattle.std.specs.Prelude.{◌≡◌, IfOk};
-ghost use Rattle.driver_exec.specs.Retry.{failure_kept, indicates_writes_performed, may_be_retried, may_be_sent, stays, tells_writes_performed, told};
+ghost use Rattle.driver_link.specs.declared.options.Address.{Address as Server};
+ghost use Rattle.driver_exec.specs.OldDeployment.{reworded};
+ghost use Rattle.driver_exec.specs.Retry.{failure_kept, indicates_writes_performed, may_be_retried, may_be_sent, stays, tells_writes_performed};
+ghost use Rattle.driver_exec.specs.inside.Retry.{failure_at};
 
 use crate::old_deployment::reworded;
 use driver_error::{Error, NO_WRITES_PERFORMED, RETRYABLE_WRITE_ERROR};
+use driver_link::Address;
 use driver_session::Retryability;
 use std::alloc::{AllocError, Global};
 
@@ -23,9 +27,19 @@ pub struct Failure {
     pub phase: FailurePhase,
 }
 
+/// A failure of an attempt: its error, when it came, the address of its server, and the number of the last
+/// send before it, where that had one.
+#[derive(Drop)]
+pub(crate) struct AttemptFailure {
+    pub error: Error,
+    pub phase: FailurePhase,
+    pub address: Address,
+    pub number: Option<i64>,
+}
+
 /// The failure in words for the caller.
 pub(crate) fn told(alloc: Global, failure: Failure) -> std::result::Result<Failure, AllocError>
-    ensures { IfOk result (λ now. now ≡ told failure) }
+    ensures { IfOk result (λ now. now ≡ record failure { error = reworded failure.error }) }
 {
     let Failure { error, phase } = failure;
     Ok(Failure {
@@ -41,7 +55,8 @@ pub(crate) fn may_be_retried(
     number: Option<i64>,
     retryability: Retryability,
 ) -> bool
-    ensures { result ≡ may_be_retried failure.now number retryability }
+    ensures { (address : Server) →
+        result ≡ may_be_retried (failure_at failure.now number address) retryability }
 {
     match retryability {
         Retryability::Write => {

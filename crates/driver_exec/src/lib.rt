@@ -8,11 +8,11 @@ mod execution_session;
 mod failure;
 mod fields;
 mod labels;
+pub mod laws;
 mod old_deployment;
 mod outside;
 mod retry;
 mod sending;
-mod single;
 mod steps;
 mod try_once;
 
@@ -23,5 +23,4 @@ pub use labels::add_labels;
 pub use old_deployment::{NO_RETRYABLE_WRITES, NUMBERS_REFUSED};
 pub use outside::Outside;
 pub use retry::{RETRY_LIMIT, Retry};
-pub use single::insert_single;
 pub use steps::Steps;

@@ -1,13 +1,16 @@
 //! Whether an operation that failed is tried again, and which of its failures is kept.
-ghost use Rattle.std.specs.Prelude.{◌≡◌, nat_lt, IfOk, OnOk};
+ghost use Rattle.std.specs.Prelude.{◌≡◌, [], nat_lt, IfOk, OnOk};
 ghost use Rattle.std.specs.List.{list_any};
-ghost use Rattle.driver_exec.specs.Retry.{Decides, decide, after, avoiding, is_server, with_server, after_first, after_further, number_kept};
+ghost use Rattle.driver_link.specs.declared.options.Address.{Address as Server};
+ghost use Rattle.driver_exec.specs.Retry.{Decides, decide, after, avoiding, is_server, with_server, after_further, number_kept};
+ghost use Rattle.driver_exec.specs.inside.Retry.{failure_at};
 ghost use Rattle.driver_exec.specs.declared.failure.FailurePhase.TheVariants.{ConnectionEstablishment, Execution};
 
 use crate::failure::{Failure, FailurePhase, failure_kept, may_be_retried, told};
 use bson_lite::{List, TryClone};
 use driver_error::{Error, Result};
-use driver_link::Address;
+use driver_link::{Address, ClientOptions};
+use driver_ops::Operation;
 use driver_session::Retryability;
 use std::alloc::{AllocError, Global};
 use std::marker::Model;
@@ -46,19 +49,26 @@ impl Model for Retry {
 
 impl Retry {
     /// The next retry after a failure to get a connection. Where there is none it answers the failure that
-    /// is kept, or want of memory.
-    pub fn for_connection_establishment_failure(
+    /// is kept, or want of memory. The operation and the options count for failures that tell of overload,
+    /// which are not told apart yet.
+    pub fn for_connection_establishment_failure<O: Operation>(
         alloc: Global,
         kept: Option<Retry>,
         failure: Error,
         number: Option<i64>,
         address: &Address,
+        _op: &O,
         retryability: Retryability,
+        _options: &ClientOptions,
         sharded: bool,
     ) -> Result<Retry>
         ensures { Decides
-            (decide kept (record { error = failure; phase = ConnectionEstablishment })
-            number address.now retryability sharded) result }
+            (decide kept (record {
+              error = failure;
+              phase = ConnectionEstablishment;
+              address = address.now;
+              number = number;
+            }) retryability sharded) result }
     {
         let failure = Failure {
             error: failure,
@@ -68,19 +78,26 @@ impl Retry {
     }
 
     /// The next retry after a failure of a command on its connection. Where there is none it answers the
-    /// failure that is kept, or want of memory.
-    pub fn for_execution_failure(
+    /// failure that is kept, or want of memory. The operation and the options count for failures that tell of
+    /// overload, which are not told apart yet.
+    pub fn for_execution_failure<O: Operation>(
         alloc: Global,
         kept: Option<Retry>,
         failure: Error,
         number: Option<i64>,
         address: &Address,
+        _op: &O,
         retryability: Retryability,
+        _options: &ClientOptions,
         sharded: bool,
     ) -> Result<Retry>
         ensures { Decides
-            (decide kept (record { error = failure; phase = Execution })
-            number address.now retryability sharded) result }
+            (decide kept (record {
+              error = failure;
+              phase = Execution;
+              address = address.now;
+              number = number;
+            }) retryability sharded) result }
     {
         let failure = Failure {
             error: failure,
@@ -119,7 +136,13 @@ impl Retry {
 
     /// What is kept of the first failure.
     fn first(alloc: Global, failure: Failure, number: Option<i64>) -> Retry
-        ensures { result ≡ after_first failure number }
+        ensures { result ≡ record {
+          attempt = 1;
+          limit = 1;
+          failure = failure;
+          number = number;
+          deprioritized = [];
+        } }
     {
         Retry {
             attempt: 1,
@@ -133,7 +156,7 @@ impl Retry {
     /// What is kept after one more failure. The count of attempts stands still at its end.
     #[tactic(auto, unfolding(crate::specs::Retry::after_further))]
     fn further(self, failure: Failure, number: Option<i64>) -> Retry
-        ensures { result ≡ after_further self failure number }
+        ensures { (address : Server) → result ≡ after_further self (failure_at failure number address) }
     {
         Retry {
             attempt: self.attempt.saturating_add(1),
@@ -156,7 +179,8 @@ fn after_failure(
     retryability: Retryability,
     sharded: bool,
 ) -> Result<Retry>
-    ensures { Decides (decide kept failure number address.now retryability sharded) result }
+    ensures { Decides
+        (decide kept (failure_at failure number address.now) retryability sharded) result }
 {
     let failure = told(alloc, failure)?;
     let is_retried = may_be_retried(&failure, number, retryability);
@@ -171,7 +195,7 @@ fn after_failure(
 /// What is kept after a failure.
 #[tactic(auto, unfolding(crate::specs::Retry::after))]
 fn after(alloc: Global, kept: Option<Retry>, failure: Failure, number: Option<i64>) -> Retry
-    ensures { result ≡ after kept failure number }
+    ensures { (address : Server) → result ≡ after kept (failure_at failure number address) }
 {
     match kept {
         None => Retry::first(alloc, failure, number),

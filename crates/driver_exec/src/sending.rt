@@ -1,5 +1,5 @@
 //! The command of an attempt on its connection: its number, its frame, one exchange, and what comes of the reply.
-ghost use Rattle.std.specs.Prelude.{◌≡◌, ◌≤◌, ◌+◌, ℕ, length, take};
+ghost use Rattle.std.specs.Prelude.{◌≡◌, ◌≤◌, ◌+◌, ◌⊎◌, ℕ, IsSome, length, take};
 ghost use Rattle.std.specs.Option.{option_copied};
 ghost use Rattle.driver_link.specs.declared.machine.Send.{Send as Sent};
 ghost use Rattle.driver_link.specs.Reads.{Reads};
@@ -47,6 +47,7 @@ pub(crate) fn send<O: Operation, L: Link, Q: Ledger>(
     ensures fixed { StaysFixed (O.built op.old) (O.built op.new) }
     ensures next { O.next op.new ≡ O.next op.old }
     ensures out { (L.tells link.new).out ≡ (L.tells link.old).out }
+    ensures counted { (sends.new ≡ sends.old) ⊎ IsSome (O.built op.new) }
     ensures sends { sends.new ≤ sends.old + 1 }
 {
     let again = builds_again(turn, &held);
@@ -106,15 +107,19 @@ fn exchange<O: Operation, L: Link, Q: Ledger>(
     ensures sends { sends.new ≡ sends.old + 1 }
 {
     let version = turn.conn.description.max_wire_version;
+    let number = held.number();
     sends.tick();
     match link.exchange(alloc, turn.conn, frame, places) {
         Ok(reply) => {
             let answer = read_answer(alloc, op, reply.as_slice());
-            (held, read(alloc, answer, turn.turn, version, address))
+            (
+                held,
+                read(alloc, answer, turn.turn, version, address, number),
+            )
         }
         Err(failure) => (
             held.after(&failure),
-            lost(alloc, failure, turn.turn, version, address),
+            lost(alloc, failure, turn.turn, version, address, number),
         ),
     }
 }

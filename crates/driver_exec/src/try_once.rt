@@ -1,6 +1,6 @@
 //! One attempt of an operation outside transactions: a server, a connection, a session where none is held,
 //! one command and its reply.
-ghost use Rattle.std.specs.Prelude.{◌≡◌, ◌≤◌, ◌+◌, ℕ, Option, is_some};
+ghost use Rattle.std.specs.Prelude.{◌≡◌, ◌≤◌, ◌+◌, ◌⊎◌, ℕ, IsSome, Option, is_some};
 ghost use Rattle.std.specs.Option.{option_copied};
 ghost use Rattle.driver_link.specs.LinkCalls.{ChecksInConnection};
 ghost use Rattle.driver_link.specs.LinkState.{LinkState};
@@ -51,6 +51,7 @@ pub(crate) fn try_once<O: Operation, S: SessionStore, L: Link, K: Clock, R, Q: L
     ensures next { O.next op.new ≡ O.next op.old }
     ensures out { (L.tells outside.new.link).out ≡ (L.tells outside.old.link).out }
     ensures call { outside.new.call ≡ outside.old.call }
+    ensures counted { (sends.new ≡ sends.old) ⊎ IsSome (O.built op.new) }
     ensures sends { sends.new ≤ sends.old + 1 }
 {
     let own = op.retryability(client.options());
@@ -60,7 +61,10 @@ pub(crate) fn try_once<O: Operation, S: SessionStore, L: Link, K: Clock, R, Q: L
     };
     let conn = match outside.link.check_out(alloc, &address) {
         Ok(conn) => conn,
-        Err(failure) => return (held, unconnected(alloc, failure, own, address)),
+        Err(failure) => {
+            let number = held.number();
+            return (held, unconnected(alloc, failure, own, address, number));
+        }
     };
     let turn = AttemptConnection {
         conn: &conn,
@@ -79,7 +83,7 @@ fn check_in_connection<L: Link, T>(link: &mut L, conn: Conn, attempt: &AttemptEn
     ensures { ChecksInConnection (L.tells link.old) (L.tells link.new) conn }
 {
     if let AttemptEnd::Failed(failing) = attempt {
-        link.report(&conn.address, &failing.failure.error);
+        link.report(&conn.address, &failing.error);
     }
     link.check_in(conn);
 }
@@ -183,6 +187,7 @@ fn execute_operation_on_connection<O: Operation, S: SessionStore, L: Link, K: Cl
     ensures next { O.next op.new ≡ O.next op.old }
     ensures out { (L.tells outside.new.link).out ≡ (L.tells outside.old.link).out }
     ensures call { outside.new.call ≡ outside.old.call }
+    ensures counted { (sends.new ≡ sends.old) ⊎ IsSome (O.built op.new) }
     ensures sends { sends.new ≤ sends.old + 1 }
 {
     let description = &turn.conn.description;

@@ -73,11 +73,11 @@ body_refused namespace bytes context statements made fault is sixteen refused = 
       (subst (λ body. refusal (body ++ executor_fields context made.database) ≡ Some fault) is.body refused));
 }
 
-module _ (target : OperationTarget) (bytes : List ℕ) (made : Command) (is : IsInsertCommand (namespace_of target) bytes 1 made) where
+module _ (target : OperationTarget) (bytes : List ℕ) (id : Bson) (made : Command) (is : IsInsertCommand (namespace_of target) bytes 1 made) where
   abbrev namespace : Namespace
   namespace = namespace_of target
 
-  asks_for : (places : List Place) (body : SendBody) → AsksInsert namespace bytes 1 places body → CommandAsks made (take 1 places) body
+  asks_for : (places : List Place) (body : SendBody) → AsksInsert namespace bytes id 1 places body → CommandAsks made (take 1 places) body
   asks_for places body asked = record {
     sequences = record { name = DOCUMENTS.now; documents = asked.document ∷ [] } ∷ [];
     spelled = subst (SpellSequences (record { name = DOCUMENTS.now; documents = asked.document ∷ [] } ∷ [])) (sym is.sequences)
@@ -86,7 +86,7 @@ module _ (target : OperationTarget) (bytes : List ℕ) (made : Command) (is : Is
   }
 
   -- such a command is an insert's
-  pub built_insert : {A : Type 0} (which : SendKind) → made.name ≡ name.Insert → IsBuilt {A = A} (insert_spec target bytes) which 1 made
+  pub built_insert : (which : SendKind) → made.name ≡ name.Insert → IsBuilt (insert_spec target bytes id) which 1 made
   built_insert which is_name = record {
     name = is_name;
     is = is;

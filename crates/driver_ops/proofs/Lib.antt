@@ -1,5 +1,6 @@
+pub mod Entries
 pub mod Frames
+pub mod InsertLaw
 pub mod InsertReading
 pub mod Inserting
 pub mod Responding
-pub mod Standing

@@ -1,13 +1,12 @@
 -- What bytes that spell no document, and replies that say an error, are answered with.
-use Rattle.std.proofs.Common.{◌≡◌, ◌∙◌, ℕ, List, ap, refl, sym, subst, inl, inr}
+use Rattle.std.proofs.Common.{◌≡◌, ◌∙◌, ℕ, List, refl, sym, subst, inl, inr}
 use Rattle.std.specs.Prelude.{None, Some, ◌⊎◌, Ok, Err}
 use Rattle.bson_lite.specs.declared.bson.Bson.{Bson}
 use Rattle.bson_lite.specs.declared.document.Pair.{Pair}
 use Rattle.bson_lite.specs.declared.fault.DecodeFault.{DecodeFault}
 use Rattle.bson_lite.specs.declared.fault.DecodeFault.TheVariants.{At}
-use Rattle.bson_lite.specs.Reading.{Gives, read}
+use Rattle.bson_lite.specs.Reading.{Gives}
 use Rattle.bson_lite.specs.Spelling.{Spells}
-use Rattle.bson_lite.proofs.Nested.{read_again}
 use Rattle.driver_error.specs.declared.error.Error.{Error}
 use Rattle.driver_error.specs.declared.kind.ErrorKind.TheVariants as kind
 use Rattle.driver_error.specs.Conversions.{IsMade}
@@ -68,7 +67,3 @@ module _ (bytes : List ℕ) (reply : List (Pair Bson)) (spelled : Spells reply b
       by_cases : (kind_of now ≡ kind.Memory) ⊎ SaysError bytes now → TellsResponse bytes now
       by_cases (inl memory) = inl memory
       by_cases (inr says) = inr (inr says)
-
--- bytes spell one document alone
-pub spells_one : (a b : List (Pair Bson)) (bytes : List ℕ) → Spells a bytes → Spells b bytes → a ≡ b
-spells_one a b bytes first second = cc (sym (read_again a first.has) ∙ ap read (sym first.is ∙ second.is) ∙ read_again b second.has)

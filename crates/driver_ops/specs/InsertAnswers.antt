@@ -8,6 +8,7 @@ use Rattle.bson_lite.specs.declared.document.Pair.{Pair}
 use Rattle.bson_lite.specs.Fields.{int_of}
 use Rattle.driver_error.specs.declared.error.Error.{Error}
 use Rattle.driver_error.specs.declared.kind.ErrorKind.TheVariants as kind
+use Rattle.driver_error.specs.declared.results.InsertManyResult.{InsertManyResult}
 use Rattle.driver_error.specs.declared.write.IndexedWriteError.{IndexedWriteError}
 use Rattle.driver_error.specs.declared.write.InsertManyError.{InsertManyError}
 use Rattle.driver_error.specs.Conversions.{IsMade, IsNew}
@@ -67,7 +68,16 @@ AnswersReply None (Ok output) = ⊥
 AnswersReply None (Err error) = IsMade (kind.InvalidResponse odd_insert_text) no_labels error
 AnswersReply (Some reply) result = AnswersFound reply result
 
+-- the ids of the documents that were inserted, by their indexes: the one
+abbrev pub one_id : Bson → InsertManyResult
+one_id id = record { inserted_ids = finite.insert finite.empty 0 id }
+
+-- the fields of a reply to the insert of a document with this id are answered so, unless memory runs out
+abbrev pub AnswersOne : Bson → InsertReply → Result InsertManyResult Error → Type 0
+AnswersOne id reply (Ok output) = AnswersFound reply (Ok output) × (output ≡ one_id id)
+AnswersOne id reply (Err error) = (kind_of error ≡ kind.Memory) ⊎ AnswersFound {A = InsertManyResult} reply (Err error)
+
 -- a reply is read so, unless memory runs out
-abbrev pub ReadsInsert : {A : Type 0} → List (Pair Bson) → Result A Error → Type 0
-ReadsInsert reply (Ok output) = AnswersReply (insert_reply reply) (Ok output)
-ReadsInsert reply (Err error) = (kind_of error ≡ kind.Memory) ⊎ AnswersReply {A = Unit {0}} (insert_reply reply) (Err error)
+abbrev pub ReadsInsert : Bson → List (Pair Bson) → Result InsertManyResult Error → Type 0
+ReadsInsert id reply (Ok output) = AnswersReply (insert_reply reply) (Ok output) × (output ≡ one_id id)
+ReadsInsert id reply (Err error) = (kind_of error ≡ kind.Memory) ⊎ AnswersReply {A = InsertManyResult} (insert_reply reply) (Err error)

@@ -1,11 +1,16 @@
 -- What an insert of one document tells as an operation.
-use Rattle.std.specs.Prelude.{◌≡◌, ℕ, Bool, true, false, List, [], ◌∷◌, Option, Some, Result, Ok, Err}
+use Rattle.std.specs.Prelude.{◌≡◌, ℕ, ◌+◌, Bool, true, false, List, [], ◌∷◌, Option, None, Some, Result, Ok, Err}
+use Rattle.std.specs.FinMap as finite
+use Rattle.std.specs.Ordering.{nat_cmp}
 use Rattle.bson_lite.specs.declared.bson.Bson.{Bson}
 use Rattle.bson_lite.specs.declared.document.Pair.{Pair}
 use Rattle.bson_lite.specs.declared.namespace.Namespace.{Namespace}
+use Rattle.bson_lite.specs.Fields.{id_key, value_of}
 use Rattle.bson_lite.specs.Spelling.{Spells}
 use Rattle.driver_error.specs.declared.error.Error.{Error}
+use Rattle.driver_error.specs.declared.results.InsertManyResult.{InsertManyResult}
 use Rattle.driver_link.specs.declared.command.CommandName.TheVariants as name
+use Rattle.driver_link.specs.declared.machine.Entry.{Entry}
 use Rattle.driver_link.specs.declared.machine.Place.{Place}
 use Rattle.driver_link.specs.declared.machine.SendBody.{SendBody}
 use Rattle.driver_link.specs.declared.machine.SendBody.TheVariants.{Write}
@@ -22,7 +27,6 @@ use Rattle.driver_ops.specs.Defaults.{is_repeatable}
 use Rattle.driver_ops.specs.InsertAnswers.{ReadsInsert}
 use Rattle.driver_ops.specs.Inserts.{IsOneDocument, insert_command, insert_write}
 use Rattle.driver_ops.specs.Operations.{OperationSpec, Page, never}
-use Rattle.driver_ops.specs.SendKinds.{SendKind}
 use Rattle.driver_ops.specs.Targets.{namespace_of}
 
 -- the command of an insert: one statement, into the namespace's collection, ordered, with one sequence of the one document
@@ -32,12 +36,13 @@ pub record IsInsertCommand (namespace : Namespace) (bytes : List ℕ) (statement
   pub body : made.body ≡ insert_command namespace
   pub sequences : IsOneDocument made.sequences bytes
 
--- the insert of the document that the bytes spell, under the one place
-pub record AsksInsert (namespace : Namespace) (bytes : List ℕ) (statements : ℕ) (places : List Place) (body : SendBody) : Type 0 where
+-- the insert of the document that the bytes spell and that has this id, under the one place
+pub record AsksInsert (namespace : Namespace) (bytes : List ℕ) (id : Bson) (statements : ℕ) (places : List Place) (body : SendBody) : Type 0 where
   pub one : statements ≡ 1
   pub document : List (Pair Bson)
   pub place : Place
   pub spelled : Spells document bytes
+  pub found : value_of id_key document ≡ Some id
   pub alone : places ≡ place ∷ []
   pub is : body ≡ Write command.Insert true (insert_write namespace document place ∷ [])
 
@@ -56,13 +61,27 @@ ReadsAlone reads (Ok reply ∷ []) (Ok (Done output)) = reads reply (Ok output)
 ReadsAlone reads (Ok reply ∷ []) (Err error) = reads reply (Err error)
 ReadsAlone reads pages result = ⊥
 
+-- an id at an index beside others, where a document has one
+abbrev pub id_beside : ℕ → Option Bson → finite.FinMap nat_cmp Bson → finite.FinMap nat_cmp Bson
+id_beside at None ids = ids
+id_beside at (Some id) ids = finite.insert ids at id
+
+-- the ids of the documents of entries by their indexes, the first at an index
+abbrev pub ids_from : ℕ → List Entry → finite.FinMap nat_cmp Bson
+ids_from at [] = finite.empty
+ids_from at (entry ∷ entries) = id_beside at (value_of id_key entry.written.document) (ids_from (at + 1) entries)
+
+-- the output of an insert is the ids of its documents
+abbrev pub TellsIds : List Entry → InsertManyResult → Type 0
+TellsIds entries output = output ≡ record { inserted_ids = ids_from 0 entries }
+
 -- a build is refused nothing, each send has the same command, and the reply is the whole answer
-abbrev pub insert_spec : {A : Type 0} → OperationTarget → List ℕ → OperationSpec A
-insert_spec target bytes = record {
+abbrev pub insert_spec : OperationTarget → List ℕ → Bson → OperationSpec InsertManyResult
+insert_spec target bytes id = record {
   name = name.Insert;
   target = target;
   commands = λ which. IsInsertCommand (namespace_of target) bytes;
-  bodies = AsksInsert (namespace_of target) bytes;
+  bodies = AsksInsert (namespace_of target) bytes id;
   refused = never;
   write_concern = λ which. Inherit;
   read_concern = NotSupported;
@@ -71,5 +90,6 @@ insert_spec target bytes = record {
   retryability = own_of_insert;
   backpressure = λ options. is_repeatable (own_of_insert options);
   after_cluster_time = true;
-  reads = ReadsAlone ReadsInsert;
+  reads = ReadsAlone (ReadsInsert id);
+  output = TellsIds;
 }

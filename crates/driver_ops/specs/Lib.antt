@@ -3,12 +3,17 @@ pub mod Encoding
 pub mod Features
 pub mod Fields
 pub mod InsertAnswers
+pub mod InsertLaw
+pub mod InsertLawful
 pub mod InsertSpec
 pub mod Inserts
+pub mod OperationLaw
 pub mod Operations
 pub mod Readings
 pub mod Responses
 pub mod SendKinds
+pub mod Served
 pub mod Targets
 pub mod WriteReplies
 pub mod inside
+pub mod lawful

@@ -12,6 +12,7 @@ use Rattle.driver_link.specs.declared.command.CommandName.{CommandName}
 use Rattle.driver_link.specs.declared.concerns.ReadConcern.{ReadConcern}
 use Rattle.driver_link.specs.declared.concerns.WriteConcern.{WriteConcern}
 use Rattle.driver_link.specs.declared.frame.Documents.{Documents}
+use Rattle.driver_link.specs.declared.machine.Entry.{Entry}
 use Rattle.driver_link.specs.declared.machine.Place.{Place}
 use Rattle.driver_link.specs.declared.machine.Send.{Send}
 use Rattle.driver_link.specs.declared.machine.SendBody.{SendBody}
@@ -39,7 +40,7 @@ Page = Result (List (Pair Bson)) Error
 -- what an operation tells: the name of its command and what it goes to; which commands it builds, by the kind of the send and
 -- the number of statements; what a command of so many statements asks for, with the places of all its remaining writes; what
 -- a build is refused with, beside want of memory; its options, of which some are by the kind of the send; what of it may be
--- repeated; and what the pages of an answer come to, the newest first
+-- repeated; what the pages of an answer come to, the newest first; and what its output is by the entries of its writes, in order
 pub record OperationSpec (A : Type 0) : Type 1 where
   pub name : CommandName
   pub target : OperationTarget
@@ -54,6 +55,7 @@ pub record OperationSpec (A : Type 0) : Type 1 where
   pub backpressure : ClientOptions → Bool
   pub after_cluster_time : Bool
   pub reads : List Page → Result (Reading A) Error → Type 0
+  pub output : List Entry → A → Type 0
 
 -- an operation tells before and now the same
 pub record SameSpec {A : Type 0} (old now : OperationSpec A) : Type 0 where
@@ -70,6 +72,7 @@ pub record SameSpec {A : Type 0} (old now : OperationSpec A) : Type 0 where
   pub backpressure : (options : ClientOptions) → now.backpressure options ≡ old.backpressure options
   pub after_cluster_time : now.after_cluster_time ≡ old.after_cluster_time
   pub reads : (pages : List Page) (result : Result (Reading A) Error) → old.reads pages result ↔ now.reads pages result
+  pub output : (entries : List Entry) (output : A) → old.output entries output ↔ now.output entries output
 
 -- the same may be sent under both kinds
 pub record SameAt {A : Type 0} (spec : OperationSpec A) (old now : SendKind) : Type 0 where

@@ -1,11 +1,13 @@
 //! The insert of one document: its command, and what the reply to it says.
-ghost use Rattle.std.specs.Prelude.{◌≡◌, IfOk, Some, ⊤};
-ghost use Rattle.driver_error.specs.declared.kind.ErrorKind.TheVariants.{InsertMany, InvalidResponse};
+ghost use Rattle.std.specs.Prelude.{◌≡◌, IfErr, IfOk, Some, ⊤};
+ghost use Rattle.driver_error.specs.declared.kind.ErrorKind.TheVariants.{InsertMany, InvalidResponse, Memory};
 ghost use Rattle.driver_error.specs.Conversions.{IsMade, IsNew};
+ghost use Rattle.driver_error.specs.Error.{kind_of};
 ghost use Rattle.driver_error.specs.LabelTexts.{no_labels};
-ghost use Rattle.driver_ops.specs.InsertAnswers.{AnswersFound, ReadsInsert, counts_one, errors_there, failures_of, insert_reply, is_unfailed, odd_insert_text};
+ghost use Rattle.driver_ops.specs.InsertAnswers.{AnswersOne, ReadsInsert, counts_one, errors_there, failures_of, insert_reply, is_unfailed, odd_insert_text, one_id};
 ghost use Rattle.driver_ops.specs.Inserts.{insert_command, IsOneDocument};
 ghost use Rattle.driver_ops.specs.inside.Readings.{Gives};
+ghost use Rattle.driver_ops.specs.InsertLawful.{insert_lawful};
 ghost use Rattle.driver_ops.specs.InsertSpec.{insert_spec};
 ghost use Rattle.driver_ops.specs.SendKinds.{first};
 ghost use Rattle.driver_ops.specs.Targets.{namespace_of};
@@ -24,7 +26,8 @@ use crate::target::{Collection, OperationTarget};
 use crate::write_reply::{concern_in, write_errors_in};
 use bson_lite::{Bson, ByIndex, Bytes, Document, List, Text, TryClone};
 use driver_error::{
-    Error, ErrorKind, IndexedWriteError, InsertManyError, Result, WriteConcernError,
+    Error, ErrorKind, IndexedWriteError, InsertManyError, InsertManyResult, Result,
+    WriteConcernError,
 };
 use driver_link::{
     ClientOptions, CommandName, Description, ReadConcern, SelectionCriteria, Sequence,
@@ -36,30 +39,33 @@ use std::alloc::{AllocError, Global};
 /// A reply tells of no insert of one document.
 const ODD_INSERT: &str = "the reply does not tell of one inserted document";
 
-/// The insert of one document, by its bytes, into a collection.
+/// The insert of one document, by its bytes and its id, into a collection.
 #[derive(Drop)]
 pub struct Insert {
     target: OperationTarget,
     document: Bytes,
+    id: Bson,
 }
 
 impl Insert {
-    /// The insert of a document into a collection.
-    pub fn new(collection: Collection, document: Bytes) -> Insert
+    /// The insert of a document, which has this id, into a collection.
+    pub fn new(collection: Collection, document: Bytes, id: Bson) -> Insert
         ensures target { result.target ≡ Within collection }
         ensures document { result.document ≡ document }
+        ensures id { result.id ≡ id }
     {
         Insert {
             target: OperationTarget::Collection(collection),
             document,
+            id,
         }
     }
 }
 
 impl Operation for Insert {
-    type Output = ();
+    type Output = InsertManyResult;
 
-    ghost spec = { λ insert. insert_spec insert.target insert.document };
+    ghost spec = { λ insert. insert_spec insert.target insert.document insert.id };
 
     ghost built = { λ insert. Some 1 };
 
@@ -89,9 +95,8 @@ impl Operation for Insert {
         1
     }
 
-    fn read_reply(&mut self, alloc: Global, reply: &Document) -> Result<Reading<()>> {
-        read_insert_answer(alloc, reply)?;
-        Ok(Reading::Done(()))
+    fn read_reply(&mut self, alloc: Global, reply: &Document) -> Result<Reading<InsertManyResult>> {
+        Ok(Reading::Done(read_insert_answer(alloc, reply, &self.id)?))
     }
 
     fn write_concern(&self) -> Feature<&WriteConcern> {
@@ -128,6 +133,8 @@ impl Operation for Insert {
     fn update_for_retry(&mut self, _alloc: Global, _overloaded: bool) -> Result<()> {
         stays_for_retry()
     }
+
+    ghost law = { λ insert. insert_lawful insert.target insert.document insert.id };
 }
 
 /// The body of the command, field by field.
@@ -167,13 +174,17 @@ pub(crate) struct InsertReply {
     labels: List<Text>,
 }
 
-/// What a reply comes to: that the document was inserted, the failures that it tells of, or that it breaks
-/// its form.
-pub(crate) fn read_insert_answer(alloc: Global, reply: &Document) -> Result<()>
-    ensures { ReadsInsert reply.now result }
+/// What the reply to the insert of a document with this id comes to: the id, the failures that it tells of, or
+/// that it breaks its form.
+pub(crate) fn read_insert_answer(
+    alloc: Global,
+    reply: &Document,
+    id: &Bson,
+) -> Result<InsertManyResult>
+    ensures { ReadsInsert id.now reply.now result }
 {
     match insert_reply(alloc, reply) {
-        Ok(found) => answer_of(alloc, found),
+        Ok(found) => answer_of(alloc, found, id),
         Err(Unread::Wrong) => Err(odd_insert(alloc)),
         Err(Unread::Memory) => Err(Error::from_kind(ErrorKind::Memory)),
     }
@@ -197,16 +208,26 @@ fn insert_reply(alloc: Global, reply: &Document) -> std::result::Result<InsertRe
 }
 
 /// The answer of a reply by its fields.
-fn answer_of(alloc: Global, found: InsertReply) -> Result<()>
-    ensures { AnswersFound found result }
+fn answer_of(alloc: Global, found: InsertReply, id: &Bson) -> Result<InsertManyResult>
+    ensures { AnswersOne id.now found result }
 {
     if !counts_one(found.n, found.errors.as_slice()) {
         return Err(odd_insert(alloc));
     }
     if is_unfailed(&found) {
-        return Ok(());
+        return one_id(alloc, id);
     }
     Err(failed_insert(alloc, found))
+}
+
+/// The answer that names one id.
+fn one_id(alloc: Global, id: &Bson) -> Result<InsertManyResult>
+    ensures ok { IfOk result (λ output. output ≡ one_id id.now) }
+    ensures err { IfErr result (λ error. kind_of error ≡ Memory) }
+{
+    let mut inserted_ids = ByIndex::new(alloc);
+    inserted_ids.insert(0, id.try_clone(alloc)?)?;
+    Ok(InsertManyResult { inserted_ids })
 }
 
 /// Whether nothing failed.

@@ -6,6 +6,7 @@ mod command;
 mod defaults;
 mod feature;
 mod insert;
+pub mod laws;
 mod operation;
 mod reply_fields;
 mod response;

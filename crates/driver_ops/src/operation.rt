@@ -4,6 +4,7 @@ ghost use Rattle.driver_error.specs.declared.kind.ErrorKind.TheVariants.{Memory}
 ghost use Rattle.driver_error.specs.Error.{kind_of};
 ghost use Rattle.driver_link.specs.CommandNames.{named};
 ghost use Rattle.driver_ops.specs.Features.{feature_told};
+ghost use Rattle.driver_ops.specs.OperationLaw.{IsLawful};
 ghost use Rattle.driver_ops.specs.Operations.{Builds, OperationSpec, Page, SameAt, SameSpec};
 ghost use Rattle.driver_ops.specs.SendKinds.{SendKind, kind_after};
 
@@ -28,7 +29,7 @@ pub trait Operation {
     /// What a reply comes to.
     type Output;
 
-    // Its name, what it asks for, why it is refused, its options, and how a reply is read.
+    // Its name, what it asks for, why it is refused, its options, how a reply is read, and what tells its output.
     ghost spec: { Self → OperationSpec Self.Output };
 
     // How many statements its command has: fixed once a build was Ok, and before that where there is no choice.
@@ -105,4 +106,7 @@ pub trait Operation {
         ensures memory { IfErr result (λ error. kind_of error ≡ Memory) }
         ensures spec { SameSpec (spec self.old) (spec self.new) }
         ensures built { built self.new ≡ built self.old };
+
+    // What it reads as its output in the model server's own reply to its send is told by the entries of its writes.
+    ghost law: { (op : Self) → IsLawful (spec op) };
 }

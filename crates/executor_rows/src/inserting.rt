@@ -1,19 +1,13 @@
 //! One insert of `{_id: 1}` by a new client over a link, and what a row sees of its end.
-ghost use Rattle.std.specs.Prelude.{◌≡◌, ◌<◌, IfSome};
-ghost use Rattle.bson_lite.specs.Spelling.{Spells};
-
-use bson_lite::{Bson, Bytes, Document, Namespace, Text, encode};
+use bson_lite::{Bson, Document, Namespace, Text};
+use driver_actions::{SingleAnswer, SingleWrite, SingleWrites};
 use driver_error::{Error, ErrorKind, IoKind, RETRYABLE_WRITE_ERROR, Result};
-use driver_exec::{Client, Outside, Steps, insert_single};
-use driver_link::{
-    ClientOptions, CountingIds, Description, Link, MemClock, Place, PlacedWrite, WriteKind, Written,
-};
+use driver_exec::{Client, Outside};
+use driver_link::{ClientOptions, CountingIds, Description, Link, MemClock};
 use driver_session::PlainStore;
 use rand_core::SeedableRng;
 use rand_pcg::Pcg32;
 use std::alloc::{AllocError, Global};
-use std::marker::Brand;
-use std::sync::ledger::{Blank, Ledger};
 
 /// A connection's server that takes sessions and retryable writes.
 pub(crate) const SERVER: Description = Description {
@@ -93,60 +87,40 @@ fn seen_error(alloc: Global, error: Error) -> Option<Seen> {
 }
 
 /// An insert's end as a row sees it, or none where there is no memory.
-fn seen_end(alloc: Global, end: Result<()>) -> Option<Seen> {
+fn seen_end(alloc: Global, end: Result<SingleAnswer>) -> Option<Seen> {
     match end {
-        Ok(()) => Some(Seen {
-            ended: Ended::Done,
-            labels: 0,
-            retryable: false,
-            version: None,
-        }),
+        Ok(answer) => {
+            drop(answer);
+            Some(Seen {
+                ended: Ended::Done,
+                labels: 0,
+                retryable: false,
+                version: None,
+            })
+        }
         Err(error) => seen_error(alloc, error),
     }
 }
 
-/// The write of the document, at the first place of the first call.
-fn write(alloc: Global) -> std::result::Result<PlacedWrite, AllocError> {
+/// The insert of the document.
+fn write(alloc: Global) -> std::result::Result<SingleWrite, AllocError> {
     let mut document = Document::new(alloc);
     document.push("_id", Bson::Int32(1))?;
     let namespace = Namespace {
         db: Text::from_str(alloc, "shop")?,
         coll: Text::from_str(alloc, "items")?,
     };
-    let written = Written {
-        kind: WriteKind::Insert,
+    Ok(SingleWrite::InsertOne {
         namespace,
         document,
-    };
-    Ok(PlacedWrite {
-        place: Place { call: 0, index: 0 },
-        written,
     })
 }
 
-/// The bytes of a document, or none where there is no memory.
-fn spelled(alloc: Global, document: &Document) -> Option<Bytes>
-    ensures { IfSome result (λ bytes. Spells document.now bytes) }
-{
-    match encode(alloc, document) {
-        Ok(bytes) => Some(bytes),
-        Err(_refused) => None,
-    }
-}
-
-/// The insert, with a count of sends over a ledger.
-fn counted<L: Link, Q: Ledger>(
-    alloc: Global,
-    write: PlacedWrite,
-    bytes: Bytes,
-    link: L,
-    blank: Blank,
-) -> (Result<()>, L)
-    requires name { blank.name ≡ Q.name }
-    requires parts { blank.parts ≡ Q.parts }
-    requires some { 0 < blank.parts }
-    requires spelled { Spells write.written.document bytes }
-{
+/// The insert's end and the link afterwards, or none where there is no memory.
+pub(crate) fn insert<L: Link + Drop>(alloc: Global, link: L) -> Option<(Seen, L)> {
+    let Ok(write) = write(alloc) else {
+        return None;
+    };
     let options = ClientOptions {
         client_number: 1,
         retry_writes: None,
@@ -158,24 +132,13 @@ fn counted<L: Link, Q: Ledger>(
         words: Pcg32::seed_from_u64(1),
         call: 0,
     };
-    let mut sends: Steps<Q> = Steps::new(blank);
-    let result = insert_single(alloc, &mut client, write, bytes, &mut outside, &mut sends);
+    let result = client.single(alloc, &write, &mut outside);
     let Outside {
         link,
         clock: _,
         words: _,
         call: _,
     } = outside;
-    (result, link)
-}
-
-/// The insert's end and the link afterwards, or none where there is no memory.
-pub(crate) fn insert<L: Link + Drop>(alloc: Global, link: L) -> Option<(Seen, L)> {
-    let Ok(write) = write(alloc) else {
-        return None;
-    };
-    let bytes = spelled(alloc, &write.written.document)?;
-    let (result, link) = counted::<L, Brand>(alloc, write, bytes, link, Blank::new(1));
     let seen = seen_end(alloc, result)?;
     Some((seen, link))
 }

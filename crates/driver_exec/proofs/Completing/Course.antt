@@ -1,56 +1,40 @@
--- An insert whose part of the schedule is gentle ends well: it was done, or memory ran out.
+-- An operation whose part of the schedule is gentle ends well: it was done, or memory ran out.
 use Rattle.std.proofs.Common.{◌≡◌, ℕ, Bool, true, List, [], ◌∷◌, sym, ap, subst, ◌∙◌, inl, inr, arith}
-use Rattle.std.specs.Prelude.{ℤ, pos, ◌+ℤ◌, nat_lt, Option, None, Some, is_some, Result, Ok, Err}
-use Rattle.bson_lite.specs.declared.fault.EncodeFault.{EncodeFault}
-use Rattle.bson_lite.specs.Spelling.{Spells}
+use Rattle.std.specs.Prelude.{nat_lt, Option, None, Some, is_some, Result, Ok, Err}
 use Rattle.driver_error.specs.declared.error.Error.{Error}
 use Rattle.driver_error.specs.declared.kind.ErrorKind.TheVariants as kind
 use Rattle.driver_error.specs.declared.labels.TheConstants.{RETRYABLE_WRITE_ERROR}
-use Rattle.driver_error.specs.Conversions.{ConvertsKind}
 use Rattle.driver_error.specs.Error.{kind_of, labels_of}
 use Rattle.driver_error.specs.LabelTexts.{has_label}
 use Rattle.driver_link.specs.declared.fault.LinkError.TheVariants.{Fault}
-use Rattle.driver_link.specs.declared.machine.PlacedWrite.{PlacedWrite}
-use Rattle.driver_link.specs.declared.machine.Scheduled.{Scheduled}
-use Rattle.driver_link.specs.declared.machine.Send.{Send}
-use Rattle.driver_link.specs.declared.machine.Server.{Server}
 use Rattle.driver_link.specs.declared.options.Address.{Address}
-use Rattle.driver_link.specs.Exchange.{exchanged}
 use Rattle.driver_link.specs.LinkState.{server_run, setup_of}
-use Rattle.driver_link.specs.Retried.{IsGentleItem}
 use Rattle.driver_link.specs.ServerRun.{ServerRun}
-use Rattle.driver_session.specs.Session.{Session, last_number}
-use Rattle.driver_session.specs.StoreTells.{DrawnApart, LendsSession, StoreTells}
-use Rattle.driver_ops.specs.InsertSpec.{insert_spec, own_of_insert}
-use Rattle.driver_ops.specs.Fields.{SendContext}
-use Rattle.driver_ops.specs.Inserts.{BodyRefused}
-use Rattle.driver_ops.specs.Operations.{batch_of}
-use Rattle.driver_ops.specs.SendKinds.{first}
-use Rattle.driver_ops.specs.Targets.{in_collection}
+use Rattle.driver_session.specs.StoreTells.{DrawnApart}
 use Rattle.driver_exec.specs.declared.attempt_end.AttemptEnd.{AttemptEnd}
 use Rattle.driver_exec.specs.declared.attempt_end.AttemptEnd.TheVariants.{Done, Ended, Failed, Stopped, Unfit, Unselected}
-use Rattle.driver_exec.specs.declared.attempt_end.AttemptFailure.{AttemptFailure}
+use Rattle.driver_exec.specs.declared.failure.AttemptFailure.{AttemptFailure}
 use Rattle.driver_exec.specs.declared.failure.FailurePhase.{FailurePhase}
-use Rattle.driver_exec.specs.Attempting.{AttemptState, EndsAtOnce, FailsIn, Stops, Tries, besides_out, is_nothing}
-use Rattle.driver_exec.specs.Executing.{Ends, EndsWith, Reaches, Attempts, decided, first_state, limit_reached}
-use Rattle.driver_exec.specs.Gentle.{IsGentlePart, IsLossy}
+use Rattle.driver_exec.specs.Attempting.{AttemptState, EndsAtOnce, FailsIn, Stops, Tries, besides_out, is_nothing, trial_of}
+use Rattle.driver_exec.specs.Executing.{Attempts, Ends, EndsWith, Executes, first_state, limit_reached}
+use Rattle.driver_exec.specs.Gentle.{IsGentlePart}
 use Rattle.driver_exec.specs.Holding.{number_before}
 use Rattle.driver_exec.specs.Moment.{Moment}
 use Rattle.driver_exec.specs.OldDeployment.{reworded}
 use Rattle.driver_exec.specs.OperationCauses.{DrawsNumbers}
-use Rattle.driver_exec.specs.Retry.{RetryState, after_first, avoiding}
-use Rattle.driver_exec.specs.Singles.{BecomesSingle, ExecutesSingle}
-use Rattle.driver_exec.specs.Writing.{insert_asked, insert_send}
+use Rattle.driver_exec.specs.Retry.{RetryState, after_first, avoiding, decide, told as told_to_caller}
+use Rattle.driver_exec.specs.inside.Executing.{Reaches}
 use Rattle.driver_exec.proofs.Executing.{avoids}
+use Rattle.driver_exec.proofs.Folding.{came_of}
 use Rattle.driver_exec.proofs.HeldSessions.{draws_on, not_both}
 use Rattle.driver_exec.proofs.Moments.{IsBefore, Leads, before_refl, before_twice, connects_lead, fails_lead, leads_same, leads_twice, one_moment, selects_lead}
 use Rattle.driver_exec.proofs.Storing.{back_apart, ends_apart, fails_apart}
-use Rattle.driver_exec.proofs.Completing.Ends.{EndsQuietly, AnswersPlainly, ok_err, allows, own_write}
-use Rattle.driver_exec.proofs.Completing.Sessions.{KnownInsert, trial, asked, IsPrepared, first_prepared, is_conn, refused_memory}
+use Rattle.driver_exec.proofs.Completing.Ends.{EndsQuietly, ok_err, allows, own_write}
+use Rattle.driver_exec.proofs.Completing.Sessions.{KnownCommand, trial, IsPrepared, first_prepared, is_conn, refused_memory}
 use Rattle.driver_exec.proofs.Completing.Losses.{Lost, again_prepared, unselected_none, LosesWell, fails_well}
 
-module _ (known : KnownInsert) where
-  open known use {write, own, store, told, link, link_is}
+module _ {A : Type 0} (known : KnownCommand A) where
+  open known use {body, own, store, told, link, link_is, unrefused}
 
   module _ (count : ℕ) (told_now : ServerRun) (gentle : IsGentlePart (DrawsNumbers true own (setup_of link)) told told_now) where
     -- where an operation stands between its attempts: it has not begun, or its one exchange was lost
@@ -75,25 +59,25 @@ module _ (known : KnownInsert) where
 
     module _ (sharded : Bool) where
       -- after the exchange that was lost there is a further attempt, of one
-      module _ (now : AttemptState) (failing : AttemptFailure) (lost : Lost known told_now gentle told now) (labelled : has_label (labels_of (reworded failing.failure.error)) RETRYABLE_WRITE_ERROR.now ≡ true) where
+      module _ (now : AttemptState) (failing : AttemptFailure) (number_is : failing.number ≡ number_before now.held) (lost : Lost known told_now gentle told now) (labelled : has_label (labels_of (reworded failing.error)) RETRYABLE_WRITE_ERROR.now ≡ true) where
         -- what is kept of the failure
         abbrev kept_first : RetryState
-        kept_first = after_first (record failing.failure { error = reworded failing.failure.error }) (number_before now.held)
+        kept_first = after_first (told_to_caller failing)
 
         -- the decision allows the attempt
-        first_decides : decided (trial known) sharded None failing now ≡ Ok (avoiding sharded failing.address kept_first)
-        first_decides = allows failing.failure (number_before now.held) failing.address own sharded (own_write true own (setup_of link) lost.draws) labelled
-            (ap (λ h. is_some (number_before h)) lost.held_is)
+        first_decides : decide None failing own sharded ≡ Ok (avoiding sharded failing.address kept_first)
+        first_decides = allows failing own sharded (own_write true own (setup_of link) lost.draws) labelled
+            (ap is_some number_is ∙ ap (λ h. is_some (number_before h)) lost.held_is)
 
         -- so it stands between its attempts
-        first_retry : (retry : RetryState) → decided (trial known) sharded None failing now ≡ Ok retry → LostOnce retry now
+        first_retry : (retry : RetryState) → decide None failing own sharded ≡ Ok retry → LostOnce retry now
         first_retry retry decides =
             let is : avoiding sharded failing.address kept_first ≡ retry = cc (sym first_decides ∙ decides) in
             let same = avoids sharded failing.address kept_first in
             record { lost = lost; attempt = sym (ap (λ k. k.attempt) is) ∙ same.0; limit = sym (ap (λ k. k.limit) is) ∙ same.1 }
 
         -- so the attempt is not refused
-        first_refused : (error : Error) → decided (trial known) sharded None failing now ≡ Err error → ⊥
+        first_refused : (error : Error) → decide None failing own sharded ≡ Err error → ⊥
         first_refused error refuses = ok_err (avoiding sharded failing.address kept_first) error (sym first_decides ∙ refuses)
 
       -- one failure more
@@ -103,14 +87,14 @@ module _ (known : KnownInsert) where
 
       -- and where the operation stands after it
       fails_far : (kept : Option RetryState) (mid now : AttemptState) (last : ServerRun) → SoFar kept mid → server_run now.link ≡ Some last → IsBefore last told_now → DrawnApart now.store → (failing : AttemptFailure) (retry : RetryState)
-          → FailsIn (trial known) kept mid now failing.address failing.failure.phase failing.failure.error → decided (trial known) sharded kept failing now ≡ Ok retry → LostOnce retry now
-      fails_far None mid now last far now_is later apart failing retry fails decides =
-          let error = failing.failure.error in
-          let begun = subst (λ s. FailsIn (trial known) None s now failing.address failing.failure.phase error) far fails in
-          let well = first_fails now last now_is later apart failing.address failing.failure.phase error begun in
-          first_retry now failing well.lost well.labelled retry decides
-      fails_far (Some earlier) mid now last far now_is later apart failing retry fails decides =
-          absurd (again_none earlier mid far now last now_is later apart failing.address failing.failure.phase failing.failure.error fails)
+          → Tries (trial known) kept mid now (Failed failing) → decide kept failing own sharded ≡ Ok retry → LostOnce retry now
+      fails_far None mid now last far now_is later apart failing retry tries decides =
+          let error = failing.error in
+          let begun = subst (λ s. FailsIn (trial known) None s now failing.address failing.phase error) far tries.0 in
+          let well = first_fails now last now_is later apart failing.address failing.phase error begun in
+          first_retry now failing tries.1 well.lost well.labelled retry decides
+      fails_far (Some earlier) mid now last far now_is later apart failing retry tries decides =
+          absurd (again_none earlier mid far now last now_is later apart failing.address failing.phase failing.error tries.0)
 
       -- each moment that an operation reaches is not before the first one
       reaches_leads : (failures : List AttemptFailure) (kept : Option RetryState) (now : AttemptState) → Reaches (trial known) sharded (first_state store link count) failures kept now → Leads told link now.link
@@ -120,7 +104,7 @@ module _ (known : KnownInsert) where
           let rest = reaches.1.1.1 in
           let came = reaches_leads failures rest.0 mid rest.1.0 in
           leads_twice told link mid.link now.link came
-          (fails_lead (trial known) rest.0 (insert_asked write) (asked known) came.moment mid now came.is failing.address failing.failure.phase failing.failure.error rest.1.1.tries)
+          (fails_lead (trial known) rest.0 body known.asked came.moment mid now came.is failing.address failing.phase failing.error rest.1.1.tries.0)
 
       -- what it has come to there
       reaches_far : (failures : List AttemptFailure) (kept : Option RetryState) (now : AttemptState) (last : ServerRun) → Reaches (trial known) sharded (first_state store link count) failures kept now
@@ -130,9 +114,9 @@ module _ (known : KnownInsert) where
           let mid = reaches.1.1.0 in
           let rest = reaches.1.1.1 in
           let came = reaches_leads failures rest.0 mid rest.1.0 in
-          let more = fails_lead (trial known) rest.0 (insert_asked write) (asked known) came.moment mid now came.is failing.address failing.failure.phase failing.failure.error rest.1.1.tries in
+          let more = fails_lead (trial known) rest.0 body known.asked came.moment mid now came.is failing.address failing.phase failing.error rest.1.1.tries.0 in
           let here = subst (IsBefore came.moment) (one_moment now.link more.moment last more.is now_is) more.later in
-          let earlier = fails_apart (trial known) rest.0 mid now failing.address failing.failure.phase failing.failure.error rest.1.1.tries apart in
+          let earlier = fails_apart (trial known) rest.0 mid now failing.address failing.phase failing.error rest.1.1.tries.0 apart in
           let far = reaches_far failures rest.0 mid came.moment rest.1.0 came.is (before_twice came.moment last told_now here later) earlier in
           subst (λ k. SoFar k now) (sym reaches.1.0) (fails_far rest.0 mid now last far now_is later apart failing reaches.0 rest.1.1.tries rest.1.1.decides)
 
@@ -162,10 +146,10 @@ module _ (known : KnownInsert) where
             by_kept (Some retry) far = record { moment = far.lost.moment; prepared = again_prepared known told_now gentle told mid far.lost }
 
         -- want of memory is a quiet end
-        quiet_memory : (error : Error) (result : Result (Unit {0}) Error) → result ≡ Err error → kind_of error ≡ kind.Memory → EndsQuietly result
+        quiet_memory : (error : Error) (result : Result A Error) → result ≡ Err error → kind_of error ≡ kind.Memory → EndsQuietly result
         quiet_memory error result is memory = subst EndsQuietly (sym is) memory
 
-        -- the write may be repeated on a further connection
+        -- it may be repeated on a further connection
         stops_none : {past : Option RetryState} (retry : RetryState) → LostOnce retry mid → Stops (trial known) past mid now → ⊥
         stops_none retry once stops =
             let lost = once.lost in
@@ -174,12 +158,12 @@ module _ (known : KnownInsert) where
             not_both (sym stops.nothing ∙ ap is_nothing takes.1)
 
         -- so the attempt does not stop
-        stopped_quiet : {past : Option RetryState} (result : Result (Unit {0}) Error) → Stops (trial known) past mid now → EndsWith {A = Unit {0}} kept Stopped result → EndsQuietly result
+        stopped_quiet : {past : Option RetryState} (result : Result A Error) → Stops (trial known) past mid now → EndsWith kept Stopped result → EndsQuietly result
         stopped_quiet result stops ends =
             let more = (connects_lead came_last.moment mid.link now.link stops.address stops.conn came_last.is stops.readies.connects).leads in
             by_kept kept (far_last more) ends
           where
-            by_kept : (found : Option RetryState) → SoFar found mid → EndsWith {A = Unit {0}} found Stopped result → EndsQuietly result
+            by_kept : (found : Option RetryState) → SoFar found mid → EndsWith found Stopped result → EndsQuietly result
             by_kept None far ends = absurd ends
             by_kept (Some retry) far ends = absurd (stops_none retry far stops)
 
@@ -197,14 +181,14 @@ module _ (known : KnownInsert) where
         ]
 
         -- each end of the last attempt is quiet
-        last_quiet : (past : Option RetryState) (attempt : AttemptEnd (Unit {0})) (result : Result (Unit {0}) Error) → Tries (trial known) past mid now attempt → EndsWith kept attempt result → EndsQuietly result
+        last_quiet : (past : Option RetryState) (attempt : AttemptEnd A) (result : Result A Error) → Tries (trial known) past mid now attempt → EndsWith kept attempt result → EndsQuietly result
         last_quiet past (Done output) result tries ends = subst EndsQuietly (sym ends) tt
         last_quiet past (Failed failing) result tries ends = absurd ends
         last_quiet past (Unselected error) result tries ends =
             let here = prepares (selects_lead came_last.moment mid.link now.link (Err (Fault tries.fault tries.own)) came_last.is tries.selects.calls).leads in
             absurd (unselected_none known told_now gentle past here.moment mid here.prepared now told_now now_is (before_refl told_now) apart error tries)
         last_quiet past Stopped result tries ends = stopped_quiet result tries.1 ends
-        last_quiet past Unfit result tries ends = absurd tries.1.refused.refused
+        last_quiet past Unfit result tries ends = absurd (unrefused tries.1.conn.description tries.1.error tries.1.refused)
         last_quiet past (Ended error) result tries ends = quiet_memory error result ends (ended_quiet past error tries)
 
         -- the limit is not reached
@@ -215,22 +199,21 @@ module _ (known : KnownInsert) where
             not_both (sym reached ∙ ap limit_reached is ∙ ap (λ n. nat_lt n retry.attempt) once.limit ∙ ap (λ n. nat_lt 1 n) once.attempt)
 
         -- a failure is not refused a further attempt
-        refused_none : (failing : AttemptFailure) (error : Error) → FailsIn (trial known) kept mid now failing.address failing.failure.phase failing.failure.error
-            → decided (trial known) sharded kept failing now ≡ Err error → ⊥
-        refused_none failing error fails refuses =
-            let more = fails_lead (trial known) kept (insert_asked write) (asked known) came_last.moment mid now came_last.is failing.address failing.failure.phase failing.failure.error fails in
-            by_kept kept (far_last more) fails refuses
+        refused_none : (failing : AttemptFailure) (error : Error) → Tries (trial known) kept mid now (Failed failing) → decide kept failing own sharded ≡ Err error → ⊥
+        refused_none failing error tries refuses =
+            let more = fails_lead (trial known) kept body known.asked came_last.moment mid now came_last.is failing.address failing.phase failing.error tries.0 in
+            by_kept kept (far_last more) tries.0 refuses
           where
-            by_kept : (found : Option RetryState) → SoFar found mid → FailsIn (trial known) found mid now failing.address failing.failure.phase failing.failure.error → decided (trial known) sharded found failing now ≡ Err error → ⊥
+            by_kept : (found : Option RetryState) → SoFar found mid → FailsIn (trial known) found mid now failing.address failing.phase failing.error → decide found failing own sharded ≡ Err error → ⊥
             by_kept None far fails refuses =
-                let begun = subst (λ s. FailsIn (trial known) None s now failing.address failing.failure.phase failing.failure.error) far fails in
-                let well = first_fails now told_now now_is (before_refl told_now) apart failing.address failing.failure.phase failing.failure.error begun in
-                first_refused now failing well.lost well.labelled error refuses
+                let begun = subst (λ s. FailsIn (trial known) None s now failing.address failing.phase failing.error) far fails in
+                let well = first_fails now told_now now_is (before_refl told_now) apart failing.address failing.phase failing.error begun in
+                first_refused now failing tries.1 well.lost well.labelled error refuses
             by_kept (Some retry) far fails refuses =
-                again_none retry mid far now told_now now_is (before_refl told_now) apart failing.address failing.failure.phase failing.failure.error fails
+                again_none retry mid far now told_now now_is (before_refl told_now) apart failing.address failing.phase failing.error fails
 
         -- so is each end of the operation
-        ends_quietly : (result : Result (Unit {0}) Error) → Ends (trial known) sharded kept mid now result → EndsQuietly result
+        ends_quietly : (result : Result A Error) → Ends (trial known) sharded kept mid now result → EndsQuietly result
         ends_quietly result ends = elim ends [
           | inl last ↦ last_quiet kept last.attempt result last.tries last.ends
           | inr other ↦ elim other [
@@ -242,56 +225,25 @@ module _ (known : KnownInsert) where
           ]
         ]
 
-  -- the attempts of an insert whose part of the schedule is gentle end well
+  -- the attempts of an operation whose part of the schedule is gentle end well
   gentle_turns : (count : ℕ) (told_now : ServerRun) (gentle : IsGentlePart (DrawsNumbers true own (setup_of link)) told told_now) (sharded : Bool) (last : AttemptState)
-      → server_run last.link ≡ Some told_now → DrawnApart last.store → (result : Result (Unit {0}) Error) → Attempts (trial known) sharded (first_state store link count) last result → EndsQuietly result
+      → server_run last.link ≡ Some told_now → DrawnApart last.store → (result : Result A Error) → Attempts (trial known) sharded (first_state store link count) last result → EndsQuietly result
   gentle_turns count told_now gentle sharded last last_is apart result attempts =
       let apart_mid = ends_apart (trial known) attempts.mid last sharded attempts.kept result attempts.ends apart in
-      ends_quietly count told_now gentle sharded attempts.failures attempts.kept attempts.mid last attempts.reaches last_is apart_mid apart result attempts.ends
+      let came = came_of (trial known) sharded (first_state store link count) last result attempts in
+      ends_quietly count told_now gentle sharded came.0 attempts.kept attempts.mid last came.1 last_is apart_mid apart result attempts.ends
 
--- the form of an error of a single write
-single_quiet : (executed result : Result (Unit {0}) Error) → BecomesSingle executed result → EndsQuietly executed → EndsQuietly result
-single_quiet (Ok output) result becomes quiet = subst EndsQuietly (sym becomes) tt
-single_quiet (Err error) (Ok output) becomes quiet = absurd becomes
-single_quiet (Err error) (Err now) becomes memory =
-    let same : now ≡ error = subst (λ why. ConvertsKind why error now) memory becomes in ap kind_of same ∙ memory
-
--- an insert of one document whose part of the schedule is gentle ends well, from one moment to another
-pub gentle_ends : (write : PlacedWrite) (bytes : List ℕ) (spelled : Spells write.written.document bytes) (before now : Moment) (told told_now : ServerRun)
-    → (link_is : server_run before.link ≡ Some told) (now_is : server_run now.link ≡ Some told_now) (Ready : Send → Server → Type 0)
-    → (ready_answers : (session : Option (List ℕ)) (number : Option ℤ) (server : Server) (step : Scheduled) → Ready (insert_send session number write) server
-    → IsGentleItem step.item → AnswersPlainly server (insert_send session number write) step)
-    → (ready_again : (id : List ℕ) (number : ℤ) (server : Server) (step : Scheduled) → Ready (insert_send (Some id) (Some number) write) server → IsLossy step.item
-    → Ready (insert_send (Some id) (Some number) write) (exchanged server (insert_send (Some id) (Some number) write) step))
-    → (first_ready : (at : ℕ) (lent : StoreTells) (session : Session) (number : ℤ) → LendsSession before.store lent at session → DrawnApart lent
-    → number ≡ session.number +ℤ pos 1 → Ready (insert_send (Some session.id) (Some number) write) told.server)
-    → (bare_ready : (session : Option (List ℕ)) → Ready (insert_send session None write) told.server)
-    → (unspelled : (context : SendContext) (fault : EncodeFault) → BodyRefused write.written.namespace context fault → ⊥)
-    → (not_last : (at : ℕ) (lent : StoreTells) (session : Session) → LendsSession before.store lent at session → session.number ≡ last_number → ⊥)
-    → (count count_now : ℕ) (result : Result (Unit {0}) Error) → DrawnApart now.store
-    → IsGentlePart (DrawsNumbers true (own_of_insert before.client.options) (setup_of before.link)) told told_now
-    → ExecutesSingle (insert_spec (in_collection write.written.namespace) bytes) (batch_of (write.place ∷ []) 1) first before now count count_now result → EndsQuietly result
-gentle_ends write bytes spelled before now told told_now link_is now_is Ready ready_answers ready_again first_ready bare_ready unspelled not_last count count_now result drawn gentle single =
-    let executes = single.executes in
+-- an operation whose part of the schedule is gentle ends well, from one moment to another
+pub gentle_ends : {A : Type 0} (known : KnownCommand A) (before now : Moment) (told_now : ServerRun) → known.store ≡ before.store → known.link ≡ besides_out before.link
+    → known.own ≡ known.spec.retryability before.client.options → server_run now.link ≡ Some told_now → DrawnApart now.store
+    → IsGentlePart (DrawsNumbers true known.own (setup_of known.link)) known.told told_now → (count count_now : ℕ) (result : Result A Error)
+    → Executes known.spec known.batch known.which before now count count_now result → EndsQuietly result
+gentle_ends known before now told_now store_is link_is own_is now_is drawn gentle count count_now result executes =
     let last = executes.last in
     let last_is = ap server_run (sym executes.link_is) ∙ now_is in
     let apart = back_apart last.store now.store last.held.session executes.comes_back drawn in
-    let known : KnownInsert = record {
-      write = write;
-      bytes = bytes;
-      spelled = spelled;
-      own = own_of_insert before.client.options;
-      store = before.store;
-      told = told;
-      link = besides_out before.link;
-      link_is = link_is;
-      Ready = Ready;
-      ready_answers = ready_answers;
-      ready_again = ready_again;
-      first_ready = first_ready;
-      bare_ready = bare_ready;
-      unspelled = unspelled;
-      not_last = not_last;
-    } in
-    let quiet = gentle_turns known count told_now gentle executes.sharded last last_is apart single.executed executes.attempts in
-    single_quiet single.executed result single.becomes quiet
+    gentle_turns known count told_now gentle executes.sharded last last_is apart result
+    (subst (λ own. Attempts (trial_of known.spec known.batch known.which own) executes.sharded (first_state known.store known.link count) last result) (sym own_is)
+    (subst (λ l. Attempts (trial_of known.spec known.batch known.which (known.spec.retryability before.client.options)) executes.sharded (first_state known.store l count) last result) (sym link_is)
+    (subst (λ s. Attempts (trial_of known.spec known.batch known.which (known.spec.retryability before.client.options)) executes.sharded (first_state s (besides_out before.link) count) last result) (sym store_is)
+    executes.attempts)))

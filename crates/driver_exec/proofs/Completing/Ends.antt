@@ -1,7 +1,8 @@
--- What it is that an insert ends well, and what its attempts need of labels, numbers and sessions.
+-- What it is that an operation ends well, and what its attempts need of labels, numbers and sessions.
 use Rattle.std.proofs.Common.{◌≡◌, ℕ, Bool, true, false, List, refl, sym, ap, subst, ◌∙◌}
 use Rattle.std.specs.Prelude.{ℤ, ◌&&◌, ◌||◌, Option, None, Some, is_some, Result, Ok, Err, if◌then◌else◌}
 use Rattle.std.specs.Option.{option_map}
+use Rattle.bson_lite.specs.Spelling.{Spells}
 use Rattle.driver_error.specs.declared.error.Error.{Error}
 use Rattle.driver_error.specs.declared.kind.ErrorKind.TheVariants as kind
 use Rattle.driver_error.specs.declared.kind.IoKind.TheVariants.{ConnectionReset}
@@ -18,7 +19,6 @@ use Rattle.driver_link.specs.declared.machine.Scheduled.{Scheduled}
 use Rattle.driver_link.specs.declared.machine.Send.{Send}
 use Rattle.driver_link.specs.declared.machine.Server.{Server}
 use Rattle.driver_link.specs.declared.machine.Setup.{Setup}
-use Rattle.driver_link.specs.declared.options.Address.{Address}
 use Rattle.driver_link.specs.Cursors.{Reply}
 use Rattle.driver_link.specs.Exchange.{after_picks, answered, reply, traced}
 use Rattle.driver_link.specs.Failures.{is_network}
@@ -27,8 +27,8 @@ use Rattle.driver_session.specs.declared.retryability.Retryability.TheVariants a
 use Rattle.driver_session.specs.Session.{Session}
 use Rattle.driver_session.specs.StoreTells.{StoreTells}
 use Rattle.driver_session.proofs.Ids.{equal_bytes}
-use Rattle.driver_ops.proofs.InsertReading.{IsPlainDone}
-use Rattle.driver_exec.specs.declared.failure.Failure.{Failure}
+use Rattle.driver_ops.specs.Operations.{OperationSpec, ReadsAnswer}
+use Rattle.driver_exec.specs.declared.failure.AttemptFailure.{AttemptFailure}
 use Rattle.driver_exec.specs.declared.failure.FailurePhase.{FailurePhase}
 use Rattle.driver_exec.specs.declared.failure.FailurePhase.TheVariants.{ConnectionEstablishment, Execution}
 use Rattle.driver_exec.specs.Attempting.{held_after}
@@ -36,18 +36,22 @@ use Rattle.driver_exec.specs.Gentle.{IsLossy}
 use Rattle.driver_exec.specs.Holding.{DrawsSession, ExecutionSession, HoldsSession, dirty_held, dirty_session, needs_session}
 use Rattle.driver_exec.specs.OldDeployment.{reworded}
 use Rattle.driver_exec.specs.OperationCauses.{DrawsNumbers}
-use Rattle.driver_exec.specs.Retry.{RetryState, after, after_first, avoiding, decide, may_be_retried, may_be_sent}
+use Rattle.driver_exec.specs.Retry.{RetryState, after, after_first, avoiding, decide, may_be_retried, may_be_sent, told}
 
 -- an Ok, or want of memory
 abbrev pub EndsQuietly : {A : Type 0} → Result A Error → Type 0
 EndsQuietly (Ok output) = Unit {0}
 EndsQuietly (Err error) = kind_of error ≡ kind.Memory
 
--- a send is answered by a reply that tells of an insert that was done, and of no failure
-pub record AnswersPlainly (server : Server) (send : Send) (step : Scheduled) : Type 0 where
+-- an operation reads no error in a reply, unless memory runs out
+abbrev pub ReadsPlainly : {A : Type 0} → OperationSpec A → Reply → Type 0
+ReadsPlainly spec reply = (bytes : List ℕ) → Spells reply bytes → (error : Error) → ReadsAnswer spec bytes (Err error) → kind_of error ≡ kind.Memory
+
+-- a send is answered by such a reply
+pub record AnswersPlainly {A : Type 0} (spec : OperationSpec A) (server : Server) (send : Send) (step : Scheduled) : Type 0 where
   pub reply : Reply
   pub is : answered server send step ≡ Some reply
-  pub plain : IsPlainDone reply
+  pub plain : ReadsPlainly spec reply
 
 -- an item without a reply
 lossy_reply : (server : Server) (send : Send) (item : Item) → IsLossy item → reply server send item ≡ None
@@ -81,24 +85,24 @@ has_own_label labels =
     ∙ ap (λ b. b || has_label labels RETRYABLE_WRITE_ERROR.now) (equal_bytes RETRYABLE_WRITE_ERROR.now)
 
 -- a failure with it, of a write that has a number, is followed by another attempt
-retries : (failure : Failure) (number : Option ℤ) → has_label (labels_of failure.error) RETRYABLE_WRITE_ERROR.now ≡ true → is_some number ≡ true
-    → may_be_retried failure number may.Write ≡ true
+retries : (failure : AttemptFailure) → has_label (labels_of failure.error) RETRYABLE_WRITE_ERROR.now ≡ true → is_some failure.number ≡ true
+    → may_be_retried failure may.Write ≡ true
 unfolding may_be_retried
-retries failure number labelled some = ap (λ b. b && may_be_sent failure.phase number) labelled ∙ by_phase failure.phase
+retries failure labelled some = ap (λ b. b && may_be_sent failure.phase failure.number) labelled ∙ by_phase failure.phase
   where
-    by_phase : (phase : FailurePhase) → may_be_sent phase number ≡ true
+    by_phase : (phase : FailurePhase) → may_be_sent phase failure.number ≡ true
     by_phase ConnectionEstablishment = refl
     by_phase Execution = some
 
 -- so the decision after a first failure allows one
-pub allows : (failure : Failure) (number : Option ℤ) (address : Address) (own : Retryability) (sharded : Bool) → own ≡ may.Write
-    → has_label (labels_of (reworded failure.error)) RETRYABLE_WRITE_ERROR.now ≡ true → is_some number ≡ true
-    → decide None failure number address own sharded ≡ Ok (avoiding sharded address (after_first (record failure { error = reworded failure.error }) number))
+pub allows : (failure : AttemptFailure) (own : Retryability) (sharded : Bool) → own ≡ may.Write
+    → has_label (labels_of (reworded failure.error)) RETRYABLE_WRITE_ERROR.now ≡ true → is_some failure.number ≡ true
+    → decide None failure own sharded ≡ Ok (avoiding sharded failure.address (after_first (told failure)))
 unfolding decide after
-allows failure number address own sharded is_write labelled some =
-    let now = record failure { error = reworded failure.error } in
-    ap (λ test. if test then Ok (avoiding sharded address (after_first now number)) else Err (after_first now number).failure.error)
-    (subst (λ o. may_be_retried now number o ≡ true) (sym is_write) (retries now number labelled some))
+allows failure own sharded is_write labelled some =
+    let now = told failure in
+    ap (λ test. if test then Ok (avoiding sharded failure.address (after_first now)) else Err (after_first now).failure.error)
+    (subst (λ o. may_be_retried now o ≡ true) (sym is_write) (retries now labelled some))
 
 -- where each send has a number the operation may repeat its write
 pub own_write : (sessions : Bool) (own : Retryability) (setup : Option Setup) → DrawsNumbers sessions own setup → own ≡ may.Write

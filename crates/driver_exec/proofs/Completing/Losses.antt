@@ -1,4 +1,4 @@
--- An attempt of an insert whose part of the schedule is gentle fails only where its exchange was lost.
+-- An attempt of an operation whose part of the schedule is gentle fails only where its exchange was lost.
 use Rattle.std.proofs.Common.{◌≡◌, ℕ, ◌<◌, ◌≤◌, true, List, length, refl, sym, ap, subst, ◌∙◌, inl, inr, arith}
 use Rattle.std.specs.Prelude.{ℤ, Option, None, Some, Result, Ok, Err}
 use Rattle.bson_lite.specs.Spelling.{Spells}
@@ -21,8 +21,8 @@ use Rattle.driver_link.specs.ServerRun.{IsReply, ServerRun, TakesStep, run_after
 use Rattle.driver_session.specs.declared.retryability.Retryability.TheVariants as may
 use Rattle.driver_session.specs.Session.{Session}
 use Rattle.driver_session.specs.StoreTells.{DrawnApart}
-use Rattle.driver_ops.specs.Targets.{in_collection}
-use Rattle.driver_ops.proofs.InsertReading.{IsPlainDone, plain_read}
+use Rattle.driver_ops.specs.Fields.{under}
+use Rattle.driver_ops.specs.Operations.{send_of}
 use Rattle.driver_exec.specs.declared.failure.FailurePhase.{FailurePhase}
 use Rattle.driver_exec.specs.declared.failure.FailurePhase.TheVariants.{ConnectionEstablishment, Execution}
 use Rattle.driver_exec.specs.Attempting.{AttemptState, FailsIn, LosesExchange, NotConnected, NotSelected, Sends, SpellsFailure, asks_session, held_after, on_connection}
@@ -32,15 +32,14 @@ use Rattle.driver_exec.specs.Holding.{HoldsSession, dirty_session, held_id, need
 use Rattle.driver_exec.specs.OldDeployment.{reworded}
 use Rattle.driver_exec.specs.OperationCauses.{DrawsNumbers, labels_after}
 use Rattle.driver_exec.specs.Retry.{RetryState}
-use Rattle.driver_exec.specs.Writing.{insert_asked, insert_send}
 use Rattle.driver_exec.proofs.HeldSessions.{draws_on, not_both}
 use Rattle.driver_exec.proofs.Moments.{IsBefore, LeadsCalling, after_before, before_twice, checks_well, longer_after, one_moment, selects_lead, selects_well}
 use Rattle.driver_exec.proofs.OperationCausing.{fault_error, reworded_is}
-use Rattle.driver_exec.proofs.Completing.Ends.{lossy_none, none_some, has_own_label, HasNumber, lost_held, held_again, same_again}
-use Rattle.driver_exec.proofs.Completing.Sessions.{KnownInsert, trial, asked, MayGo, IsReadied, IsPrepared, again_readied, is_conn, reached_at, readied_at}
+use Rattle.driver_exec.proofs.Completing.Ends.{ReadsPlainly, lossy_none, none_some, has_own_label, HasNumber, lost_held, held_again, same_again}
+use Rattle.driver_exec.proofs.Completing.Sessions.{KnownCommand, trial, MayGo, IsReadied, IsPrepared, again_readied, is_conn, reached_at, readied_at}
 
-module _ (known : KnownInsert) where
-  open known use {write, bytes, own, told, link, Ready, ready_answers, ready_again}
+module _ {A : Type 0} (known : KnownCommand A) where
+  open known use {spec, body, own, told, link, Ready, ready_answers, ready_again}
 
   -- the part that is gentle
   module _ (told_now : ServerRun) (gentle : IsGentlePart (DrawsNumbers true own (setup_of link)) told told_now) where
@@ -54,7 +53,7 @@ module _ (known : KnownInsert) where
       pub is : server_run now.link ≡ Some moment
       pub after : IsBefore told moment
       pub setup : setup_of now.link ≡ setup_of link
-      pub ready : Ready (insert_send (Some session.id) (Some number) write) moment.server
+      pub ready : Ready (send_of (under (Some session.id) (Some number)) body) moment.server
       pub at : ℕ
       pub part : IsOfPart told told_now at
       pub lossy : IsLossy (step_at told.schedule at).item
@@ -88,7 +87,7 @@ module _ (known : KnownInsert) where
           checks_well (DrawsNumbers true own (setup_of link)) told told_now gentle first.moment (before_twice told moment first.moment prepared.after first.later) fails.mid now.link last
           first.is now_is later fails.fault fails.own fails.checks_out.calls
 
-      -- the insert went out
+      -- the command went out
       module _ (address : Address) (conn : Conn) (result : Result (List ℕ) LinkError) (sends : Sends (trial known) past mid now address conn result) where
         -- the calls before the exchange
         came : LeadsCalling moment mid.link sends.ready.link
@@ -100,7 +99,7 @@ module _ (known : KnownInsert) where
 
         -- the send
         abbrev send : Send
-        send = insert_send (held_id sends.numbered) sends.number write
+        send = send_of (under (held_id sends.numbered) sends.number) body
 
         -- the step of the schedule that it meets
         abbrev step : Scheduled
@@ -112,7 +111,7 @@ module _ (known : KnownInsert) where
 
         -- the server takes the step
         steps : TakesStep (Some before) (server_run now.link) send result
-        steps = subst (λ s. TakesStep s (server_run now.link) send result) came.leads.is (sends.exchanges.exchanges.steps send (sends.exchanges.reads (insert_asked write) (asked known)))
+        steps = subst (λ s. TakesStep s (server_run now.link) send result) came.leads.is (sends.exchanges.exchanges.steps send (sends.exchanges.reads body known.asked))
 
         -- what was drawn may go out
         goes : MayGo known moment.server conn.description (on_connection own conn.description) sends.numbered sends.number
@@ -135,7 +134,7 @@ module _ (known : KnownInsert) where
         -- a reply to it is plain
         record HasPlain (reply_bytes : List ℕ) : Type 0 where
           reply : Reply
-          plain : IsPlainDone reply
+          plain : ReadsPlainly spec reply
           spells : Spells reply reply_bytes
 
         -- so is each reply of this exchange
@@ -175,8 +174,8 @@ module _ (known : KnownInsert) where
             let loses = lossy_item stepped.1 stepped.0 in
             let has = lost_number loses.0 in
             let id_is : held_id sends.numbered ≡ Some has.session.id = ap (λ s. held_id (record { session = s; sent = None })) has.session_is in
-            let same : send ≡ insert_send (Some has.session.id) (Some has.value) write
-            = ap (λ i. insert_send i sends.number write) id_is ∙ ap (λ n. insert_send (Some has.session.id) n write) has.number_is in
+            let same : send ≡ send_of (under (Some has.session.id) (Some has.value)) body
+            = ap (λ i. send_of (under i sends.number) body) id_is ∙ ap (λ n. send_of (under (Some has.session.id) n) body) has.number_is in
             let ready = ready_again has.session.id has.value before.server step (subst (λ s. Ready s before.server) same ready_here) (subst (λ s. IsLossy s.item) step_is loses.1) in
             record {
               draws = loses.0;
@@ -188,7 +187,7 @@ module _ (known : KnownInsert) where
               is = stepped.0;
               after = since_after;
               setup = setup_now;
-              ready = subst (λ s. Ready (insert_send (Some has.session.id) (Some has.value) write) (exchanged before.server s step)) (sym same) ready;
+              ready = subst (λ s. Ready (send_of (under (Some has.session.id) (Some has.value)) body) (exchanged before.server s step)) (sym same) ready;
               at = length before.server.trace;
               part = of_part stepped.0;
               lossy = loses.1;
@@ -204,7 +203,7 @@ module _ (known : KnownInsert) where
       spelled_none address error fails =
           let bare = fails.is.is in
           let plain = plain_reply address fails.conn (Ok fails.reply) fails.sends fails.reply (steps address fails.conn (Ok fails.reply) fails.sends) in
-          let memory = plain_read (in_collection write.written.namespace) bytes fails.reply plain.reply plain.plain plain.spells bare.bare bare.reads in
+          let memory = plain.plain fails.reply plain.spells bare.bare bare.reads in
           not_both (sym (ap is_memory memory) ∙ bare.labelled.told)
 
       -- an exchange that was lost leaves an error that lets the write be tried again

@@ -1,14 +1,12 @@
--- An insert over what is told: the session and the number that its attempts have once they have a connection.
-use Rattle.std.proofs.Common.{◌≡◌, ℕ, Bool, true, false, List, [], ◌∷◌, refl, sym, ap, subst, ◌∙◌, inl, inr}
+-- An operation over what is told: the session and the number that its attempts have once they have a connection.
+use Rattle.std.proofs.Common.{◌≡◌, ℕ, Bool, true, false, List, refl, sym, ap, subst, ◌∙◌, inl, inr}
 use Rattle.std.specs.Prelude.{ℤ, pos, ◌+ℤ◌, Option, None, Some, Result, Ok, Err}
-use Rattle.bson_lite.specs.declared.fault.EncodeFault.{EncodeFault}
-use Rattle.bson_lite.specs.Spelling.{Spells}
 use Rattle.driver_error.specs.declared.error.Error.{Error}
 use Rattle.driver_error.specs.declared.kind.ErrorKind.TheVariants as kind
 use Rattle.driver_error.specs.Error.{ErrorKind, kind_of}
-use Rattle.driver_link.specs.declared.machine.PlacedWrite.{PlacedWrite}
 use Rattle.driver_link.specs.declared.machine.Scheduled.{Scheduled}
 use Rattle.driver_link.specs.declared.machine.Send.{Send}
+use Rattle.driver_link.specs.declared.machine.SendBody.{SendBody}
 use Rattle.driver_link.specs.declared.machine.Server.{Server}
 use Rattle.driver_link.specs.declared.options.Address.{Address}
 use Rattle.driver_link.specs.declared.options.Conn.{Conn}
@@ -21,30 +19,27 @@ use Rattle.driver_session.specs.declared.retryability.Retryability.{Retryability
 use Rattle.driver_session.specs.declared.retryability.Retryability.TheVariants as may
 use Rattle.driver_session.specs.Session.{Numbers, Session, TellsEnd, last_number}
 use Rattle.driver_session.specs.StoreTells.{DrawnApart, LendsSession, StoreTells}
-use Rattle.driver_ops.specs.InsertSpec.{AsksInsert, insert_spec}
-use Rattle.driver_ops.specs.Fields.{SendContext}
-use Rattle.driver_ops.specs.Operations.{TellsUnframed, batch_of}
-use Rattle.driver_ops.specs.SendKinds.{first}
-use Rattle.driver_ops.specs.Targets.{in_collection}
-use Rattle.driver_ops.proofs.Inserting.{body_refused}
-use Rattle.driver_ops.specs.Inserts.{BodyRefused}
+use Rattle.driver_ops.specs.Fields.{SendContext, under}
+use Rattle.driver_ops.specs.Operations.{AsksFor, Batch, OperationSpec, Refuses, TellsUnframed, send_of}
+use Rattle.driver_ops.specs.SendKinds.{SendKind}
 use Rattle.driver_exec.specs.Attempting.{AttemptState, EndsRefused, Readies, Trial, asks_session, may_use, on_connection, trial_of}
 use Rattle.driver_exec.specs.Executing.{first_state}
 use Rattle.driver_exec.specs.Gentle.{IsLossy}
 use Rattle.driver_exec.specs.Holding.{DrawsNumber, DrawsSession, GivesNumber, ExecutionSession, HoldsSession, held_id, holds_nothing, needs_session}
 use Rattle.driver_exec.specs.OperationCauses.{DrawsNumbers}
 use Rattle.driver_exec.specs.Retry.{RetryState}
-use Rattle.driver_exec.specs.Writing.{insert_asked, insert_send}
 use Rattle.driver_exec.proofs.HeldSessions.{IsOf, draws_on, is_of, not_both}
 use Rattle.driver_exec.proofs.Moments.{IsBefore, LeadsCalling, before_refl, connects_lead}
 use Rattle.driver_exec.proofs.Completing.Ends.{AnswersPlainly, err_ok, HasNumber, no_read, no_none, undrawn, held_again}
 
--- an insert over what is told, with what is known of its sends
-pub record KnownInsert : Type 1 where
-  -- the write, and the bytes of its document
-  pub write : PlacedWrite
-  pub bytes : List ℕ
-  pub spelled : Spells write.written.document bytes
+-- an operation over what is told, with what is known of its sends
+pub record KnownCommand (A : Type 0) : Type 1 where
+  -- what it tells, its places, the kind of its sends, and what it asks for
+  pub spec : OperationSpec A
+  pub batch : Batch
+  pub which : SendKind
+  pub body : SendBody
+  pub asked : AsksFor spec batch body
   -- what of it may be repeated by its own rules
   pub own : Retryability
   -- what store and link tell before it
@@ -55,33 +50,31 @@ pub record KnownInsert : Type 1 where
   -- a send may go out to a server
   pub Ready : Send → Server → Type 0
   -- then a gentle step answers it plainly
-  pub ready_answers : (session : Option (List ℕ)) (number : Option ℤ) (server : Server) (step : Scheduled) → Ready (insert_send session number write) server
-      → IsGentleItem step.item → AnswersPlainly server (insert_send session number write) step
+  pub ready_answers : (session : Option (List ℕ)) (number : Option ℤ) (server : Server) (step : Scheduled) → Ready (send_of (under session number) body) server
+      → IsGentleItem step.item → AnswersPlainly spec server (send_of (under session number) body) step
   -- and after a lossy one it may go out again
-  pub ready_again : (id : List ℕ) (number : ℤ) (server : Server) (step : Scheduled) → Ready (insert_send (Some id) (Some number) write) server → IsLossy step.item
-      → Ready (insert_send (Some id) (Some number) write) (exchanged server (insert_send (Some id) (Some number) write) step)
+  pub ready_again : (id : List ℕ) (number : ℤ) (server : Server) (step : Scheduled) → Ready (send_of (under (Some id) (Some number)) body) server → IsLossy step.item
+      → Ready (send_of (under (Some id) (Some number)) body) (exchanged server (send_of (under (Some id) (Some number)) body) step)
   -- the first send may go out, under a number or under none
   pub first_ready : (at : ℕ) (lent : StoreTells) (session : Session) (number : ℤ) → LendsSession store lent at session → DrawnApart lent
-      → number ≡ session.number +ℤ pos 1 → Ready (insert_send (Some session.id) (Some number) write) told.server
-  pub bare_ready : (session : Option (List ℕ)) → Ready (insert_send session None write) told.server
-  -- its command has a spelling, and the number of its session is not the last
-  pub unspelled : (context : SendContext) (fault : EncodeFault) → BodyRefused write.written.namespace context fault → ⊥
+      → number ≡ session.number +ℤ pos 1 → Ready (send_of (under (Some session.id) (Some number)) body) told.server
+  pub bare_ready : (session : Option (List ℕ)) → Ready (send_of (under session None) body) told.server
+  -- it takes a session, no build of it is refused, its command has a spelling, and the number of its session is not the last
+  pub takes_sessions : spec.sessions ≡ true
+  pub unrefused : (description : Description) (error : Error) → Refuses spec description error → ⊥
+  pub unframed : (context : SendContext) (why : ErrorKind) → TellsUnframed spec context why → why ≡ kind.Memory
   pub not_last : (at : ℕ) (lent : StoreTells) (session : Session) → LendsSession store lent at session → session.number ≡ last_number → ⊥
 
-module _ (known : KnownInsert) where
-  open known use {write, bytes, spelled, own, store, told, link, link_is, Ready, first_ready, bare_ready, unspelled, not_last}
+module _ {A : Type 0} (known : KnownCommand A) where
+  open known use {spec, batch, which, body, own, store, told, link, link_is, Ready, first_ready, bare_ready, takes_sessions, unrefused, unframed, not_last}
 
-  -- the insert as its attempts see it
-  abbrev pub trial : Trial (Unit {0})
-  trial = trial_of (insert_spec (in_collection write.written.namespace) bytes) (batch_of (write.place ∷ []) 1) first own
-
-  -- what it asks for
-  pub asked : AsksInsert write.written.namespace bytes 1 (write.place ∷ []) (insert_asked write)
-  asked = record { one = refl; document = write.written.document; place = write.place; spelled = spelled; alone = refl; is = refl }
+  -- the operation as its attempts see it
+  abbrev pub trial : Trial A
+  trial = trial_of spec batch which own
 
   -- what may go out under what was drawn
   pub record MayGo (server : Server) (description : Description) (turn : Retryability) (held : ExecutionSession) (number : Option ℤ) : Type 0 where
-    pub ready : Ready (insert_send (held_id held) number write) server
+    pub ready : Ready (send_of (under (held_id held) number) body) server
     pub numbers : description.supports_sessions ≡ true → turn ≡ may.Write → HasNumber held number
 
   -- what is so once a connection was had
@@ -92,9 +85,9 @@ module _ (known : KnownInsert) where
 
   -- a send under an id and a number that are equal to these may go out
   ready_of : (server : Server) (held : ExecutionSession) (number : Option ℤ) (id : Option (List ℕ)) (value : Option ℤ) → held_id held ≡ id → number ≡ value
-      → Ready (insert_send id value write) server → Ready (insert_send (held_id held) number write) server
+      → Ready (send_of (under id value) body) server → Ready (send_of (under (held_id held) number) body) server
   ready_of server held number id value id_is number_is ready =
-      subst (λ i. Ready (insert_send i number write) server) (sym id_is) (subst (λ n. Ready (insert_send id n write) server) (sym number_is) ready)
+      subst (λ i. Ready (send_of (under i number) body) server) (sym id_is) (subst (λ n. Ready (send_of (under id n) body) server) (sym number_is) ready)
 
   -- no session is held
   bare_readied : (description : Description) → description.supports_sessions ≡ false → IsReadied told.server description holds_nothing
@@ -179,7 +172,7 @@ module _ (known : KnownInsert) where
           (lent_readied holds.at lent holds.session holds.lends apart description supports)
 
   -- a further attempt had its connection
-  pub again_readied : (session : Session) (number : ℤ) (server : Server) (description : Description) → Ready (insert_send (Some session.id) (Some number) write) server
+  pub again_readied : (session : Session) (number : ℤ) (server : Server) (description : Description) → Ready (send_of (under (Some session.id) (Some number)) body) server
       → DrawsNumbers true own (setup_of link) → IsOf (setup_of link) description → IsReadied server description (held_again session number)
   again_readied session number server description ready draws is = record {
     allowed = λ refused. not_both (sym (draws_on true own (setup_of link) description draws is).0 ∙ refused);
@@ -208,13 +201,6 @@ module _ (known : KnownInsert) where
     readied = λ ready store_now description is holds apart. first_readied store_now ready description holds apart;
   }
 
-  -- there is a frame, unless memory runs out
-  frame_memory : (context : SendContext) (why : ErrorKind) → TellsUnframed trial.spec context why → why ≡ kind.Memory
-  frame_memory context (kind.BsonSerialization fault) tells =
-      absurd (unspelled context fault (body_refused write.written.namespace bytes context tells.statements tells.command fault tells.is tells.sixteen tells.refused))
-  frame_memory context kind.Memory tells = refl
-  frame_memory context _ tells = absurd tells
-
   -- an attempt
   module _ (moment : ServerRun) (mid : AttemptState) (prepared : IsPrepared moment mid) where
     -- a connection was had
@@ -229,7 +215,8 @@ module _ (known : KnownInsert) where
 
       -- what is held there may be used
       pub readied_at : DrawnApart ready.store → IsReadied moment.server conn.description ready.held
-      readied_at apart = prepared.readied ready.held ready.store conn.description is_conn readies.holds apart
+      readied_at apart = prepared.readied ready.held ready.store conn.description is_conn
+          (subst (λ b. HoldsSession (needs_session (asks_session b conn.description) mid.held) mid.store ready.store mid.held ready.held (Ok tt)) takes_sessions readies.holds) apart
 
     -- the operation ends at once only for want of memory
     pub refused_memory : (past : Option RetryState) (now : AttemptState) (error : Error) → DrawnApart now.store → EndsRefused trial past mid now error → kind_of error ≡ kind.Memory
@@ -238,6 +225,6 @@ module _ (known : KnownInsert) where
           | inl none ↦ absurd (here.allowed none.none)
           | inr other ↦ elim other [
             | inl none ↦ here.unnumbered (on_connection own refused.conn.description) now.held error none.draws
-            | inr none ↦ elim none.why [ inl early ↦ absurd early.1.refused | inr unspelled ↦ frame_memory _ (kind_of error) unspelled ]
+            | inr none ↦ elim none.why [ inl early ↦ absurd (unrefused refused.conn.description error early.1) | inr unspelled ↦ unframed _ (kind_of error) unspelled ]
           ]
         ]

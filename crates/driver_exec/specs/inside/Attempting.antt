@@ -26,16 +26,16 @@ use Rattle.driver_exec.specs.inside.Failures.{EndsLost, EndsRead}
 abbrev pub attempt_state : StoreTells → LinkState → ExecutionSession → ℕ → AttemptState
 attempt_state store link held count = record { store = store; link = besides_out link; held = held; count = count }
 
--- what comes of an exchange's result: its reply was read, or the exchange failed
-pub record ComesOfReply {A : Type 0} (spec : OperationSpec A) (turn : Retryability) (version : Option ℤ) (address : Address) (reply : List ℕ) (attempt : AttemptEnd A) : Type 0 where
+-- what comes of an exchange's result after a last send under a number: its reply was read, or the exchange failed
+pub record ComesOfReply {A : Type 0} (spec : OperationSpec A) (turn : Retryability) (version : Option ℤ) (address : Address) (number : Option ℤ) (reply : List ℕ) (attempt : AttemptEnd A) : Type 0 where
   pub answer : Result A Error
   pub reads : ReadsAnswer spec reply answer
-  pub ends : EndsRead turn version address answer attempt
+  pub ends : EndsRead turn version address number answer attempt
 
 -- what comes of an exchange, by its result
-abbrev pub Comes : {A : Type 0} → OperationSpec A → Retryability → Option ℤ → Address → Result (List ℕ) LinkError → AttemptEnd A → Type 0
-Comes spec turn version address (Ok reply) attempt = ComesOfReply spec turn version address reply attempt
-Comes spec turn version address (Err failure) attempt = EndsLost turn version address failure attempt
+abbrev pub Comes : {A : Type 0} → OperationSpec A → Retryability → Option ℤ → Address → Option ℤ → Result (List ℕ) LinkError → AttemptEnd A → Type 0
+Comes spec turn version address number (Ok reply) attempt = ComesOfReply spec turn version address number reply attempt
+Comes spec turn version address number (Err failure) attempt = EndsLost turn version address number failure attempt
 
 -- one exchange of a frame over a connection, and what came of it
 pub record ExchangesOnce {A : Type 0} (spec : OperationSpec A) (link link_now : LinkState) (turn : Retryability) (conn : Conn) (address : Address) (frame : Framed) (places : List Place)
@@ -43,7 +43,7 @@ pub record ExchangesOnce {A : Type 0} (spec : OperationSpec A) (link link_now : 
   pub result : Result (List ℕ) LinkError
   pub exchanges : ExchangesFrame link link_now conn frame places result
   pub held_is : held_now ≡ held_after result held
-  pub comes : Comes spec turn conn.description.max_wire_version address result attempt
+  pub comes : Comes spec turn conn.description.max_wire_version address (number_before held) result attempt
 
 -- one exchange of the command under what is held, and what came of it
 pub record Exchanging {A : Type 0} (spec : OperationSpec A) (which : SendKind) (batch : Batch) (link link_now : LinkState) (turn : Retryability) (conn : Conn) (address : Address)
@@ -51,7 +51,7 @@ pub record Exchanging {A : Type 0} (spec : OperationSpec A) (which : SendKind) (
   pub result : Result (List ℕ) LinkError
   pub exchanges : Exchanges spec which batch link link_now conn (under (held_id held) (number_before held)) result
   pub held_is : held_now ≡ held_after result held
-  pub comes : Comes spec turn conn.description.max_wire_version address result attempt
+  pub comes : Comes spec turn conn.description.max_wire_version address (number_before held) result attempt
 
 -- the end of an attempt whose build was refused, or met want of memory: a first build's ends the operation
 abbrev pub EndsUnbuilt : {A : Type 0} → Bool → Error → AttemptEnd A → Type 0

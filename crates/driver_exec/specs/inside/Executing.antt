@@ -1,10 +1,12 @@
 -- The parts of the loop over attempts, as its functions say them.
-use Rattle.std.specs.Prelude.{◌≡◌, true, Option, None, Some, is_some, Result, Ok, Err}
+use Rattle.std.specs.Prelude.{◌≡◌, Bool, true, false, List, [], ◌∷◌, Option, None, Some, is_some, Result, Ok, Err}
 use Rattle.driver_error.specs.declared.error.Error.{Error}
 use Rattle.driver_exec.specs.declared.attempt_end.AttemptEnd.{AttemptEnd}
 use Rattle.driver_exec.specs.declared.attempt_end.AttemptEnd.TheVariants.{Failed, Stopped, Unfit}
-use Rattle.driver_exec.specs.declared.attempt_end.AttemptFailure.{AttemptFailure}
-use Rattle.driver_exec.specs.Retry.{RetryState}
+use Rattle.driver_exec.specs.declared.failure.AttemptFailure.{AttemptFailure}
+use Rattle.driver_exec.specs.Attempting.{AttemptState, Trial, Tries}
+use Rattle.driver_exec.specs.Executing.{limit_reached}
+use Rattle.driver_exec.specs.Retry.{RetryState, decide}
 
 -- the error of the failure that is kept
 abbrev pub IsLastError : Option RetryState → Error → Type 0
@@ -27,3 +29,16 @@ MayAnswer kept (Failed failing) = ⊥
 MayAnswer kept Stopped = is_some kept ≡ true
 MayAnswer kept Unfit = is_some kept ≡ true
 MayAnswer kept end = Unit {0}
+
+-- one more failure, after which the decision keeps this
+pub record FailsOnce {A : Type 0} (trial : Trial A) (sharded : Bool) (kept : Option RetryState) (mid : AttemptState) (failing : AttemptFailure) (retry : RetryState) (now : AttemptState) : Type 0 where
+  pub goes_on : limit_reached kept ≡ false
+  pub tries : Tries trial kept mid now (Failed failing)
+  pub decides : decide kept failing trial.own sharded ≡ Ok retry
+
+-- the loop came to a moment by these failures, the newest first, and keeps this of them
+abbrev pub Reaches : {A : Type 0} → Trial A → Bool → AttemptState → List AttemptFailure → Option RetryState → AttemptState → Type 0
+Reaches trial sharded before [] kept now = (kept ≡ None) × (now ≡ before)
+Reaches trial sharded before (failing ∷ failures) kept now =
+    (retry : RetryState) × ((kept ≡ Some retry)
+    × ((mid : AttemptState) × ((earlier : Option RetryState) × (Reaches trial sharded before failures earlier mid × FailsOnce trial sharded earlier mid failing retry now))))

@@ -10,7 +10,7 @@ use Rattle.driver_session.specs.declared.retryability.Retryability.{Retryability
 use Rattle.driver_session.specs.declared.retryability.Retryability.TheVariants as may
 use Rattle.driver_exec.specs.declared.attempt_end.AttemptEnd.{AttemptEnd}
 use Rattle.driver_exec.specs.declared.attempt_end.AttemptEnd.TheVariants.{Done, Ended, Failed, Unselected}
-use Rattle.driver_exec.specs.declared.attempt_end.AttemptFailure.{AttemptFailure}
+use Rattle.driver_exec.specs.declared.failure.AttemptFailure.{AttemptFailure}
 use Rattle.driver_exec.specs.declared.failure.FailurePhase.{FailurePhase}
 use Rattle.driver_exec.specs.declared.failure.FailurePhase.TheVariants.{ConnectionEstablishment, Execution}
 use Rattle.driver_exec.specs.Failures.{IsLabelled, IsFaultOf, IsVersioned, IsLabelledRead}
@@ -26,11 +26,12 @@ FaultError (Fault fault own) retryability (Ok error) = IsFaultOf fault own retry
 FaultError Memory retryability (Ok error) = ⊥
 FaultError failure retryability (Err error) = kind_of error ≡ kind.Memory
 
--- a failure in a phase, at the server of an address, whose error has a property
-pub record IsFailing (phase : FailurePhase) (address : Address) (P : Error → Type 0) (failing : AttemptFailure) : Type 0 where
-  pub phase_is : failing.failure.phase ≡ phase
+-- a failure in a phase, at the server of an address, after a last send under a number, whose error has a property
+pub record IsFailing (phase : FailurePhase) (address : Address) (number : Option ℤ) (P : Error → Type 0) (failing : AttemptFailure) : Type 0 where
+  pub phase_is : failing.phase ≡ phase
   pub address_is : failing.address ≡ address
-  pub error : P failing.failure.error
+  pub number_is : failing.number ≡ number
+  pub error : P failing.error
 
 -- the end of an attempt that selected no server
 abbrev pub EndsUnselected : {A : Type 0} → LinkError → AttemptEnd A → Type 0
@@ -39,20 +40,20 @@ EndsUnselected failure (Ended error) = kind_of error ≡ kind.Memory
 EndsUnselected failure attempt = ⊥
 
 -- the end of an attempt that had no connection to its server
-abbrev pub EndsUnconnected : {A : Type 0} → Retryability → Address → LinkError → AttemptEnd A → Type 0
-EndsUnconnected own address (Fault fault labels) (Failed failing) = IsFailing ConnectionEstablishment address (IsFaultOf fault labels own) failing
-EndsUnconnected own address failure (Ended error) = kind_of error ≡ kind.Memory
-EndsUnconnected own address failure attempt = ⊥
+abbrev pub EndsUnconnected : {A : Type 0} → Retryability → Address → Option ℤ → LinkError → AttemptEnd A → Type 0
+EndsUnconnected own address number (Fault fault labels) (Failed failing) = IsFailing ConnectionEstablishment address number (IsFaultOf fault labels own) failing
+EndsUnconnected own address number failure (Ended error) = kind_of error ≡ kind.Memory
+EndsUnconnected own address number failure attempt = ⊥
 
 -- the end of an attempt whose exchange failed, on a connection of a wire version
-abbrev pub EndsLost : {A : Type 0} → Retryability → Option ℤ → Address → LinkError → AttemptEnd A → Type 0
-EndsLost turn version address (Fault fault own) (Failed failing) = IsFailing Execution address (IsVersioned (IsFaultOf fault own turn) version) failing
-EndsLost turn version address failure (Ended error) = kind_of error ≡ kind.Memory
-EndsLost turn version address failure attempt = ⊥
+abbrev pub EndsLost : {A : Type 0} → Retryability → Option ℤ → Address → Option ℤ → LinkError → AttemptEnd A → Type 0
+EndsLost turn version address number (Fault fault own) (Failed failing) = IsFailing Execution address number (IsVersioned (IsFaultOf fault own turn) version) failing
+EndsLost turn version address number failure (Ended error) = kind_of error ≡ kind.Memory
+EndsLost turn version address number failure attempt = ⊥
 
 -- the end of an attempt whose reply was read
-abbrev pub EndsRead : {A : Type 0} → Retryability → Option ℤ → Address → Result A Error → AttemptEnd A → Type 0
-EndsRead turn version address (Ok output) attempt = attempt ≡ Done output
-EndsRead turn version address (Err read) (Failed failing) = IsFailing Execution address (IsVersioned (IsLabelledRead turn read) version) failing
-EndsRead turn version address (Err read) (Ended error) = kind_of error ≡ kind.Memory
-EndsRead turn version address (Err read) attempt = ⊥
+abbrev pub EndsRead : {A : Type 0} → Retryability → Option ℤ → Address → Option ℤ → Result A Error → AttemptEnd A → Type 0
+EndsRead turn version address number (Ok output) attempt = attempt ≡ Done output
+EndsRead turn version address number (Err read) (Failed failing) = IsFailing Execution address number (IsVersioned (IsLabelledRead turn read) version) failing
+EndsRead turn version address number (Err read) (Ended error) = kind_of error ≡ kind.Memory
+EndsRead turn version address number (Err read) attempt = ⊥

@@ -1,12 +1,10 @@
 -- The operation's attempts, and the session that came back, tell what it left and the cause of its end.
 use Rattle.std.proofs.Common.{refl, ap, ◌∙◌}
 use Rattle.driver_ops.specs.Operations.{batch_of}
-use Rattle.driver_exec.specs.Causes.{end_of}
 use Rattle.driver_exec.specs.Client.{store_of}
 use Rattle.driver_exec.proofs.Commanding.{fixed_some}
-use Rattle.driver_exec.proofs.KeepingCalls.{works_keeps, wrote_ends}
+use Rattle.driver_exec.proofs.Keeping.Standing.{one_command_entries, one_command_keeps}
 use Rattle.driver_exec.proofs.OperationCausing.{executes_caused}
-use Rattle.driver_exec.proofs.Wrote.{works_wrote}
 use Rattle.driver_exec.proofs.Resending.{executes_draws, executes_lends, executes_works}
 use Rattle.driver_exec.proofs.execute.execute_operation.Goals as goal
 use Rattle.driver_exec.specs.inside.Attempting.{attempt_state}
@@ -49,11 +47,10 @@ returns-clause-drawn g c =
     c.execute_operation_with_retry-held.result.1 (returns-clause-executes g c some.0 some.1)
 
 pub returns-clause-keeps : goal.returns-clause-keeps
-returns-clause-keeps g c = λ statements fixed write asked.
-    works_keeps (g.O.Operation.spec c.args.op.now) (batch_of c.args.places.now statements) _ _ c.execute_operation_with_retry-held.result.1 (returns-clause-one_command g c statements fixed) write asked
+returns-clause-keeps g c = λ statements fixed body asked.
+    one_command_keeps (g.O.Operation.spec c.args.op.now) (batch_of c.args.places.now statements) _ _ body asked c.execute_operation_with_retry-held.result.1 (returns-clause-one_command g c statements fixed)
 
-pub returns-clause-stands : goal.returns-clause-stands
-returns-clause-stands g c = λ statements fixed write asked done.
-    wrote_ends _ _ write (end_of c.execute_operation_with_retry-held.result.1)
-    (works_wrote (g.O.Operation.spec c.args.op.now) (batch_of c.args.places.now statements) write asked done _ _ c.execute_operation_with_retry-held.result.1
-    (returns-clause-one_command g c statements fixed))
+pub returns-clause-entries : goal.returns-clause-entries
+returns-clause-entries g c = λ statements fixed body asked.
+    one_command_entries (g.O.Operation.spec c.args.op.now) (batch_of c.args.places.now statements) _ _ body asked (g.met.O.Operation.law c.args.op.now) c.execute_operation_with_retry-held.result.1
+    (returns-clause-one_command g c statements fixed)

@@ -5,9 +5,9 @@ use Rattle.driver_exec.specs.declared.attempt_end.AttemptEnd.TheVariants.{Failed
 use Rattle.driver_ops.specs.Operations.{batch_of}
 use Rattle.driver_exec.specs.Attempting.{trial_of}
 use Rattle.driver_exec.specs.Client.{options_of, store_of}
-use Rattle.driver_exec.specs.Holding.{holds_nothing, number_before}
+use Rattle.driver_exec.specs.Holding.{holds_nothing}
 use Rattle.driver_exec.specs.Retry.{Decides, decide}
-use Rattle.driver_exec.proofs.Commanding.{bodies_same, fixed_some, fixes_twice}
+use Rattle.driver_exec.proofs.Commanding.{bodies_same, counted_twice, fixed_some, fixes_twice}
 use Rattle.driver_exec.proofs.Executing.{decided_fewer, ends_at_limit, ends_last, ends_refused, failed_is, goes_further, may_answer, one_send_more, same_twice, tried}
 use Rattle.driver_exec.proofs.execute.execute_operation_with_retry.Goals as goal
 use Rattle.driver_exec.specs.inside.Attempting.{attempt_state}
@@ -23,7 +23,7 @@ returns-then-limit_reached-clause-attempts g c = λ statements fixed.
 
 pub attempts-smaller : goal.attempts-smaller
 attempts-smaller g c =
-    (decided_fewer c.in-Ok.failing.failure c.number.result c.in-Ok.failing.address c.retryability-own.result c.args.sharded c.attempts.kept c.in-Ok-decide.retry c.attempts.invariant.once
+    (decided_fewer c.in-Ok.failing c.retryability-own.result c.args.sharded c.attempts.kept c.in-Ok-decide.retry c.attempts.invariant.once
     (sym c.limit_reached.ensures ∙ c.if-limit_reached.false) c.in-Ok-decide.ensures).fewer
 
 pub attempts-preserved : goal.attempts-preserved
@@ -35,10 +35,8 @@ attempts-preserved g c =
     let now = (attempt_state (g.S.SessionStore.tells (store_of c.try_once-next.new.client)) (g.L.Link.tells c.try_once-next.new.outside.link) c.try_once-next.result.0 c.try_once-next.new.sends) in
     let goes_on = sym c.limit_reached.ensures ∙ c.if-limit_reached.false in
     let owned = c.attempts.invariant.spec.retryability (options_of c.attempts.client) ∙ ap (λ options. spec.retryability options) c.attempts.invariant.options in
-    let decided = subst (λ o. Decides (decide c.attempts.kept c.in-Ok.failing.failure (number_before c.try_once-next.result.0) c.in-Ok.failing.address o c.args.sharded) (Ok c.in-Ok-decide.retry)) c.attempts.invariant.own
-    (subst (λ n. Decides (decide c.attempts.kept c.in-Ok.failing.failure n c.in-Ok.failing.address c.retryability-own.result c.args.sharded) (Ok c.in-Ok-decide.retry)) c.number.ensures c.in-Ok-decide.ensures) in
-    let fewer = decided_fewer c.in-Ok.failing.failure c.number.result c.in-Ok.failing.address c.retryability-own.result c.args.sharded c.attempts.kept c.in-Ok-decide.retry c.attempts.invariant.once
-    goes_on c.in-Ok-decide.ensures in
+    let decided = subst (λ o. Decides (decide c.attempts.kept c.in-Ok.failing o c.args.sharded) (Ok c.in-Ok-decide.retry)) c.attempts.invariant.own c.in-Ok-decide.ensures in
+    let fewer = decided_fewer c.in-Ok.failing c.retryability-own.result c.args.sharded c.attempts.kept c.in-Ok-decide.retry c.attempts.invariant.once goes_on c.in-Ok-decide.ensures in
     record {
       far = λ statements fixed.
           let batch = batch_of c.args.places.now statements in
@@ -56,6 +54,7 @@ attempts-preserved g c =
       out = c.try_once-next.ensures.out ∙ c.attempts.invariant.out;
       call = c.try_once-next.ensures.call ∙ c.attempts.invariant.call;
       once = fewer.once;
+      counted = counted_twice c.args.sends.now c.attempts.sends c.try_once-next.new.sends (g.O.Operation.built c.attempts.op) (g.O.Operation.built c.try_once-next.new.op) c.attempts.invariant.counted c.try_once-next.ensures.counted c.try_once-next.ensures.fixed;
       few = omega (arith, fewer.fewer, c.attempts.invariant.few, c.try_once-next.ensures.sends);
     }
 
@@ -71,8 +70,7 @@ returns-in-Err-decide-clause-attempts g c = λ statements fixed.
     let owned = c.attempts.invariant.spec.retryability (options_of c.attempts.client) ∙ ap (λ options. spec.retryability options) c.attempts.invariant.options in
     let tries = tried spec (g.O.Operation.spec c.attempts.op) c.attempts.invariant.spec (batch_of c.args.places.now statements) (g.O.Operation.next c.args.op.now) _ _ own _ c.attempts.kept mid now c.try_once-next.result.1 (Failed c.in-Ok.failing)
     c.attempts.invariant.next owned c.as_ref.ensures.value (failed_is c.try_once-next.result.1 c.in-Ok.failing c.in-Ok.ensures) (c.try_once-next.ensures.tries statements fixed) in
-    let decided = subst (λ o. Decides (decide c.attempts.kept c.in-Ok.failing.failure (number_before c.try_once-next.result.0) c.in-Ok.failing.address o c.args.sharded) (Err c.in-Err-decide.error)) c.attempts.invariant.own
-    (subst (λ n. Decides (decide c.attempts.kept c.in-Ok.failing.failure n c.in-Ok.failing.address c.retryability-own.result c.args.sharded) (Err c.in-Err-decide.error)) c.number.ensures c.in-Err-decide.ensures) in
+    let decided = subst (λ o. Decides (decide c.attempts.kept c.in-Ok.failing o c.args.sharded) (Err c.in-Err-decide.error)) c.attempts.invariant.own c.in-Err-decide.ensures in
     ends_refused trial c.args.sharded began c.attempts.kept mid (c.attempts.invariant.far statements (c.try_once-next.ensures.fixed statements fixed)) now goes_on c.in-Ok.failing c.in-Err-decide.error tries decided
 
 -- an attempt that did not fail may be answered
@@ -127,3 +125,11 @@ returns-in-Err-decide-clause-spec g c =
 
 pub returns-in-Err-decide-clause-fixed : goal.returns-in-Err-decide-clause-fixed
 returns-in-Err-decide-clause-fixed g c = fixes_twice _ (g.O.Operation.built c.attempts.op) _ c.attempts.invariant.fixed c.try_once-next.ensures.fixed
+
+pub returns-in-Err-clause-counted : goal.returns-in-Err-clause-counted
+returns-in-Err-clause-counted g c =
+    counted_twice c.args.sends.now c.attempts.sends c.try_once-next.new.sends (g.O.Operation.built c.attempts.op) (g.O.Operation.built c.try_once-next.new.op) c.attempts.invariant.counted c.try_once-next.ensures.counted c.try_once-next.ensures.fixed
+
+pub returns-in-Err-decide-clause-counted : goal.returns-in-Err-decide-clause-counted
+returns-in-Err-decide-clause-counted g c =
+    counted_twice c.args.sends.now c.attempts.sends c.try_once-next.new.sends (g.O.Operation.built c.attempts.op) (g.O.Operation.built c.try_once-next.new.op) c.attempts.invariant.counted c.try_once-next.ensures.counted c.try_once-next.ensures.fixed

@@ -1,5 +1,6 @@
 -- The failures so far, and what is kept of them.
 use Rattle.std.proofs.Common.{◌≡◌, ℕ, ◌+◌, ◌≤◌}
+use Rattle.std.specs.Prelude.{◌⊎◌, IsSome}
 use Rattle.driver_ops.specs.Operations.{HasBodies, IsFixed, SameSpec, StaysFixed, batch_of}
 use Rattle.driver_exec.specs.Attempting.{trial_of}
 use Rattle.driver_exec.specs.Client.{options_of, store_of}
@@ -24,6 +25,7 @@ invariant-attempts g l = record {
   out : (g.L.Link.tells l.outside.link).out ≡ (g.L.Link.tells l.fn.outside.link).out;
   call : l.outside.call ≡ l.fn.outside.call;
   once : AtMostOne l.kept;
+  counted : (l.sends ≡ l.fn.sends) ⊎ IsSome (g.O.Operation.built l.op);
   few : l.sends + attempts_left l.kept ≤ l.fn.sends + 2;
 }
 

@@ -1,6 +1,7 @@
 -- The exchange answered, and its reply was read; or it failed.
-use Rattle.std.proofs.Common.{refl}
+use Rattle.std.proofs.Common.{refl, subst}
 use Rattle.std.specs.Prelude.{Ok, Err}
+use Rattle.driver_exec.specs.inside.Failures.{EndsLost, EndsRead}
 use Rattle.driver_exec.proofs.Trying.{exchanges_besides}
 use Rattle.driver_exec.proofs.sending.exchange.Goals as goal
 
@@ -12,7 +13,7 @@ returns-in-Ok-clause-exchanges g c = record {
   comes = record {
     answer = c.read_answer-answer.result;
     reads = rw c.as_slice.ensures at c.read_answer-answer.ensures.reads;
-    ends = c.read.ensures;
+    ends = subst (λ n. EndsRead c.args.turn.now.turn c.args.turn.now.conn.now.description.max_wire_version c.args.address n c.read_answer-answer.result c.read.result) c.number-number.ensures c.read.ensures;
   };
 }
 
@@ -21,5 +22,5 @@ returns-in-Err-clause-exchanges g c = record {
   result = Err c.in-Err.failure;
   exchanges = exchanges_besides (g.L.Link.tells c.args.link.now) _ c.args.turn.now.conn.now c.args.frame.now c.args.places.now (Err c.in-Err.failure) c.in-Err.ensures;
   held_is = c.after.ensures;
-  comes = c.lost.ensures;
+  comes = subst (λ n. EndsLost c.args.turn.now.turn c.args.turn.now.conn.now.description.max_wire_version c.args.address n c.in-Err.failure c.lost.result) c.number-number.ensures c.lost.ensures;
 }

@@ -1,12 +1,12 @@
 -- The command is built for the connection, its frame goes out with the front of the places, and what comes of it.
-use Rattle.std.proofs.Common.{refl, subst}
-use Rattle.std.specs.Prelude.{Ok, Err}
+use Rattle.std.proofs.Common.{inr, refl, subst, sym}
+use Rattle.std.specs.Prelude.{IsSome, Ok, Err}
 use Rattle.driver_ops.specs.Fields.{FramesUnder, under}
 use Rattle.driver_ops.specs.Operations.{IsFixed}
 use Rattle.driver_exec.specs.Attempting.{besides_out}
 use Rattle.driver_exec.specs.Holding.{DrawsNumber, held_id}
 use Rattle.driver_exec.specs.inside.Attempting.{ExchangesOnce}
-use Rattle.driver_exec.proofs.Commanding.{build_fixes, ends_unbuilt, ends_unframed, fixes_twice, reads_some, same_fixes, sends_out}
+use Rattle.driver_exec.proofs.Commanding.{build_fixes, build_some, ends_unbuilt, ends_unframed, fixes_twice, reads_some, same_fixes, sends_out}
 use Rattle.driver_exec.proofs.sending.send.Goals as goal
 
 pub exchange-requires : goal.exchange-requires
@@ -58,3 +58,7 @@ returns-in-Err-build-clause-fixed g c = same_fixes c.in-Err-build.ensures.builds
 
 pub returns-in-Err-clause-fixed : goal.returns-in-Err-clause-fixed
 returns-in-Err-clause-fixed g c = λ statements fixed. fixed
+
+-- the command was built, and so its number of statements is fixed
+pub returns-clause-counted : goal.returns-clause-counted
+returns-clause-counted g c = inr (subst (λ o. IsSome o) (sym c.exchange.ensures.built) (build_some c.in-Ok-build.ensures.builds))

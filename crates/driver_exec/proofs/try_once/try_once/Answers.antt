@@ -9,6 +9,7 @@ use Rattle.driver_exec.specs.Client.{options_of, store_of}
 use Rattle.driver_exec.proofs.Trying.{asks_avoided, checks_besides, handed_besides, out_again, unconnected_tries, unselected_tries}
 use Rattle.driver_exec.proofs.try_once.try_once.Goals as goal
 use Rattle.driver_exec.specs.inside.Attempting.{attempt_state}
+use Rattle.driver_exec.specs.inside.Failures.{EndsUnconnected}
 
 pub returns-in-Err-clause-tries : goal.returns-in-Err-clause-tries
 returns-in-Err-clause-tries g c = λ statements fixed.
@@ -29,7 +30,8 @@ returns-in-Err-check_out-clause-tries g c = λ statements fixed.
     let tries = unconnected_tries spec batch which c.retryability-own.result (option_copied c.args.kept) store link (besides_out mid) checked
     c.args.held c.args.sends.now c.in-Ok.address c.in-Err-check_out.failure c.unconnected.result
     (asks_avoided _ (avoided (option_copied c.args.kept)) link mid (Ok c.in-Ok.address) c.avoided.ensures c.in-Ok.ensures)
-    (checks_besides mid checked c.in-Ok.address (Err c.in-Err-check_out.failure) c.in-Err-check_out.ensures) c.unconnected.ensures in
+    (checks_besides mid checked c.in-Ok.address (Err c.in-Err-check_out.failure) c.in-Err-check_out.ensures)
+    (subst (λ n. EndsUnconnected c.retryability-own.result c.in-Ok.address n c.in-Err-check_out.failure c.unconnected.result) c.number-number.ensures c.unconnected.ensures) in
     subst (λ own. Tries (trial_of spec batch which own) (option_copied c.args.kept) (attempt_state store link c.args.held c.args.sends.now)
     (attempt_state store checked c.args.held c.args.sends.now) c.unconnected.result)
     (c.retryability-own.ensures ∙ ap (λ options. spec.retryability options) c.options.ensures) tries

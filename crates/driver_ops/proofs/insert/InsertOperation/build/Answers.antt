@@ -9,7 +9,7 @@ pub returns-clause-builds : goal.returns-clause-builds
 returns-clause-builds c =
     record {
       statements = 1;
-      built = built_insert c.args.self.now.target c.args.self.now.document _ (record {
+      built = built_insert c.args.self.now.target c.args.self.now.document c.args.self.now.id _ (record {
         one = refl;
         database = c.in_ok-from_str.ensures ∙ c.database.ensures;
         body = c.in_ok-insert_command.ensures;

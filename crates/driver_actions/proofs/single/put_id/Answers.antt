@@ -1,6 +1,0 @@
--- The id that was found is the document's own.
-use Rattle.driver_actions.proofs.Parts.{has_own_id}
-use Rattle.driver_actions.proofs.single.put_id.Goals as goal
-
-pub returns-in-Some-clause-id : goal.returns-in-Some-clause-id
-returns-in-Some-clause-id g c = has_own_id c.args.document.now c.in-Some.id.now c.in_ok-try_clone.field-0 c.in-Some.ensures c.in_ok-try_clone.ensures.same

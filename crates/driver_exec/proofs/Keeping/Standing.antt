@@ -1,0 +1,92 @@
+-- What an operation does to what stands between operations, read off what it leaves; and the entries of one that was done.
+use Rattle.std.proofs.Common.{◌≡◌, ℕ, List, refl, sym, ap, subst, inl, inr}
+use Rattle.std.specs.Prelude.{ℤ, Option, None, Some, Result, Ok, Err}
+use Rattle.bson_lite.specs.declared.bson.Bson.{Bson}
+use Rattle.bson_lite.specs.declared.document.Pair.{Pair}
+use Rattle.driver_error.specs.declared.error.Error.{Error}
+use Rattle.driver_link.specs.declared.machine.SendBody.{SendBody}
+use Rattle.driver_link.specs.Exchange.{next_step}
+use Rattle.driver_link.specs.LinkState.{server_run}
+use Rattle.driver_link.specs.Settled.{Has, IsWrite}
+use Rattle.driver_link.specs.ServerRun.{IsReply, ServerRun, run_answer}
+use Rattle.driver_session.specs.Pool.{Pool}
+use Rattle.driver_ops.specs.Fields.{under}
+use Rattle.driver_ops.specs.OperationLaw.{IsLawful}
+use Rattle.driver_ops.specs.Operations.{AsksFor, Batch, OperationSpec, ReadsOutput, send_of}
+use Rattle.driver_ops.proofs.Entries.{entries_are, entries_stand}
+use Rattle.driver_exec.specs.Keeping.{AreWritten, HasEntries, KeepsInvariant, KeepsTold, OkHasEntries}
+use Rattle.driver_exec.specs.Moment.{Moment}
+use Rattle.driver_exec.specs.Resending.{AnsweredLast, LastAnswer, SendsOneCommand}
+use Rattle.driver_exec.proofs.Keeping.Leaving.{MayGo, left_of, may_go}
+
+module _ {A : Type 0} (spec : OperationSpec A) (batch : Batch) (before now : Moment) (body : SendBody) (asked : AsksFor spec batch body) where
+  -- an operation keeps what stands
+  pub one_command_keeps : (result : Result A Error) → SendsOneCommand spec batch before now result → KeepsInvariant before now body
+  one_command_keeps result sends = of_told before.store.pool now.store.pool (server_run before.link) (server_run now.link) refl refl refl refl
+    where
+      of_told : (pool pool_now : Option Pool) (run run_now : Option ServerRun) → before.store.pool ≡ pool → now.store.pool ≡ pool_now → server_run before.link ≡ run
+          → server_run now.link ≡ run_now → KeepsTold pool pool_now run run_now body
+      of_told (Some pool) (Some pool_now) (Some run) (Some run_now) is now_is run_is run_now_is = λ stands.
+          let sent = sends.sends body asked in
+          let left = left_of before now pool pool_now run run_now is now_is run_is run_now_is body stands sends.session sends.number sent.count sends.borrows sent.once sent.sends in
+          record {
+            between = left.between;
+            sound = left.sound;
+            which = λ send has. elim (left.which send has) [ inl earlier ↦ inl earlier | inr same ↦ inr (ap (λ s. s.body) (sym same)) ];
+          }
+      of_told None pool_now run run_now is now_is run_is run_now_is = tt
+      of_told (Some pool) None run run_now is now_is run_is run_now_is = tt
+      of_told (Some pool) (Some pool_now) None run_now is now_is run_is run_now_is = tt
+      of_told (Some pool) (Some pool_now) (Some run) None is now_is run_is run_now_is = tt
+
+  module _ (lawful : IsLawful spec) where
+    -- the output that is read in the last reply is told by entries that stand
+    last_entries : IsWrite body → (session : Option (List ℕ)) (number : Option ℤ) (run run_now : ServerRun) (earlier : ℕ) (bytes : List ℕ) (output : A)
+        → (last : LastAnswer run run_now (send_of (under session number) body) earlier bytes) → MayGo (send_of (under session number) body) last.mid.server
+        → ReadsOutput spec bytes output → HasEntries spec body run_now.server.log output
+    last_entries writes session number run run_now earlier bytes output last may reads = of_answer (run_answer last.mid (send_of (under session number) body)) refl last.reply
+      where
+        of_answer : (answer : Option (List (Pair Bson))) → run_answer last.mid (send_of (under session number) body) ≡ answer → IsReply answer bytes
+            → HasEntries spec body run_now.server.log output
+        of_answer None is given = absurd given
+        of_answer (Some reply) is given =
+            let send = send_of (under session number) body in
+            let step = next_step last.mid.schedule last.mid.server in
+            let tells = lawful.reads_own batch.statements batch.places body asked writes (under session number) last.mid.server step reply is bytes given output reads in
+            record {
+              session = session;
+              number = number;
+              entries = tells.entries;
+              are = entries_are last.mid.server send step tells.entries tells.stand;
+              stand = λ entry has. subst (λ s. Has s.log entry) (sym last.rest.server)
+                  (entries_stand last.mid.server.trace last.mid.server send step tells.entries may.either may.joins may.settled tells.stand entry has);
+              told = tells.told;
+            }
+
+    -- so it is of each told pool and server
+    ok_entries : (output : A) → SendsOneCommand spec batch before now (Ok output) → OkHasEntries spec body before now (Ok output)
+    ok_entries output sends = of_told before.store.pool now.store.pool (server_run before.link) (server_run now.link) refl refl refl refl
+      where
+        answered_told : (link link_now : Option ServerRun) (run run_now : ServerRun) → link ≡ Some run → link_now ≡ Some run_now
+            → AnsweredLast link link_now (send_of (under sends.session sends.number) body) sends.ends.earlier sends.ends.bytes
+            → LastAnswer run run_now (send_of (under sends.session sends.number) body) sends.ends.earlier sends.ends.bytes
+        answered_told link link_now run run_now is now_is answered =
+            subst (λ n. AnsweredLast (Some run) n (send_of (under sends.session sends.number) body) sends.ends.earlier sends.ends.bytes) now_is
+            (subst (λ o. AnsweredLast o link_now (send_of (under sends.session sends.number) body) sends.ends.earlier sends.ends.bytes) is answered)
+
+        of_told : (pool pool_now : Option Pool) (run run_now : Option ServerRun) → before.store.pool ≡ pool → now.store.pool ≡ pool_now → server_run before.link ≡ run
+            → server_run now.link ≡ run_now → AreWritten spec body output pool pool_now run run_now
+        of_told (Some pool) (Some pool_now) (Some run) (Some run_now) is now_is run_is run_now_is = λ stands.
+            let last = answered_told (server_run before.link) (server_run now.link) run run_now run_is run_now_is (sends.ends.answered body asked) in
+            last_entries stands.may_send.writes sends.session sends.number run run_now sends.ends.earlier sends.ends.bytes output last
+            (may_go before now pool pool_now run run_now is now_is run_is run_now_is body stands sends.session sends.number sends.ends.earlier last.mid sends.borrows sends.ends.once last.sent)
+            sends.ends.reads
+        of_told None pool_now run run_now is now_is run_is run_now_is = tt
+        of_told (Some pool) None run run_now is now_is run_is run_now_is = tt
+        of_told (Some pool) (Some pool_now) None run_now is now_is run_is run_now_is = tt
+        of_told (Some pool) (Some pool_now) (Some run) None is now_is run_is run_now_is = tt
+
+    -- and of each end
+    pub one_command_entries : (result : Result A Error) → SendsOneCommand spec batch before now result → OkHasEntries spec body before now result
+    one_command_entries (Ok output) sends = ok_entries output sends
+    one_command_entries (Err error) sends = tt
