@@ -2,9 +2,13 @@
 use Rattle.std.proofs.Common.{◌≡◌, List, refl, ap, subst, inl, inr}
 use Rattle.std.specs.Prelude.{None, Some, Result, Ok, Err}
 use Rattle.bson_lite.specs.declared.bson.Bson.{Bson}
+use Rattle.bson_lite.specs.declared.bson.ObjectId.{ObjectId}
 use Rattle.bson_lite.specs.declared.document.Pair.{Pair}
 use Rattle.bson_lite.specs.declared.namespace.Namespace.{Namespace}
+use Rattle.bson_lite.specs.Fields.{id_key, value_of, with_id}
+use Rattle.bson_lite.specs.Spelling.{Spells}
 use Rattle.driver_error.specs.declared.error.Error.{Error}
+use Rattle.driver_error.specs.declared.kind.ErrorKind.TheVariants as kind
 use Rattle.driver_error.specs.declared.results.InsertManyResult.{InsertManyResult}
 use Rattle.driver_error.specs.Error.{kind_of}
 use Rattle.driver_link.specs.declared.machine.PlacedWrite.{PlacedWrite}
@@ -22,16 +26,25 @@ use Rattle.driver_actions.specs.declared.call.Call.TheVariants.{Single}
 use Rattle.driver_actions.specs.declared.call.SingleAnswer.{SingleAnswer}
 use Rattle.driver_actions.specs.declared.call.SingleWrite.{SingleWrite}
 use Rattle.driver_actions.specs.declared.call.SingleWrite.TheVariants.{InsertOne}
-use Rattle.driver_actions.specs.Causes.{BecomesEnd, HasCause, OperationCaused, WriteCaused}
+use Rattle.driver_actions.specs.Causes.{BecomesEnd, HasCause, InsertCaused, OperationCaused, WriteCaused}
 use Rattle.driver_actions.specs.Inputs.{IsAccepted, TellsInput}
+use Rattle.driver_actions.specs.OwnIds.{DrawsOwn}
 use Rattle.driver_actions.proofs.Refusals.{input_first, refuses_nothing}
 
 -- input that was refused before anything was asked
-pub caused_input : {A : Type 0} (before now : Moment) → now.link ≡ before.link → (namespace : Namespace) (document : List (Pair Bson)) (error : Error)
-    → TellsInput namespace document (kind_of error) → WriteCaused {A = A} before now (InsertOne namespace document) (Err error)
-caused_input before now unasked namespace document error tells = record {
-  caused = inl (record { unasked = unasked; error = error; is = refl; why = tells });
-  refused = input_first before now unasked namespace document (outline_of error) tells;
+pub caused_input : {A : Type 0} (before : Moment) (namespace : Namespace) (document : List (Pair Bson)) (error : Error)
+    → TellsInput namespace document error → WriteCaused {A = A} before before (InsertOne namespace document) (Err error)
+caused_input before namespace document error tells = record {
+  caused = inl (record { unasked = refl; error = error; is = refl; why = tells });
+  refused = input_first before namespace document error tells;
+}
+
+-- input that is accepted, where memory ran out before anything was asked
+pub caused_memory : {A : Type 0} (before now : Moment) → now.link ≡ before.link → (namespace : Namespace) (document : List (Pair Bson)) (error : Error) → IsAccepted namespace document
+    → kind_of error ≡ kind.Memory → WriteCaused {A = A} before now (InsertOne namespace document) (Err error)
+caused_memory before now unasked namespace document error accepted memory = record {
+  caused = inl (record { unasked = unasked; error = error; is = refl; why = inl memory });
+  refused = refuses_nothing before now namespace document (Some (outline_of error)) accepted;
 }
 
 -- an operation's end in the form of its call's
@@ -44,48 +57,59 @@ becomes_err A (Ok output) error becomes = absurd (let e : ◌≡◌ {A = Result 
 becomes_err A (Err before) error becomes = becomes
 
 -- the end of an insert, after an id was drawn for its document
-module _ (before now : Moment) (namespace : Namespace) (document : List (Pair Bson)) (write : PlacedWrite) (same : write.written.namespace ≡ namespace)
-    (accepted : IsAccepted namespace document) where
-  -- its cause over the caller's namespace
-  renamed : (ended : Result InsertManyResult Error) (inserts : Inserts before now write ended)
-      → Caused (insert_spec (in_collection namespace) inserts.bytes inserts.id) inserts.mid now (end_of inserts.executed)
-  renamed ended inserts = subst (λ n. Caused (insert_spec (in_collection n) inserts.bytes inserts.id) inserts.mid now (end_of inserts.executed)) same inserts.caused
+module _ (before mid now : Moment) (namespace : Namespace) (document : List (Pair Bson)) (own : ObjectId) (draws : DrawsOwn before mid document own) (write : PlacedWrite)
+    (same : write.written.namespace ≡ namespace) (is : write.written.document ≡ with_id own document) (accepted : IsAccepted namespace document) where
+  -- its cause over the caller's namespace and document
+  insert_caused : (A : Type 0) (result : Result A Error) (ended : Result InsertManyResult Error) (inserts : Inserts mid now write ended) → BecomesEnd inserts.executed result
+      → InsertCaused before now namespace document result
+  insert_caused A result ended inserts becomes = record {
+    own = own;
+    mid = mid;
+    draws = draws;
+    bytes = inserts.bytes;
+    spelled = subst (λ d. Spells d inserts.bytes) is inserts.spelled;
+    id = inserts.id;
+    found = subst (λ d. value_of id_key d ≡ Some inserts.id) is inserts.found;
+    executed = inserts.executed;
+    caused = subst (λ n. Caused (insert_spec (in_collection n) inserts.bytes inserts.id) mid now (end_of inserts.executed)) same inserts.caused;
+    becomes = becomes;
+  }
 
   -- an insert that was done
-  pub caused_ok : (A : Type 0) (done : InsertManyResult) (answer : A) → Inserts before now write (Ok done) → WriteCaused {A = A} before now (InsertOne namespace document) (Ok answer)
+  pub caused_ok : (A : Type 0) (done : InsertManyResult) (answer : A) → Inserts mid now write (Ok done) → WriteCaused {A = A} before now (InsertOne namespace document) (Ok answer)
   caused_ok A done answer inserts = record {
-    caused = inr (record {
-      bytes = inserts.bytes;
-      id = inserts.id;
-      executed = inserts.executed;
-      mid = inserts.mid;
-      draws = inserts.draws;
-      caused = renamed (Ok done) inserts;
-      becomes = becomes_ok A inserts.executed done answer inserts.becomes;
-    });
+    caused = inr (insert_caused A (Ok answer) (Ok done) inserts (becomes_ok A inserts.executed done answer inserts.becomes));
     refused = refuses_nothing before now namespace document None accepted;
   }
 
   -- an insert that failed
-  pub caused_err : (A : Type 0) (error : Error) → Inserts before now write (Err error) → WriteCaused {A = A} before now (InsertOne namespace document) (Err error)
+  pub caused_err : (A : Type 0) (error : Error) → Inserts mid now write (Err error) → WriteCaused {A = A} before now (InsertOne namespace document) (Err error)
   caused_err A error inserts = record {
-    caused = inr (record {
-      bytes = inserts.bytes;
-      id = inserts.id;
-      executed = inserts.executed;
-      mid = inserts.mid;
-      draws = inserts.draws;
-      caused = renamed (Err error) inserts;
-      becomes = becomes_err A inserts.executed error inserts.becomes;
-    });
+    caused = inr (insert_caused A (Err error) (Err error) inserts (becomes_err A inserts.executed error inserts.becomes));
     refused = refuses_nothing before now namespace document (Some (outline_of error)) accepted;
   }
 
 -- the answer of a write as that of its call
 module _ (A B : Type 0) (before now : Moment) where
+  -- the same operation with another end of its call
+  in_form : {namespace : Namespace} {given : Result A Error} (document : List (Pair Bson)) (caused : InsertCaused {A = A} before now namespace document given) (result : Result B Error)
+      → BecomesEnd {B = B} caused.executed result → InsertCaused {A = B} before now namespace document result
+  in_form document caused result becomes = record {
+    own = caused.own;
+    mid = caused.mid;
+    draws = caused.draws;
+    bytes = caused.bytes;
+    spelled = caused.spelled;
+    id = caused.id;
+    found = caused.found;
+    executed = caused.executed;
+    caused = caused.caused;
+    becomes = becomes;
+  }
+
   operation_handed : (write : SingleWrite) (error : Error) → OperationCaused {A = A} before now write (Err error) → OperationCaused {A = B} before now write (Err error)
   operation_handed (InsertOne namespace document) error caused =
-      record { bytes = caused.bytes; id = caused.id; executed = caused.executed; mid = caused.mid; draws = caused.draws; caused = caused.caused; becomes = handed caused.executed caused.becomes }
+      in_form document caused (Err error) (handed caused.executed caused.becomes)
     where
       handed : (executed : Result InsertManyResult Error) → BecomesEnd {B = A} executed (Err error) → BecomesEnd {B = B} executed (Err error)
       handed (Ok output) becomes = absurd becomes
@@ -94,7 +118,7 @@ module _ (A B : Type 0) (before now : Moment) where
   operation_answered : (write : SingleWrite) (given : A) (answer : B) → OperationCaused {A = A} before now write (Ok given)
       → OperationCaused {A = B} before now write (Ok answer)
   operation_answered (InsertOne namespace document) given answer caused =
-      record { bytes = caused.bytes; id = caused.id; executed = caused.executed; mid = caused.mid; draws = caused.draws; caused = caused.caused; becomes = answered caused.executed caused.becomes }
+      in_form document caused (Ok answer) (answered caused.executed caused.becomes)
     where
       answered : (executed : Result InsertManyResult Error) → BecomesEnd {B = A} executed (Ok given) → BecomesEnd {B = B} executed (Ok answer)
       answered (Ok output) becomes = tt

@@ -11,7 +11,7 @@ use Rattle.driver_error.specs.declared.error.Error.{Error}
 use Rattle.driver_error.specs.declared.kind.ErrorKind.TheVariants as kind
 use Rattle.driver_error.specs.declared.results.InsertManyResult.{InsertManyResult}
 use Rattle.driver_error.specs.Conversions.{ConvertsKind}
-use Rattle.driver_error.specs.Error.{ErrorKind, kind_of}
+use Rattle.driver_error.specs.Error.{kind_of}
 use Rattle.driver_link.specs.Clock.{ClockTells}
 use Rattle.driver_link.specs.declared.machine.Scheduled.{Scheduled}
 use Rattle.driver_link.specs.declared.machine.Server.{Server}
@@ -20,11 +20,11 @@ use Rattle.driver_link.specs.LinkState.{server_run, setup_of}
 use Rattle.driver_link.specs.ServerRun.{ServerRun}
 use Rattle.driver_session.specs.Pool.{Pool}
 use Rattle.driver_session.specs.Session.{Session, last_number}
-use Rattle.driver_session.specs.StoreTells.{DrawnApart, LendsSession, MayDrawObjectId, StoreTells}
+use Rattle.driver_session.specs.StoreTells.{DrawnApart, LendsSession, StoreTells}
 use Rattle.driver_ops.specs.Fields.{SendContext}
 use Rattle.driver_ops.specs.Inserts.{BodyRefused, insert_body}
 use Rattle.driver_ops.specs.InsertSpec.{insert_spec, own_of_insert}
-use Rattle.driver_ops.specs.Operations.{OperationSpec, TellsUnframed, batch_of}
+use Rattle.driver_ops.specs.Operations.{HasNoSpelling, OperationSpec, batch_of}
 use Rattle.driver_ops.specs.SendKinds.{first}
 use Rattle.driver_ops.specs.Targets.{in_collection}
 use Rattle.driver_ops.proofs.InsertReading.{inserted_plain, plain_read}
@@ -55,18 +55,17 @@ use Rattle.driver_actions.specs.Inputs.{IsAccepted, TellsInput}
 use Rattle.driver_actions.specs.MainTheorem.{CallCompletes, CallEnds, EndsWell, IsValidInsert}
 use Rattle.driver_actions.specs.Standing.{AllBelow, LeavesTold, RunInvariant, RunState}
 use Rattle.driver_actions.specs.SingleCalls.{Made, MakesCall, TellsAnswer, first_place}
+use Rattle.driver_actions.proofs.OwnIds.{own_drew}
 use Rattle.driver_actions.proofs.Refusals.{accepted_not_refused}
-use Rattle.driver_actions.proofs.Sending.{call_sends, sends_own}
+use Rattle.driver_actions.proofs.Sending.{call_sends, pool_kept, sends_own}
 use Rattle.driver_actions.proofs.Standing.{stands_count}
 
 -- an accepted input is refused only for want of memory
-accepted_memory : (namespace : Namespace) (document : List (Pair Bson)) (why : ErrorKind) → IsAccepted namespace document → TellsInput namespace document why → why ≡ kind.Memory
-accepted_memory namespace document (kind.InvalidArgument message) accepted tells =
-    absurd (accepted_not_refused namespace document (kind.InvalidArgument message) accepted tells)
-accepted_memory namespace document (kind.BsonSerialization fault) accepted tells =
-    absurd (accepted_not_refused namespace document (kind.BsonSerialization fault) accepted tells)
-accepted_memory namespace document kind.Memory accepted tells = refl
-accepted_memory namespace document _ accepted tells = absurd tells
+accepted_memory : (namespace : Namespace) (document : List (Pair Bson)) (error : Error) → IsAccepted namespace document → TellsInput namespace document error → kind_of error ≡ kind.Memory
+accepted_memory namespace document error accepted tells = elim tells [
+  | inl memory ↦ memory
+  | inr found ↦ absurd (accepted_not_refused namespace document found.why accepted found.refused)
+]
 
 -- the form of an error of a single write
 single_quiet : (executed result : Result InsertManyResult Error) → BecomesSingle executed result → EndsQuietly executed → EndsQuietly result
@@ -86,13 +85,6 @@ record Ready (made : ℕ) (pool : Pool) (told : ServerRun) : Type 0 where
 past_end : (made : ℕ) (number : ℤ) → number ≡ last_number → number ≤ℤ pos made → pos made <ℤ last_number → ⊥
 past_end made number is within below = omega (arith, ints)
 
--- the pool stays where an object id was drawn or not
-pool_stays : (old now : StoreTells) → MayDrawObjectId old now → now.pool ≡ old.pool
-pool_stays old now draws = elim draws [
-  | inl same ↦ ap (λ store. store.pool) same
-  | inr drawn ↦ drawn.1.pool
-]
-
 module _ (made : ℕ) (before now : Moment) (namespace : Namespace) (document : List (Pair Bson)) (valid : IsValidInsert made namespace document) where
   -- the part of the schedule of the call is gentle
   abbrev IsGentleCall : ServerRun → ServerRun → Type 0
@@ -104,13 +96,13 @@ module _ (made : ℕ) (before now : Moment) (namespace : Namespace) (document : 
       (sent : Made before now (inserted namespace document) (first_place made) result) where
     -- the moment of the insert, once an id was drawn, if any
     abbrev mid : Moment
-    mid = sent.inserts.mid
+    mid = sent.mid
 
     mid_pool : mid.store.pool ≡ Some pool
-    mid_pool = pool_stays before.store mid.store sent.inserts.draws.draws ∙ pool_is
+    mid_pool = pool_kept before.store mid.store (own_drew sent.draws).draws ∙ pool_is
 
     mid_link : server_run mid.link ≡ Some told
-    mid_link = ap (λ moment. server_run moment.link) sent.inserts.draws.rest ∙ link_is
+    mid_link = ap (λ moment. server_run moment.link) sent.draws.rest ∙ link_is
 
     -- what its operation tells
     abbrev spec : OperationSpec InsertManyResult
@@ -141,12 +133,9 @@ module _ (made : ℕ) (before now : Moment) (namespace : Namespace) (document : 
         let e : ◌≡◌ {A = Option EncodeFault} None (Some fault) = sym spelled ∙ refused.is in cc
 
     -- so there is a frame, unless memory runs out
-    unframed : (context : SendContext) (why : ErrorKind) → TellsUnframed spec context why → why ≡ kind.Memory
-    unframed context (kind.BsonSerialization fault) tells =
-        absurd (unspelled context fault
-        (body_refused sent.write.written.namespace sent.inserts.bytes context tells.statements tells.command fault tells.is tells.sixteen tells.refused))
-    unframed context kind.Memory tells = refl
-    unframed context _ tells = absurd tells
+    has_frame : (context : SendContext) (fault : EncodeFault) → HasNoSpelling spec context fault → ⊥
+    has_frame context fault none =
+        unspelled context fault (body_refused sent.write.written.namespace sent.inserts.bytes context none.statements none.command fault none.is none.sixteen none.refused)
 
     -- its session has a further number
     not_last : (at : ℕ) (lent : StoreTells) (session : Session) → LendsSession mid.store lent at session → session.number ≡ last_number → ⊥
@@ -156,7 +145,7 @@ module _ (made : ℕ) (before now : Moment) (namespace : Namespace) (document : 
     -- the part is gentle from the moment of the insert on
     gentle_mid : IsGentleCall told told_now → IsGentlePart (DrawsNumbers true (own_of_insert mid.client.options) (setup_of mid.link)) told told_now
     gentle_mid gentle =
-        subst (λ moment. IsGentlePart (DrawsNumbers true (own_of_insert moment.client.options) (setup_of moment.link)) told told_now) (sym sent.inserts.draws.rest) gentle
+        subst (λ moment. IsGentlePart (DrawsNumbers true (own_of_insert moment.client.options) (setup_of moment.link)) told told_now) (sym sent.draws.rest) gentle
 
     -- its operation, with what is known of its sends
     known : KnownCommand InsertManyResult
@@ -178,7 +167,7 @@ module _ (made : ℕ) (before now : Moment) (namespace : Namespace) (document : 
       bare_ready = λ session. bare_goes sent.write session told.server;
       takes_sessions = refl;
       unrefused = λ description error refuses. refuses.refused;
-      unframed = unframed;
+      spelled = has_frame;
       not_last = not_last;
     }
 
@@ -204,7 +193,7 @@ module _ (made : ℕ) (before now : Moment) (namespace : Namespace) (document : 
     insert_well : (result : Result Answer Error) → MakesCall before now (Single (InsertOne namespace document)) made result → EndsWell result
     insert_well (Ok given) makes = tt
     insert_well (Err error) makes = elim makes [
-      | inl unmade ↦ accepted_memory namespace document (kind_of error) valid.accepted unmade.why
+      | inl unmade ↦ accepted_memory namespace document error valid.accepted unmade.why
       | inr sent ↦ sent_well pool told told_now ready pool_is link_is now_is apart (Err error) sent error refl gentle
     ]
 

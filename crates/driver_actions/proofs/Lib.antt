@@ -1,3 +1,4 @@
+pub mod OwnIds
 pub mod Parts
 pub mod Moving
 pub mod Logging
@@ -6,6 +7,7 @@ pub mod Sending
 pub mod Running
 pub mod Appending
 pub mod Standing
+pub mod Timing
 pub mod Causes
 pub mod Refusals
 pub mod Ending

@@ -1,6 +1,6 @@
 -- An id that is put first changes no refusal but by its length.
-use Rattle.std.proofs.Common.{◌≡◌, ℕ, suc, ◌+◌, ◌-◌, ◌<◌, ◌≤◌, ◌^◌, min, Bool, true, false, List, [], ◌∷◌, ◌++◌, map, length, refl, sym, ap, subst, ◌∙◌, inl, inr, arith, rules, length-append}
-use Rattle.std.specs.Prelude.{Option, None, Some, ◌⊎◌, is_some, nat_lt, max, ◌||◌, if◌then◌else◌}
+use Rattle.std.proofs.Common.{◌≡◌, ℕ, suc, ◌+◌, ◌-◌, ◌<◌, ◌≤◌, ◌^◌, min, Bool, true, false, List, [], ◌∷◌, ◌++◌, map, length, refl, sym, ap, ◌∙◌, inl, inr, arith, rules, length-append}
+use Rattle.std.specs.Prelude.{Option, None, Some, is_some, nat_lt, max, ◌||◌, if◌then◌else◌}
 use Rattle.std.proofs.lemmas.Bool.{cond-true, cond-false}
 use Rattle.std.proofs.lemmas.Bool.Decides.{nat_tests}
 use Rattle.bson_lite.specs.declared.bson.Bson as bson
@@ -17,7 +17,7 @@ use Rattle.driver_error.specs.declared.error.Error.{Error}
 use Rattle.driver_error.specs.Conversions.{IsMade}
 use Rattle.driver_error.specs.Error.{ErrorKind, IsAlone, kind_of}
 use Rattle.driver_error.specs.LabelTexts.{no_labels}
-use Rattle.driver_exec.specs.Causes.{ErrorOutline}
+use Rattle.driver_exec.specs.Causes.{ErrorOutline, outline_of}
 use Rattle.driver_exec.specs.Moment.{Moment}
 use Rattle.driver_actions.specs.Causes.{RefusesFirst, TellsOwnRefusal}
 use Rattle.driver_actions.specs.Inputs.{has_dot, dotted_text, RefusesInsert, InputRefused, IsAccepted, TellsInput}
@@ -167,25 +167,25 @@ spelled_within document is =
     none_of_less (nesting document) (zero_in document) (nat_lt 2147483647 (length (spelling document))) (nat_lt 96 (nesting document)) refl is
 
 -- a document that is not refused is spelled as it is sent
-pub own_memory : (document : List (Pair Bson)) (why : ErrorKind) → RefusesInsert document None → TellsOwnRefusal document why → why ≡ kind.Memory
-own_memory document (kind.BsonSerialization fault) none tells =
-    absurd (let e : ◌≡◌ {A = Option EncodeFault} None (Some fault) = sym (spelled_within (with_id tells.0 document) (none tells.0 tells.1.0)) ∙ tells.1.1 in cc)
-own_memory document kind.Memory none tells = refl
-own_memory document _ none tells = absurd tells
+pub own_memory : (document : List (Pair Bson)) (error : Error) → RefusesInsert document None → TellsOwnRefusal document error → kind_of error ≡ kind.Memory
+own_memory document error none tells = elim tells [
+  | inl memory ↦ memory
+  | inr own ↦ absurd (let e : ◌≡◌ {A = Option EncodeFault} None (Some own.unspelled.fault) = sym (spelled_within (with_id own.id document) (none own.id own.twelve)) ∙ own.unspelled.refused in cc)
+]
 
 -- the error of a database whose name has a dot
 pub tells_dotted : (namespace : Namespace) (document : List (Pair Bson)) (error : Error) → has_dot namespace.db ≡ true
-    → IsMade (kind.InvalidArgument (dotted_text namespace.db)) no_labels error → TellsInput namespace document (kind_of error)
+    → IsMade (kind.InvalidArgument (dotted_text namespace.db)) no_labels error → TellsInput namespace document error
 tells_dotted namespace document error dot made = elim made [
-  | inl alone ↦ subst (TellsInput namespace document) (sym alone.kind_is) (dot, refl)
-  | inr alone ↦ subst (TellsInput namespace document) (sym alone.kind_is) tt
+  | inl alone ↦ inr (record { why = kind.InvalidArgument (dotted_text namespace.db); refused = (dot, refl); is = alone })
+  | inr alone ↦ inl alone.kind_is
 ]
 
 -- the error of a document that is refused, in a database whose name has none
 pub tells_document : (namespace : Namespace) (document : List (Pair Bson)) (fault : EncodeFault) (error : Error) → has_dot namespace.db ≡ false
-    → RefusesInsert document (Some fault) → IsAlone (kind.BsonSerialization fault) no_labels error → TellsInput namespace document (kind_of error)
+    → RefusesInsert document (Some fault) → IsAlone (kind.BsonSerialization fault) no_labels error → TellsInput namespace document error
 tells_document namespace document fault error dotless refused alone =
-    subst (TellsInput namespace document) (sym alone.kind_is) (dotless, refused)
+    inr (record { why = kind.BsonSerialization fault; refused = (dotless, refused); is = alone })
 
 -- an input has one error
 one_input : (namespace : Namespace) (document : List (Pair Bson)) (first second : ErrorKind) → InputRefused namespace document first → InputRefused namespace document second
@@ -202,18 +202,15 @@ one_input namespace document (kind.BsonSerialization fault) _ one two = absurd t
 one_input namespace document _ second one two = absurd one
 
 -- the error that was answered is the input's
-pub input_first : (before now : Moment) → now.link ≡ before.link → (namespace : Namespace) (document : List (Pair Bson)) (why : ErrorOutline)
-    → TellsInput namespace document why.kind → RefusesFirst before now namespace document (Some why)
-input_first before now unasked namespace document why tells = record {
-  tells = λ other refused. first why.kind other tells refused;
-  unasked = λ other refused. unasked;
+pub input_first : (before : Moment) (namespace : Namespace) (document : List (Pair Bson)) (error : Error)
+    → TellsInput namespace document error → RefusesFirst before before namespace document (Some (outline_of error))
+input_first before namespace document error tells = record {
+  tells = λ other refused. elim tells [
+    | inl memory ↦ inr memory
+    | inr found ↦ inl (found.is.kind_is ∙ one_input namespace document found.why other found.refused refused, found.is.labels_are)
+  ];
+  undone = λ other refused. refl;
 }
-  where
-    first : (found other : ErrorKind) → TellsInput namespace document found → InputRefused namespace document other → (found ≡ other) ⊎ (found ≡ kind.Memory)
-    first (kind.InvalidArgument message) other tells refused = inl (one_input namespace document (kind.InvalidArgument message) other tells refused)
-    first (kind.BsonSerialization fault) other tells refused = inl (one_input namespace document (kind.BsonSerialization fault) other tells refused)
-    first kind.Memory other tells refused = inr refl
-    first _ other tells refused = absurd tells
 
 -- input that is accepted has no error
 pub accepted_not_refused : (namespace : Namespace) (document : List (Pair Bson)) (why : ErrorKind) → IsAccepted namespace document
@@ -228,5 +225,5 @@ pub refuses_nothing : (before now : Moment) (namespace : Namespace) (document : 
     → RefusesFirst before now namespace document ended
 refuses_nothing before now namespace document ended accepted = record {
   tells = λ why refused. absurd (accepted_not_refused namespace document why accepted refused);
-  unasked = λ why refused. absurd (accepted_not_refused namespace document why accepted refused);
+  undone = λ why refused. absurd (accepted_not_refused namespace document why accepted refused);
 }

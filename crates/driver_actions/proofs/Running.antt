@@ -37,6 +37,7 @@ use Rattle.driver_actions.specs.MainTheorem.{MainTheorem}
 use Rattle.driver_actions.specs.SingleEntries.{HasOwnEntry, MayWrite}
 use Rattle.driver_actions.specs.Standing.{AllBelow, AllOwn}
 use Rattle.driver_actions.specs.SingleCalls.{Made, first_place}
+use Rattle.driver_actions.proofs.OwnIds.{own_drew}
 use Rattle.driver_actions.proofs.Answering.{Answered, answered_none, answered_more, own_at}
 use Rattle.driver_actions.proofs.Logging.{mine_all}
 use Rattle.driver_actions.proofs.Inserting.Entries.{entry_told, makes_entry, may_stand, new_place, only_write}
@@ -87,12 +88,12 @@ module _ (calls : List Call) (outcomes : List Outcome) (before now : Moment) (po
   module _ (namespace : Namespace) (document : List (Pair Bson)) (at : slice_get calls (length outcomes) ≡ Some (Single (InsertOne namespace document)))
       (result : Result SingleAnswer Error) (sent : Made before now (inserted namespace document) (first_place (length outcomes)) result) where
     -- the told pool before the write
-    pool_here : sent.inserts.mid.store.pool ≡ Some pool
-    pool_here = mid_pool before sent.inserts.mid pool sent.inserts.draws pool_is
+    pool_here : sent.mid.store.pool ≡ Some pool
+    pool_here = mid_pool before sent.mid pool (own_drew sent.draws) pool_is
 
     -- the told server before it
-    run_here : server_run sent.inserts.mid.link ≡ Some run
-    run_here = mid_run before sent.inserts.mid sent.inserts.draws ∙ run_is
+    run_here : server_run sent.mid.link ≡ Some run
+    run_here = mid_run before sent.mid (own_drew sent.draws) ∙ run_is
 
     -- the write is the caller's own
     own_here : OwnAt (write_at calls sent.write.place) (placed_write sent.write).written
@@ -108,7 +109,7 @@ module _ (calls : List Call) (outcomes : List Outcome) (before now : Moment) (po
     left : Left sent.inserts.one_command.session sent.inserts.one_command.number (insert_asked sent.write) pool_now run.server run_now.server
     left =
         let sends = inserts_sends sent.inserts in
-        left_of sent.inserts.mid now pool pool_now run run_now pool_here pool_now_is run_here run_now_is (insert_asked sent.write)
+        left_of sent.mid now pool pool_now run run_now pool_here pool_now_is run_here run_now_is (insert_asked sent.write)
         (may_stand pool pool_now run (first_place (length outcomes)) sent.write sent.placed may_write)
         sent.inserts.one_command.session sent.inserts.one_command.number sends.count sent.inserts.one_command.borrows sends.once sends.sends
 

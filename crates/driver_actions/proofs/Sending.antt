@@ -29,16 +29,16 @@ use Rattle.driver_actions.specs.declared.call.Outcome.{Outcome}
 use Rattle.driver_actions.specs.declared.call.SingleAnswer.{SingleAnswer}
 use Rattle.driver_actions.specs.Calls.{written}
 use Rattle.driver_actions.specs.CallByCall.{CallCaused, with_clock, with_reading}
-use Rattle.driver_actions.specs.Causes.{MayDrawId}
 use Rattle.driver_actions.specs.MainTheorem.{HasWriteOf, IsReplayed, IsReplayedTold, KeepsMaking, KeepsMakingTold, SendsOwn}
 use Rattle.driver_actions.specs.SingleCalls.{Made, MakesCall, first_place}
 use Rattle.driver_actions.proofs.Inserting.Making.{inserts_sends}
 use Rattle.driver_actions.proofs.Moving.{told_refl}
+use Rattle.driver_actions.proofs.OwnIds.{OnlyDrew, own_drew, unmade_drew}
 
 -- one call of a single write: where it failed, nothing may have been sent
 abbrev pub Sends : Moment → Moment → Written → Place → Result SingleAnswer Error → Type 0
 Sends before now given place (Ok answer) = Made before now given place (Ok answer)
-Sends before now given place (Err error) = MayDrawId before now ⊎ Made before now given place (Err error)
+Sends before now given place (Err error) = OnlyDrew before now ⊎ Made before now given place (Err error)
 
 -- one call of a list
 abbrev pub SendsCall : Moment → Moment → Call → ℕ → Result Answer Error → Type 0
@@ -64,11 +64,11 @@ may_lends : (old now : StoreTells) → MayDrawObjectId old now → LendsAsBefore
 may_lends old now may = subst (LendsPoolAsBefore old.pool) (sym (pool_kept old now may)) (lends_refl old)
 
 -- a told pool is the same once an id was drawn, if any
-pub mid_pool : (before mid : Moment) (pool : Pool) → MayDrawId before mid → before.store.pool ≡ Some pool → mid.store.pool ≡ Some pool
+pub mid_pool : (before mid : Moment) (pool : Pool) → OnlyDrew before mid → before.store.pool ≡ Some pool → mid.store.pool ≡ Some pool
 mid_pool before mid pool draws is = pool_kept before.store mid.store draws.draws ∙ is
 
 -- so is what is told of the server
-pub mid_run : (before mid : Moment) → MayDrawId before mid → server_run mid.link ≡ server_run before.link
+pub mid_run : (before mid : Moment) → OnlyDrew before mid → server_run mid.link ≡ server_run before.link
 mid_run before mid draws = ap (λ moment. server_run moment.link) draws.rest
 
 module _ (before now : Moment) where
@@ -76,13 +76,13 @@ module _ (before now : Moment) where
   pub call_sends : (call : Call) (number : ℕ) (result : Result Answer Error) → MakesCall before now call number result → SendsCall before now call number result
   call_sends (Single write) number (Ok (answer.Single given)) makes = makes
   call_sends (Single write) number (Err error) makes = elim makes [
-    | inl unmade ↦ inl unmade.draws
+    | inl unmade ↦ inl (unmade_drew error unmade.draws)
     | inr made ↦ inr made
   ]
 
 -- a property that a call has where nothing was sent, and where its own write was
-by_call : (P : Type 0) (before now : Moment) (call : Call) (number : ℕ) (result : Result Answer Error) → SendsCall before now call number result
-    → (MayDrawId before now → P) → ((given : Written) (single : Result SingleAnswer Error) → Made before now given (first_place number) single → P) → P
+pub by_call : (P : Type 0) (before now : Moment) (call : Call) (number : ℕ) (result : Result Answer Error) → SendsCall before now call number result
+    → (OnlyDrew before now → P) → ((given : Written) (single : Result SingleAnswer Error) → Made before now given (first_place number) single → P) → P
 by_call P before now (Single write) number (Ok (answer.Single given)) sends unsent sent = sent (written write) (Ok given) sends
 by_call P before now (Single write) number (Err error) sends unsent sent = elim sends [
   | inl none ↦ unsent none
@@ -131,42 +131,42 @@ module _ (before now : Moment) (call : Call) (number : ℕ) (result : Result Ans
   pub sends_draws : Draws before.store now.store
   sends_draws = by_call (Draws before.store now.store) before now call number result sends
       (λ none. may_draws before.store now.store none.draws)
-      (λ given single sent. draws_twice before.store sent.inserts.mid.store now.store (may_draws before.store sent.inserts.mid.store sent.inserts.draws.draws) sent.inserts.drawn)
+      (λ given single sent. draws_twice before.store sent.mid.store now.store (may_draws before.store sent.mid.store (own_drew sent.draws).draws) sent.inserts.drawn)
 
   -- and lends what it lent before
   pub sends_lends : LendsAsBefore before.store now.store
   sends_lends = by_call (LendsAsBefore before.store now.store) before now call number result sends
       (λ none. may_lends before.store now.store none.draws)
-      (λ given single sent. lends_twice before.store sent.inserts.mid.store now.store (may_lends before.store sent.inserts.mid.store sent.inserts.draws.draws) sent.inserts.lent)
+      (λ given single sent. lends_twice before.store sent.mid.store now.store (may_lends before.store sent.mid.store (own_drew sent.draws).draws) sent.inserts.lent)
 
   -- the making of the link stays
   pub sends_making : KeepsMaking before now
   sends_making = by_call (KeepsMaking before now) before now call number result sends
       (λ none. subst (KeepsMakingTold (server_run before.link)) (sym (mid_run before now none)) (told_refl (server_run before.link)))
-      (λ given single sent. subst (λ run. KeepsMakingTold run (server_run now.link)) (mid_run before sent.inserts.mid sent.inserts.draws)
-      (making_of (server_run sent.inserts.mid.link) (server_run now.link) (insert_send sent.inserts.one_command.session sent.inserts.one_command.number sent.write) (inserts_sends sent.inserts).count (inserts_sends sent.inserts).sends))
+      (λ given single sent. subst (λ run. KeepsMakingTold run (server_run now.link)) (mid_run before sent.mid (own_drew sent.draws))
+      (making_of (server_run sent.mid.link) (server_run now.link) (insert_send sent.inserts.one_command.session sent.inserts.one_command.number sent.write) (inserts_sends sent.inserts).count (inserts_sends sent.inserts).sends))
 
   -- its server stays the fold over its trace
   pub sends_replayed : IsReplayed before → IsReplayed now
   sends_replayed folds = by_call (IsReplayed now) before now call number result sends
       (λ none. subst IsReplayedTold (sym (mid_run before now none)) folds)
       (λ given single sent.
-      fold_of (server_run sent.inserts.mid.link) (server_run now.link) (insert_send sent.inserts.one_command.session sent.inserts.one_command.number sent.write) (inserts_sends sent.inserts).count (inserts_sends sent.inserts).sends
-      (subst IsReplayedTold (sym (mid_run before sent.inserts.mid sent.inserts.draws)) folds))
+      fold_of (server_run sent.mid.link) (server_run now.link) (insert_send sent.inserts.one_command.session sent.inserts.one_command.number sent.write) (inserts_sends sent.inserts).count (inserts_sends sent.inserts).sends
+      (subst IsReplayedTold (sym (mid_run before sent.mid (own_drew sent.draws))) folds))
 
   -- all that it sent is its own
   pub sends_own : SendsOwn number (server_run before.link) (server_run now.link)
   sends_own = by_call (SendsOwn number (server_run before.link) (server_run now.link)) before now call number result sends
       (λ none. own_same (server_run before.link) (server_run now.link) number (mid_run before now none))
-      (λ given single sent. subst (λ run. SendsOwn number run (server_run now.link)) (mid_run before sent.inserts.mid sent.inserts.draws)
-      (own_of (server_run sent.inserts.mid.link) (server_run now.link) number sent.inserts.one_command.session sent.inserts.one_command.number sent.write (inserts_sends sent.inserts).count sent.placed (inserts_sends sent.inserts).sends))
+      (λ given single sent. subst (λ run. SendsOwn number run (server_run now.link)) (mid_run before sent.mid (own_drew sent.draws))
+      (own_of (server_run sent.mid.link) (server_run now.link) number sent.inserts.one_command.session sent.inserts.one_command.number sent.write (inserts_sends sent.inserts).count sent.placed (inserts_sends sent.inserts).sends))
 
   -- the numbers of idle sessions rise by one at most
   pub sends_within : (pool pool_now : Pool) → before.store.pool ≡ Some pool → now.store.pool ≡ Some pool_now → NumbersWithin (pos number) pool.idle
       → NumbersWithin (pos (number + 1)) pool_now.idle
   sends_within pool pool_now is now_is within = by_call (NumbersWithin (pos (number + 1)) pool_now.idle) before now call number result sends
       (λ none. within_staying number pool pool_now (same_told pool_now pool (sym now_is ∙ mid_pool before now pool none is)) within)
-      (λ given single sent. borrows_within number sent.inserts.mid.store now.store pool pool_now (mid_pool before sent.inserts.mid pool sent.inserts.draws is) now_is
+      (λ given single sent. borrows_within number sent.mid.store now.store pool pool_now (mid_pool before sent.mid pool (own_drew sent.draws) is) now_is
       sent.inserts.one_command.session sent.inserts.one_command.number sent.inserts.one_command.borrows within)
 
 -- a call that ended with its cause left the same, since its readings of the clock change neither store nor link

@@ -34,6 +34,14 @@ pub record CallCaused (number : ℕ) (before now : Moment) (call : Call) (outcom
   pub makes : MakesCall (with_reading before outcome.started_ms) (with_clock now clock) call number outcome.result
   pub cause : HasCause (with_reading before outcome.started_ms) (with_clock now clock) call outcome.result
 
+-- the second time of an outcome is the clock's last reading, and the first lies between the last reading before the call and it;
+-- nobody slept, and no random word was drawn
+pub record IsTimed (before now : Moment) (outcome : Outcome) : Type 0 where
+  pub started : before.clock.last ≤ outcome.started_ms
+  pub ordered : outcome.started_ms ≤ outcome.ended_ms
+  pub ended : now.clock ≡ record before.clock { last = outcome.ended_ms }
+  pub words : now.words ≡ before.words
+
 -- each call of a list was made so
 abbrev pub HaveCauses : List Call → List Outcome → Moment → Moment → Type 0
 HaveCauses calls outcomes before now = CallByCall CallCaused 0 calls outcomes before now

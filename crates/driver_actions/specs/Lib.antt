@@ -3,6 +3,7 @@ pub mod Calls
 pub mod Causes
 pub mod Inputs
 pub mod MainTheorem
+pub mod OwnIds
 pub mod SingleCalls
 pub mod SingleEntries
 pub mod Singles

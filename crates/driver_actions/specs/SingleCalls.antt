@@ -1,21 +1,18 @@
 -- One call of a single write: the document as it is sent, its operation, and the answer that it tells.
-use Rattle.std.specs.Prelude.{◌≡◌, ℕ, ◌≤◌, List, [], ◌∷◌, length, Some, ◌⊎◌, Result, Ok, Err}
+use Rattle.std.specs.Prelude.{◌≡◌, ℕ, ◌≤◌, List, [], ◌∷◌, Some, ◌⊎◌, Result, Ok, Err}
 use Rattle.bson_lite.specs.declared.bson.Bson.{Bson}
-use Rattle.bson_lite.specs.declared.bson.ObjectId.{ObjectId}
 use Rattle.bson_lite.specs.declared.document.Pair.{Pair}
 use Rattle.bson_lite.specs.declared.namespace.Namespace.{Namespace}
-use Rattle.bson_lite.specs.Fields.{value_of, id_key, with_id}
+use Rattle.bson_lite.specs.Fields.{value_of, id_key}
 use Rattle.bson_lite.specs.Spelling.{Spells}
 use Rattle.driver_error.specs.declared.error.Error.{Error}
-use Rattle.driver_error.specs.declared.kind.ErrorKind.TheVariants as kind
 use Rattle.driver_error.specs.declared.results.InsertManyResult.{InsertManyResult}
 use Rattle.driver_error.specs.declared.results.InsertOneResult.{InsertOneResult}
-use Rattle.driver_error.specs.Error.{kind_of}
 use Rattle.driver_link.specs.declared.machine.Place.{Place}
 use Rattle.driver_link.specs.declared.machine.PlacedWrite.{PlacedWrite}
 use Rattle.driver_link.specs.declared.machine.WriteKind.TheVariants as write_kind
 use Rattle.driver_link.specs.declared.machine.Written.{Written}
-use Rattle.driver_session.specs.StoreTells.{Draws, LendsAsBefore}
+use Rattle.driver_session.specs.StoreTells.{Draws, LendsAsBefore, StoreTells}
 use Rattle.driver_ops.specs.InsertSpec.{insert_spec}
 use Rattle.driver_ops.specs.Operations.{batch_of}
 use Rattle.driver_ops.specs.SendKinds.{first}
@@ -33,29 +30,18 @@ use Rattle.driver_actions.specs.declared.call.Call.TheVariants.{Single}
 use Rattle.driver_actions.specs.declared.call.SingleAnswer.{SingleAnswer}
 use Rattle.driver_actions.specs.declared.call.SingleAnswer.TheVariants.{Inserted}
 use Rattle.driver_actions.specs.Calls.{IsOwn, written}
-use Rattle.driver_actions.specs.Causes.{MayDrawId}
 use Rattle.driver_actions.specs.Inputs.{TellsInput}
+use Rattle.driver_actions.specs.OwnIds.{DrawsOwn, HasOwnId, MayDrawBy}
 use Rattle.driver_actions.specs.Singles.{BecomesSingle}
 use Rattle.driver_actions.specs.Writing.{insert_asked}
 
--- a document has an id, at its front where it had none
-pub record HasOwnId (given now : List (Pair Bson)) (value : Bson) : Type 0 where
-  pub id : ObjectId
-  pub twelve : length id.bytes ≡ 12
-  pub document : now ≡ with_id id given
-  pub found : value_of id_key now ≡ Some value
-
--- a document has its id, and that is answered; an error tells of want of memory
-abbrev pub PutsId : List (Pair Bson) → List (Pair Bson) → Result Bson Error → Type 0
-PutsId given now (Ok value) = HasOwnId given now value
-PutsId given now (Err error) = kind_of error ≡ kind.Memory
-
--- a write as it is sent for a caller's document, in bytes too, with the document's id and the answer that tells it
-pub record Owns (namespace : Namespace) (given : List (Pair Bson)) (place : Place) (write : PlacedWrite) (bytes : List ℕ) (id : Bson) (answer : InsertOneResult) : Type 0 where
+-- a write as it is sent for a caller's document, in bytes too, with the document's id, which was drawn where it had none, and
+-- the answer that tells it
+pub record Owns (store store_now : StoreTells) (namespace : Namespace) (given : List (Pair Bson)) (place : Place) (write : PlacedWrite) (bytes : List ℕ) (id : Bson) (answer : InsertOneResult) : Type 0 where
   pub place_is : write.place ≡ place
   pub kind_is : write.written.kind ≡ write_kind.Insert
   pub namespace_is : write.written.namespace ≡ namespace
-  pub document : HasOwnId given write.written.document id
+  pub document : HasOwnId store store_now given write.written.document id
   pub spelled : Spells write.written.document bytes
   pub answer_is : answer ≡ record { inserted_id = id }
 
@@ -71,40 +57,40 @@ TellsAnswer document (Ok done) (Ok given) = TellsId document given
 TellsAnswer document (Ok done) (Err error) = ⊥
 TellsAnswer document (Err error) result = result ≡ Err error
 
--- the insert of a write was executed, with two sends of one command at most, once an id was drawn, if any; it ended with its
--- cause, and its error took the form of a single write's; it kept what stands, and has its entry where it was done
+-- the insert of a write was executed, with two sends of one command at most; it ended with its cause, and its error took the
+-- form of a single write's; it kept what stands, and has its entry where it was done
 pub record Inserts (before now : Moment) (write : PlacedWrite) (ended : Result InsertManyResult Error) : Type 0 where
-  pub mid : Moment
-  pub draws : MayDrawId before mid
   pub bytes : List ℕ
   pub spelled : Spells write.written.document bytes
   pub id : Bson
   pub found : value_of id_key write.written.document ≡ Some id
   pub executed : Result InsertManyResult Error
   pub count : ℕ
-  pub executes : Executes (insert_spec (in_collection write.written.namespace) bytes id) (batch_of (write.place ∷ []) 1) first mid now 0 count executed
+  pub executes : Executes (insert_spec (in_collection write.written.namespace) bytes id) (batch_of (write.place ∷ []) 1) first before now 0 count executed
   pub twice : count ≤ 2
-  pub one_command : SendsOneCommand (insert_spec (in_collection write.written.namespace) bytes id) (batch_of (write.place ∷ []) 1) mid now executed
-  pub caused : Caused (insert_spec (in_collection write.written.namespace) bytes id) mid now (end_of executed)
+  pub one_command : SendsOneCommand (insert_spec (in_collection write.written.namespace) bytes id) (batch_of (write.place ∷ []) 1) before now executed
+  pub caused : Caused (insert_spec (in_collection write.written.namespace) bytes id) before now (end_of executed)
   pub becomes : BecomesSingle executed ended
-  pub keeps : KeepsInvariant mid now (insert_asked write)
-  pub entries : OkHasEntries (insert_spec (in_collection write.written.namespace) bytes id) (insert_asked write) mid now executed
-  pub lent : LendsAsBefore mid.store now.store
-  pub drawn : Draws mid.store now.store
+  pub keeps : KeepsInvariant before now (insert_asked write)
+  pub entries : OkHasEntries (insert_spec (in_collection write.written.namespace) bytes id) (insert_asked write) before now executed
+  pub lent : LendsAsBefore before.store now.store
+  pub drawn : Draws before.store now.store
 
--- a call's own write was inserted, or its insert failed
+-- a call's own write was inserted, or its insert failed, once the id of its document was drawn, if it had none
 pub record Made (before now : Moment) (given : Written) (place : Place) (result : Result SingleAnswer Error) : Type 0 where
   pub write : PlacedWrite
   pub placed : write.place ≡ place
   pub own : IsOwn given write.written
+  pub mid : Moment
+  pub draws : DrawsOwn before mid given.document own.id
   pub ended : Result InsertManyResult Error
-  pub inserts : Inserts before now write ended
+  pub inserts : Inserts mid now write ended
   pub tells : TellsAnswer write.written.document ended result
 
--- nothing was asked or sent, though an id may have been drawn: the input is refused, or there was no memory
+-- nothing was asked or sent: the input is refused, or there was no memory, and then an id may have been drawn
 pub record Unmade (before now : Moment) (given : Written) (error : Error) : Type 0 where
-  pub draws : MayDrawId before now
-  pub why : TellsInput given.namespace given.document (kind_of error)
+  pub draws : MayDrawBy before now given.document error
+  pub why : TellsInput given.namespace given.document error
 
 -- one call of a single write
 abbrev pub Makes : Moment → Moment → Written → Place → Result SingleAnswer Error → Type 0

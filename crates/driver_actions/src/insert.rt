@@ -1,14 +1,14 @@
 //! The insert of one document, from its caller to its answer.
-ghost use Rattle.std.specs.Prelude.{◌≡◌, ◌<◌, IfErr, IfOk, Some};
+ghost use Rattle.std.specs.Prelude.{◌≡◌, ◌<◌, IfErr, IfOk, IsSome, Some};
 ghost use Rattle.bson_lite.specs.Fields.{id_key, value_of};
 ghost use Rattle.bson_lite.specs.Spelling.{Spells};
-ghost use Rattle.driver_error.specs.Error.{kind_of};
 ghost use Rattle.driver_session.specs.StoreTells.{MayDrawObjectId};
 ghost use Rattle.driver_exec.specs.Client.{options_of, store_of};
-ghost use Rattle.driver_exec.specs.Moment.{Moment, moment_of};
+ghost use Rattle.driver_exec.specs.Moment.{moment_of};
 ghost use Rattle.driver_actions.specs.Calls.{inserted};
-ghost use Rattle.driver_actions.specs.Causes.{MayDrawId, TellsOwnRefusal, WriteCaused};
-ghost use Rattle.driver_actions.specs.SingleCalls.{Inserts, Makes, Owns, PutsId};
+ghost use Rattle.driver_actions.specs.Causes.{TellsOwnRefusal, WriteCaused};
+ghost use Rattle.driver_actions.specs.OwnIds.{PutsId};
+ghost use Rattle.driver_actions.specs.SingleCalls.{Inserts, Makes, Owns};
 ghost use Rattle.driver_actions.specs.declared.call.SingleWrite.TheVariants.{InsertOne};
 
 use crate::call::SingleAnswer;
@@ -60,7 +60,7 @@ pub(crate) fn insert_one<S: SessionStore, L: Link, K: Clock, R: Rng>(
 }
 
 /// Inserts a write, whose document has this id and is spelled by these bytes, with a count of its sends over
-/// a ledger. An id may have been drawn for it since an earlier moment.
+/// a ledger.
 fn insert_counted<S: SessionStore, L: Link, K: Clock, R: Rng, Q: Ledger>(
     alloc: Global,
     client: &mut Client<S>,
@@ -75,8 +75,8 @@ fn insert_counted<S: SessionStore, L: Link, K: Clock, R: Rng, Q: Ledger>(
     requires some { 0 < blank.parts }
     requires spelled { Spells write.written.document bytes }
     requires found { value_of id_key write.written.document ≡ Some id }
-    ensures inserts { (before : Moment) →
-        MayDrawId before (moment_of S.tells L.tells K.tells R.stream client.old outside.old) → Inserts before
+    ensures inserts { Inserts
+        (moment_of S.tells L.tells K.tells R.stream client.old outside.old)
         (moment_of S.tells L.tells K.tells R.stream client.new outside.new)
         write result }
     ensures options { options_of client.new ≡ options_of client.old }
@@ -112,10 +112,12 @@ fn own_write<S: SessionStore>(
     document: &Document,
     place: Place,
 ) -> Result<OwnWrite>
-    ensures refusal { IfErr result (λ error. TellsOwnRefusal document.now (kind_of error)) }
-    ensures owns { IfOk result (λ own.
-        Owns namespace.now document.now place own.write own.bytes own.id own.answer) }
+    ensures refusal { IfErr result (λ error. TellsOwnRefusal document.now error) }
+    ensures owns { IfOk result (λ own. Owns (S.tells (store_of client.old)) (S.tells (store_of client.new))
+        namespace.now document.now place own.write own.bytes own.id own.answer) }
     ensures draws { MayDrawObjectId (S.tells (store_of client.old)) (S.tells (store_of client.new)) }
+    ensures unused { IsSome (value_of id_key document.now) →
+        S.tells (store_of client.new) ≡ S.tells (store_of client.old) }
     ensures options { options_of client.new ≡ options_of client.old }
 {
     let mut document = document.try_clone(alloc)?;
@@ -144,8 +146,11 @@ fn put_id<S: SessionStore>(
     client: &mut Client<S>,
     document: &mut Document,
 ) -> Result<Bson>
-    ensures id { PutsId document.old document.new result }
+    ensures id { PutsId (S.tells (store_of client.old)) (S.tells (store_of client.new))
+        document.old document.new result }
     ensures draws { MayDrawObjectId (S.tells (store_of client.old)) (S.tells (store_of client.new)) }
+    ensures unused { IsSome (value_of id_key document.old) →
+        S.tells (store_of client.new) ≡ S.tells (store_of client.old) }
     ensures options { options_of client.new ≡ options_of client.old }
 {
     if let Some(id) = document.get(ID_KEY) {

@@ -1,6 +1,6 @@
 -- What running the calls of a script on a new client over a new server makes.
-use Rattle.std.proofs.Common.{◌≡◌, ℕ, zero, suc, ◌+◌, ◌<◌, ◌^◌, List, [], ◌∷◌, ◌++◌, length, refl, ap, ◌∙◌, arith, subst, sym}
-use Rattle.std.specs.Prelude.{Option, None, Some}
+use Rattle.std.proofs.Common.{◌≡◌, ℕ, zero, suc, ◌+◌, ◌<◌, ◌^◌, List, length, refl, ap, ◌∙◌, arith, subst, sym}
+use Rattle.std.specs.Prelude.{Some}
 use Rattle.driver_link.proofs.Counting.{session_ids_first, sessions_apart}
 use Rattle.driver_link.specs.CountingIds.{IdsDrawn, counted_ids, none_drawn, session_at}
 use Rattle.driver_link.specs.Exchange.{after_picks, replayed, empty_server}
@@ -12,8 +12,8 @@ use Rattle.driver_link.specs.declared.ids.IdKind.TheVariants as id
 use Rattle.driver_link.specs.declared.machine.Schedule.{Schedule}
 use Rattle.driver_link.specs.Apart.{AllApart, first_ids}
 use Rattle.model_server.specs.ModelState.{ModelState, model_tells}
-use Rattle.driver_session.specs.Pool.{Pool, StorePool}
-use Rattle.driver_session.specs.StoreTells.{DrawnApart, Draws, StoreTells}
+use Rattle.driver_session.specs.Pool.{StorePool}
+use Rattle.driver_session.specs.StoreTells.{DrawnApart, Draws}
 use Rattle.driver_exec.specs.declared.client.Client.{Client}
 use Rattle.driver_exec.specs.Client.{options_of, store_of}
 use Rattle.driver_exec.specs.Moment.{Moment}
@@ -21,7 +21,7 @@ use Rattle.driver_actions.specs.declared.call.Call.{Call}
 use Rattle.driver_actions.specs.declared.call.Outcome.{Outcome}
 use Rattle.driver_actions.specs.MainTheorem.{Begins, HaveEnded, IsReplayed, KeepsMaking, MainTheorem, MeetsMainTheorem}
 use Rattle.driver_cli.specs.declared.script.Script.{Script}
-use Rattle.driver_cli.specs.Ended.{IsFirstMoment, IsMomentOf, IsRunOf, new_model, new_store, store_tells}
+use Rattle.driver_cli.specs.Ended.{IsFirstMoment, IsMomentOf, IsRunOf, new_store, store_tells}
 
 -- so many ids are as many
 length_first : (count : ℕ) (to_come : ℕ → List ℕ) → length (first_ids count to_come) ≡ count

@@ -108,6 +108,10 @@ SaysTo contents now failed failed_now line = Appends contents now line ⊎ (Rose
 abbrev pub Said : Ends → List ℕ → Type 0
 Said ends line = SaysTo ends.contents ends.contents_now ends.writes_failed ends.writes_failed_now line
 
+-- nothing was written, and no write failed
+abbrev pub IsSilent : Option (List ℕ) → Option (List ℕ) → ℕ → ℕ → Type 0
+IsSilent contents now failed failed_now = (now ≡ contents) × (failed_now ≡ failed)
+
 -- the input was read to its end, it is a script, and the run is one of that script
 pub record HasRun (left left_now : Option (List ℕ)) (run : Run) : Type 0 where
   pub bytes : List ℕ
@@ -174,7 +178,7 @@ failed_line = codes "read failed\n"
 unfoldable pub large_line : List ℕ
 large_line = codes "script too large\n"
 
--- what each status says; after want of memory nothing is said
+-- what each status says; after want of memory nothing was written, and the run is the one before or that of the script
 abbrev pub Ended : Status → Ends → Run → Run → Type 0
 Ended status.Done ends run now = HasRun ends.left ends.left_now now × Appends ends.contents ends.contents_now (report now)
 Ended status.Usage ends run now = Said ends usage_line × (ends.left_now ≡ ends.left) × (now ≡ run)
@@ -183,7 +187,8 @@ Ended status.ReadFailed ends run now =
     ReadFailed LIMIT ends.left ends.left_now ends.reads_failed ends.reads_failed_now × Said ends failed_line × (now ≡ run)
 Ended status.WriteFailed ends run now =
     HasRun ends.left ends.left_now now × Rose ends.writes_failed ends.writes_failed_now × TookFront ends.contents ends.contents_now (report now)
-Ended status.Memory ends run now = Unit {0}
+Ended status.Memory ends run now =
+    IsSilent ends.contents ends.contents_now ends.writes_failed ends.writes_failed_now × ((now ≡ run) ⊎ HasRun ends.left ends.left_now now)
 Ended status.TooLarge ends run now = IsTooLarge ends.left ends.left_now × Said ends large_line × (now ≡ run)
 
 -- the number of a status
@@ -208,12 +213,12 @@ command_of words = None
 -- the line of a refused script, where there is memory for it
 abbrev pub Refusal : Option (List ℕ) → Option (List ℕ) → ℕ → ℕ → List ℕ → Status → Type 0
 Refusal contents now failed failed_now path status.Refused = SaysTo contents now failed failed_now (refused_line path)
-Refusal contents now failed failed_now path status.Memory = Unit {0}
+Refusal contents now failed failed_now path status.Memory = IsSilent contents now failed failed_now
 Refusal contents now failed failed_now path other = ⊥
 
 -- the report of a run, where there is memory for it
 abbrev pub Reported : Option (List ℕ) → Option (List ℕ) → ℕ → ℕ → Run → Status → Type 0
 Reported contents now failed failed_now run status.Done = Appends contents now (report run)
 Reported contents now failed failed_now run status.WriteFailed = Rose failed failed_now × TookFront contents now (report run)
-Reported contents now failed failed_now run status.Memory = Unit {0}
+Reported contents now failed failed_now run status.Memory = IsSilent contents now failed failed_now
 Reported contents now failed failed_now run other = ⊥

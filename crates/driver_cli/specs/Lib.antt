@@ -1,6 +1,7 @@
 pub mod Distinct
 pub mod Ended
 pub mod Json
+pub mod Keys
 pub mod Lines
 pub mod Report
 pub mod Script

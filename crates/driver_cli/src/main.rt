@@ -8,6 +8,7 @@ mod details;
 mod distinct;
 mod json;
 mod keys;
+pub mod laws;
 mod leaves;
 mod lines;
 mod namespaces;

@@ -15,9 +15,9 @@ use Rattle.driver_link.specs.Reads.{Reads}
 use Rattle.driver_session.specs.declared.retryability.Retryability.{Retryability}
 use Rattle.driver_ops.specs.declared.command.Command.{Command}
 use Rattle.driver_ops.specs.Fields.{FramesUnder, SendContext, under}
-use Rattle.driver_ops.specs.Operations.{BuildsCommand, HasBodies, IsBuilt, IsFixed, OperationSpec, Refuses, SameSpec, StaysFixed, TellsUnframed, batch_of, send_of}
+use Rattle.driver_ops.specs.Operations.{BuildsCommand, HasBodies, IsBuilt, IsFixed, IsUnframed, OperationSpec, Refuses, SameSpec, StaysFixed, batch_of, send_of}
 use Rattle.driver_ops.specs.SendKinds.{SendKind}
-use Rattle.driver_ops.proofs.Frames.{no_memory, reads_as_asked, unframed}
+use Rattle.driver_ops.proofs.Frames.{reads_as_asked, unframed}
 use Rattle.driver_exec.specs.declared.attempt_end.AttemptEnd.{AttemptEnd}
 use Rattle.driver_exec.specs.declared.attempt_end.AttemptEnd.TheVariants.{Ended, Unfit}
 use Rattle.driver_exec.specs.Attempting.{builds_again}
@@ -101,7 +101,7 @@ module _ {A : Type 0} (spec : OperationSpec A) (which : SendKind) (places : List
 
   -- why there is no frame
   abbrev Why : Error → Type 0
-  Why error = ((builds_again again held ≡ false) × Refuses spec conn.description error) ⊎ TellsUnframed spec (under (held_id numbered) number) (kind_of error)
+  Why error = ((builds_again again held ≡ false) × Refuses spec conn.description error) ⊎ (IsUnframed spec (under (held_id numbered) number) error ⊎ (kind_of error ≡ kind.Memory))
 
   -- the build was refused, or there was no memory for it
   pub ends_unbuilt : (error : Error) (found : Bool) (attempt : AttemptEnd A) → found ≡ builds_again again held → (Refuses spec conn.description error ⊎ (kind_of error ≡ kind.Memory))
@@ -117,13 +117,10 @@ module _ {A : Type 0} (spec : OperationSpec A) (which : SendKind) (places : List
         ends = ap (λ e. Ended e) ends.0;
       }))
     where
-      of_memory : kind_of error ≡ kind.Memory → Why error
-      of_memory memory = inr (no_memory spec (under (held_id numbered) number) (kind_of error) memory)
-
       why : Why error
       why = elim refused [
-        | inl is_refused ↦ elim ends.1 [ inl first ↦ inl (sym is ∙ first, is_refused) | inr memory ↦ of_memory memory ]
-        | inr memory ↦ of_memory memory
+        | inl is_refused ↦ elim ends.1 [ inl first ↦ inl (sym is ∙ first, is_refused) | inr memory ↦ inr (inr memory) ]
+        | inr memory ↦ inr (inr memory)
       ]
   ends_unbuilt error found Unfit is refused ends same uncounted = elim refused [
     | inl is_refused ↦ inr (inr (inl (record {
@@ -151,7 +148,10 @@ module _ {A : Type 0} (spec : OperationSpec A) (which : SendKind) (places : List
       error = error;
       number = number;
       draws = draws;
-      why = inr (unframed spec which built.statements (under (held_id numbered) number) command (kind_of error) framed.0 built.built framed.1);
+      why = inr (elim framed.1 [
+        | inl memory ↦ inr memory
+        | inr none ↦ inl (unframed spec which built.statements (under (held_id numbered) number) command error framed.0 built.built none)
+      ]);
       link_is = same;
       uncounted = uncounted;
       ends = ends;

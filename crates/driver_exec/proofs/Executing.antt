@@ -213,7 +213,3 @@ decided_sent kept failure own sharded retry is = by_test (may_be_retried (told f
 pub one_left : (kept : Option RetryState) → AtMostOne kept → limit_reached kept ≡ false → 0 < attempts_left kept
 one_left None once goes_on = omega arith
 one_left (Some kept) once goes_on = let within : kept.attempt ≤ kept.limit = omega (arith, ltb-false) in omega (arith, once.0)
-
--- so one send more is within the bound
-pub one_send_more : (before now most : ℕ) (kept : Option RetryState) → before + attempts_left kept ≤ most → AtMostOne kept → limit_reached kept ≡ false → now ≤ before + 1 → now ≤ most
-one_send_more before now most kept few once goes_on more = let left = one_left kept once goes_on in omega (arith, few, left, more)

@@ -1,11 +1,12 @@
 -- The session that an operation holds: where it is from, what its number is before the first send, and that the link's
 -- connections take sessions where there is one.
-use Rattle.std.proofs.Common.{◌≡◌, ℕ, List, [], ◌∷◌, refl, sym, ap, subst, ◌∙◌}
-use Rattle.std.specs.Prelude.{ℤ, Bool, true, false, ◌&&◌, Option, None, Some, is_none, is_some, Result, Ok, Err, if◌then◌else◌}
+use Rattle.std.proofs.Common.{◌≡◌, ℕ, List, [], ◌∷◌, refl, sym, ap, subst, ◌∙◌, inl, inr}
+use Rattle.std.specs.Prelude.{ℤ, Bool, true, false, ◌&&◌, Option, None, Some, is_none, is_some, ◌⊎◌, Result, Ok, Err, if◌then◌else◌}
 use Rattle.std.specs.Option.{option_map}
 use Rattle.driver_error.specs.declared.error.Error.{Error}
 use Rattle.driver_error.specs.declared.kind.ErrorKind.TheVariants as kind
-use Rattle.driver_error.specs.Error.{ErrorKind, kind_of}
+use Rattle.driver_error.specs.Error.{IsAlone, kind_of}
+use Rattle.driver_error.specs.LabelTexts.{no_labels}
 use Rattle.driver_link.specs.declared.fault.LinkError.{LinkError}
 use Rattle.driver_link.specs.declared.fault.LinkError.TheVariants.{Fault, Memory}
 use Rattle.driver_link.specs.declared.machine.Setup.{Setup}
@@ -19,7 +20,7 @@ use Rattle.driver_session.specs.declared.retryability.Retryability.{Retryability
 use Rattle.driver_session.specs.declared.retryability.Retryability.TheVariants as may
 use Rattle.driver_session.specs.Pool.{Pool, session_out}
 use Rattle.driver_session.specs.StoreTells.{LendsFrom, LendsSession, StoreTells}
-use Rattle.driver_session.specs.Session.{Numbers, Session, TellsEnd, last_number}
+use Rattle.driver_session.specs.Session.{IsAtItsEnd, Numbers, Session, last_number, number_at_its_end}
 use Rattle.driver_exec.specs.Attempting.{asks_session, held_after, on_connection}
 use Rattle.driver_exec.specs.Causes.{IsLast, MayBeLast, lent_number, next_number, number_in}
 use Rattle.driver_exec.specs.Holding.{DrawsNumber, DrawsSession, GivesNumber, ExecutionSession, HoldsSession, dirty_session, needs_session}
@@ -241,36 +242,40 @@ last_draws_none next turn held numbered number last is_write unsent holds first 
     by_session None now some first draws = not_both (sym some)
     by_session (Some session) now some first draws = by_next session draws.numbered draws.next first draws.numbers draws.gives
 
--- an error that tells that the numbers may be at their end, or want of memory
-abbrev pub AtEnd : Option ℤ → ErrorKind → Type 0
-AtEnd next (kind.Internal message) = MayBeLast next
-AtEnd next kind.Memory = Unit {0}
-AtEnd next _ = ⊥
+-- the numbers may be at their end, and an error tells so and nothing else
+pub record AtEndBy (next : Option ℤ) (error : Error) : Type 0 where
+  pub may : MayBeLast next
+  pub is : IsAlone (kind.Internal number_at_its_end) no_labels error
+
+-- an error tells so, or of want of memory
+abbrev pub AtEnd : Option ℤ → Error → Type 0
+AtEnd next error = (kind_of error ≡ kind.Memory) ⊎ AtEndBy next error
 
 -- where there is no number, an error tells why
 pub unnumbered_at_end : (next : Option ℤ) (turn : Retryability) (held numbered : ExecutionSession) (error : Error) → IsFirst held.session held.sent next
-    → DrawsNumber held.sent turn held numbered (Err error) → AtEnd next (kind_of error)
+    → DrawsNumber held.sent turn held numbered (Err error) → AtEnd next error
 unnumbered_at_end next turn held numbered error first draws = by_sent held.sent first draws
   where
     err_ok : (number : Option ℤ) → ◌≡◌ {A = Result (Option ℤ) Error} (Err error) (Ok number) → ⊥
     err_ok number same = cc
 
-    tells : (session : Session) (why : ErrorKind) → FitsNumber next session.number → TellsEnd session why → AtEnd next why
-    tells session (kind.Internal message) fits ends = may_be_last next session.number fits ends.0
-    tells session kind.Memory fits ends = tt
-    tells session _ fits ends = absurd ends
+    tells : (session : Session) (other : Error) → FitsNumber next session.number → ((kind_of other ≡ kind.Memory) ⊎ IsAtItsEnd session other) → AtEnd next other
+    tells session other fits ends = elim ends [
+      | inl memory ↦ inl memory
+      | inr at ↦ inr (record { may = may_be_last next session.number fits at.last; is = at.is })
+    ]
 
     by_next : (session back : Session) (given : Result ℤ Error) → FitsNumber next session.number → Numbers session back given → GivesNumber given (Err error)
-        → AtEnd next (kind_of error)
+        → AtEnd next error
     by_next session back (Ok drawn) fits numbers gives = absurd (err_ok (Some drawn) gives)
     by_next session back (Err other) fits numbers gives =
-        let same : other ≡ error = cc (sym gives) in subst (λ e. AtEnd next (kind_of e)) same (tells session (kind_of other) fits numbers.1)
+        let same : other ≡ error = cc (sym gives) in subst (AtEnd next) same (tells session other fits numbers.1)
 
-    by_turn : (turn : Retryability) (session now : Option Session) → IsFirst session None next → DrawsSession turn session now (Err error) → AtEnd next (kind_of error)
+    by_turn : (turn : Retryability) (session now : Option Session) → IsFirst session None next → DrawsSession turn session now (Err error) → AtEnd next error
     by_turn may.Write (Some session) now first draws = by_next session draws.numbered draws.next first draws.numbers draws.gives
     by_turn may.Write None now first draws = absurd (err_ok None draws.1)
     by_turn other session now first draws = absurd (err_ok None draws.1)
 
-    by_sent : (sent : Option (Option ℤ)) → IsFirst held.session sent next → DrawsNumber sent turn held numbered (Err error) → AtEnd next (kind_of error)
+    by_sent : (sent : Option (Option ℤ)) → IsFirst held.session sent next → DrawsNumber sent turn held numbered (Err error) → AtEnd next error
     by_sent (Some before) first draws = absurd (err_ok before draws.1)
     by_sent None first draws = by_turn turn held.session draws.session first draws.draws

@@ -2,6 +2,7 @@ pub mod Attempted
 pub mod Attempts
 pub mod Borrowing
 pub mod Causes
+pub mod ClockReadings
 pub mod Commanding
 pub mod Completing
 pub mod Courses
@@ -20,5 +21,6 @@ pub mod Resending
 pub mod Resends
 pub mod Retelling
 pub mod Sameness
+pub mod SendCounts
 pub mod Storing
 pub mod Trying

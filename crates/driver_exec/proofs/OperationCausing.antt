@@ -4,9 +4,10 @@ use Rattle.std.specs.Prelude.{ℤ, Bool, true, false, Option, None, Some, IfSome
 use Rattle.driver_error.specs.declared.error.Error.{Error, out-Error, out-roll-Error}
 use Rattle.driver_error.specs.declared.kind.ErrorKind.TheVariants as kind
 use Rattle.driver_error.specs.declared.labels.TheConstants.{RETRYABLE_WRITE_ERROR}
-use Rattle.driver_error.specs.Error.{ErrorKind, kind_of, labels_of, with_kind}
-use Rattle.driver_error.specs.LabelTexts.{LabelSet, label_set, with_label}
+use Rattle.driver_error.specs.Error.{IsAlone, kind_of, labels_of, with_kind}
+use Rattle.driver_error.specs.LabelTexts.{LabelSet, label_set, no_labels, with_label}
 use Rattle.driver_error.specs.Predicates.{of_network}
+use Rattle.driver_link.specs.Clock.{ClockTells}
 use Rattle.driver_link.specs.declared.fault.Answered.{Answered}
 use Rattle.driver_link.specs.declared.fault.Answered.TheVariants as answer
 use Rattle.driver_link.specs.declared.fault.LinkCall.{LinkCall}
@@ -31,7 +32,7 @@ use Rattle.driver_session.specs.declared.retryability.Retryability.{Retryability
 use Rattle.driver_session.specs.declared.retryability.Retryability.TheVariants as may
 use Rattle.driver_session.specs.StoreTells.{StoreTells}
 use Rattle.driver_ops.specs.Fields.{SendContext, under}
-use Rattle.driver_ops.specs.Operations.{Batch, OperationSpec, Refuses, TellsUnframed, front}
+use Rattle.driver_ops.specs.Operations.{Batch, IsUnframed, OperationSpec, Refuses, front}
 use Rattle.driver_ops.specs.SendKinds.{SendKind}
 use Rattle.driver_exec.specs.declared.attempt_end.AttemptEnd.{AttemptEnd}
 use Rattle.driver_exec.specs.declared.attempt_end.AttemptEnd.TheVariants.{Done, Ended, Failed, Stopped, Unfit, Unselected}
@@ -234,17 +235,15 @@ module _ {A : Type 0} (on : Grounds A) (before now : ℕ) (items : List Answered
   memory_at_last is = subst (KindAtLast) (sym is) tt
 
   -- a session that a connection does not take
-  sessions_needs : on.setup ≡ None → kind_of error ≡ kind.SessionsNotSupported → EndNeeds on before now items (Some (outline_of error))
-  sessions_needs none is = inl (subst (KindNeeds on before now items (labels_of error)) (sym is) none)
+  sessions_needs : on.setup ≡ None → IsAlone kind.SessionsNotSupported no_labels error → EndNeeds on before now items (Some (outline_of error))
+  sessions_needs none is = inl (subst (KindNeeds on before now items (labels_of error)) (sym is.kind_is) (none, is.labels_are))
 
   -- a built command without a frame
-  unspelled_needs : (context : SendContext) → TellsUnframed on.spec context (kind_of error) → EndNeeds on before now items (Some (outline_of error))
-  unspelled_needs context tells = inl (by_kind (kind_of error) tells)
-    where
-      by_kind : (why : ErrorKind) → TellsUnframed on.spec context why → KindNeeds on before now items (labels_of error) why
-      by_kind (kind.BsonSerialization refusal) tells = record { context = context; is = tells }
-      by_kind kind.Memory tells = tt
-      by_kind _ tells = absurd tells
+  unspelled_needs : (context : SendContext) → (IsUnframed on.spec context error ⊎ (kind_of error ≡ kind.Memory)) → EndNeeds on before now items (Some (outline_of error))
+  unspelled_needs context why = elim why [
+    | inl none ↦ inl (subst (KindNeeds on before now items (labels_of error)) (sym none.is.kind_is) (record { context = context; is = none.none }, none.is.labels_are))
+    | inr memory ↦ memory_needs memory
+  ]
 
   -- a build that was refused
   refused_needs : (description : Description) → IsOf on.setup description → Refuses on.spec description error → EndNeeds on before now items (Some (outline_of error))
@@ -255,22 +254,18 @@ module _ {A : Type 0} (on : Grounds A) (before now : ℕ) (items : List Answered
       told (Some setup) is = is
 
   -- no number was left
-  end_needs : AtEnd on.number (kind_of error) → EndNeeds on before now items (Some (outline_of error))
-  end_needs tells = inl (by_kind (kind_of error) tells)
-    where
-      by_kind : (why : ErrorKind) → AtEnd on.number why → KindNeeds on before now items (labels_of error) why
-      by_kind (kind.Internal message) tells = tells
-      by_kind kind.Memory tells = tt
-      by_kind _ tells = absurd tells
+  end_needs : AtEnd on.number error → EndNeeds on before now items (Some (outline_of error))
+  end_needs tells = elim tells [
+    | inl memory ↦ memory_needs memory
+    | inr ends ↦ inl (subst (KindNeeds on before now items (labels_of error)) (sym ends.is.kind_is) (ends.may, refl, ends.is.labels_are))
+  ]
 
   -- no number was left, where the numbers are at their end
-  end_at_last : AtEnd on.number (kind_of error) → KindAtLast (kind_of error)
-  end_at_last tells = by_kind (kind_of error) tells
-    where
-      by_kind : (why : ErrorKind) → AtEnd on.number why → KindAtLast why
-      by_kind (kind.Internal message) tells = tt
-      by_kind kind.Memory tells = tt
-      by_kind _ tells = absurd tells
+  end_at_last : AtEnd on.number error → KindAtLast (kind_of error)
+  end_at_last tells = elim tells [
+    | inl memory ↦ memory_at_last memory
+    | inr ends ↦ subst (KindAtLast) (sym ends.is.kind_is) tt
+  ]
 
 module _ {A : Type 0} (spec : OperationSpec A) (batch : Batch) (which : SendKind) (own : Retryability) (store : StoreTells) (link : LinkState) where
   -- the operation as its attempts see it
@@ -496,7 +491,7 @@ module _ {A : Type 0} (spec : OperationSpec A) (batch : Batch) (which : SendKind
           let none = sessionless (setup_of link) conn.description ready.held.session (is_conn ready address conn readies) (stands_ready ready address conn readies).takes refused.none in record {
             more = [];
             adds = refused_adds;
-            needs = sessions_needs on mid.link.faults now.link.faults [] error none refused.is.kind_is;
+            needs = sessions_needs on mid.link.faults now.link.faults [] error none refused.is;
             early = λ at unsent. absurd (none_draws spec.sessions own (subst (DrawsNumbers spec.sessions own) none at.draws));
           }
 
@@ -551,8 +546,8 @@ module _ {A : Type 0} (spec : OperationSpec A) (batch : Batch) (which : SendKind
     early : AtLast → AllEarly items × (now.held.sent ≡ None) × KeptHas Lasts kept
 
   -- an operation that has not begun
-  begins : (count : ℕ) → SoFar None (first_state store link count)
-  begins count = record { items = []; adds = adds_nothing link; stands = stands_at_first store (setup_of link); needs = tt; early = λ at. (tt, refl, tt) }
+  begins : (clock : ClockTells) (count : ℕ) → SoFar None (first_state store link clock count)
+  begins clock count = record { items = []; adds = adds_nothing link; stands = stands_at_first store (setup_of link); needs = tt; early = λ at. (tt, refl, tt) }
 
   -- one more failure, and what is decided after it
   module _ (sharded : Bool) (kept : Option RetryState) (mid now : AttemptState) (far : SoFar kept mid) (failing : AttemptFailure) (past : Option RetryState) (tries : Tries trial past mid now (Failed failing)) where
@@ -608,14 +603,14 @@ module _ {A : Type 0} (spec : OperationSpec A) (batch : Batch) (which : SendKind
     }
 
   -- each moment that an operation reaches
-  reaches_far : (count : ℕ) (sharded : Bool) (failures : List AttemptFailure) (kept : Option RetryState) (now : AttemptState) → Reaches trial sharded (first_state store link count) failures kept now → SoFar kept now
-  reaches_far count sharded [] kept now reaches = subst (λ k. SoFar k now) (sym reaches.0) (subst (SoFar None) (sym reaches.1) (begins count))
-  reaches_far count sharded (failing ∷ failures) kept now reaches =
+  reaches_far : (clock : ClockTells) (count : ℕ) (sharded : Bool) (failures : List AttemptFailure) (kept : Option RetryState) (now : AttemptState) → Reaches trial sharded (first_state store link clock count) failures kept now → SoFar kept now
+  reaches_far clock count sharded [] kept now reaches = subst (λ k. SoFar k now) (sym reaches.0) (subst (SoFar None) (sym reaches.1) (begins clock count))
+  reaches_far clock count sharded (failing ∷ failures) kept now reaches =
       let mid = reaches.1.1.0 in
       let rest = reaches.1.1.1 in
       let earlier = rest.0 in
       let fails = rest.1.1 in
-      let far = reaches_far count sharded failures earlier mid rest.1.0 in
+      let far = reaches_far clock count sharded failures earlier mid rest.1.0 in
       subst (λ k. SoFar k now) (sym reaches.1.0) (goes_further sharded earlier mid now far failing earlier fails.tries reaches.0 fails.decides)
 
   -- an end at a moment has its cause
@@ -746,8 +741,8 @@ executes_caused spec batch which before now count count_now result executes =
     let own = spec.retryability before.client.options in
     let link = besides_out before.link in
     let attempts = executes.attempts in
-    let came = came_of (trial_of spec batch which own) executes.sharded (first_state before.store link count) executes.last result attempts in
-    let far = reaches_far spec batch which own before.store link count executes.sharded came.0 attempts.kept attempts.mid came.1 in
+    let came = came_of (trial_of spec batch which own) executes.sharded (first_state before.store link before.clock count) executes.last result attempts in
+    let far = reaches_far spec batch which own before.store link before.clock count executes.sharded came.0 attempts.kept attempts.mid came.1 in
     let caused = caused_ends spec batch which own before.store link executes.sharded attempts.kept attempts.mid executes.last far result attempts.ends in
     let ends = subst (λ l. EndsCaused (grounds spec before) link l (end_of result)) (sym executes.link_is) caused in
     record { items = ends.items; noted = ends.noted; never_falls = ends.never_falls; needs = ends.needs; at_last = ends.at_last }

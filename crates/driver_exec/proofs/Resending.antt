@@ -2,6 +2,7 @@
 use Rattle.std.proofs.Common.{◌≡◌, ℕ, suc, ◌+◌, ◌≤◌, List, [], ◌∷◌, length, refl, sym, ap, subst, ◌∙◌, inl, inr, arith}
 use Rattle.std.specs.Prelude.{ℤ, Bool, true, Option, None, Some, Result, Ok, Err}
 use Rattle.driver_error.specs.declared.error.Error.{Error}
+use Rattle.driver_link.specs.Clock.{ClockTells}
 use Rattle.driver_link.specs.declared.fault.LinkError.TheVariants.{Fault}
 use Rattle.driver_link.specs.LinkState.{LinkState, server_run}
 use Rattle.driver_session.specs.declared.retryability.Retryability.{Retryability}
@@ -34,15 +35,15 @@ use Rattle.driver_exec.proofs.Attempted.{CourseAt, OverAt, failed_course, goes_p
 
 module _ {A : Type 0} (trial : Trial A) (sharded : Bool) (store : StoreTells) (link : LinkState) where
   -- where an operation has come so far
-  reaches_course : (count : ℕ) (failures : List AttemptFailure) (kept : Option RetryState) (now : AttemptState) → Reaches trial sharded (first_state store link count) failures kept now
+  reaches_course : (clock : ClockTells) (count : ℕ) (failures : List AttemptFailure) (kept : Option RetryState) (now : AttemptState) → Reaches trial sharded (first_state store link clock count) failures kept now
       → CourseAt trial store link (length failures) now × MayGoOn now.held.sent
-  reaches_course count [] kept now reaches =
+  reaches_course clock count [] kept now reaches =
       subst (λ s. CourseAt trial store link 0 s × MayGoOn s.held.sent) (sym reaches.1) (starts trial.spec trial.batch store (server_run link), tt)
-  reaches_course count (failing ∷ failures) kept now reaches =
+  reaches_course clock count (failing ∷ failures) kept now reaches =
       let mid = reaches.1.1.0 in
       let rest = reaches.1.1.1 in
       let earlier = rest.0 in
-      let came = reaches_course count failures earlier mid rest.1.0 in
+      let came = reaches_course clock count failures earlier mid rest.1.0 in
       let fails = rest.1.1 in (
         failed_course trial store link earlier (length failures) mid came.1 came.0 now failing fails.tries,
         goes_phase trial store link earlier (length failures) mid came.1 came.0 now failing.address failing.phase failing.error fails.tries.0
@@ -50,17 +51,17 @@ module _ {A : Type 0} (trial : Trial A) (sharded : Bool) (store : StoreTells) (l
       )
 
   -- how many attempts there were
-  record Few (failures : List AttemptFailure) (kept : Option RetryState) : Type 0 where
-    once : AtMostOne kept
-    left : length failures + attempts_left kept ≤ 2
+  pub record Few (failures : List AttemptFailure) (kept : Option RetryState) : Type 0 where
+    pub once : AtMostOne kept
+    pub left : length failures + attempts_left kept ≤ 2
 
-  reaches_few : (count : ℕ) (failures : List AttemptFailure) (kept : Option RetryState) (now : AttemptState) → Reaches trial sharded (first_state store link count) failures kept now → Few failures kept
-  reaches_few count [] kept now reaches = subst (Few []) (sym reaches.0) (record { once = tt; left = omega arith })
-  reaches_few count (failing ∷ failures) kept now reaches =
+  pub reaches_few : (clock : ClockTells) (count : ℕ) (failures : List AttemptFailure) (kept : Option RetryState) (now : AttemptState) → Reaches trial sharded (first_state store link clock count) failures kept now → Few failures kept
+  reaches_few clock count [] kept now reaches = subst (Few []) (sym reaches.0) (record { once = tt; left = omega arith })
+  reaches_few clock count (failing ∷ failures) kept now reaches =
       let mid = reaches.1.1.0 in
       let rest = reaches.1.1.1 in
       let earlier = rest.0 in
-      let few = reaches_few count failures earlier mid rest.1.0 in
+      let few = reaches_few clock count failures earlier mid rest.1.0 in
       let fails = rest.1.1 in
       let fewer = decided_fewer failing trial.own sharded earlier reaches.0 few.once fails.goes_on fails.decides in
       subst (Few (failing ∷ failures)) (sym reaches.1.0) (record { once = fewer.once; left = omega (arith, few.left, fewer.fewer) })
@@ -230,11 +231,11 @@ module _ {A : Type 0} (trial : Trial A) (sharded : Bool) (store : StoreTells) (l
     over : OverAt trial store link most now
     ends : EndsWithReading trial.spec trial.batch (server_run link) (server_run now.link) (id_of now.held.session) (number_of now.held.sent) result
 
-  finishes : (count : ℕ) (failures : List AttemptFailure) (kept : Option RetryState) (mid now : AttemptState) (result : Result A Error) → Reaches trial sharded (first_state store link count) failures kept mid
+  finishes : (clock : ClockTells) (count : ℕ) (failures : List AttemptFailure) (kept : Option RetryState) (mid now : AttemptState) (result : Result A Error) → Reaches trial sharded (first_state store link clock count) failures kept mid
       → Ends trial sharded kept mid now result → Finished now result
-  finishes count failures kept mid now result reaches ends =
-      let came = reaches_course count failures kept mid reaches in
-      let few = reaches_few count failures kept mid reaches in
+  finishes clock count failures kept mid now result reaches ends =
+      let came = reaches_course clock count failures kept mid reaches in
+      let few = reaches_few clock count failures kept mid reaches in
       elim ends [
         | inl last ↦
             let left = one_left kept few.once last.goes_on in
@@ -299,12 +300,12 @@ module _ {A : Type 0} (spec : OperationSpec A) (batch : Batch) (which : SendKind
   trial = trial_of spec batch which (spec.retryability before.client.options)
 
   -- its attempts are those of a loop
-  came : Came trial executes.sharded (first_state before.store (besides_out before.link) count) executes.attempts.kept executes.attempts.mid
-  came = came_of trial executes.sharded (first_state before.store (besides_out before.link) count) executes.last result executes.attempts
+  came : Came trial executes.sharded (first_state before.store (besides_out before.link) before.clock count) executes.attempts.kept executes.attempts.mid
+  came = came_of trial executes.sharded (first_state before.store (besides_out before.link) before.clock count) executes.last result executes.attempts
 
   -- so it is over
   done : Finished trial executes.sharded before.store (besides_out before.link) executes.last result
-  done = finishes trial executes.sharded before.store (besides_out before.link) count came.0 executes.attempts.kept executes.attempts.mid executes.last result came.1 executes.attempts.ends
+  done = finishes trial executes.sharded before.store (besides_out before.link) before.clock count came.0 executes.attempts.kept executes.attempts.mid executes.last result came.1 executes.attempts.ends
 
   -- the server is that of the last attempt
   server_is : server_run now.link ≡ server_run executes.last.link

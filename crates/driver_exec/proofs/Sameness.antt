@@ -2,7 +2,6 @@
 use Rattle.std.proofs.Common.{ℕ, List, subst, inl, inr}
 use Rattle.std.specs.Prelude.{Option, Result, Ok, Err}
 use Rattle.driver_error.specs.declared.error.Error.{Error}
-use Rattle.driver_error.specs.Error.{kind_of}
 use Rattle.driver_link.specs.declared.fault.LinkError.{LinkError}
 use Rattle.driver_link.specs.declared.options.Address.{Address}
 use Rattle.driver_link.specs.declared.options.Conn.{Conn}
@@ -16,7 +15,8 @@ use Rattle.driver_exec.specs.declared.attempt_end.AttemptEnd.TheVariants.{Done, 
 use Rattle.driver_exec.specs.declared.failure.FailurePhase.{FailurePhase}
 use Rattle.driver_exec.specs.declared.failure.FailurePhase.TheVariants.{ConnectionEstablishment, Execution}
 use Rattle.driver_exec.specs.Attempting.{EndsAtOnce, Exchanges, FailsIn, Readies, AttemptState, Sends, Trial, Tries, asks_session, trial_of}
-use Rattle.driver_exec.specs.Holding.{HoldsSession, needs_session}
+use Rattle.driver_exec.specs.Holding.{needs_session}
+use Rattle.driver_exec.specs.inside.Holding.{HoldsAt}
 use Rattle.driver_exec.specs.Retry.{RetryState}
 use Rattle.driver_exec.proofs.Trying.{answers_same, framed_same, refuses_same, unspelled_same}
 
@@ -28,12 +28,10 @@ module _ {A : Type 0} (old now : OperationSpec A) (same : SameSpec old now) (bat
   was = trial_of old batch which own
 
   readies_same : {past : Option RetryState} (before after : AttemptState) (address : Address) (conn : Conn) → Readies told past before after address conn → Readies was past before after address conn
-  readies_same before after address conn readies = record {
-    connects = readies.connects;
-    holds = subst (λ sessions. HoldsSession (needs_session (asks_session sessions conn.description) before.held) before.store after.store before.held after.held (Ok tt)) same.sessions
-        readies.holds;
-    count = readies.count;
-  }
+  readies_same before after address conn readies =
+      let holds = subst (λ sessions. HoldsAt (needs_session (asks_session sessions conn.description) before.held) before.store after.store before.clock after.clock before.held after.held (Ok tt))
+      same.sessions (record { holds = readies.holds; lent_at = readies.lent_at }) in
+      record { connects = readies.connects; holds = holds.holds; lent_at = holds.lent_at; count = readies.count }
 
   exchanges_same : (link link_now : LinkState) (conn : Conn) (context : SendContext) (result : Result (List ℕ) LinkError)
       → Exchanges now which batch link link_now conn context result → Exchanges old which batch link link_now conn context result
@@ -56,6 +54,7 @@ module _ {A : Type 0} (old now : OperationSpec A) (same : SameSpec old now) (bat
     draws = sends.draws;
     exchanges = exchanges_same _ _ _ _ result sends.exchanges;
     store_is = sends.store_is;
+    clock_is = sends.clock_is;
     held_is = sends.held_is;
     counted = sends.counted;
   }
@@ -106,6 +105,7 @@ module _ {A : Type 0} (old now : OperationSpec A) (same : SameSpec old now) (bat
         readies = readies_same before refused.ready refused.address refused.conn refused.readies;
         link = refused.link;
         store = refused.store;
+        clock = refused.clock;
         count = refused.count;
         refused = elim refused.refused [
           | inl none ↦ inl none
@@ -118,7 +118,10 @@ module _ {A : Type 0} (old now : OperationSpec A) (same : SameSpec old now) (bat
               allowed = none.allowed;
               why = elim none.why [
                 | inl early ↦ inl (early.0, refuses_same old now same refused.conn.description error early.1)
-                | inr unspelled ↦ inr (unspelled_same old now same _ (kind_of error) unspelled)
+                | inr late ↦ inr (elim late [
+                  | inl unspelled ↦ inl (unspelled_same old now same _ error unspelled)
+                  | inr memory ↦ inr memory
+                ])
               ];
             }))
           ]
@@ -163,6 +166,7 @@ module _ {A : Type 0} (old now : OperationSpec A) (same : SameSpec old now) (bat
       readies = readies_same before tries.1.ready tries.1.address tries.1.conn tries.1.readies;
       link = tries.1.link;
       store = tries.1.store;
+      clock = tries.1.clock;
       count = tries.1.count;
       allowed = tries.1.allowed;
       goes = tries.1.goes;

@@ -3,8 +3,9 @@ use Rattle.std.proofs.Common.{◌≡◌, ℕ, ◌≤◌, List, [], ◌∷◌, re
 use Rattle.std.specs.Prelude.{ℤ, Bool, true, false, ◌&&◌, Option, None, Some, is_some, Result, Ok, Err}
 use Rattle.driver_error.specs.declared.error.Error.{Error}
 use Rattle.driver_error.specs.declared.kind.ErrorKind.TheVariants as kind
-use Rattle.driver_error.specs.Error.{ErrorKind, IsAlone}
+use Rattle.driver_error.specs.Error.{IsAlone}
 use Rattle.driver_error.specs.LabelTexts.{no_labels}
+use Rattle.driver_link.specs.Clock.{ClockTells}
 use Rattle.driver_link.specs.declared.fault.Answered.{Answered}
 use Rattle.driver_link.specs.declared.fault.LinkCall.{LinkCall}
 use Rattle.driver_link.specs.declared.fault.LinkCall.TheVariants.{CheckOut, Select}
@@ -22,21 +23,24 @@ use Rattle.driver_link.specs.LinkState.{GainsAll, GainsAnswer, HandsBack, LinkSt
 use Rattle.driver_link.proofs.Handing.{handed_back_last, same_number}
 use Rattle.driver_link.specs.ServerRun.{ServerRun}
 use Rattle.driver_session.specs.declared.retryability.Retryability.{Retryability}
-use Rattle.driver_session.specs.StoreTells.{StoreTells}
+use Rattle.driver_session.specs.Session.{Session}
+use Rattle.driver_session.specs.StoreTells.{LendsSession, StoreTells, TakesSession}
 use Rattle.driver_ops.specs.declared.command.Command.{Command}
 use Rattle.driver_ops.specs.declared.operation.Reading.TheVariants as read
 use Rattle.driver_ops.specs.Fields.{SendContext}
-use Rattle.driver_ops.specs.Operations.{Batch, IsBuilt, IsFramed, OperationSpec, ReadsAnswer, Refuses, SameSpec, TellsUnframed}
+use Rattle.driver_ops.specs.Operations.{Batch, IsBuilt, IsFramed, IsUnframed, OperationSpec, ReadsAnswer, Refuses, SameSpec}
 use Rattle.driver_ops.specs.SendKinds.{SendKind}
 use Rattle.driver_exec.specs.declared.attempt_end.AttemptEnd.{AttemptEnd}
 use Rattle.driver_exec.specs.declared.attempt_end.AttemptEnd.TheVariants.{Ended, Failed, Stopped, Unselected}
 use Rattle.driver_exec.specs.Attempting.{AsksEarly, AttemptState, Connects, FailsIn, LosesExchange, NotConnected, Readies, Selects, Sends, SpellsFailure, Trial, Tries, asked_for, asks_session, avoided, besides_out, is_nothing, may_use, on_connection, stops, trial_of}
 use Rattle.driver_exec.specs.Causes.{AllEarly}
-use Rattle.driver_exec.specs.Holding.{ExecutionSession, HoldsSession, needs_session, number_before}
+use Rattle.driver_exec.specs.Holding.{ExecutionSession, needs_session, number_before}
+use Rattle.driver_exec.specs.Readings.{IsReadAt, OnlyRead}
 use Rattle.driver_exec.specs.Retry.{RetryState}
 use Rattle.driver_exec.proofs.Attempts.{check_out_counts, counts_twice, select_counts, sent_number}
 use Rattle.driver_exec.proofs.Causes.{notes_since}
 use Rattle.driver_exec.specs.inside.Attempting.{Comes, Sending, attempt_state}
+use Rattle.driver_exec.specs.inside.Holding.{GivesBackAt, HoldsAt}
 use Rattle.driver_exec.specs.inside.Failures.{EndsLost, EndsRead, EndsUnconnected, EndsUnselected}
 
 -- only calls of the link were counted, and nothing was exchanged
@@ -222,17 +226,20 @@ module _ {A : Type 0} (old now : OperationSpec A) (same : SameSpec old now) wher
   refuses_same description error refuses = record { refused = (same.refused description error).1 refuses.refused; may = refuses.may; alone = refuses.alone }
 
   -- so is a command without a spelling
-  pub unspelled_same : (context : SendContext) (why : ErrorKind) → TellsUnframed now context why → TellsUnframed old context why
-  unspelled_same context (kind.BsonSerialization fault) none = record {
-    which = none.which;
-    statements = none.statements;
-    command = none.command;
-    is = (same.commands none.which none.statements none.command).1 none.is;
-    sixteen = none.sixteen;
-    refused = none.refused;
-  }
-  unspelled_same context kind.Memory none = tt
-  unspelled_same context _ none = absurd none
+  pub unspelled_same : (context : SendContext) (error : Error) → IsUnframed now context error → IsUnframed old context error
+  unspelled_same context error unframed =
+      let none = unframed.none in record {
+        fault = unframed.fault;
+        none = record {
+          which = none.which;
+          statements = none.statements;
+          command = none.command;
+          is = (same.commands none.which none.statements none.command).1 none.is;
+          sixteen = none.sixteen;
+          refused = none.refused;
+        };
+        is = unframed.is;
+      }
 
   -- and a reply that was read
   pub answers_same : (reply : List ℕ) (answer : Result A Error) → ReadsAnswer now reply answer → ReadsAnswer old reply answer
@@ -258,87 +265,108 @@ module _ {A : Type 0} (old now : OperationSpec A) (same : SameSpec old now) wher
       record { answer = comes.answer; reads = answers_same reply comes.answer comes.reads; ends = comes.ends }
   comes_same turn version address number (Err failure) attempt comes = comes
 
+-- a clock that was not read
+pub read_nothing : (clock : ClockTells) → OnlyRead clock clock
+read_nothing clock = record { later = omega arith; slept = refl }
+
+-- one that was read once
+pub read_once : (clock now : ClockTells) (at : ℕ) → IsReadAt clock now at → OnlyRead clock now
+read_once clock now at reads = subst (OnlyRead clock) (sym reads.now_is) (record { later = reads.later; slept = refl })
+
+-- a session that was lent where one was needed, at a reading of the clock
+pub holds_lent : (needed : Bool) → needed ≡ true → (store now : StoreTells) (clock clock_now : ClockTells) (held held_now : ExecutionSession) (session : Session) (at : ℕ)
+    → LendsSession store now at session → held_now ≡ record held { session = Some session } → IsReadAt clock clock_now at → HoldsAt needed store now clock clock_now held held_now (Ok tt)
+holds_lent needed need store now clock clock_now held held_now session at lends is reads =
+    subst (λ n. HoldsAt n store now clock clock_now held held_now (Ok tt)) (sym need) (record { holds = record { at = at; session = session; lends = lends; is = is }; lent_at = reads })
+
+-- a session that came back at a reading of the clock
+pub gives_held : (held : Option Session) (session : Session) → held ≡ Some session → (store now : StoreTells) (clock clock_now : ClockTells) (at : ℕ)
+    → TakesSession store now session at → IsReadAt clock clock_now at → GivesBackAt store now clock clock_now held
+gives_held held session is store now clock clock_now at takes reads =
+    subst (GivesBackAt store now clock clock_now) (sym is) (record { back = record { at = at; takes = takes }; back_at = reads })
+
 module _ {A : Type 0} (spec : OperationSpec A) (batch : Batch) (which : SendKind) (own : Retryability) (past : Option RetryState) where
   abbrev trial : Trial A
   trial = trial_of spec batch which own
 
   -- no server was selected
-  pub unselected_tries : (store : StoreTells) (link now : LinkState) (held : ExecutionSession) (count : ℕ) (failure : LinkError) (attempt : AttemptEnd A)
-      → Selects (avoided past) (besides_out link) (besides_out now) (Err failure) → EndsUnselected failure attempt → Tries trial past (attempt_state store link held count) (attempt_state store now held count) attempt
-  unselected_tries store link now held count (Fault fault labels) (Unselected error) selects is =
-      record { fault = fault; own = labels; selects = selects; is = is; rest = record { store = refl; held = refl; count = refl } }
-  unselected_tries store link now held count (Fault fault labels) (Ended error) selects memory =
-      inl (record { asks = inl (record { failure = Fault fault labels; selects = selects }); store = refl; held = refl; count = refl; why = memory })
-  unselected_tries store link now held count Memory (Ended error) selects memory =
-      inl (record { asks = inl (record { failure = Memory; selects = selects }); store = refl; held = refl; count = refl; why = memory })
-  unselected_tries store link now held count (Fault fault labels) _ selects ends = absurd ends
-  unselected_tries store link now held count Memory _ selects ends = absurd ends
+  pub unselected_tries : (store : StoreTells) (link now : LinkState) (clock : ClockTells) (held : ExecutionSession) (count : ℕ) (failure : LinkError) (attempt : AttemptEnd A)
+      → Selects (avoided past) (besides_out link) (besides_out now) (Err failure) → EndsUnselected failure attempt → Tries trial past (attempt_state store link clock held count) (attempt_state store now clock held count) attempt
+  unselected_tries store link now clock held count (Fault fault labels) (Unselected error) selects is =
+      record { fault = fault; own = labels; selects = selects; is = is; rest = record { store = refl; clock = refl; held = refl; count = refl } }
+  unselected_tries store link now clock held count (Fault fault labels) (Ended error) selects memory =
+      inl (record { asks = inl (record { failure = Fault fault labels; selects = selects }); store = refl; clock = read_nothing clock; held = refl; count = refl; why = memory })
+  unselected_tries store link now clock held count Memory (Ended error) selects memory =
+      inl (record { asks = inl (record { failure = Memory; selects = selects }); store = refl; clock = read_nothing clock; held = refl; count = refl; why = memory })
+  unselected_tries store link now clock held count (Fault fault labels) _ selects ends = absurd ends
+  unselected_tries store link now clock held count Memory _ selects ends = absurd ends
 
   -- no connection was had
-  pub unconnected_tries : (store : StoreTells) (link mid now : LinkState) (held : ExecutionSession) (count : ℕ) (address : Address) (failure : LinkError) (attempt : AttemptEnd A)
+  pub unconnected_tries : (store : StoreTells) (link mid now : LinkState) (clock : ClockTells) (held : ExecutionSession) (count : ℕ) (address : Address) (failure : LinkError) (attempt : AttemptEnd A)
       → Selects (avoided past) (besides_out link) mid (Ok address) → ChecksOutConnection mid (besides_out now) address (Err failure) → EndsUnconnected own address (number_before held) failure attempt
-      → Tries trial past (attempt_state store link held count) (attempt_state store now held count) attempt
-  unconnected_tries store link mid now held count address (Fault fault labels) (Failed failing) selects checks ends = (
-    subst (λ phase. FailsIn trial past (attempt_state store link held count) (attempt_state store now held count) failing.address phase failing.error) (sym ends.phase_is)
-        (subst (λ at. NotConnected trial past (attempt_state store link held count) (attempt_state store now held count) at failing.error) (sym ends.address_is) (record {
+      → Tries trial past (attempt_state store link clock held count) (attempt_state store now clock held count) attempt
+  unconnected_tries store link mid now clock held count address (Fault fault labels) (Failed failing) selects checks ends = (
+    subst (λ phase. FailsIn trial past (attempt_state store link clock held count) (attempt_state store now clock held count) failing.address phase failing.error) (sym ends.phase_is)
+        (subst (λ at. NotConnected trial past (attempt_state store link clock held count) (attempt_state store now clock held count) at failing.error) (sym ends.address_is) (record {
           mid = mid;
           selects = selects;
           fault = fault;
           own = labels;
           checks_out = checks;
           is = ends.error;
-          rest = record { store = refl; held = refl; count = refl };
+          rest = record { store = refl; clock = refl; held = refl; count = refl };
         })),
     ends.number_is,
   )
-  unconnected_tries store link mid now held count address (Fault fault labels) (Ended error) selects checks memory =
-      inl (record { asks = asks_connection (avoided past) (besides_out link) mid (besides_out now) address (Err (Fault fault labels)) selects checks; store = refl; held = refl; count = refl; why = memory })
-  unconnected_tries store link mid now held count address Memory (Ended error) selects checks memory =
-      inl (record { asks = asks_connection (avoided past) (besides_out link) mid (besides_out now) address (Err Memory) selects checks; store = refl; held = refl; count = refl; why = memory })
-  unconnected_tries store link mid now held count address (Fault fault labels) _ selects checks ends = absurd ends
-  unconnected_tries store link mid now held count address Memory _ selects checks ends = absurd ends
+  unconnected_tries store link mid now clock held count address (Fault fault labels) (Ended error) selects checks memory =
+      inl (record { asks = asks_connection (avoided past) (besides_out link) mid (besides_out now) address (Err (Fault fault labels)) selects checks; store = refl; clock = read_nothing clock; held = refl; count = refl; why = memory })
+  unconnected_tries store link mid now clock held count address Memory (Ended error) selects checks memory =
+      inl (record { asks = asks_connection (avoided past) (besides_out link) mid (besides_out now) address (Err Memory) selects checks; store = refl; clock = read_nothing clock; held = refl; count = refl; why = memory })
+  unconnected_tries store link mid now clock held count address (Fault fault labels) _ selects checks ends = absurd ends
+  unconnected_tries store link mid now clock held count address Memory _ selects checks ends = absurd ends
 
-  module _ (store store_now : StoreTells) (before link : LinkState) (held ready : ExecutionSession) (count : ℕ) (address : Address) (conn : Conn) (connects : Connects (avoided past) (besides_out before) (besides_out link) address conn) where
+  module _ (store store_now : StoreTells) (before link : LinkState) (clock clock_now : ClockTells) (held ready : ExecutionSession) (count : ℕ) (address : Address) (conn : Conn) (connects : Connects (avoided past) (besides_out before) (besides_out link) address conn) where
     -- a session was asked for where both sides take one
     pub holds_asked : (asked : Bool) (given result : Result (Unit {0}) Error) → asked ≡ asks_session spec.sessions conn.description → given ≡ result
-        → HoldsSession (needs_session asked held) store store_now held ready given
-        → HoldsSession (needs_session (asks_session spec.sessions conn.description) held) store store_now held ready result
+        → HoldsAt (needs_session asked held) store store_now clock clock_now held ready given
+        → HoldsAt (needs_session (asks_session spec.sessions conn.description) held) store store_now clock clock_now held ready result
     holds_asked asked given result is_asked is_given holds =
-        subst (λ a. HoldsSession (needs_session a held) store store_now held ready result) is_asked
-        (subst (λ r. HoldsSession (needs_session asked held) store store_now held ready r) is_given holds)
+        subst (λ a. HoldsAt (needs_session a held) store store_now clock clock_now held ready result) is_asked
+        (subst (λ r. HoldsAt (needs_session asked held) store store_now clock clock_now held ready r) is_given holds)
 
     -- there was no memory for a session
-    pub unready_tries : (error : Error) → HoldsSession (needs_session (asks_session spec.sessions conn.description) held) store store_now held ready (Err error)
-        → Tries trial past (attempt_state store before held count) (attempt_state store_now link ready count) (Ended error)
+    pub unready_tries : (error : Error) → HoldsAt (needs_session (asks_session spec.sessions conn.description) held) store store_now clock clock_now held ready (Err error)
+        → Tries trial past (attempt_state store before clock held count) (attempt_state store_now link clock_now ready count) (Ended error)
     unready_tries error holds = by_need (needs_session (asks_session spec.sessions conn.description) held) holds
       where
         ok_err : ◌≡◌ {A = Result (Unit {0}) Error} (Ok tt) (Err error) → ⊥
         ok_err same = cc
 
-        by_need : (needed : Bool) → HoldsSession needed store store_now held ready (Err error) → Tries trial past (attempt_state store before held count) (attempt_state store_now link ready count) (Ended error)
-        by_need false holds = absurd (ok_err (sym holds.2))
-        by_need true holds = inl (record { asks = asks_connection (avoided past) (besides_out before) connects.mid (besides_out link) address (Ok conn) connects.selects connects.checks_out; store = holds.0; held = holds.1; count = refl; why = holds.2 })
+        by_need : (needed : Bool) → HoldsAt needed store store_now clock clock_now held ready (Err error) → Tries trial past (attempt_state store before clock held count) (attempt_state store_now link clock_now ready count) (Ended error)
+        by_need false holds = absurd (ok_err (sym holds.holds.2))
+        by_need true holds = inl (record { asks = asks_connection (avoided past) (besides_out before) connects.mid (besides_out link) address (Ok conn) connects.selects connects.checks_out; store = holds.holds.0; clock = read_once clock clock_now holds.lent_at.0 holds.lent_at.1; held = holds.holds.1; count = refl; why = holds.holds.2 })
 
-    module _ (holds : HoldsSession (needs_session (asks_session spec.sessions conn.description) held) store store_now held ready (Ok tt)) where
-      readied : Readies trial past (attempt_state store before held count) (attempt_state store_now link ready count) address conn
-      readied = record { connects = connects; holds = holds; count = refl }
+    module _ (holds : HoldsAt (needs_session (asks_session spec.sessions conn.description) held) store store_now clock clock_now held ready (Ok tt)) where
+      readied : Readies trial past (attempt_state store before clock held count) (attempt_state store_now link clock_now ready count) address conn
+      readied = record { connects = connects; holds = holds.holds; lent_at = holds.lent_at; count = refl }
 
       -- a session is held, and the connection takes none
       pub sessionless_tries : (error : Error) → may_use ready conn.description ≡ false → IsAlone kind.SessionsNotSupported no_labels error
-          → Tries trial past (attempt_state store before held count) (attempt_state store_now link ready count) (Ended error)
+          → Tries trial past (attempt_state store before clock held count) (attempt_state store_now link clock_now ready count) (Ended error)
       sessionless_tries error none is = inr (inl (record {
-        ready = attempt_state store_now link ready count;
+        ready = attempt_state store_now link clock_now ready count;
         address = address;
         conn = conn;
         readies = readied;
         link = refl;
         store = refl;
+        clock = refl;
         count = refl;
         refused = inl (record { none = none; same = refl; is = is });
       }))
 
       -- nothing may be repeated
-      pub stopped_tries : is_some past ≡ true → may_use ready conn.description ≡ true → is_nothing (on_connection own conn.description) ≡ true → Tries trial past (attempt_state store before held count) (attempt_state store_now link ready count) Stopped
+      pub stopped_tries : is_some past ≡ true → may_use ready conn.description ≡ true → is_nothing (on_connection own conn.description) ≡ true → Tries trial past (attempt_state store before clock held count) (attempt_state store_now link clock_now ready count) Stopped
       stopped_tries is allowed nothing = (is, record { address = address; conn = conn; readies = readied; allowed = allowed; nothing = nothing })
 
       module _ (allowed : may_use ready conn.description ≡ true) (goes : stops (is_some past) (on_connection own conn.description) ≡ false) (link_now : LinkState) (held_now : ExecutionSession) (count_now : ℕ) where
@@ -349,10 +377,10 @@ module _ {A : Type 0} (spec : OperationSpec A) (batch : Batch) (which : SendKind
         version = conn.description.max_wire_version
 
         abbrev began : AttemptState
-        began = attempt_state store before held count
+        began = attempt_state store before clock held count
 
         abbrev came : AttemptState
-        came = attempt_state store_now link_now held_now count_now
+        came = attempt_state store_now link_now clock_now held_now count_now
 
         -- the command's reply was read
         read_tries : (reply : List ℕ) (answer : Result A Error) (attempt : AttemptEnd A) (sends : Sends trial past began came address conn (Ok reply)) → ReadsAnswer spec reply answer
@@ -405,23 +433,25 @@ module _ {A : Type 0} (spec : OperationSpec A) (batch : Batch) (which : SendKind
         sending_tries : (attempt : AttemptEnd A) → Sending spec which batch (is_some past) (besides_out link) (besides_out link_now) turn conn address ready held_now count count_now attempt → Tries trial past began came attempt
         sending_tries attempt sending = elim sending [
           | inl none ↦ subst (λ a. Tries trial past began came a) (sym none.ends) (inr (inl (record {
-            ready = attempt_state store_now link ready count;
+            ready = attempt_state store_now link clock_now ready count;
             address = address;
             conn = conn;
             readies = readied;
             link = none.link_is;
             store = refl;
+            clock = refl;
             count = none.uncounted;
             refused = inr (inl (record { allowed = allowed; goes = goes; draws = none.draws }));
           })))
           | inr other ↦ elim other [
             | inl none ↦ subst (λ a. Tries trial past began came a) (sym none.ends) (inr (inl (record {
-              ready = attempt_state store_now link ready count;
+              ready = attempt_state store_now link clock_now ready count;
               address = address;
               conn = conn;
               readies = readied;
               link = none.link_is;
               store = refl;
+              clock = refl;
               count = none.uncounted;
               refused = inr (inr (record { goes = goes; number = none.number; draws = none.draws; allowed = allowed; why = none.why }));
             })))
@@ -429,12 +459,13 @@ module _ {A : Type 0} (spec : OperationSpec A) (batch : Batch) (which : SendKind
               | inl unfit ↦ subst (λ a. Tries trial past began came a) (sym unfit.ends) (
                 (both_true (is_some past) (is_some ready.sent) unfit.again_is).0,
                 record {
-                  ready = attempt_state store_now link ready count;
+                  ready = attempt_state store_now link clock_now ready count;
                   address = address;
                   conn = conn;
                   readies = readied;
                   link = unfit.link_is;
                   store = refl;
+                  clock = refl;
                   count = unfit.uncounted;
                   allowed = allowed;
                   goes = goes;
@@ -446,7 +477,7 @@ module _ {A : Type 0} (spec : OperationSpec A) (batch : Batch) (which : SendKind
                 },
               )
               | inr out ↦ came_tries out.exchanging.result attempt (record {
-                ready = attempt_state store_now link ready count;
+                ready = attempt_state store_now link clock_now ready count;
                 readies = readied;
                 allowed = allowed;
                 goes = goes;
@@ -455,6 +486,7 @@ module _ {A : Type 0} (spec : OperationSpec A) (batch : Batch) (which : SendKind
                 draws = out.draws;
                 exchanges = out.exchanging.exchanges;
                 store_is = refl;
+                clock_is = refl;
                 held_is = out.exchanging.held_is;
                 counted = out.counted;
               }) out.exchanging.comes

@@ -12,6 +12,7 @@ use Rattle.driver_link.specs.declared.options.Address.{Address}
 use Rattle.driver_link.specs.declared.options.Asked.{Asked}
 use Rattle.driver_link.specs.declared.options.Conn.{Conn}
 use Rattle.driver_link.specs.declared.options.Description.{Description}
+use Rattle.driver_link.specs.Clock.{ClockTells}
 use Rattle.driver_link.specs.Framed.{Framed}
 use Rattle.driver_link.specs.LinkCalls.{ChecksOutConnection, ExchangesFrame, SelectsServer}
 use Rattle.driver_link.specs.LinkState.{LinkState}
@@ -19,25 +20,27 @@ use Rattle.driver_session.specs.declared.retryability.Retryability.{Retryability
 use Rattle.driver_session.specs.declared.retryability.Retryability.TheVariants as may
 use Rattle.driver_session.specs.StoreTells.{StoreTells}
 use Rattle.driver_ops.specs.Fields.{SendContext, under}
-use Rattle.driver_ops.specs.Operations.{Batch, IsFramed, OperationSpec, ReadsAnswer, ReadsAsAsked, Refuses, TellsUnframed, front}
+use Rattle.driver_ops.specs.Operations.{Batch, IsFramed, IsUnframed, OperationSpec, ReadsAnswer, ReadsAsAsked, Refuses, front}
 use Rattle.driver_ops.specs.SendKinds.{SendKind}
 use Rattle.driver_exec.specs.declared.attempt_end.AttemptEnd.{AttemptEnd}
 use Rattle.driver_exec.specs.declared.attempt_end.AttemptEnd.TheVariants.{Done, Ended, Failed, Stopped, Unfit, Unselected}
 use Rattle.driver_exec.specs.declared.failure.FailurePhase.{FailurePhase}
 use Rattle.driver_exec.specs.declared.failure.FailurePhase.TheVariants.{ConnectionEstablishment, Execution}
 use Rattle.driver_exec.specs.Failures.{IsFaultOf, IsLabelledRead, IsVersioned}
-use Rattle.driver_exec.specs.Holding.{DrawsNumber, ExecutionSession, HoldsSession, held_after_failure, held_id, needs_session, number_before}
+use Rattle.driver_exec.specs.Holding.{DrawsNumber, ExecutionSession, HoldsSession, IsLentAt, held_after_failure, held_id, needs_session, number_before}
+use Rattle.driver_exec.specs.Readings.{OnlyRead}
 use Rattle.driver_exec.specs.Retry.{RetryState}
 
 -- what a link tells besides the connections that are out
 abbrev pub besides_out : LinkState → LinkState
 besides_out link = record link { out = None }
 
--- the state of an operation's attempts at one moment: what the store tells, and the link besides the connections that are
--- out, what the operation holds, and how many sends were counted by then
+-- the state of an operation's attempts at one moment: what store and clock tell, and the link besides the connections that
+-- are out, what the operation holds, and how many sends were counted by then
 pub record AttemptState : Type 0 where
   pub store : StoreTells
   pub link : LinkState
+  pub clock : ClockTells
   pub held : ExecutionSession
   pub count : ℕ
 
@@ -80,9 +83,10 @@ asked_for avoid = record { criteria = None; deprioritized = avoid }
 abbrev pub Selects : List Address → LinkState → LinkState → Result Address LinkError → Type 0
 Selects avoid link now result = SelectsServer link now (asked_for avoid) result
 
--- store and what is held are as before, and nothing was sent
+-- store, clock and what is held are as before, and nothing was sent
 pub record OnlyLink (before now : AttemptState) : Type 0 where
   pub store : now.store ≡ before.store
+  pub clock : now.clock ≡ before.clock
   pub held : now.held ≡ before.held
   pub count : now.count ≡ before.count
 
@@ -118,10 +122,11 @@ asks_session sessions description = sessions && description.supports_sessions
 abbrev pub may_use : ExecutionSession → Description → Bool
 may_use held description = if is_some held.session then description.supports_sessions else true
 
--- a connection was had, and a session where one is needed
+-- a connection was had, and a session where one is needed, which was lent at a reading of the clock
 pub record Readies {A : Type 0} (trial : Trial A) (kept : Option RetryState) (before now : AttemptState) (address : Address) (conn : Conn) : Type 0 where
   pub connects : Connects (avoided kept) before.link now.link address conn
   pub holds : HoldsSession (needs_session (asks_session trial.spec.sessions conn.description) before.held) before.store now.store before.held now.held (Ok tt)
+  pub lent_at : IsLentAt (needs_session (asks_session trial.spec.sessions conn.description) before.held) before.store now.store before.held now.held (Ok tt) holds before.clock now.clock
   pub count : now.count ≡ before.count
 
 -- a command went out over a connection with the front of the places, and this came of the exchange: the frame was the built
@@ -149,6 +154,7 @@ pub record Sends {A : Type 0} (trial : Trial A) (kept : Option RetryState) (befo
   pub draws : DrawsNumber ready.held.sent (on_connection trial.own conn.description) ready.held numbered (Ok number)
   pub exchanges : Exchanges trial.spec trial.which trial.batch ready.link now.link conn (under (held_id numbered) number) result
   pub store_is : now.store ≡ ready.store
+  pub clock_is : now.clock ≡ ready.clock
   pub held_is : now.held ≡ held_after result (record numbered { sent = Some number })
   pub counted : now.count ≡ ready.count + 1
 
@@ -211,10 +217,11 @@ pub record AsksConnection (avoid : List Address) (link now : LinkState) : Type 0
 abbrev pub AsksEarly : List Address → LinkState → LinkState → Type 0
 AsksEarly avoid link now = SelectionFails avoid link now ⊎ AsksConnection avoid link now
 
--- there was no memory before a session was lent
+-- there was no memory before a session was lent, for which the clock may have been read
 pub record EndsUnready (kept : Option RetryState) (before now : AttemptState) (error : Error) : Type 0 where
   pub asks : AsksEarly (avoided kept) before.link now.link
   pub store : now.store ≡ before.store
+  pub clock : OnlyRead before.clock now.clock
   pub held : now.held ≡ before.held
   pub count : now.count ≡ before.count
   pub why : kind_of error ≡ kind.Memory
@@ -235,13 +242,13 @@ pub record NoNumber (kept : Option RetryState) (description : Description) (turn
 abbrev pub builds_again : Bool → ExecutionSession → Bool
 builds_again again held = again && is_some held.sent
 
--- there was no frame under the number: the first build was refused, or what was built has no spelling
+-- there was no frame under the number: the first build was refused, what was built has no spelling, or memory ran out
 pub record NoFrame {A : Type 0} (spec : OperationSpec A) (kept : Option RetryState) (description : Description) (turn : Retryability) (ready now : ExecutionSession) (error : Error) : Type 0 where
   pub goes : stops (is_some kept) turn ≡ false
   pub number : Option ℤ
   pub draws : DrawsNumber ready.sent turn ready now (Ok number)
   pub allowed : may_use ready description ≡ true
-  pub why : ((builds_again (is_some kept) ready ≡ false) × Refuses spec description error) ⊎ TellsUnframed spec (under (held_id now) number) (kind_of error)
+  pub why : ((builds_again (is_some kept) ready ≡ false) × Refuses spec description error) ⊎ (IsUnframed spec (under (held_id now) number) error ⊎ (kind_of error ≡ kind.Memory))
 
 -- a connection was had, and the command was refused before it went out
 pub record EndsRefused {A : Type 0} (trial : Trial A) (kept : Option RetryState) (before now : AttemptState) (error : Error) : Type 0 where
@@ -251,6 +258,7 @@ pub record EndsRefused {A : Type 0} (trial : Trial A) (kept : Option RetryState)
   pub readies : Readies trial kept before ready address conn
   pub link : now.link ≡ ready.link
   pub store : now.store ≡ ready.store
+  pub clock : now.clock ≡ ready.clock
   pub count : now.count ≡ ready.count
   pub refused : NoSessions conn.description ready.held now.held error
       ⊎ (NoNumber kept conn.description (on_connection trial.own conn.description) ready.held now.held error ⊎ NoFrame trial.spec kept conn.description (on_connection trial.own conn.description) ready.held now.held error)
@@ -263,6 +271,7 @@ pub record RefusedAgain {A : Type 0} (trial : Trial A) (kept : Option RetryState
   pub readies : Readies trial kept before ready address conn
   pub link : now.link ≡ ready.link
   pub store : now.store ≡ ready.store
+  pub clock : now.clock ≡ ready.clock
   pub count : now.count ≡ ready.count
   pub allowed : may_use ready.held conn.description ≡ true
   pub goes : stops (is_some kept) (on_connection trial.own conn.description) ≡ false

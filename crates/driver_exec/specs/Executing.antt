@@ -4,6 +4,7 @@ use Rattle.std.specs.Prelude.{◌≡◌, ℕ, Bool, true, false, List, [], ◌�
 use Rattle.driver_error.specs.declared.error.Error.{Error}
 use Rattle.driver_error.specs.declared.kind.ErrorKind.TheVariants as kind
 use Rattle.driver_error.specs.Error.{kind_of}
+use Rattle.driver_link.specs.Clock.{ClockTells}
 use Rattle.driver_link.specs.LinkState.{LinkState, setup_of}
 use Rattle.driver_session.specs.StoreTells.{StoreTells}
 use Rattle.driver_ops.specs.Operations.{Batch, OperationSpec}
@@ -12,7 +13,7 @@ use Rattle.driver_exec.specs.declared.attempt_end.AttemptEnd.{AttemptEnd}
 use Rattle.driver_exec.specs.declared.attempt_end.AttemptEnd.TheVariants.{Done, Ended, Failed, Stopped, Unfit, Unselected}
 use Rattle.driver_exec.specs.declared.failure.AttemptFailure.{AttemptFailure}
 use Rattle.driver_exec.specs.Attempting.{AttemptState, Trial, Tries, besides_out, trial_of}
-use Rattle.driver_exec.specs.Holding.{GivesBack, holds_nothing}
+use Rattle.driver_exec.specs.Holding.{GivesBack, IsBackAt, holds_nothing}
 use Rattle.driver_exec.specs.Moment.{Moment}
 use Rattle.driver_exec.specs.Retry.{RetryState, decide, folded}
 
@@ -81,8 +82,8 @@ abbrev pub Ends : {A : Type 0} → Trial A → Bool → Option RetryState → At
 Ends trial sharded kept mid now result = EndsLast trial kept mid now result ⊎ (EndsAtLimit kept mid now result ⊎ EndsNotAllowed trial sharded kept mid now result)
 
 -- the state of an operation that begins
-abbrev pub first_state : StoreTells → LinkState → ℕ → AttemptState
-first_state store link count = record { store = store; link = link; held = holds_nothing; count = count }
+abbrev pub first_state : StoreTells → LinkState → ClockTells → ℕ → AttemptState
+first_state store link clock count = record { store = store; link = link; clock = clock; held = holds_nothing; count = count }
 
 -- the attempts of an operation: its failures, the oldest first, what is kept of them all, and its end
 pub record Attempts {A : Type 0} (trial : Trial A) (sharded : Bool) (before now : AttemptState) (result : Result A Error) : Type 0 where
@@ -95,15 +96,17 @@ pub record Attempts {A : Type 0} (trial : Trial A) (sharded : Bool) (before now 
 
 -- an operation outside transactions, with the places of its writes and the number of its command's statements: its
 -- attempts, under one kind of send, and with a count of all its sends, where the link tells its setup by whether that has
--- routers of shards; then the session that it was lent comes back. The connections that are out and the client's options are
--- as before
+-- routers of shards; then the session that it was lent comes back, at a reading of the clock. The connections that are out, the
+-- client's options and the words to come are as before
 pub record Executes {A : Type 0} (spec : OperationSpec A) (batch : Batch) (which : SendKind) (before now : Moment) (count count_now : ℕ) (result : Result A Error) : Type 0 where
   pub sharded : Bool
   pub sharded_is : IfSome (setup_of before.link) (λ setup. sharded ≡ setup.description.sharded)
   pub last : AttemptState
-  pub attempts : Attempts (trial_of spec batch which (spec.retryability before.client.options)) sharded (first_state before.store (besides_out before.link) count) last result
+  pub attempts : Attempts (trial_of spec batch which (spec.retryability before.client.options)) sharded (first_state before.store (besides_out before.link) before.clock count) last result
   pub link_is : besides_out now.link ≡ last.link
   pub out : now.link.out ≡ before.link.out
   pub count_is : count_now ≡ last.count
   pub comes_back : GivesBack last.store now.store last.held.session
+  pub back_at : IsBackAt last.store now.store last.held.session comes_back last.clock now.clock
   pub client_is : now.client ≡ before.client
+  pub words_are : now.words ≡ before.words

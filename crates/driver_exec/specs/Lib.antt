@@ -11,6 +11,7 @@ pub mod LabelTable
 pub mod Moment
 pub mod OldDeployment
 pub mod OperationCauses
+pub mod Readings
 pub mod Resending
 pub mod Retry
 pub mod inside

@@ -5,7 +5,7 @@ use Rattle.driver_error.specs.declared.error.Error.{Error}
 use Rattle.driver_error.specs.declared.kind.ErrorKind.TheVariants as kind
 use Rattle.driver_error.specs.declared.labels.TheConstants.{RETRYABLE_WRITE_ERROR}
 use Rattle.driver_error.specs.Error.{ErrorKind, kind_of}
-use Rattle.driver_error.specs.LabelTexts.{LabelSet, label_set, with_label}
+use Rattle.driver_error.specs.LabelTexts.{LabelSet, label_set, no_labels, with_label}
 use Rattle.driver_link.specs.declared.fault.Answered.{Answered}
 use Rattle.driver_link.specs.declared.fault.Answered.TheVariants as answer
 use Rattle.driver_link.specs.declared.fault.LinkCall.{LinkCall}
@@ -18,6 +18,7 @@ use Rattle.driver_link.specs.LinkState.{GainsAll, LinkState, setup_of}
 use Rattle.driver_link.specs.Failures.{is_network}
 use Rattle.driver_session.specs.declared.retryability.Retryability.{Retryability}
 use Rattle.driver_session.specs.declared.retryability.Retryability.TheVariants as may
+use Rattle.driver_session.specs.Session.{number_at_its_end}
 use Rattle.driver_link.specs.declared.options.Description.{Description}
 use Rattle.driver_ops.specs.Fields.{SendContext}
 use Rattle.driver_ops.specs.Operations.{HasNoSpelling, OperationSpec, ReadsAnswer, Refuses}
@@ -91,15 +92,15 @@ grounds spec before = record {
   number = next_number before.store;
 }
 
--- what an error of each kind needs; want of memory needs nothing
+-- what an error of each kind needs; want of memory needs nothing. That of a refusal before a send has no labels
 abbrev pub KindNeeds : {A : Type 0} → Grounds A → ℕ → ℕ → List Answered → LabelSet → ErrorKind → Type 0
 KindNeeds on before now items labels (kind.Io io) = Rose before now × HasFault on.own on.setup (fault.Io io) labels items
 KindNeeds on before now items labels (kind.ConnectionPoolCleared message) = Rose before now × HasFault on.own on.setup (fault.PoolCleared message) labels items
 KindNeeds on before now items labels (kind.ServerSelection message) = Rose before now × HasFault on.own on.setup (fault.Selection message) labels items
 KindNeeds on before now items labels (kind.Authentication message) = Rose before now × HasFault on.own on.setup (fault.Authentication message) labels items
-KindNeeds on before now items labels (kind.BsonSerialization fault) = Unspelled on.spec fault
-KindNeeds on before now items labels (kind.Internal message) = MayBeLast on.number
-KindNeeds on before now items labels kind.SessionsNotSupported = on.setup ≡ None
+KindNeeds on before now items labels (kind.BsonSerialization fault) = Unspelled on.spec fault × (labels ≡ no_labels)
+KindNeeds on before now items labels (kind.Internal message) = MayBeLast on.number × (message ≡ number_at_its_end) × (labels ≡ no_labels)
+KindNeeds on before now items labels kind.SessionsNotSupported = (on.setup ≡ None) × (labels ≡ no_labels)
 KindNeeds on before now items labels kind.Memory = Unit {0}
 KindNeeds on before now items labels _ = ⊥
 

@@ -2,5 +2,6 @@
 pub mod Attempting
 pub mod Executing
 pub mod Failures
+pub mod Holding
 pub mod OldDeployment
 pub mod Retry

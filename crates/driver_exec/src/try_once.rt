@@ -1,6 +1,6 @@
 //! One attempt of an operation outside transactions: a server, a connection, a session where none is held,
 //! one command and its reply.
-ghost use Rattle.std.specs.Prelude.{◌≡◌, ◌≤◌, ◌+◌, ◌⊎◌, ℕ, IsSome, Option, is_some};
+ghost use Rattle.std.specs.Prelude.{◌≡◌, ◌⊎◌, ℕ, IsSome, Option, is_some};
 ghost use Rattle.std.specs.Option.{option_copied};
 ghost use Rattle.driver_link.specs.LinkCalls.{ChecksInConnection};
 ghost use Rattle.driver_link.specs.LinkState.{LinkState};
@@ -42,17 +42,19 @@ pub(crate) fn try_once<O: Operation, S: SessionStore, L: Link, K: Clock, R, Q: L
         (trial_of (O.spec op.old) (batch_of places.now statements) (O.next op.old)
         ((O.spec op.old).retryability (options_of client.old)))
         (option_copied kept.entry)
-        (attempt_state (S.tells (store_of client.old)) (L.tells outside.old.link) held sends.old)
-        (attempt_state (S.tells (store_of client.new)) (L.tells outside.new.link) result.0 sends.new)
+        (attempt_state (S.tells (store_of client.old)) (L.tells outside.old.link)
+        (K.tells outside.old.clock) held sends.old)
+        (attempt_state (S.tells (store_of client.new)) (L.tells outside.new.link)
+        (K.tells outside.new.clock) result.0 sends.new)
         result.1 }
     ensures options { options_of client.new ≡ options_of client.old }
     ensures spec { SameSpec (O.spec op.old) (O.spec op.new) }
     ensures fixed { StaysFixed (O.built op.old) (O.built op.new) }
     ensures next { O.next op.new ≡ O.next op.old }
     ensures out { (L.tells outside.new.link).out ≡ (L.tells outside.old.link).out }
+    ensures words { outside.new.words ≡ outside.old.words }
     ensures call { outside.new.call ≡ outside.old.call }
     ensures counted { (sends.new ≡ sends.old) ⊎ IsSome (O.built op.new) }
-    ensures sends { sends.new ≤ sends.old + 1 }
 {
     let own = op.retryability(client.options());
     let address = match outside.link.select(alloc, None, avoided(kept)) {
@@ -178,17 +180,18 @@ fn execute_operation_on_connection<O: Operation, S: SessionStore, L: Link, K: Cl
         Connects (avoided kept) (besides_out before) (besides_out (L.tells outside.old.link))
         address turn.now.conn.now →
         Tries (trial_of (O.spec op.old) (batch_of places.now statements) (O.next op.old) own) kept
-        (attempt_state (S.tells (store_of client.old)) before held sends.old)
-        (attempt_state (S.tells (store_of client.new)) (L.tells outside.new.link) result.0 sends.new)
+        (attempt_state (S.tells (store_of client.old)) before (K.tells outside.old.clock) held sends.old)
+        (attempt_state (S.tells (store_of client.new)) (L.tells outside.new.link)
+        (K.tells outside.new.clock) result.0 sends.new)
         result.1 }
     ensures options { options_of client.new ≡ options_of client.old }
     ensures spec { SameSpec (O.spec op.old) (O.spec op.new) }
     ensures fixed { StaysFixed (O.built op.old) (O.built op.new) }
     ensures next { O.next op.new ≡ O.next op.old }
     ensures out { (L.tells outside.new.link).out ≡ (L.tells outside.old.link).out }
+    ensures words { outside.new.words ≡ outside.old.words }
     ensures call { outside.new.call ≡ outside.old.call }
     ensures counted { (sends.new ≡ sends.old) ⊎ IsSome (O.built op.new) }
-    ensures sends { sends.new ≤ sends.old + 1 }
 {
     let description = &turn.conn.description;
     let asked = asks_session(op.supports_sessions(), description);

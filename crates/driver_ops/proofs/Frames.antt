@@ -8,8 +8,7 @@ use Rattle.bson_lite.specs.declared.bson.Bson.{Bson}
 use Rattle.bson_lite.specs.declared.bson.Bson as bson
 use Rattle.bson_lite.specs.declared.document.Pair.{Pair}
 use Rattle.bson_lite.specs.Fields.{value_of}
-use Rattle.driver_error.specs.Error.{ErrorKind}
-use Rattle.driver_error.specs.declared.kind.ErrorKind.TheVariants as kind
+use Rattle.driver_error.specs.declared.error.Error.{Error}
 use Rattle.driver_link.specs.declared.keys.TheConstants.{AUTOCOMMIT, DATABASE, SESSION, START_TRANSACTION, TRANSACTION_NUMBER, UUID_SUBTYPE}
 use Rattle.driver_link.specs.declared.frame.Documents.{Documents}
 use Rattle.driver_link.specs.declared.machine.Place.{Place}
@@ -22,9 +21,9 @@ use Rattle.driver_link.specs.Values.{text_of, int64_of, binary_of, document_of}
 use Rattle.driver_link.specs.Writes.{is_common}
 use Rattle.driver_session.proofs.Ids.{equal_bytes}
 use Rattle.driver_ops.specs.declared.command.Command.{Command}
-use Rattle.driver_ops.specs.Encoding.{TellsRefusal}
+use Rattle.driver_ops.specs.Encoding.{IsUnspelled}
 use Rattle.driver_ops.specs.Fields.{AreCommon, IsFrameOf, IsPlain, IsSixteen, SendContext, executor_fields, number_field, session_document, session_field, under, with_fields}
-use Rattle.driver_ops.specs.Operations.{Batch, IsBuilt, OperationSpec, ReadsAsAsked, TellsUnframed, front, send_of}
+use Rattle.driver_ops.specs.Operations.{Batch, IsBuilt, IsUnframed, OperationSpec, ReadsAsAsked, front, send_of}
 use Rattle.driver_ops.specs.SendKinds.{SendKind}
 
 -- what values are as the fields of a command
@@ -180,13 +179,10 @@ reads_as_asked spec which batch context command frame sixteen built made body as
     }
 
 -- why there is no such frame
-pub unframed : {A : Type 0} (spec : OperationSpec A) (which : SendKind) (statements : ℕ) (context : SendContext) (command : Command) (why : ErrorKind)
-    → IsSixteen context.session → IsBuilt spec which statements command → TellsRefusal (with_fields context command).body why → TellsUnframed spec context why
-unframed spec which statements context command (kind.BsonSerialization fault) sixteen built tells =
-    record { which = which; statements = statements; command = command; is = built.is; sixteen = sixteen; refused = tells }
-unframed spec which statements context command kind.Memory sixteen built tells = tt
-unframed spec which statements context command _ sixteen built tells = absurd tells
-
--- want of memory is no reason of the command's
-pub no_memory : {A : Type 0} (spec : OperationSpec A) (context : SendContext) (why : ErrorKind) → why ≡ kind.Memory → TellsUnframed spec context why
-no_memory spec context why is = subst (TellsUnframed spec context) (sym is) tt
+pub unframed : {A : Type 0} (spec : OperationSpec A) (which : SendKind) (statements : ℕ) (context : SendContext) (command : Command) (error : Error)
+    → IsSixteen context.session → IsBuilt spec which statements command → IsUnspelled (with_fields context command).body error → IsUnframed spec context error
+unframed spec which statements context command error sixteen built none = record {
+  fault = none.fault;
+  none = record { which = which; statements = statements; command = command; is = built.is; sixteen = sixteen; refused = none.refused };
+  is = none.is;
+}

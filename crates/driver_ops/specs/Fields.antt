@@ -1,17 +1,18 @@
 -- The fields that the executor appends to a built command.
-use Rattle.std.specs.Prelude.{◌≡◌, ℕ, ℤ, true, List, [], ◌∷◌, ◌++◌, length, Option, None, Some, Result, Ok, Err}
+use Rattle.std.specs.Prelude.{◌≡◌, ℕ, ℤ, true, List, [], ◌∷◌, ◌++◌, length, Option, None, Some, ◌⊎◌, Result, Ok, Err}
 use Rattle.bson_lite.specs.declared.bson.Bson.{Bson}
 use Rattle.bson_lite.specs.declared.bson.Bson as bson
 use Rattle.bson_lite.specs.declared.document.Pair.{Pair}
 use Rattle.bson_lite.specs.Fields.{value_of}
 use Rattle.bson_lite.specs.Spelling.{Spells}
 use Rattle.driver_error.specs.declared.error.Error.{Error}
+use Rattle.driver_error.specs.declared.kind.ErrorKind.TheVariants.{Memory}
 use Rattle.driver_error.specs.Error.{kind_of}
 use Rattle.driver_link.specs.declared.keys.TheConstants.{SESSION, SESSION_ID, TRANSACTION_NUMBER, DATABASE, UUID_SUBTYPE}
 use Rattle.driver_link.specs.Framed.{Framed}
 use Rattle.driver_link.specs.Writes.{common_keys, is_common}
 use Rattle.driver_ops.specs.declared.command.Command.{Command}
-use Rattle.driver_ops.specs.Encoding.{TellsRefusal}
+use Rattle.driver_ops.specs.Encoding.{IsUnspelled}
 
 -- one field of a document
 abbrev pub field : List ℕ → Bson → Pair Bson
@@ -74,10 +75,10 @@ pub record IsFrameOf (command : Command) (frame : Framed) : Type 0 where
   pub sequences : frame.sequences ≡ command.sequences
   pub spelled : Spells command.body frame.body
 
--- a command in bytes, or the error that tells why its body has no spelling
+-- a command in bytes, or the error that tells why its body has no spelling, or want of memory
 abbrev pub Frames : Command → Result Framed Error → Type 0
 Frames command (Ok frame) = IsFrameOf command frame
-Frames command (Err error) = TellsRefusal command.body (kind_of error)
+Frames command (Err error) = (kind_of error ≡ Memory) ⊎ IsUnspelled command.body error
 
 -- the same with the executor's fields
 abbrev pub FramesUnder : SendContext → Command → Result Framed Error → Type 0

@@ -7,6 +7,7 @@ pub mod InsertLaw
 pub mod InsertLawful
 pub mod InsertSpec
 pub mod Inserts
+pub mod Keys
 pub mod OperationLaw
 pub mod Operations
 pub mod Readings

@@ -173,11 +173,11 @@ pub record HasNoSpelling {A : Type 0} (spec : OperationSpec A) (context : SendCo
   pub sixteen : IsSixteen context.session
   pub refused : refusal (with_fields context command).body ≡ Some fault
 
--- why a built command has no frame: it has no spelling, or there was no memory
-abbrev pub TellsUnframed : {A : Type 0} → OperationSpec A → SendContext → ErrorKind → Type 0
-TellsUnframed spec context (kind.BsonSerialization fault) = HasNoSpelling spec context fault
-TellsUnframed spec context kind.Memory = Unit {0}
-TellsUnframed spec context _ = ⊥
+-- a built command has no frame, since it has no spelling, and the error tells why and nothing else
+pub record IsUnframed {A : Type 0} (spec : OperationSpec A) (context : SendContext) (error : Error) : Type 0 where
+  pub fault : EncodeFault
+  pub none : HasNoSpelling spec context fault
+  pub is : IsAlone (kind.BsonSerialization fault) no_labels error
 
 -- nothing is refused
 abbrev pub never : Description → Error → Type 0

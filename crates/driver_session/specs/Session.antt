@@ -1,8 +1,9 @@
 -- What a lent session holds, and its next number.
-use Rattle.std.specs.Prelude.{◌≡◌, ◌≢◌, ℕ, ℤ, pos, ◌+ℤ◌, ◌≤ℤ◌, Bool, List, codes, Result, Ok, Err}
+use Rattle.std.specs.Prelude.{◌≡◌, ◌≢◌, ℕ, ℤ, pos, ◌+ℤ◌, ◌≤ℤ◌, Bool, List, codes, ◌⊎◌, Result, Ok, Err}
 use Rattle.driver_error.specs.declared.error.Error.{Error}
 use Rattle.driver_error.specs.declared.kind.ErrorKind.TheVariants.{Internal, Memory}
-use Rattle.driver_error.specs.Error.{ErrorKind, kind_of}
+use Rattle.driver_error.specs.Error.{IsAlone, kind_of}
+use Rattle.driver_error.specs.LabelTexts.{no_labels}
 
 -- an id, the last transaction number that was used, the moment of the last use in milliseconds, and
 -- whether the network failed under it
@@ -20,16 +21,16 @@ last_number = pos 9223372036854775807
 unfoldable pub number_at_its_end : List ℕ
 number_at_its_end = codes "transaction number is at its end"
 
--- an error that tells that this session's numbers are at their end, or want of memory
-abbrev pub TellsEnd : Session → ErrorKind → Type 0
-TellsEnd session (Internal message) = (session.number ≡ last_number) × (message ≡ number_at_its_end)
-TellsEnd session Memory = Unit {0}
-TellsEnd session _ = ⊥
+-- the session's number is the greatest, and the error says so and nothing else
+pub record IsAtItsEnd (session : Session) (error : Error) : Type 0 where
+  pub last : session.number ≡ last_number
+  pub is : IsAlone (Internal number_at_its_end) no_labels error
 
--- a session gives its next number, which it then has, unless its number is the greatest; an error changes nothing
+-- a session gives its next number, which it then has, unless its number is the greatest, or memory runs out; an error changes
+-- nothing
 abbrev pub Numbers : Session → Session → Result ℤ Error → Type 0
 Numbers old now (Ok number) = (old.number ≢ last_number) × (number ≡ (old.number +ℤ pos 1)) × (now ≡ record old { number = number })
-Numbers old now (Err error) = (now ≡ old) × TellsEnd old (kind_of error)
+Numbers old now (Err error) = (now ≡ old) × ((kind_of error ≡ Memory) ⊎ IsAtItsEnd old error)
 
 -- the session has its next number
 abbrev pub Raises : Session → Session → Type 0

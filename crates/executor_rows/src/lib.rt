@@ -1,6 +1,6 @@
-//! Tests of the executor and of calls over it: what one insert comes to over a model server with a schedule and over
-//! a fake link, every short schedule over a few inserts, and the store and the replies with ample memory. They stand
-//! apart since a row crosses executor and server.
+//! Tests of the executor and of calls over it: what one insert comes to over a model server with a schedule and
+//! over a fake link, when it is timed and its session lent, every short schedule over a few inserts, and the
+//! store and the replies with ample memory. They stand apart since a row crosses executor and server.
 #![tactic(auto)]
 
 #[cfg(test)]
@@ -21,3 +21,5 @@ mod schedules;
 mod selections;
 #[cfg(test)]
 mod sessions;
+#[cfg(test)]
+mod timing;

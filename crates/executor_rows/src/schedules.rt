@@ -1,5 +1,5 @@
-//! Every short schedule over a few inserts, with every order of late deliveries: no place stands twice, every entry is
-//! the caller's own, each Ok is done, and each error is that of a connection that was reset.
+//! Every short schedule over a few inserts, with every order of late deliveries: no place stands twice, every
+//! entry is the caller's own, each Ok is done, and each error is that of a connection that was reset.
 ghost use Rattle.std.specs.Prelude.{All, IfOk};
 ghost use Rattle.driver_link.specs.WellFormed.{IsItem, IsWellFormed};
 
@@ -83,7 +83,7 @@ fn call(alloc: Global, number: i32) -> Result<Call, AllocError> {
     })
 }
 
-fn calls(alloc: Global, count: i32) -> Result<List<Call>, AllocError> {
+pub(crate) fn calls(alloc: Global, count: i32) -> Result<List<Call>, AllocError> {
     let mut calls = List::new(alloc);
     for number in 0..count {
         calls.push(call(alloc, number)?)?;

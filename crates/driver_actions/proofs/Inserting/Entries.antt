@@ -28,12 +28,12 @@ use Rattle.driver_actions.specs.declared.call.SingleAnswer.{SingleAnswer}
 use Rattle.driver_actions.specs.declared.call.SingleWrite.{SingleWrite}
 use Rattle.driver_actions.specs.declared.call.SingleWrite.TheVariants.{InsertOne}
 use Rattle.driver_actions.specs.Calls.{IsOwn, inserted, written}
-use Rattle.driver_actions.specs.Causes.{MayDrawId}
 use Rattle.driver_actions.specs.SingleCalls.{Made, Makes, TellsAnswer, TellsId, first_place}
 use Rattle.driver_actions.specs.SingleEntries.{HasOwnEntry, HasOwnEntryTold, HasWritten, IsNewPlace, KeepsSingle, KeepsSingleTold, MayWrite, OkHasEntry}
 use Rattle.driver_actions.specs.Singles.{BecomesSingle}
 use Rattle.driver_actions.specs.Standing.{AllBelow}
 use Rattle.driver_actions.specs.Writing.{insert_asked, placed_write}
+use Rattle.driver_actions.proofs.OwnIds.{OnlyDrew, own_drew, unmade_drew}
 use Rattle.driver_actions.proofs.Sending.{mid_run, pool_kept}
 
 -- the one write of an insert
@@ -85,13 +85,13 @@ module _ (before now : Moment) (place : Place) where
   -- a write that was made
   module _ (given : Written) (result : Result SingleAnswer Error) (made : Made before now given place result) where
     abbrev mid : Moment
-    mid = made.inserts.mid
+    mid = made.mid
 
     pool_is : mid.store.pool ≡ before.store.pool
-    pool_is = pool_kept before.store mid.store made.inserts.draws.draws
+    pool_is = pool_kept before.store mid.store (own_drew made.draws).draws
 
     run_is : server_run mid.link ≡ server_run before.link
-    run_is = mid_run before mid made.inserts.draws
+    run_is = mid_run before mid (own_drew made.draws)
 
     -- keeps what stands
     made_keeps : KeepsSingle before now place
@@ -110,7 +110,7 @@ module _ (before now : Moment) (place : Place) where
         of_told (Some pool) (Some pool_now) (Some run) None keeps = tt
 
   -- a write that was not made changed nothing that is told of pool and server
-  unmade_keeps : MayDrawId before now → KeepsSingle before now place
+  unmade_keeps : OnlyDrew before now → KeepsSingle before now place
   unmade_keeps draws =
       subst (λ p. KeepsSingleTold before.store.pool p (server_run before.link) (server_run now.link) place) (sym (pool_kept before.store now.store draws.draws))
       (subst (λ r. KeepsSingleTold before.store.pool before.store.pool (server_run before.link) r place) (sym (mid_run before now draws)) (of_told before.store.pool (server_run before.link)))
@@ -124,7 +124,7 @@ module _ (before now : Moment) (place : Place) where
   pub makes_keeps : (given : Written) (result : Result SingleAnswer Error) → Makes before now given place result → KeepsSingle before now place
   makes_keeps given (Ok answer) makes = made_keeps given (Ok answer) makes
   makes_keeps given (Err error) makes = elim makes [
-    | inl unmade ↦ unmade_keeps unmade.draws
+    | inl unmade ↦ unmade_keeps (unmade_drew error unmade.draws)
     | inr made ↦ made_keeps given (Err error) made
   ]
 
@@ -157,9 +157,9 @@ module _ (before now : Moment) (place : Place) where
         → HasOwnEntryTold given answer before.store.pool now.store.pool (server_run before.link) (server_run now.link) place
     done_entry output is tells =
         subst (λ p. HasOwnEntryTold given answer p now.store.pool (server_run before.link) (server_run now.link) place) (pool_is given (Ok answer) made)
-        (subst (λ r. HasOwnEntryTold given answer made.inserts.mid.store.pool now.store.pool r (server_run now.link) place) (run_is given (Ok answer) made)
-        (of_told made.inserts.mid.store.pool now.store.pool (server_run made.inserts.mid.link) (server_run now.link)
-        (subst (OkHasEntries spec (insert_asked made.write) made.inserts.mid now) is made.inserts.entries)))
+        (subst (λ r. HasOwnEntryTold given answer made.mid.store.pool now.store.pool r (server_run now.link) place) (run_is given (Ok answer) made)
+        (of_told made.mid.store.pool now.store.pool (server_run made.mid.link) (server_run now.link)
+        (subst (OkHasEntries spec (insert_asked made.write) made.mid now) is made.inserts.entries)))
       where
         of_told : (pool pool_now : Option Pool) (run run_now : Option ServerRun) → AreWritten spec (insert_asked made.write) output pool pool_now run run_now
             → HasOwnEntryTold given answer pool pool_now run run_now place

@@ -8,7 +8,6 @@ use Rattle.driver_error.specs.declared.error.Error.{Error}
 use Rattle.driver_error.specs.declared.results.InsertManyResult.{InsertManyResult}
 use Rattle.driver_link.specs.declared.machine.PlacedWrite.{PlacedWrite}
 use Rattle.driver_link.specs.LinkState.{server_run}
-use Rattle.driver_session.specs.StoreTells.{Draws, LendsAsBefore}
 use Rattle.driver_ops.specs.declared.target.OperationTarget.{OperationTarget}
 use Rattle.driver_ops.specs.InsertSpec.{AsksInsert, insert_spec}
 use Rattle.driver_ops.specs.Operations.{AsksFor, HasBodies, batch_of}
@@ -20,7 +19,8 @@ use Rattle.driver_exec.specs.Keeping.{KeepsInvariant, OkHasEntries}
 use Rattle.driver_exec.specs.Moment.{Moment}
 use Rattle.driver_exec.specs.OperationCauses.{Caused}
 use Rattle.driver_exec.specs.Resending.{SendsOneCommand, SentWithin}
-use Rattle.driver_actions.specs.Causes.{MayDrawId}
+use Rattle.driver_exec.proofs.Resending.{executes_draws, executes_lends}
+use Rattle.driver_exec.proofs.SendCounts.{executes_few}
 use Rattle.driver_actions.specs.SingleCalls.{Inserts}
 use Rattle.driver_actions.specs.Singles.{BecomesSingle}
 use Rattle.driver_actions.specs.Writing.{insert_asked, insert_send}
@@ -59,33 +59,30 @@ two_at_most : (from count : ℕ) → from ≡ 0 → count ≤ from + 2 → count
 two_at_most from count none within = omega (arith, none, within)
 
 -- a write was inserted where the operation that was made for it was executed, and this is its result in a single write's form
-pub inserts_write : {made : OperationTarget} {held bytes : List ℕ} {kept id : Bson} {before mid now : Moment} {from count : ℕ} {executed found : Result InsertManyResult Error} (write : PlacedWrite)
+pub inserts_write : {made : OperationTarget} {held bytes : List ℕ} {kept id : Bson} {before now : Moment} {from count : ℕ} {executed found : Result InsertManyResult Error} (write : PlacedWrite)
     (ended : Result InsertManyResult Error) → made ≡ in_collection write.written.namespace → held ≡ bytes → kept ≡ id
     → Spells write.written.document bytes → value_of id_key write.written.document ≡ Some id → from ≡ 0
-    → Executes (insert_spec made held kept) (batch_of (write.place ∷ []) 1) first mid now from count executed → count ≤ from + 2
-    → SendsOneCommand (insert_spec made held kept) (batch_of (write.place ∷ []) 1) mid now executed
-    → Caused (insert_spec made held kept) mid now (end_of executed) → KeepsInvariant mid now (insert_asked write)
-    → OkHasEntries (insert_spec made held kept) (insert_asked write) mid now executed → LendsAsBefore mid.store now.store → Draws mid.store now.store
-    → executed ≡ found → BecomesSingle found ended → MayDrawId before mid → Inserts before now write ended
-inserts_write {bytes = bytes} {id = id} {mid = mid} {now = now} {from = from} {count = count} {executed = executed} write ended is_target is_bytes is_id spelled has none executes within one_command caused keeps entries lent drawn is becomes draws = record {
-  mid = mid;
-  draws = draws;
+    → Executes (insert_spec made held kept) (batch_of (write.place ∷ []) 1) first before now from count executed
+    → SendsOneCommand (insert_spec made held kept) (batch_of (write.place ∷ []) 1) before now executed
+    → Caused (insert_spec made held kept) before now (end_of executed) → KeepsInvariant before now (insert_asked write)
+    → OkHasEntries (insert_spec made held kept) (insert_asked write) before now executed → executed ≡ found → BecomesSingle found ended → Inserts before now write ended
+inserts_write {made = made} {held = held} {bytes = bytes} {kept = kept} {id = id} {before = before} {now = now} {from = from} {count = count} {executed = executed} write ended is_target is_bytes is_id spelled has none executes one_command caused keeps entries is becomes = record {
   bytes = bytes;
   spelled = spelled;
   id = id;
   found = has;
   executed = executed;
   count = count;
-  executes = subst (λ n. Executes (insert_spec (in_collection write.written.namespace) bytes id) (batch_of (write.place ∷ []) 1) first mid now n count executed) none
-      (of_insert (λ t b i. Executes (insert_spec t b i) (batch_of (write.place ∷ []) 1) first mid now from count executed) is_target is_bytes is_id executes);
-  twice = two_at_most from count none within;
-  one_command = of_insert (λ t b i. SendsOneCommand (insert_spec t b i) (batch_of (write.place ∷ []) 1) mid now executed) is_target is_bytes is_id one_command;
-  caused = of_insert (λ t b i. Caused (insert_spec t b i) mid now (end_of executed)) is_target is_bytes is_id caused;
+  executes = subst (λ n. Executes (insert_spec (in_collection write.written.namespace) bytes id) (batch_of (write.place ∷ []) 1) first before now n count executed) none
+      (of_insert (λ t b i. Executes (insert_spec t b i) (batch_of (write.place ∷ []) 1) first before now from count executed) is_target is_bytes is_id executes);
+  twice = two_at_most from count none (executes_few (insert_spec made held kept) (batch_of (write.place ∷ []) 1) first before now from count executed executes);
+  one_command = of_insert (λ t b i. SendsOneCommand (insert_spec t b i) (batch_of (write.place ∷ []) 1) before now executed) is_target is_bytes is_id one_command;
+  caused = of_insert (λ t b i. Caused (insert_spec t b i) before now (end_of executed)) is_target is_bytes is_id caused;
   becomes = subst (λ r. BecomesSingle r ended) (sym is) becomes;
   keeps = keeps;
-  entries = of_insert (λ t b i. OkHasEntries (insert_spec t b i) (insert_asked write) mid now executed) is_target is_bytes is_id entries;
-  lent = lent;
-  drawn = drawn;
+  entries = of_insert (λ t b i. OkHasEntries (insert_spec t b i) (insert_asked write) before now executed) is_target is_bytes is_id entries;
+  lent = executes_lends (insert_spec made held kept) (batch_of (write.place ∷ []) 1) first before now from count executed executes;
+  drawn = executes_draws (insert_spec made held kept) (batch_of (write.place ∷ []) 1) first before now from count executed executes;
 }
 
 module _ {before now : Moment} {write : PlacedWrite} {ended : Result InsertManyResult Error} (inserts : Inserts before now write ended) where
@@ -94,5 +91,5 @@ module _ {before now : Moment} {write : PlacedWrite} {ended : Result InsertManyR
   inserts_ask = asks_write write inserts.bytes inserts.id inserts.spelled inserts.found
 
   -- its sends
-  pub inserts_sends : SentWithin 2 (server_run inserts.mid.link) (server_run now.link) (insert_send inserts.one_command.session inserts.one_command.number write)
+  pub inserts_sends : SentWithin 2 (server_run before.link) (server_run now.link) (insert_send inserts.one_command.session inserts.one_command.number write)
   inserts_sends = inserts.one_command.sends (insert_asked write) inserts_ask

@@ -6,6 +6,7 @@ use Rattle.driver_error.specs.declared.kind.ErrorKind.TheVariants as kind
 use Rattle.driver_error.specs.declared.labels.TheConstants.{RETRYABLE_WRITE_ERROR}
 use Rattle.driver_error.specs.Error.{kind_of, labels_of}
 use Rattle.driver_error.specs.LabelTexts.{has_label}
+use Rattle.driver_link.specs.Clock.{ClockTells}
 use Rattle.driver_link.specs.declared.fault.LinkError.TheVariants.{Fault}
 use Rattle.driver_link.specs.declared.options.Address.{Address}
 use Rattle.driver_link.specs.LinkState.{server_run, setup_of}
@@ -36,7 +37,7 @@ use Rattle.driver_exec.proofs.Completing.Losses.{Lost, again_prepared, unselecte
 module _ {A : Type 0} (known : KnownCommand A) where
   open known use {body, own, store, told, link, link_is, unrefused}
 
-  module _ (count : ℕ) (told_now : ServerRun) (gentle : IsGentlePart (DrawsNumbers true own (setup_of link)) told told_now) where
+  module _ (clock : ClockTells) (count : ℕ) (told_now : ServerRun) (gentle : IsGentlePart (DrawsNumbers true own (setup_of link)) told told_now) where
     -- where an operation stands between its attempts: it has not begun, or its one exchange was lost
     record LostOnce (retry : RetryState) (now : AttemptState) : Type 0 where
       lost : Lost known told_now gentle told now
@@ -45,7 +46,7 @@ module _ {A : Type 0} (known : KnownCommand A) where
 
     -- the same by what is kept
     abbrev SoFar : Option RetryState → AttemptState → Type 0
-    SoFar None now = now ≡ first_state store link count
+    SoFar None now = now ≡ first_state store link clock count
     SoFar (Some retry) now = LostOnce retry now
 
     -- a further attempt does not fail
@@ -82,8 +83,8 @@ module _ {A : Type 0} (known : KnownCommand A) where
 
       -- one failure more
       first_fails : (now : AttemptState) (last : ServerRun) (now_is : server_run now.link ≡ Some last) (later : IsBefore last told_now) (apart : DrawnApart now.store) (address : Address) (phase : FailurePhase) (error : Error)
-          → FailsIn (trial known) None (first_state store link count) now address phase error → LosesWell known told_now gentle None told (first_state store link count) (first_prepared known count) now last now_is later apart error
-      first_fails now last now_is later apart address phase error fails = fails_well known told_now gentle None told (first_state store link count) (first_prepared known count) now last now_is later apart address phase error fails
+          → FailsIn (trial known) None (first_state store link clock count) now address phase error → LosesWell known told_now gentle None told (first_state store link clock count) (first_prepared known clock count) now last now_is later apart error
+      first_fails now last now_is later apart address phase error fails = fails_well known told_now gentle None told (first_state store link clock count) (first_prepared known clock count) now last now_is later apart address phase error fails
 
       -- and where the operation stands after it
       fails_far : (kept : Option RetryState) (mid now : AttemptState) (last : ServerRun) → SoFar kept mid → server_run now.link ≡ Some last → IsBefore last told_now → DrawnApart now.store → (failing : AttemptFailure) (retry : RetryState)
@@ -97,7 +98,7 @@ module _ {A : Type 0} (known : KnownCommand A) where
           absurd (again_none earlier mid far now last now_is later apart failing.address failing.phase failing.error tries.0)
 
       -- each moment that an operation reaches is not before the first one
-      reaches_leads : (failures : List AttemptFailure) (kept : Option RetryState) (now : AttemptState) → Reaches (trial known) sharded (first_state store link count) failures kept now → Leads told link now.link
+      reaches_leads : (failures : List AttemptFailure) (kept : Option RetryState) (now : AttemptState) → Reaches (trial known) sharded (first_state store link clock count) failures kept now → Leads told link now.link
       reaches_leads [] kept now reaches = subst (λ s. Leads told link s.link) (sym reaches.1) (leads_same told link link_is)
       reaches_leads (failing ∷ failures) kept now reaches =
           let mid = reaches.1.1.0 in
@@ -107,7 +108,7 @@ module _ {A : Type 0} (known : KnownCommand A) where
           (fails_lead (trial known) rest.0 body known.asked came.moment mid now came.is failing.address failing.phase failing.error rest.1.1.tries.0)
 
       -- what it has come to there
-      reaches_far : (failures : List AttemptFailure) (kept : Option RetryState) (now : AttemptState) (last : ServerRun) → Reaches (trial known) sharded (first_state store link count) failures kept now
+      reaches_far : (failures : List AttemptFailure) (kept : Option RetryState) (now : AttemptState) (last : ServerRun) → Reaches (trial known) sharded (first_state store link clock count) failures kept now
           → server_run now.link ≡ Some last → IsBefore last told_now → DrawnApart now.store → SoFar kept now
       reaches_far [] kept now last reaches now_is later apart = subst (λ k. SoFar k now) (sym reaches.0) reaches.1
       reaches_far (failing ∷ failures) kept now last reaches now_is later apart =
@@ -121,7 +122,7 @@ module _ {A : Type 0} (known : KnownCommand A) where
           subst (λ k. SoFar k now) (sym reaches.1.0) (fails_far rest.0 mid now last far now_is later apart failing reaches.0 rest.1.1.tries rest.1.1.decides)
 
       -- the last attempt
-      module _ (failures : List AttemptFailure) (kept : Option RetryState) (mid now : AttemptState) (reaches : Reaches (trial known) sharded (first_state store link count) failures kept mid)
+      module _ (failures : List AttemptFailure) (kept : Option RetryState) (mid now : AttemptState) (reaches : Reaches (trial known) sharded (first_state store link clock count) failures kept mid)
           (now_is : server_run now.link ≡ Some told_now) (apart_mid : DrawnApart mid.store) (apart : DrawnApart now.store) where
         -- the link leads there
         came_last : Leads told link mid.link
@@ -142,7 +143,7 @@ module _ {A : Type 0} (known : KnownCommand A) where
         prepares more = by_kept kept (far_last more)
           where
             by_kept : (found : Option RetryState) → SoFar found mid → Prepares
-            by_kept None far = record { moment = told; prepared = subst (IsPrepared known told) (sym far) (first_prepared known count) }
+            by_kept None far = record { moment = told; prepared = subst (IsPrepared known told) (sym far) (first_prepared known clock count) }
             by_kept (Some retry) far = record { moment = far.lost.moment; prepared = again_prepared known told_now gentle told mid far.lost }
 
         -- want of memory is a quiet end
@@ -226,12 +227,12 @@ module _ {A : Type 0} (known : KnownCommand A) where
         ]
 
   -- the attempts of an operation whose part of the schedule is gentle end well
-  gentle_turns : (count : ℕ) (told_now : ServerRun) (gentle : IsGentlePart (DrawsNumbers true own (setup_of link)) told told_now) (sharded : Bool) (last : AttemptState)
-      → server_run last.link ≡ Some told_now → DrawnApart last.store → (result : Result A Error) → Attempts (trial known) sharded (first_state store link count) last result → EndsQuietly result
-  gentle_turns count told_now gentle sharded last last_is apart result attempts =
+  gentle_turns : (clock : ClockTells) (count : ℕ) (told_now : ServerRun) (gentle : IsGentlePart (DrawsNumbers true own (setup_of link)) told told_now) (sharded : Bool) (last : AttemptState)
+      → server_run last.link ≡ Some told_now → DrawnApart last.store → (result : Result A Error) → Attempts (trial known) sharded (first_state store link clock count) last result → EndsQuietly result
+  gentle_turns clock count told_now gentle sharded last last_is apart result attempts =
       let apart_mid = ends_apart (trial known) attempts.mid last sharded attempts.kept result attempts.ends apart in
-      let came = came_of (trial known) sharded (first_state store link count) last result attempts in
-      ends_quietly count told_now gentle sharded came.0 attempts.kept attempts.mid last came.1 last_is apart_mid apart result attempts.ends
+      let came = came_of (trial known) sharded (first_state store link clock count) last result attempts in
+      ends_quietly clock count told_now gentle sharded came.0 attempts.kept attempts.mid last came.1 last_is apart_mid apart result attempts.ends
 
 -- an operation whose part of the schedule is gentle ends well, from one moment to another
 pub gentle_ends : {A : Type 0} (known : KnownCommand A) (before now : Moment) (told_now : ServerRun) → known.store ≡ before.store → known.link ≡ besides_out before.link
@@ -242,8 +243,8 @@ gentle_ends known before now told_now store_is link_is own_is now_is drawn gentl
     let last = executes.last in
     let last_is = ap server_run (sym executes.link_is) ∙ now_is in
     let apart = back_apart last.store now.store last.held.session executes.comes_back drawn in
-    gentle_turns known count told_now gentle executes.sharded last last_is apart result
-    (subst (λ own. Attempts (trial_of known.spec known.batch known.which own) executes.sharded (first_state known.store known.link count) last result) (sym own_is)
-    (subst (λ l. Attempts (trial_of known.spec known.batch known.which (known.spec.retryability before.client.options)) executes.sharded (first_state known.store l count) last result) (sym link_is)
-    (subst (λ s. Attempts (trial_of known.spec known.batch known.which (known.spec.retryability before.client.options)) executes.sharded (first_state s (besides_out before.link) count) last result) (sym store_is)
+    gentle_turns known before.clock count told_now gentle executes.sharded last last_is apart result
+    (subst (λ own. Attempts (trial_of known.spec known.batch known.which own) executes.sharded (first_state known.store known.link before.clock count) last result) (sym own_is)
+    (subst (λ l. Attempts (trial_of known.spec known.batch known.which (known.spec.retryability before.client.options)) executes.sharded (first_state known.store l before.clock count) last result) (sym link_is)
+    (subst (λ s. Attempts (trial_of known.spec known.batch known.which (known.spec.retryability before.client.options)) executes.sharded (first_state s (besides_out before.link) before.clock count) last result) (sym store_is)
     executes.attempts)))

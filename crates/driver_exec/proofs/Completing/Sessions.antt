@@ -1,9 +1,11 @@
 -- An operation over what is told: the session and the number that its attempts have once they have a connection.
 use Rattle.std.proofs.Common.{◌≡◌, ℕ, Bool, true, false, List, refl, sym, ap, subst, ◌∙◌, inl, inr}
-use Rattle.std.specs.Prelude.{ℤ, pos, ◌+ℤ◌, Option, None, Some, Result, Ok, Err}
+use Rattle.std.specs.Prelude.{ℤ, pos, ◌+ℤ◌, Option, None, Some, ◌⊎◌, Result, Ok, Err}
+use Rattle.bson_lite.specs.declared.fault.EncodeFault.{EncodeFault}
 use Rattle.driver_error.specs.declared.error.Error.{Error}
 use Rattle.driver_error.specs.declared.kind.ErrorKind.TheVariants as kind
-use Rattle.driver_error.specs.Error.{ErrorKind, kind_of}
+use Rattle.driver_error.specs.Error.{kind_of}
+use Rattle.driver_link.specs.Clock.{ClockTells}
 use Rattle.driver_link.specs.declared.machine.Scheduled.{Scheduled}
 use Rattle.driver_link.specs.declared.machine.Send.{Send}
 use Rattle.driver_link.specs.declared.machine.SendBody.{SendBody}
@@ -17,10 +19,10 @@ use Rattle.driver_link.specs.Retried.{IsGentleItem}
 use Rattle.driver_link.specs.ServerRun.{ServerRun}
 use Rattle.driver_session.specs.declared.retryability.Retryability.{Retryability}
 use Rattle.driver_session.specs.declared.retryability.Retryability.TheVariants as may
-use Rattle.driver_session.specs.Session.{Numbers, Session, TellsEnd, last_number}
+use Rattle.driver_session.specs.Session.{IsAtItsEnd, Numbers, Session, last_number}
 use Rattle.driver_session.specs.StoreTells.{DrawnApart, LendsSession, StoreTells}
 use Rattle.driver_ops.specs.Fields.{SendContext, under}
-use Rattle.driver_ops.specs.Operations.{AsksFor, Batch, OperationSpec, Refuses, TellsUnframed, send_of}
+use Rattle.driver_ops.specs.Operations.{AsksFor, Batch, HasNoSpelling, OperationSpec, Refuses, send_of}
 use Rattle.driver_ops.specs.SendKinds.{SendKind}
 use Rattle.driver_exec.specs.Attempting.{AttemptState, EndsRefused, Readies, Trial, asks_session, may_use, on_connection, trial_of}
 use Rattle.driver_exec.specs.Executing.{first_state}
@@ -62,11 +64,11 @@ pub record KnownCommand (A : Type 0) : Type 1 where
   -- it takes a session, no build of it is refused, its command has a spelling, and the number of its session is not the last
   pub takes_sessions : spec.sessions ≡ true
   pub unrefused : (description : Description) (error : Error) → Refuses spec description error → ⊥
-  pub unframed : (context : SendContext) (why : ErrorKind) → TellsUnframed spec context why → why ≡ kind.Memory
+  pub spelled : (context : SendContext) (fault : EncodeFault) → HasNoSpelling spec context fault → ⊥
   pub not_last : (at : ℕ) (lent : StoreTells) (session : Session) → LendsSession store lent at session → session.number ≡ last_number → ⊥
 
 module _ {A : Type 0} (known : KnownCommand A) where
-  open known use {spec, batch, which, body, own, store, told, link, link_is, Ready, first_ready, bare_ready, takes_sessions, unrefused, unframed, not_last}
+  open known use {spec, batch, which, body, own, store, told, link, link_is, Ready, first_ready, bare_ready, takes_sessions, unrefused, spelled, not_last}
 
   -- the operation as its attempts see it
   abbrev pub trial : Trial A
@@ -110,10 +112,8 @@ module _ {A : Type 0} (known : KnownCommand A) where
     held_first back = record { session = back; sent = None }
 
     -- the session is not at its last number
-    not_at_end : (why : ErrorKind) → TellsEnd session why → why ≡ kind.Memory
-    not_at_end (kind.Internal message) ends = absurd (not_last at lent session lends ends.0)
-    not_at_end kind.Memory ends = refl
-    not_at_end _ ends = absurd ends
+    not_at_end : (error : Error) → ((kind_of error ≡ kind.Memory) ⊎ IsAtItsEnd session error) → kind_of error ≡ kind.Memory
+    not_at_end error ends = elim ends [ inl memory ↦ memory | inr at_end ↦ absurd (not_last at lent session lends at_end.last) ]
 
     -- so there is a number, unless memory runs out
     lent_unnumbered : (turn : Retryability) (back : Option Session) (error : Error) → DrawsSession turn (Some session) back (Err error) → kind_of error ≡ kind.Memory
@@ -122,7 +122,7 @@ module _ {A : Type 0} (known : KnownCommand A) where
         by_next : (numbered : Session) (next : Result ℤ Error) → Numbers session numbered next → GivesNumber next (Err error) → kind_of error ≡ kind.Memory
         by_next numbered (Ok number) numbers gives = absurd (err_ok error (Some number) gives)
         by_next numbered (Err other) numbers gives =
-            let same : other ≡ error = cc (sym gives) in subst (λ e. kind_of e ≡ kind.Memory) same (not_at_end (kind_of other) numbers.1)
+            let same : other ≡ error = cc (sym gives) in subst (λ e. kind_of e ≡ kind.Memory) same (not_at_end other numbers.1)
     lent_unnumbered may.Read back error draws = absurd (err_ok error None draws.1)
     lent_unnumbered may.None back error draws = absurd (err_ok error None draws.1)
 
@@ -193,8 +193,8 @@ module _ {A : Type 0} (known : KnownCommand A) where
         → HoldsSession (needs_session (asks_session true description) mid.held) mid.store store_now mid.held ready (Ok tt) → DrawnApart store_now → IsReadied moment.server description ready
 
   -- it is so before the first attempt
-  pub first_prepared : (count : ℕ) → IsPrepared told (first_state store link count)
-  first_prepared count = record {
+  pub first_prepared : (clock : ClockTells) (count : ℕ) → IsPrepared told (first_state store link clock count)
+  first_prepared clock count = record {
     is = link_is;
     after = before_refl told;
     setup = refl;
@@ -225,6 +225,6 @@ module _ {A : Type 0} (known : KnownCommand A) where
           | inl none ↦ absurd (here.allowed none.none)
           | inr other ↦ elim other [
             | inl none ↦ here.unnumbered (on_connection own refused.conn.description) now.held error none.draws
-            | inr none ↦ elim none.why [ inl early ↦ absurd (unrefused refused.conn.description error early.1) | inr unspelled ↦ unframed _ (kind_of error) unspelled ]
+            | inr none ↦ elim none.why [ inl early ↦ absurd (unrefused refused.conn.description error early.1) | inr late ↦ elim late [ inl unspelled ↦ absurd (spelled _ unspelled.fault unspelled.none) | inr memory ↦ memory ] ]
           ]
         ]

@@ -7,13 +7,14 @@ use Rattle.driver_link.specs.declared.fault.LinkError.{LinkError}
 use Rattle.driver_link.specs.declared.machine.Place.{Place}
 use Rattle.driver_link.specs.declared.options.Address.{Address}
 use Rattle.driver_link.specs.declared.options.Conn.{Conn}
+use Rattle.driver_link.specs.Clock.{ClockTells}
 use Rattle.driver_link.specs.Framed.{Framed}
 use Rattle.driver_link.specs.LinkCalls.{ExchangesFrame}
 use Rattle.driver_link.specs.LinkState.{LinkState}
 use Rattle.driver_session.specs.declared.retryability.Retryability.{Retryability}
 use Rattle.driver_session.specs.StoreTells.{StoreTells}
 use Rattle.driver_ops.specs.Fields.{under}
-use Rattle.driver_ops.specs.Operations.{Batch, OperationSpec, ReadsAnswer, Refuses, TellsUnframed}
+use Rattle.driver_ops.specs.Operations.{Batch, IsUnframed, OperationSpec, ReadsAnswer, Refuses}
 use Rattle.driver_ops.specs.SendKinds.{SendKind}
 use Rattle.driver_exec.specs.declared.attempt_end.AttemptEnd.{AttemptEnd}
 use Rattle.driver_exec.specs.declared.attempt_end.AttemptEnd.TheVariants.{Ended, Unfit}
@@ -22,9 +23,9 @@ use Rattle.driver_exec.specs.Attempting.{AttemptState, Exchanges, besides_out, b
 use Rattle.driver_exec.specs.Failures.{is_memory}
 use Rattle.driver_exec.specs.inside.Failures.{EndsLost, EndsRead}
 
--- the state of attempts, from what store and link tell, what is held and the count
-abbrev pub attempt_state : StoreTells → LinkState → ExecutionSession → ℕ → AttemptState
-attempt_state store link held count = record { store = store; link = besides_out link; held = held; count = count }
+-- the state of attempts, from what store, link and clock tell, what is held and the count
+abbrev pub attempt_state : StoreTells → LinkState → ClockTells → ExecutionSession → ℕ → AttemptState
+attempt_state store link clock held count = record { store = store; link = besides_out link; clock = clock; held = held; count = count }
 
 -- what comes of an exchange's result after a last send under a number: its reply was read, or the exchange failed
 pub record ComesOfReply {A : Type 0} (spec : OperationSpec A) (turn : Retryability) (version : Option ℤ) (address : Address) (number : Option ℤ) (reply : List ℕ) (attempt : AttemptEnd A) : Type 0 where
@@ -73,7 +74,7 @@ pub record EndsUnframed {A : Type 0} (spec : OperationSpec A) (again : Bool) (li
   pub error : Error
   pub number : Option ℤ
   pub draws : DrawsNumber held.sent turn held held_now (Ok number)
-  pub why : ((builds_again again held ≡ false) × Refuses spec conn.description error) ⊎ TellsUnframed spec (under (held_id held_now) number) (kind_of error)
+  pub why : ((builds_again again held ≡ false) × Refuses spec conn.description error) ⊎ (IsUnframed spec (under (held_id held_now) number) error ⊎ (kind_of error ≡ kind.Memory))
   pub link_is : link_now ≡ link
   pub uncounted : count_now ≡ count
   pub ends : attempt ≡ Ended error

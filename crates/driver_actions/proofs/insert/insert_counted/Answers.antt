@@ -10,20 +10,20 @@ execute_operation-requires g c =
     made_bodies c.args.write (sym c.new-insert.ensures.target) (sym c.new-insert.ensures.document) (sym c.new-insert.ensures.id) c.requires.spelled c.requires.found
 
 pub returns-in-Ok-clause-inserts : goal.returns-in-Ok-clause-inserts
-returns-in-Ok-clause-inserts g c = λ before draws.
+returns-in-Ok-clause-inserts g c =
     let of = c.execute_operation.ensures in
     let asked = made_asks c.args.write (sym c.new-insert.ensures.target) (sym c.new-insert.ensures.document) (sym c.new-insert.ensures.id) c.requires.spelled c.requires.found in
     inserts_write c.args.write (Ok c.in-Ok.output) c.new-insert.ensures.target c.new-insert.ensures.document c.new-insert.ensures.id c.requires.spelled c.requires.found c.new-sends.ensures
-    (of.executes 1 refl) of.sends (of.one_command 1 refl) of.caused (of.keeps 1 refl (insert_asked c.args.write) asked) (of.entries 1 refl (insert_asked c.args.write) asked)
-    of.lent of.drawn c.in-Ok.is refl draws
+    (of.executes 1 refl) (of.one_command 1 refl) of.caused (of.keeps 1 refl (insert_asked c.args.write) asked) (of.entries 1 refl (insert_asked c.args.write) asked)
+    c.in-Ok.is refl
 
 pub returns-clause-inserts : goal.returns-clause-inserts
-returns-clause-inserts g c = λ before draws.
+returns-clause-inserts g c =
     let of = c.execute_operation.ensures in
     let asked = made_asks c.args.write (sym c.new-insert.ensures.target) (sym c.new-insert.ensures.document) (sym c.new-insert.ensures.id) c.requires.spelled c.requires.found in
     inserts_write c.args.write (Err c.convert_insert_many_error.result) c.new-insert.ensures.target c.new-insert.ensures.document c.new-insert.ensures.id c.requires.spelled c.requires.found c.new-sends.ensures
-    (of.executes 1 refl) of.sends (of.one_command 1 refl) of.caused (of.keeps 1 refl (insert_asked c.args.write) asked) (of.entries 1 refl (insert_asked c.args.write) asked)
-    of.lent of.drawn c.in-Err.is c.convert_insert_many_error.ensures draws
+    (of.executes 1 refl) (of.one_command 1 refl) of.caused (of.keeps 1 refl (insert_asked c.args.write) asked) (of.entries 1 refl (insert_asked c.args.write) asked)
+    c.in-Err.is c.convert_insert_many_error.ensures
 
 pub returns-in-Ok-clause-options : goal.returns-in-Ok-clause-options
 returns-in-Ok-clause-options g c = ap (λ client. client.options) (c.execute_operation.ensures.executes 1 refl).client_is

@@ -5,7 +5,7 @@ use Rattle.driver_exec.specs.Client.{store_of}
 use Rattle.driver_exec.proofs.Commanding.{fixed_some}
 use Rattle.driver_exec.proofs.Keeping.Standing.{one_command_entries, one_command_keeps}
 use Rattle.driver_exec.proofs.OperationCausing.{executes_caused}
-use Rattle.driver_exec.proofs.Resending.{executes_draws, executes_lends, executes_works}
+use Rattle.driver_exec.proofs.Resending.{executes_works}
 use Rattle.driver_exec.proofs.execute.execute_operation.Goals as goal
 use Rattle.driver_exec.specs.inside.Attempting.{attempt_state}
 
@@ -13,12 +13,14 @@ pub returns-clause-executes : goal.returns-clause-executes
 returns-clause-executes g c = λ statements fixed. record {
   sharded = c.is_sharded-sharded.result;
   sharded_is = c.is_sharded-sharded.ensures;
-  last = attempt_state (g.S.SessionStore.tells (store_of c.execute_operation_with_retry-held.new.client)) (g.L.Link.tells c.execute_operation_with_retry-held.new.outside.link) c.execute_operation_with_retry-held.result.0 c.execute_operation_with_retry-held.new.sends;
+  last = attempt_state (g.S.SessionStore.tells (store_of c.execute_operation_with_retry-held.new.client)) (g.L.Link.tells c.execute_operation_with_retry-held.new.outside.link) (g.K.Clock.tells c.execute_operation_with_retry-held.new.outside.clock) c.execute_operation_with_retry-held.result.0 c.execute_operation_with_retry-held.new.sends;
   attempts = c.execute_operation_with_retry-held.ensures.attempts statements fixed;
   link_is = refl;
   out = c.execute_operation_with_retry-held.ensures.out;
   count_is = refl;
-  comes_back = c.check_in_session.ensures.takes;
+  comes_back = c.check_in_session.ensures.takes.back;
+  back_at = c.check_in_session.ensures.takes.back_at;
+  words_are = ap g.R.Rng.stream c.execute_operation_with_retry-held.ensures.words;
   client_is = ap (λ options. record { options = options }) (c.check_in_session.ensures.options ∙ c.execute_operation_with_retry-held.ensures.options);
 }
 
@@ -32,18 +34,6 @@ pub returns-clause-caused : goal.returns-clause-caused
 returns-clause-caused g c =
     let some = fixed_some (g.O.Operation.built c.execute_operation_with_retry-held.new.op) in
     executes_caused (g.O.Operation.spec c.args.op.now) (batch_of c.args.places.now some.0) (g.O.Operation.next c.args.op.now) _ _ c.args.sends.now c.execute_operation_with_retry-held.new.sends
-    c.execute_operation_with_retry-held.result.1 (returns-clause-executes g c some.0 some.1)
-
-pub returns-clause-lent : goal.returns-clause-lent
-returns-clause-lent g c =
-    let some = fixed_some (g.O.Operation.built c.execute_operation_with_retry-held.new.op) in
-    executes_lends (g.O.Operation.spec c.args.op.now) (batch_of c.args.places.now some.0) (g.O.Operation.next c.args.op.now) _ _ c.args.sends.now c.execute_operation_with_retry-held.new.sends
-    c.execute_operation_with_retry-held.result.1 (returns-clause-executes g c some.0 some.1)
-
-pub returns-clause-drawn : goal.returns-clause-drawn
-returns-clause-drawn g c =
-    let some = fixed_some (g.O.Operation.built c.execute_operation_with_retry-held.new.op) in
-    executes_draws (g.O.Operation.spec c.args.op.now) (batch_of c.args.places.now some.0) (g.O.Operation.next c.args.op.now) _ _ c.args.sends.now c.execute_operation_with_retry-held.new.sends
     c.execute_operation_with_retry-held.result.1 (returns-clause-executes g c some.0 some.1)
 
 pub returns-clause-keeps : goal.returns-clause-keeps

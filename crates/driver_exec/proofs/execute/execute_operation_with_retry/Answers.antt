@@ -1,5 +1,5 @@
 -- Each attempt goes on from the failures before it, and the last one ends the operation.
-use Rattle.std.proofs.Common.{◌+◌, ap, arith, refl, sym, subst, ◌∙◌}
+use Rattle.std.proofs.Common.{ap, refl, sym, subst, ◌∙◌}
 use Rattle.std.specs.Prelude.{Ok, Err}
 use Rattle.driver_exec.specs.declared.attempt_end.AttemptEnd.TheVariants.{Failed}
 use Rattle.driver_ops.specs.Operations.{batch_of}
@@ -8,7 +8,7 @@ use Rattle.driver_exec.specs.Client.{options_of, store_of}
 use Rattle.driver_exec.specs.Holding.{holds_nothing}
 use Rattle.driver_exec.specs.Retry.{Decides, decide}
 use Rattle.driver_exec.proofs.Commanding.{bodies_same, counted_twice, fixed_some, fixes_twice}
-use Rattle.driver_exec.proofs.Executing.{decided_fewer, ends_at_limit, ends_last, ends_refused, failed_is, goes_further, may_answer, one_send_more, same_twice, tried}
+use Rattle.driver_exec.proofs.Executing.{decided_fewer, ends_at_limit, ends_last, ends_refused, failed_is, goes_further, may_answer, same_twice, tried}
 use Rattle.driver_exec.proofs.execute.execute_operation_with_retry.Goals as goal
 use Rattle.driver_exec.specs.inside.Attempting.{attempt_state}
 
@@ -17,8 +17,8 @@ returns-then-limit_reached-clause-attempts g c = λ statements fixed.
     let spec = g.O.Operation.spec c.args.op.now in
     let own = spec.retryability (options_of c.args.client.now) in
     let trial = trial_of spec (batch_of c.args.places.now statements) (g.O.Operation.next c.args.op.now) own in
-    let began = (attempt_state (g.S.SessionStore.tells (store_of c.args.client.now)) (g.L.Link.tells c.args.outside.now.link) holds_nothing c.args.sends.now) in
-    let mid = (attempt_state (g.S.SessionStore.tells (store_of c.attempts.client)) (g.L.Link.tells c.attempts.outside.link) c.attempts.held c.attempts.sends) in
+    let began = (attempt_state (g.S.SessionStore.tells (store_of c.args.client.now)) (g.L.Link.tells c.args.outside.now.link) (g.K.Clock.tells c.args.outside.now.clock) holds_nothing c.args.sends.now) in
+    let mid = (attempt_state (g.S.SessionStore.tells (store_of c.attempts.client)) (g.L.Link.tells c.attempts.outside.link) (g.K.Clock.tells c.attempts.outside.clock) c.attempts.held c.attempts.sends) in
     ends_at_limit trial c.args.sharded began c.attempts.kept mid (c.attempts.invariant.far statements fixed) c.last_error.result (sym c.limit_reached.ensures ∙ c.if-limit_reached.true) c.last_error.ensures
 
 pub attempts-smaller : goal.attempts-smaller
@@ -30,9 +30,9 @@ pub attempts-preserved : goal.attempts-preserved
 attempts-preserved g c =
     let spec = g.O.Operation.spec c.args.op.now in
     let own = spec.retryability (options_of c.args.client.now) in
-    let began = (attempt_state (g.S.SessionStore.tells (store_of c.args.client.now)) (g.L.Link.tells c.args.outside.now.link) holds_nothing c.args.sends.now) in
-    let mid = (attempt_state (g.S.SessionStore.tells (store_of c.attempts.client)) (g.L.Link.tells c.attempts.outside.link) c.attempts.held c.attempts.sends) in
-    let now = (attempt_state (g.S.SessionStore.tells (store_of c.try_once-next.new.client)) (g.L.Link.tells c.try_once-next.new.outside.link) c.try_once-next.result.0 c.try_once-next.new.sends) in
+    let began = (attempt_state (g.S.SessionStore.tells (store_of c.args.client.now)) (g.L.Link.tells c.args.outside.now.link) (g.K.Clock.tells c.args.outside.now.clock) holds_nothing c.args.sends.now) in
+    let mid = (attempt_state (g.S.SessionStore.tells (store_of c.attempts.client)) (g.L.Link.tells c.attempts.outside.link) (g.K.Clock.tells c.attempts.outside.clock) c.attempts.held c.attempts.sends) in
+    let now = (attempt_state (g.S.SessionStore.tells (store_of c.try_once-next.new.client)) (g.L.Link.tells c.try_once-next.new.outside.link) (g.K.Clock.tells c.try_once-next.new.outside.clock) c.try_once-next.result.0 c.try_once-next.new.sends) in
     let goes_on = sym c.limit_reached.ensures ∙ c.if-limit_reached.false in
     let owned = c.attempts.invariant.spec.retryability (options_of c.attempts.client) ∙ ap (λ options. spec.retryability options) c.attempts.invariant.options in
     let decided = subst (λ o. Decides (decide c.attempts.kept c.in-Ok.failing o c.args.sharded) (Ok c.in-Ok-decide.retry)) c.attempts.invariant.own c.in-Ok-decide.ensures in
@@ -52,10 +52,10 @@ attempts-preserved g c =
       own = c.attempts.invariant.own;
       options = c.try_once-next.ensures.options ∙ c.attempts.invariant.options;
       out = c.try_once-next.ensures.out ∙ c.attempts.invariant.out;
+      words = c.try_once-next.ensures.words ∙ c.attempts.invariant.words;
       call = c.try_once-next.ensures.call ∙ c.attempts.invariant.call;
       once = fewer.once;
       counted = counted_twice c.args.sends.now c.attempts.sends c.try_once-next.new.sends (g.O.Operation.built c.attempts.op) (g.O.Operation.built c.try_once-next.new.op) c.attempts.invariant.counted c.try_once-next.ensures.counted c.try_once-next.ensures.fixed;
-      few = omega (arith, fewer.fewer, c.attempts.invariant.few, c.try_once-next.ensures.sends);
     }
 
 pub returns-in-Err-decide-clause-attempts : goal.returns-in-Err-decide-clause-attempts
@@ -63,9 +63,9 @@ returns-in-Err-decide-clause-attempts g c = λ statements fixed.
     let spec = g.O.Operation.spec c.args.op.now in
     let own = spec.retryability (options_of c.args.client.now) in
     let trial = trial_of spec (batch_of c.args.places.now statements) (g.O.Operation.next c.args.op.now) own in
-    let began = (attempt_state (g.S.SessionStore.tells (store_of c.args.client.now)) (g.L.Link.tells c.args.outside.now.link) holds_nothing c.args.sends.now) in
-    let mid = (attempt_state (g.S.SessionStore.tells (store_of c.attempts.client)) (g.L.Link.tells c.attempts.outside.link) c.attempts.held c.attempts.sends) in
-    let now = (attempt_state (g.S.SessionStore.tells (store_of c.try_once-next.new.client)) (g.L.Link.tells c.try_once-next.new.outside.link) c.try_once-next.result.0 c.try_once-next.new.sends) in
+    let began = (attempt_state (g.S.SessionStore.tells (store_of c.args.client.now)) (g.L.Link.tells c.args.outside.now.link) (g.K.Clock.tells c.args.outside.now.clock) holds_nothing c.args.sends.now) in
+    let mid = (attempt_state (g.S.SessionStore.tells (store_of c.attempts.client)) (g.L.Link.tells c.attempts.outside.link) (g.K.Clock.tells c.attempts.outside.clock) c.attempts.held c.attempts.sends) in
+    let now = (attempt_state (g.S.SessionStore.tells (store_of c.try_once-next.new.client)) (g.L.Link.tells c.try_once-next.new.outside.link) (g.K.Clock.tells c.try_once-next.new.outside.clock) c.try_once-next.result.0 c.try_once-next.new.sends) in
     let goes_on = sym c.limit_reached.ensures ∙ c.if-limit_reached.false in
     let owned = c.attempts.invariant.spec.retryability (options_of c.attempts.client) ∙ ap (λ options. spec.retryability options) c.attempts.invariant.options in
     let tries = tried spec (g.O.Operation.spec c.attempts.op) c.attempts.invariant.spec (batch_of c.args.places.now statements) (g.O.Operation.next c.args.op.now) _ _ own _ c.attempts.kept mid now c.try_once-next.result.1 (Failed c.in-Ok.failing)
@@ -81,8 +81,8 @@ answer_of-requires g c =
     let some = fixed_some (g.O.Operation.built c.try_once-next.new.op) in
     let batch = batch_of c.args.places.now some.0 in
     let which = g.O.Operation.next c.args.op.now in
-    let mid = (attempt_state (g.S.SessionStore.tells (store_of c.attempts.client)) (g.L.Link.tells c.attempts.outside.link) c.attempts.held c.attempts.sends) in
-    let now = (attempt_state (g.S.SessionStore.tells (store_of c.try_once-next.new.client)) (g.L.Link.tells c.try_once-next.new.outside.link) c.try_once-next.result.0 c.try_once-next.new.sends) in
+    let mid = (attempt_state (g.S.SessionStore.tells (store_of c.attempts.client)) (g.L.Link.tells c.attempts.outside.link) (g.K.Clock.tells c.attempts.outside.clock) c.attempts.held c.attempts.sends) in
+    let now = (attempt_state (g.S.SessionStore.tells (store_of c.try_once-next.new.client)) (g.L.Link.tells c.try_once-next.new.outside.link) (g.K.Clock.tells c.try_once-next.new.outside.clock) c.try_once-next.result.0 c.try_once-next.new.sends) in
     let owned = c.attempts.invariant.spec.retryability (options_of c.attempts.client) ∙ ap (λ options. spec.retryability options) c.attempts.invariant.options in
     let tries = tried spec (g.O.Operation.spec c.attempts.op) c.attempts.invariant.spec batch which _ _ own _ c.attempts.kept mid now c.try_once-next.result.1 c.try_once-next.result.1
     c.attempts.invariant.next owned c.as_ref.ensures.value refl (c.try_once-next.ensures.tries some.0 some.1) in
@@ -94,9 +94,9 @@ returns-in-Err-clause-attempts g c = λ statements fixed.
     let own = spec.retryability (options_of c.args.client.now) in
     let batch = batch_of c.args.places.now statements in
     let which = g.O.Operation.next c.args.op.now in
-    let began = (attempt_state (g.S.SessionStore.tells (store_of c.args.client.now)) (g.L.Link.tells c.args.outside.now.link) holds_nothing c.args.sends.now) in
-    let mid = (attempt_state (g.S.SessionStore.tells (store_of c.attempts.client)) (g.L.Link.tells c.attempts.outside.link) c.attempts.held c.attempts.sends) in
-    let now = (attempt_state (g.S.SessionStore.tells (store_of c.try_once-next.new.client)) (g.L.Link.tells c.try_once-next.new.outside.link) c.try_once-next.result.0 c.try_once-next.new.sends) in
+    let began = (attempt_state (g.S.SessionStore.tells (store_of c.args.client.now)) (g.L.Link.tells c.args.outside.now.link) (g.K.Clock.tells c.args.outside.now.clock) holds_nothing c.args.sends.now) in
+    let mid = (attempt_state (g.S.SessionStore.tells (store_of c.attempts.client)) (g.L.Link.tells c.attempts.outside.link) (g.K.Clock.tells c.attempts.outside.clock) c.attempts.held c.attempts.sends) in
+    let now = (attempt_state (g.S.SessionStore.tells (store_of c.try_once-next.new.client)) (g.L.Link.tells c.try_once-next.new.outside.link) (g.K.Clock.tells c.try_once-next.new.outside.clock) c.try_once-next.result.0 c.try_once-next.new.sends) in
     let goes_on = sym c.limit_reached.ensures ∙ c.if-limit_reached.false in
     let owned = c.attempts.invariant.spec.retryability (options_of c.attempts.client) ∙ ap (λ options. spec.retryability options) c.attempts.invariant.options in
     let tries = tried spec (g.O.Operation.spec c.attempts.op) c.attempts.invariant.spec batch which _ _ own _ c.attempts.kept mid now c.try_once-next.result.1 c.try_once-next.result.1
@@ -104,20 +104,12 @@ returns-in-Err-clause-attempts g c = λ statements fixed.
     ends_last (trial_of spec batch which own) c.args.sharded began c.attempts.kept mid (c.attempts.invariant.far statements (c.try_once-next.ensures.fixed statements fixed)) now goes_on
     c.try_once-next.result.1 c.in-Err.end c.answer_of.result tries c.in-Err.ensures c.answer_of.ensures
 
-pub returns-in-Err-clause-sends : goal.returns-in-Err-clause-sends
-returns-in-Err-clause-sends g c =
-    one_send_more c.attempts.sends c.try_once-next.new.sends (c.args.sends.now + 2) c.attempts.kept c.attempts.invariant.few c.attempts.invariant.once (sym c.limit_reached.ensures ∙ c.if-limit_reached.false) c.try_once-next.ensures.sends
-
 pub returns-in-Err-clause-spec : goal.returns-in-Err-clause-spec
 returns-in-Err-clause-spec g c =
     same_twice (g.O.Operation.spec c.args.op.now) (g.O.Operation.spec c.attempts.op) (g.O.Operation.spec c.try_once-next.new.op) c.attempts.invariant.spec c.try_once-next.ensures.spec
 
 pub returns-in-Err-clause-fixed : goal.returns-in-Err-clause-fixed
 returns-in-Err-clause-fixed g c = fixes_twice _ (g.O.Operation.built c.attempts.op) _ c.attempts.invariant.fixed c.try_once-next.ensures.fixed
-
-pub returns-in-Err-decide-clause-sends : goal.returns-in-Err-decide-clause-sends
-returns-in-Err-decide-clause-sends g c =
-    one_send_more c.attempts.sends c.try_once-next.new.sends (c.args.sends.now + 2) c.attempts.kept c.attempts.invariant.few c.attempts.invariant.once (sym c.limit_reached.ensures ∙ c.if-limit_reached.false) c.try_once-next.ensures.sends
 
 pub returns-in-Err-decide-clause-spec : goal.returns-in-Err-decide-clause-spec
 returns-in-Err-decide-clause-spec g c =

@@ -1,5 +1,5 @@
 -- The failures so far, and what is kept of them.
-use Rattle.std.proofs.Common.{◌≡◌, ℕ, ◌+◌, ◌≤◌}
+use Rattle.std.proofs.Common.{◌≡◌, ℕ}
 use Rattle.std.specs.Prelude.{◌⊎◌, IsSome}
 use Rattle.driver_ops.specs.Operations.{HasBodies, IsFixed, SameSpec, StaysFixed, batch_of}
 use Rattle.driver_exec.specs.Attempting.{trial_of}
@@ -13,9 +13,9 @@ abbrev pub invariant-attempts : goal.invariant-attempts
 invariant-attempts g l = record {
   far : (statements : ℕ) → IsFixed (g.O.Operation.built l.op) statements
       → SoFar (trial_of (g.O.Operation.spec l.fn.op) (batch_of l.places statements) (g.O.Operation.next l.fn.op) ((g.O.Operation.spec l.fn.op).retryability (options_of l.fn.client))) l.sharded
-      (attempt_state (g.S.SessionStore.tells (store_of l.fn.client)) (g.L.Link.tells l.fn.outside.link) holds_nothing l.fn.sends)
+      (attempt_state (g.S.SessionStore.tells (store_of l.fn.client)) (g.L.Link.tells l.fn.outside.link) (g.K.Clock.tells l.fn.outside.clock) holds_nothing l.fn.sends)
       l.kept
-      (attempt_state (g.S.SessionStore.tells (store_of l.client)) (g.L.Link.tells l.outside.link) l.held l.sends);
+      (attempt_state (g.S.SessionStore.tells (store_of l.client)) (g.L.Link.tells l.outside.link) (g.K.Clock.tells l.outside.clock) l.held l.sends);
   spec : SameSpec (g.O.Operation.spec l.fn.op) (g.O.Operation.spec l.op);
   fixed : StaysFixed (g.O.Operation.built l.fn.op) (g.O.Operation.built l.op);
   next : g.O.Operation.next l.op ≡ g.O.Operation.next l.fn.op;
@@ -23,10 +23,10 @@ invariant-attempts g l = record {
   own : l.own ≡ (g.O.Operation.spec l.fn.op).retryability (options_of l.fn.client);
   options : options_of l.client ≡ options_of l.fn.client;
   out : (g.L.Link.tells l.outside.link).out ≡ (g.L.Link.tells l.fn.outside.link).out;
+  words : l.outside.words ≡ l.fn.outside.words;
   call : l.outside.call ≡ l.fn.outside.call;
   once : AtMostOne l.kept;
   counted : (l.sends ≡ l.fn.sends) ⊎ IsSome (g.O.Operation.built l.op);
-  few : l.sends + attempts_left l.kept ≤ l.fn.sends + 2;
 }
 
 abbrev pub decreases-attempts : goal.decreases-attempts

@@ -15,9 +15,11 @@ returns-in-Err-clause-tries g c = λ statements fixed own turn kept again before
     let store = g.S.SessionStore.tells (store_of c.args.client.now) in
     let store_now = g.S.SessionStore.tells (store_of c.check_out_session-held.new.client) in
     let link = (g.L.Link.tells c.args.outside.now.link) in
+    let clock = g.K.Clock.tells c.args.outside.now.clock in
+    let clock_now = g.K.Clock.tells c.check_out_session-held.new.clock in
     let asked = c.asks_session-asked.ensures ∙ ap (λ sessions. asks_session sessions c.args.turn.now.conn.now.description) c.supports_sessions.ensures in
-    unready_tries spec batch which own kept store store_now before link c.args.held c.check_out_session-held.result.0 c.args.sends.now c.args.address c.args.turn.now.conn.now connects c.in-Err.error
-    (holds_asked spec batch which own kept store store_now before link c.args.held c.check_out_session-held.result.0 c.args.sends.now c.args.address c.args.turn.now.conn.now connects
+    unready_tries spec batch which own kept store store_now before link clock clock_now c.args.held c.check_out_session-held.result.0 c.args.sends.now c.args.address c.args.turn.now.conn.now connects c.in-Err.error
+    (holds_asked spec batch which own kept store store_now before link clock clock_now c.args.held c.check_out_session-held.result.0 c.args.sends.now c.args.address c.args.turn.now.conn.now connects
     c.asks_session-asked.result c.check_out_session-held.result.1 (Err c.in-Err.error) asked c.in-Err.is c.check_out_session-held.ensures.holds)
 
 pub returns-then-stops-clause-tries : goal.returns-then-stops-clause-tries
@@ -28,10 +30,12 @@ returns-then-stops-clause-tries g c = λ statements fixed own turn kept again be
     let store = g.S.SessionStore.tells (store_of c.args.client.now) in
     let store_now = g.S.SessionStore.tells (store_of c.check_out_session-held.new.client) in
     let link = (g.L.Link.tells c.args.outside.now.link) in
+    let clock = g.K.Clock.tells c.args.outside.now.clock in
+    let clock_now = g.K.Clock.tells c.check_out_session-held.new.clock in
     let asked = c.asks_session-asked.ensures ∙ ap (λ sessions. asks_session sessions c.args.turn.now.conn.now.description) c.supports_sessions.ensures in
     let both = both_true c.args.turn.now.again (is_nothing c.args.turn.now.turn) (sym c.stops.ensures ∙ c.if-stops.true) in
-    stopped_tries spec batch which own kept store store_now before link c.args.held c.check_out_session-held.result.0 c.args.sends.now c.args.address c.args.turn.now.conn.now connects
-    (holds_asked spec batch which own kept store store_now before link c.args.held c.check_out_session-held.result.0 c.args.sends.now c.args.address c.args.turn.now.conn.now connects
+    stopped_tries spec batch which own kept store store_now before link clock clock_now c.args.held c.check_out_session-held.result.0 c.args.sends.now c.args.address c.args.turn.now.conn.now connects
+    (holds_asked spec batch which own kept store store_now before link clock clock_now c.args.held c.check_out_session-held.result.0 c.args.sends.now c.args.address c.args.turn.now.conn.now connects
     c.asks_session-asked.result c.check_out_session-held.result.1 (Ok tt) asked c.in-Ok.is c.check_out_session-held.ensures.holds)
     (sym again ∙ both.0) (sym c.may_use.ensures ∙ c.if-may_use.true) (sym (ap is_nothing turn) ∙ both.1)
 
@@ -43,9 +47,11 @@ returns-then-may_use-clause-tries g c = λ statements fixed own turn kept again 
     let store = g.S.SessionStore.tells (store_of c.args.client.now) in
     let store_now = g.S.SessionStore.tells (store_of c.check_out_session-held.new.client) in
     let link = (g.L.Link.tells c.args.outside.now.link) in
+    let clock = g.K.Clock.tells c.args.outside.now.clock in
+    let clock_now = g.K.Clock.tells c.check_out_session-held.new.clock in
     let asked = c.asks_session-asked.ensures ∙ ap (λ sessions. asks_session sessions c.args.turn.now.conn.now.description) c.supports_sessions.ensures in
-    sent_tries spec batch which own kept store store_now before link c.args.held c.check_out_session-held.result.0 c.args.sends.now c.args.address c.args.turn.now.conn.now connects
-    (holds_asked spec batch which own kept store store_now before link c.args.held c.check_out_session-held.result.0 c.args.sends.now c.args.address c.args.turn.now.conn.now connects
+    sent_tries spec batch which own kept store store_now before link clock clock_now c.args.held c.check_out_session-held.result.0 c.args.sends.now c.args.address c.args.turn.now.conn.now connects
+    (holds_asked spec batch which own kept store store_now before link clock clock_now c.args.held c.check_out_session-held.result.0 c.args.sends.now c.args.address c.args.turn.now.conn.now connects
     c.asks_session-asked.result c.check_out_session-held.result.1 (Ok tt) asked c.in-Ok.is c.check_out_session-held.ensures.holds)
     (sym c.may_use.ensures ∙ c.if-may_use.true) (ap (λ b. stops b (on_connection own c.args.turn.now.conn.now.description)) (sym again) ∙ ap (λ t. stops c.args.turn.now.again t) (sym turn) ∙ sym c.stops.ensures ∙ c.if-stops.false) (g.L.Link.tells c.send.new.link) _ _ _ _ _ turn again (c.send.ensures.sending statements fixed)
 
@@ -57,8 +63,10 @@ returns-clause-tries g c = λ statements fixed own turn kept again before connec
     let store = g.S.SessionStore.tells (store_of c.args.client.now) in
     let store_now = g.S.SessionStore.tells (store_of c.check_out_session-held.new.client) in
     let link = (g.L.Link.tells c.args.outside.now.link) in
+    let clock = g.K.Clock.tells c.args.outside.now.clock in
+    let clock_now = g.K.Clock.tells c.check_out_session-held.new.clock in
     let asked = c.asks_session-asked.ensures ∙ ap (λ sessions. asks_session sessions c.args.turn.now.conn.now.description) c.supports_sessions.ensures in
-    sessionless_tries spec batch which own kept store store_now before link c.args.held c.check_out_session-held.result.0 c.args.sends.now c.args.address c.args.turn.now.conn.now connects
-    (holds_asked spec batch which own kept store store_now before link c.args.held c.check_out_session-held.result.0 c.args.sends.now c.args.address c.args.turn.now.conn.now connects
+    sessionless_tries spec batch which own kept store store_now before link clock clock_now c.args.held c.check_out_session-held.result.0 c.args.sends.now c.args.address c.args.turn.now.conn.now connects
+    (holds_asked spec batch which own kept store store_now before link clock clock_now c.args.held c.check_out_session-held.result.0 c.args.sends.now c.args.address c.args.turn.now.conn.now connects
     c.asks_session-asked.result c.check_out_session-held.result.1 (Ok tt) asked c.in-Ok.is c.check_out_session-held.ensures.holds)
     c.from_kind-refused.result (sym c.may_use.ensures ∙ c.if-may_use.false) c.from_kind-refused.ensures

@@ -1,0 +1,112 @@
+-- An operation only reads its clock.
+use Rattle.std.proofs.Common.{◌≡◌, ℕ, List, [], ◌∷◌, sym, ap, subst, ◌∙◌, inl, inr, arith}
+use Rattle.std.specs.Prelude.{Bool, true, false, Option, None, Some, Result, Ok, Err}
+use Rattle.driver_error.specs.declared.error.Error.{Error}
+use Rattle.driver_link.specs.declared.fault.LinkError.{LinkError}
+use Rattle.driver_link.specs.declared.fault.LinkError.TheVariants.{Fault}
+use Rattle.driver_link.specs.declared.options.Address.{Address}
+use Rattle.driver_link.specs.declared.options.Conn.{Conn}
+use Rattle.driver_link.specs.Clock.{ClockTells}
+use Rattle.driver_session.specs.Session.{Session}
+use Rattle.driver_session.specs.StoreTells.{StoreTells}
+use Rattle.driver_ops.specs.Operations.{Batch, OperationSpec}
+use Rattle.driver_ops.specs.SendKinds.{SendKind}
+use Rattle.driver_exec.specs.declared.attempt_end.AttemptEnd.{AttemptEnd}
+use Rattle.driver_exec.specs.declared.attempt_end.AttemptEnd.TheVariants.{Done, Ended, Failed, Stopped, Unfit, Unselected}
+use Rattle.driver_exec.specs.declared.failure.AttemptFailure.{AttemptFailure}
+use Rattle.driver_exec.specs.declared.failure.FailurePhase.{FailurePhase}
+use Rattle.driver_exec.specs.declared.failure.FailurePhase.TheVariants.{ConnectionEstablishment, Execution}
+use Rattle.driver_exec.specs.Attempting.{AttemptState, EndsAtOnce, FailsIn, Readies, Sends, Trial, Tries, asks_session, besides_out, trial_of}
+use Rattle.driver_exec.specs.Executing.{Ends, Executes, first_state}
+use Rattle.driver_exec.specs.Holding.{ExecutionSession, GivesBack, HoldsSession, IsBackAt, IsLentAt, needs_session}
+use Rattle.driver_exec.specs.Moment.{Moment}
+use Rattle.driver_exec.specs.Readings.{OnlyRead}
+use Rattle.driver_exec.specs.Retry.{RetryState}
+use Rattle.driver_exec.specs.inside.Executing.{Reaches}
+use Rattle.driver_exec.proofs.Folding.{came_of}
+use Rattle.driver_exec.proofs.Trying.{read_nothing, read_once}
+
+-- a clock that is as it was
+read_same : (clock now : ClockTells) → now ≡ clock → OnlyRead clock now
+read_same clock now same = subst (OnlyRead clock) (sym same) (read_nothing clock)
+
+-- a clock that was only read twice
+pub read_twice : (a b c : ClockTells) → OnlyRead a b → OnlyRead b c → OnlyRead a c
+read_twice a b c first second = record { later = omega (arith, first.later, second.later); slept = second.slept ∙ first.slept }
+
+-- for a lending it is read
+lent_read : (needed : Bool) (store now : StoreTells) (held held_now : ExecutionSession) (holds : HoldsSession needed store now held held_now (Ok tt)) (clock clock_now : ClockTells)
+    → IsLentAt needed store now held held_now (Ok tt) holds clock clock_now → OnlyRead clock clock_now
+lent_read false store now held held_now holds clock clock_now at = read_same clock clock_now at
+lent_read true store now held held_now holds clock clock_now at = read_once clock clock_now holds.at at
+
+-- and for a session that comes back
+back_read : (store now : StoreTells) (session : Option Session) (back : GivesBack store now session) (clock clock_now : ClockTells) → IsBackAt store now session back clock clock_now
+    → OnlyRead clock clock_now
+back_read store now None back clock clock_now at = read_same clock clock_now at
+back_read store now (Some session) back clock clock_now at = read_once clock clock_now back.at at
+
+-- one attempt
+module _ {A : Type 0} (trial : Trial A) (kept : Option RetryState) (before now : AttemptState) where
+  readies_read : (address : Address) (conn : Conn) → Readies trial kept before now address conn → OnlyRead before.clock now.clock
+  readies_read address conn readies =
+      lent_read (needs_session (asks_session trial.spec.sessions conn.description) before.held) before.store now.store before.held now.held readies.holds before.clock now.clock readies.lent_at
+
+module _ {A : Type 0} (trial : Trial A) (kept : Option RetryState) (before now : AttemptState) where
+  sends_read : (address : Address) (conn : Conn) (result : Result (List ℕ) LinkError) → Sends trial kept before now address conn result → OnlyRead before.clock now.clock
+  sends_read address conn result sends = subst (OnlyRead before.clock) (sym sends.clock_is) (readies_read trial kept before sends.ready address conn sends.readies)
+
+  failed_read : (address : Address) (phase : FailurePhase) (error : Error) → FailsIn trial kept before now address phase error → OnlyRead before.clock now.clock
+  failed_read address ConnectionEstablishment error fails = read_same before.clock now.clock fails.rest.clock
+  failed_read address Execution error fails = elim fails [
+    | inl lost ↦ sends_read address lost.conn (Err (Fault lost.fault lost.own)) lost.sends
+    | inr spelled ↦ sends_read address spelled.conn (Ok spelled.reply) spelled.sends
+  ]
+
+  ended_read : (error : Error) → EndsAtOnce trial kept before now error → OnlyRead before.clock now.clock
+  ended_read error ends = elim ends [
+    | inl unready ↦ unready.clock
+    | inr other ↦ elim other [
+      | inl refused ↦ subst (OnlyRead before.clock) (sym refused.clock) (readies_read trial kept before refused.ready refused.address refused.conn refused.readies)
+      | inr sent ↦ sends_read sent.address sent.conn sent.result sent.sends
+    ]
+  ]
+
+  tried_read : (attempt : AttemptEnd A) → Tries trial kept before now attempt → OnlyRead before.clock now.clock
+  tried_read (Done output) tries = sends_read tries.address tries.conn (Ok tries.reply) tries.sends
+  tried_read (Failed failing) tries = failed_read failing.address failing.phase failing.error tries.0
+  tried_read (Unselected error) tries = read_same before.clock now.clock tries.rest.clock
+  tried_read Stopped tries = readies_read trial kept before now tries.1.address tries.1.conn tries.1.readies
+  tried_read Unfit tries = subst (OnlyRead before.clock) (sym tries.1.clock) (readies_read trial kept before tries.1.ready tries.1.address tries.1.conn tries.1.readies)
+  tried_read (Ended error) tries = ended_read error tries
+
+-- all attempts
+module _ {A : Type 0} (trial : Trial A) (sharded : Bool) (before : AttemptState) where
+  reached_read : (failures : List AttemptFailure) (kept : Option RetryState) (now : AttemptState) → Reaches trial sharded before failures kept now → OnlyRead before.clock now.clock
+  reached_read [] kept now reaches = read_same before.clock now.clock (ap (λ s. s.clock) reaches.1)
+  reached_read (failing ∷ failures) kept now reaches =
+      let mid = reaches.1.1.0 in
+      let rest = reaches.1.1.1 in
+      read_twice before.clock mid.clock now.clock (reached_read failures rest.0 mid rest.1.0)
+      (failed_read trial rest.0 mid now failing.address failing.phase failing.error rest.1.1.tries.0)
+
+  ended_all : (kept : Option RetryState) (mid now : AttemptState) (result : Result A Error) → OnlyRead before.clock mid.clock → Ends trial sharded kept mid now result → OnlyRead before.clock now.clock
+  ended_all kept mid now result read ends = elim ends [
+    | inl last ↦ read_twice before.clock mid.clock now.clock read (tried_read trial kept mid now last.attempt last.tries)
+    | inr other ↦ elim other [
+      | inl limit ↦ subst (λ s. OnlyRead before.clock s.clock) (sym limit.same) read
+      | inr refused ↦ read_twice before.clock mid.clock now.clock read (tried_read trial kept mid now (Failed refused.failing) refused.tries)
+    ]
+  ]
+
+-- so it is of an operation
+pub executes_read : {A : Type 0} (spec : OperationSpec A) (batch : Batch) (which : SendKind) (before now : Moment) (count count_now : ℕ) (result : Result A Error)
+    → Executes spec batch which before now count count_now result → OnlyRead before.clock now.clock
+executes_read spec batch which before now count count_now result executes =
+    let trial = trial_of spec batch which (spec.retryability before.client.options) in
+    let first = first_state before.store (besides_out before.link) before.clock count in
+    let last = executes.last in
+    let came = came_of trial executes.sharded first last result executes.attempts in
+    let so_far = reached_read trial executes.sharded first came.0 executes.attempts.kept executes.attempts.mid came.1 in
+    let attempts = ended_all trial executes.sharded first executes.attempts.kept executes.attempts.mid last result so_far executes.attempts.ends in
+    read_twice before.clock last.clock now.clock attempts (back_read last.store now.store last.held.session executes.comes_back last.clock now.clock executes.back_at)

@@ -1,0 +1,98 @@
+-- How many sends an operation counts: at most one an attempt, and at most two in all.
+use Rattle.std.proofs.Common.{◌≡◌, ℕ, ◌+◌, ◌≤◌, List, [], ◌∷◌, length, ap, ◌∙◌, inl, inr, arith}
+use Rattle.std.specs.Prelude.{Bool, Option, Result, Ok, Err}
+use Rattle.driver_error.specs.declared.error.Error.{Error}
+use Rattle.driver_link.specs.Clock.{ClockTells}
+use Rattle.driver_link.specs.declared.fault.LinkError.{LinkError}
+use Rattle.driver_link.specs.declared.fault.LinkError.TheVariants.{Fault}
+use Rattle.driver_link.specs.declared.options.Address.{Address}
+use Rattle.driver_link.specs.declared.options.Conn.{Conn}
+use Rattle.driver_link.specs.LinkState.{LinkState}
+use Rattle.driver_session.specs.StoreTells.{StoreTells}
+use Rattle.driver_ops.specs.Operations.{Batch, OperationSpec}
+use Rattle.driver_ops.specs.SendKinds.{SendKind}
+use Rattle.driver_exec.specs.declared.attempt_end.AttemptEnd.{AttemptEnd}
+use Rattle.driver_exec.specs.declared.attempt_end.AttemptEnd.TheVariants.{Done, Ended, Failed, Stopped, Unfit, Unselected}
+use Rattle.driver_exec.specs.declared.failure.AttemptFailure.{AttemptFailure}
+use Rattle.driver_exec.specs.declared.failure.FailurePhase.{FailurePhase}
+use Rattle.driver_exec.specs.declared.failure.FailurePhase.TheVariants.{ConnectionEstablishment, Execution}
+use Rattle.driver_exec.specs.Attempting.{AttemptState, EndsAtOnce, FailsIn, Sends, Trial, Tries, besides_out, trial_of}
+use Rattle.driver_exec.specs.Executing.{Ends, Executes, first_state}
+use Rattle.driver_exec.specs.Moment.{Moment}
+use Rattle.driver_exec.specs.Retry.{RetryState}
+use Rattle.driver_exec.specs.inside.Executing.{Reaches}
+use Rattle.driver_exec.proofs.Executing.{one_left}
+use Rattle.driver_exec.proofs.Folding.{came_of}
+use Rattle.driver_exec.proofs.Resending.{reaches_few}
+
+-- one attempt counts one send at most
+module _ {A : Type 0} (trial : Trial A) (kept : Option RetryState) (before now : AttemptState) where
+  none_counted : now.count ≡ before.count → now.count ≤ before.count + 1
+  none_counted same = omega (arith, same)
+
+  one_counted : (address : Address) (conn : Conn) (result : Result (List ℕ) LinkError) → Sends trial kept before now address conn result → now.count ≤ before.count + 1
+  one_counted address conn result sends = omega (arith, sends.counted, sends.readies.count)
+
+  failed_counted : (address : Address) (phase : FailurePhase) (error : Error) → FailsIn trial kept before now address phase error → now.count ≤ before.count + 1
+  failed_counted address ConnectionEstablishment error fails = none_counted fails.rest.count
+  failed_counted address Execution error fails = elim fails [
+    | inl lost ↦ one_counted address lost.conn (Err (Fault lost.fault lost.own)) lost.sends
+    | inr spelled ↦ one_counted address spelled.conn (Ok spelled.reply) spelled.sends
+  ]
+
+  ended_counted : (error : Error) → EndsAtOnce trial kept before now error → now.count ≤ before.count + 1
+  ended_counted error ends = elim ends [
+    | inl unready ↦ none_counted unready.count
+    | inr other ↦ elim other [
+      | inl refused ↦ none_counted (refused.count ∙ refused.readies.count)
+      | inr sent ↦ one_counted sent.address sent.conn sent.result sent.sends
+    ]
+  ]
+
+  tried_counted : (attempt : AttemptEnd A) → Tries trial kept before now attempt → now.count ≤ before.count + 1
+  tried_counted (Done output) tries = one_counted tries.address tries.conn (Ok tries.reply) tries.sends
+  tried_counted (Failed failing) tries = failed_counted failing.address failing.phase failing.error tries.0
+  tried_counted (Unselected error) tries = none_counted tries.rest.count
+  tried_counted Stopped tries = none_counted tries.1.readies.count
+  tried_counted Unfit tries = none_counted (tries.1.count ∙ tries.1.readies.count)
+  tried_counted (Ended error) tries = ended_counted error tries
+
+-- so many as there were failures, and one more
+module _ {A : Type 0} (trial : Trial A) (sharded : Bool) (store : StoreTells) (link : LinkState) (clock : ClockTells) (count : ℕ) where
+  reached_counted : (failures : List AttemptFailure) (kept : Option RetryState) (now : AttemptState) → Reaches trial sharded (first_state store link clock count) failures kept now
+      → now.count ≤ count + length failures
+  reached_counted [] kept now reaches = let same : now.count ≡ count = ap (λ s. s.count) reaches.1 in omega (arith, same)
+  reached_counted (failing ∷ failures) kept now reaches =
+      let mid = reaches.1.1.0 in
+      let rest = reaches.1.1.1 in
+      let before = reached_counted failures rest.0 mid rest.1.0 in
+      let more = failed_counted trial rest.0 mid now failing.address failing.phase failing.error rest.1.1.tries.0 in
+      omega (arith, before, more)
+
+  ended_few : (failures : List AttemptFailure) (kept : Option RetryState) (mid now : AttemptState) (result : Result A Error) → Reaches trial sharded (first_state store link clock count) failures kept mid
+      → Ends trial sharded kept mid now result → now.count ≤ count + 2
+  ended_few failures kept mid now result reaches ends =
+      let so_far = reached_counted failures kept mid reaches in
+      let few = reaches_few trial sharded store link clock count failures kept mid reaches in
+      elim ends [
+        | inl last ↦
+            let left = one_left kept few.once last.goes_on in
+            let more = tried_counted trial kept mid now last.attempt last.tries in
+            omega (arith, so_far, few.left, left, more)
+        | inr other ↦ elim other [
+          | inl limit ↦ let same : now.count ≡ mid.count = ap (λ s. s.count) limit.same in omega (arith, so_far, few.left, same)
+          | inr refused ↦
+              let left = one_left kept few.once refused.goes_on in
+              let more = tried_counted trial kept mid now (Failed refused.failing) refused.tries in
+              omega (arith, so_far, few.left, left, more)
+        ]
+      ]
+
+-- an operation counts two sends at most
+pub executes_few : {A : Type 0} (spec : OperationSpec A) (batch : Batch) (which : SendKind) (before now : Moment) (count count_now : ℕ) (result : Result A Error)
+    → Executes spec batch which before now count count_now result → count_now ≤ count + 2
+executes_few spec batch which before now count count_now result executes =
+    let trial = trial_of spec batch which (spec.retryability before.client.options) in
+    let came = came_of trial executes.sharded (first_state before.store (besides_out before.link) before.clock count) executes.last result executes.attempts in
+    let few = ended_few trial executes.sharded before.store (besides_out before.link) before.clock count came.0 executes.attempts.kept executes.attempts.mid executes.last result came.1 executes.attempts.ends in
+    omega (arith, few, executes.count_is)

@@ -1,0 +1,66 @@
+//! A run of one insert with a clock that goes on by a step at each reading: when the call starts and ends, and
+//! when its session is lent and comes back.
+use crate::faking::{ALIKE, DONE, Given, fake_link};
+use crate::schedules::calls;
+use bson_lite::List;
+use driver_actions::{Call, Outcome, run_calls};
+use driver_exec::{Client, Outside};
+use driver_link::{ClientOptions, CountingIds, FakeLink, MemClock};
+use driver_session::{PlainStore, StoreEvent};
+use rand_core::SeedableRng;
+use rand_pcg::Pcg32;
+use std::alloc::{AllocError, Global};
+
+/// When the one call started and ended.
+fn times(outcomes: List<Outcome>) -> Option<(u64, u64)> {
+    match outcomes.as_slice() {
+        [outcome] => Some((outcome.started_ms, outcome.ended_ms)),
+        _ => None,
+    }
+}
+
+/// When the one session was lent, and when it came back.
+fn lending(history: &[StoreEvent]) -> Option<(u64, u64)> {
+    match history {
+        [
+            StoreEvent::Lent { now: lent, .. },
+            StoreEvent::Back { now: back, .. },
+        ] => Some((*lent, *back)),
+        _ => None,
+    }
+}
+
+/// The times of a run, and those of its lending, with a clock that reads 100 first and 7 more each time.
+fn timed(alloc: Global, link: FakeLink, calls: &[Call]) -> Option<((u64, u64), (u64, u64))> {
+    let options = ClientOptions {
+        client_number: 1,
+        retry_writes: None,
+    };
+    let mut client = Client::new(options, PlainStore::new(alloc, CountingIds::new()));
+    let mut outside = Outside {
+        link,
+        clock: MemClock::new(100, 7),
+        words: Pcg32::seed_from_u64(1),
+        call: 0,
+    };
+    match run_calls(alloc, &mut client, &mut outside, calls) {
+        Ok(outcomes) => Some((times(outcomes)?, lending(client.store().history())?)),
+        Err(AllocError) => None,
+    }
+}
+
+/// The same of one insert over a link that answers its exchange.
+fn timed_insert(alloc: Global) -> Option<((u64, u64), (u64, u64))> {
+    match (
+        fake_link(alloc, ALIKE, &[Given::Reply(DONE)]),
+        calls(alloc, 1),
+    ) {
+        (Ok(link), Ok(calls)) => timed(alloc, link, calls.as_slice()),
+        _ => None,
+    }
+}
+
+#[test]
+fn a_session_is_lent_and_comes_back_between_start_and_end(rt: HostRuntime) {
+    assert_eq!(rt; timed_insert(rt.alloc()), Some(((100, 121), (107, 114))));
+}
