@@ -49,7 +49,7 @@ use Rattle.driver_actions.specs.declared.call.Call.TheVariants.{Single}
 use Rattle.driver_actions.specs.declared.call.Outcome.{Outcome}
 use Rattle.driver_actions.specs.declared.call.SingleAnswer.{SingleAnswer}
 use Rattle.driver_actions.specs.declared.call.SingleWrite.TheVariants.{InsertOne}
-use Rattle.driver_actions.specs.CallByCall.{CallCaused, with_clock, with_reading}
+use Rattle.driver_actions.specs.CallByCall.{CallCaused, with_clock}
 use Rattle.driver_actions.specs.Calls.{inserted}
 use Rattle.driver_actions.specs.Inputs.{IsAccepted, TellsInput}
 use Rattle.driver_actions.specs.MainTheorem.{CallCompletes, CallEnds, EndsWell, IsValidInsert}
@@ -223,19 +223,19 @@ module _ (run : RunState) (calls : List Call) (before now : Moment) (left : Leav
       by_told before.store.pool (server_run before.link) (server_run now.link) refl refl refl left namespace document result makes valid gentle
 
 -- its end does not depend on the readings of the clock
-completes_read : (number reading : ℕ) (clock : ClockTells) (before now : Moment) (call : Call) (result : Result Answer Error)
-    → CallCompletes number (with_reading before reading) (with_clock now clock) call result → CallCompletes number before now call result
-completes_read number reading clock before now (Single (InsertOne namespace document)) result completes = completes
+completes_read : (number : ℕ) (began clock : ClockTells) (before now : Moment) (call : Call) (result : Result Answer Error)
+    → CallCompletes number (with_clock before began) (with_clock now clock) call result → CallCompletes number before now call result
+completes_read number began clock before now (Single (InsertOne namespace document)) result completes = completes
 
 -- a call of a run that stands
 pub call_ends : (run : RunState) (calls : List Call) (before now : Moment) → RunInvariant run calls before → DrawnApart now.store → (call : Call) (outcome : Outcome)
     → CallCaused run.made before now call outcome → CallEnds run.made before now call outcome
 call_ends run calls before now stands apart call outcome caused =
-    let read = with_reading before outcome.started_ms in
+    let read = with_clock before caused.first in
     let last = with_clock now caused.clock in
     record {
       caused = caused;
-      complete = completes_read run.made outcome.started_ms caused.clock before now call outcome.result
+      complete = completes_read run.made caused.first caused.clock before now call outcome.result
           (completes run calls read last stands.left (stands_count run calls before stands) apart call outcome.result caused.makes);
       own = sends_own read last call run.made outcome.result (call_sends read last call run.made outcome.result caused.makes);
     }

@@ -1,5 +1,5 @@
 -- One call of a single write, from its parts.
-use Rattle.std.proofs.Common.{◌≡◌, ℕ, ◌≤◌, List, refl, ap, subst, inl, inr}
+use Rattle.std.proofs.Common.{◌≡◌, ℕ, List, refl, ap, inl, inr}
 use Rattle.std.specs.Prelude.{IsSome, Ok, Err}
 use Rattle.bson_lite.specs.declared.bson.Bson.{Bson}
 use Rattle.bson_lite.specs.declared.document.Pair.{Pair}
@@ -10,7 +10,7 @@ use Rattle.driver_error.specs.declared.kind.ErrorKind.TheVariants as kind
 use Rattle.driver_error.specs.declared.results.InsertManyResult.{InsertManyResult}
 use Rattle.driver_error.specs.declared.results.InsertOneResult.{InsertOneResult}
 use Rattle.driver_error.specs.Error.{kind_of}
-use Rattle.driver_link.specs.Clock.{ClockTells}
+use Rattle.driver_link.specs.Clock.{ClockTells, ReadsClock}
 use Rattle.driver_link.specs.declared.machine.Place.{Place}
 use Rattle.driver_link.specs.declared.machine.PlacedWrite.{PlacedWrite}
 use Rattle.driver_link.specs.declared.options.ClientOptions.{ClientOptions}
@@ -90,15 +90,8 @@ unmade_memory before now namespace document place error draws memory = inl (reco
 
 -- a call between two readings of the clock
 pub call_caused : (before now : Moment) (first last : ClockTells) (call : Call) (number : ℕ) (outcome : Outcome)
-    → first ≡ record before.clock { last = outcome.started_ms } → before.clock.last ≤ outcome.started_ms
-    → now.clock ≡ record last { last = outcome.ended_ms } → last.last ≤ outcome.ended_ms
+    → ReadsClock before.clock first outcome.started_ms → ReadsClock last now.clock outcome.ended_ms
     → MakesCall (with_clock before first) (with_clock now last) call number outcome.result
     → HasCause (with_clock before first) (with_clock now last) call outcome.result → CallCaused number before now call outcome
-call_caused before now first last call number outcome first_is started last_is ended makes cause = record {
-  started = started;
-  clock = last;
-  ended = ended;
-  read = last_is;
-  makes = subst (λ clock. MakesCall (with_clock before clock) (with_clock now last) call number outcome.result) first_is makes;
-  cause = subst (λ clock. HasCause (with_clock before clock) (with_clock now last) call outcome.result) first_is cause;
-}
+call_caused before now first last call number outcome started ended makes cause =
+    record { first = first; started = started; clock = last; ended = ended; makes = makes; cause = cause }

@@ -28,7 +28,7 @@ use Rattle.driver_actions.specs.declared.call.Call.TheVariants.{Single}
 use Rattle.driver_actions.specs.declared.call.Outcome.{Outcome}
 use Rattle.driver_actions.specs.declared.call.SingleAnswer.{SingleAnswer}
 use Rattle.driver_actions.specs.Calls.{written}
-use Rattle.driver_actions.specs.CallByCall.{CallCaused, with_clock, with_reading}
+use Rattle.driver_actions.specs.CallByCall.{CallCaused, with_clock}
 use Rattle.driver_actions.specs.MainTheorem.{HasWriteOf, IsReplayed, IsReplayedTold, KeepsMaking, KeepsMakingTold, SendsOwn}
 use Rattle.driver_actions.specs.SingleCalls.{Made, MakesCall, first_place}
 use Rattle.driver_actions.proofs.Inserting.Making.{inserts_sends}
@@ -172,21 +172,21 @@ module _ (before now : Moment) (call : Call) (number : ℕ) (result : Result Ans
 -- a call that ended with its cause left the same, since its readings of the clock change neither store nor link
 module _ (number : ℕ) (before now : Moment) (call : Call) (outcome : Outcome) (caused : CallCaused number before now call outcome) where
   -- what it sent
-  caused_sends : SendsCall (with_reading before outcome.started_ms) (with_clock now caused.clock) call number outcome.result
-  caused_sends = call_sends (with_reading before outcome.started_ms) (with_clock now caused.clock) call number outcome.result caused.makes
+  caused_sends : SendsCall (with_clock before caused.first) (with_clock now caused.clock) call number outcome.result
+  caused_sends = call_sends (with_clock before caused.first) (with_clock now caused.clock) call number outcome.result caused.makes
 
   -- what it drew
   pub caused_draws : Draws before.store now.store
-  caused_draws = sends_draws (with_reading before outcome.started_ms) (with_clock now caused.clock) call number outcome.result caused_sends
+  caused_draws = sends_draws (with_clock before caused.first) (with_clock now caused.clock) call number outcome.result caused_sends
 
   -- what is lent after it
   pub caused_lends : LendsAsBefore before.store now.store
-  caused_lends = sends_lends (with_reading before outcome.started_ms) (with_clock now caused.clock) call number outcome.result caused_sends
+  caused_lends = sends_lends (with_clock before caused.first) (with_clock now caused.clock) call number outcome.result caused_sends
 
   -- the making of the link
   pub caused_making : KeepsMaking before now
-  caused_making = sends_making (with_reading before outcome.started_ms) (with_clock now caused.clock) call number outcome.result caused_sends
+  caused_making = sends_making (with_clock before caused.first) (with_clock now caused.clock) call number outcome.result caused_sends
 
   -- the fold of the trace
   pub caused_replayed : IsReplayed before → IsReplayed now
-  caused_replayed folds = sends_replayed (with_reading before outcome.started_ms) (with_clock now caused.clock) call number outcome.result caused_sends folds
+  caused_replayed folds = sends_replayed (with_clock before caused.first) (with_clock now caused.clock) call number outcome.result caused_sends folds

@@ -15,7 +15,7 @@ use Rattle.driver_exec.specs.BetweenCalls.{NumbersWithin}
 use Rattle.driver_exec.specs.Moment.{Moment}
 use Rattle.driver_actions.specs.declared.call.Call.{Call}
 use Rattle.driver_actions.specs.declared.call.Outcome.{Outcome}
-use Rattle.driver_actions.specs.CallByCall.{CallCaused, with_clock, with_reading}
+use Rattle.driver_actions.specs.CallByCall.{CallCaused, with_clock}
 use Rattle.driver_actions.specs.MainTheorem.{KeepsMakingTold}
 use Rattle.driver_actions.specs.Standing.{Leaves, LeavesTold, RunInvariant, RunState, new_run, run_more}
 use Rattle.driver_actions.proofs.Appending.{ran_appended, take_next, take_none}
@@ -142,7 +142,7 @@ stands_sent run now calls call last before after is_more within next sends stand
 pub stands_more : (run now : RunState) (calls : List Call) (call : Call) (last : Outcome) (before after : Moment) → now ≡ run_more run last → run.made < length calls
     → slice_get calls run.made ≡ Some call → CallCaused run.made before after call last → RunInvariant run calls before → DrawnApart after.store → RunInvariant now calls after
 stands_more run now calls call last before after is_more within next caused stands apart =
-    let began = with_reading before last.started_ms in
+    let began = with_clock before caused.first in
     let ended = with_clock after caused.clock in
     let sends = call_sends began ended call run.made last.result caused.makes in
     let stood : RunInvariant run calls began = record { within = stands.within; left = stands.left; closed = stands.closed } in

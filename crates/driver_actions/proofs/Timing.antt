@@ -1,5 +1,5 @@
 -- A call only reads its clock, and draws no random word.
-use Rattle.std.proofs.Common.{◌≡◌, ℕ, ◌≤◌, [], ◌∷◌, refl, sym, ap, subst, ◌∙◌, arith}
+use Rattle.std.proofs.Common.{◌≡◌, ℕ, [], ◌∷◌, refl, sym, subst, ◌∙◌, arith}
 use Rattle.std.specs.Prelude.{Result}
 use Rattle.driver_error.specs.declared.error.Error.{Error}
 use Rattle.driver_ops.specs.InsertSpec.{insert_spec}
@@ -8,11 +8,11 @@ use Rattle.driver_ops.specs.SendKinds.{first}
 use Rattle.driver_ops.specs.Targets.{in_collection}
 use Rattle.driver_exec.specs.Moment.{Moment}
 use Rattle.driver_exec.specs.Readings.{OnlyRead}
-use Rattle.driver_exec.proofs.ClockReadings.{executes_read, read_twice}
+use Rattle.driver_exec.proofs.ClockReadings.{executes_read, read_twice, reads_later}
 use Rattle.driver_actions.specs.declared.call.Answer.{Answer}
 use Rattle.driver_actions.specs.declared.call.Call.{Call}
 use Rattle.driver_actions.specs.declared.call.Outcome.{Outcome}
-use Rattle.driver_actions.specs.CallByCall.{CallCaused, IsTimed, with_clock, with_reading}
+use Rattle.driver_actions.specs.CallByCall.{CallCaused, IsTimed, with_clock}
 use Rattle.driver_actions.proofs.OwnIds.{OnlyDrew, own_drew}
 use Rattle.driver_actions.proofs.Sending.{SendsCall, by_call, call_sends}
 
@@ -23,7 +23,7 @@ pub record OnlyReads (before now : Moment) : Type 0 where
 
 -- where only an id was drawn
 drew_reads : (before now : Moment) → OnlyDrew before now → OnlyReads before now
-drew_reads before now drew = subst (OnlyReads before) (sym drew.rest) (record { read = record { later = omega arith; slept = refl }; words = refl })
+drew_reads before now drew = subst (OnlyReads before) (sym drew.rest) (record { read = record { readings = []; reads = refl }; words = refl })
 
 -- in a call
 call_reads : (before now : Moment) (call : Call) (number : ℕ) (result : Result Answer Error) → SendsCall before now call number result → OnlyReads before now
@@ -42,14 +42,15 @@ call_reads before now call number result sends = by_call (OnlyReads before now) 
 -- so are the times of its outcome
 pub caused_timed : (number : ℕ) (before now : Moment) (call : Call) (outcome : Outcome) → CallCaused number before now call outcome → IsTimed before now outcome
 caused_timed number before now call outcome caused =
-    let from = with_reading before outcome.started_ms in
+    let from = with_clock before caused.first in
     let to = with_clock now caused.clock in
     let reads = call_reads from to call number outcome.result (call_sends from to call number outcome.result caused.makes) in
-    let later : outcome.started_ms ≤ caused.clock.last = reads.read.later in
-    let slept : caused.clock.slept ≡ before.clock.slept = reads.read.slept in
+    let later = reads_later caused.first caused.clock reads.read.readings reads.read.reads in
+    let before_last = later.0 in
     record {
-      started = caused.started;
-      ordered = omega (arith, later, caused.ended);
-      ended = caused.read ∙ ap (λ s. record { last = outcome.ended_ms; slept = s }) slept;
+      started = caused.started.forward;
+      ordered = omega (arith, before_last, caused.started.last_is, caused.ended.forward);
+      ended = caused.ended.last_is;
+      slept = caused.ended.slept ∙ later.1 ∙ caused.started.slept;
       words = reads.words;
     }

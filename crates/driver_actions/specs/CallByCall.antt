@@ -1,6 +1,6 @@
 -- Calls one after another: what holds of each between the moments before and after it.
 use Rattle.std.specs.Prelude.{◌≡◌, ℕ, ◌+◌, ◌≤◌, List, [], ◌∷◌}
-use Rattle.driver_link.specs.Clock.{ClockTells}
+use Rattle.driver_link.specs.Clock.{ClockTells, ReadsClock}
 use Rattle.driver_exec.specs.Moment.{Moment}
 use Rattle.driver_actions.specs.declared.call.Call.{Call}
 use Rattle.driver_actions.specs.declared.call.Outcome.{Outcome}
@@ -15,31 +15,28 @@ CallByCall P number (call ∷ calls) [] before now = ⊥
 CallByCall P number (call ∷ calls) (outcome ∷ outcomes) before now =
     (mid : Moment) × (P number before mid call outcome × CallByCall P (number + 1) calls outcomes mid now)
 
--- a moment with another reading of its clock
-abbrev pub with_reading : Moment → ℕ → Moment
-with_reading moment reading = record moment { clock = record moment.clock { last = reading } }
-
 -- a moment with another clock
 abbrev pub with_clock : Moment → ClockTells → Moment
 with_clock moment clock = record moment { clock = clock }
 
--- a call between two moments: it started no earlier than the clock had been read, and ended at the clock's last reading;
--- its own write was executed, with one send that went out at most twice, or nothing was asked or sent; and it ended
--- with its cause
+-- a call between two moments: its times are readings of the clock, the next one before it and the last one after it; between
+-- these its own write was executed, with one send that went out at most twice, or nothing was asked or sent; and it ended with
+-- its cause
 pub record CallCaused (number : ℕ) (before now : Moment) (call : Call) (outcome : Outcome) : Type 0 where
-  pub started : before.clock.last ≤ outcome.started_ms
+  pub first : ClockTells
+  pub started : ReadsClock before.clock first outcome.started_ms
   pub clock : ClockTells
-  pub ended : clock.last ≤ outcome.ended_ms
-  pub read : now.clock ≡ record clock { last = outcome.ended_ms }
-  pub makes : MakesCall (with_reading before outcome.started_ms) (with_clock now clock) call number outcome.result
-  pub cause : HasCause (with_reading before outcome.started_ms) (with_clock now clock) call outcome.result
+  pub ended : ReadsClock clock now.clock outcome.ended_ms
+  pub makes : MakesCall (with_clock before first) (with_clock now clock) call number outcome.result
+  pub cause : HasCause (with_clock before first) (with_clock now clock) call outcome.result
 
--- the second time of an outcome is the clock's last reading, and the first lies between the last reading before the call and it;
--- nobody slept, and no random word was drawn
+-- the times of an outcome are in order, no earlier than the last reading before the call, and the second is the last one after
+-- it; nobody slept, and no random word was drawn
 pub record IsTimed (before now : Moment) (outcome : Outcome) : Type 0 where
   pub started : before.clock.last ≤ outcome.started_ms
   pub ordered : outcome.started_ms ≤ outcome.ended_ms
-  pub ended : now.clock ≡ record before.clock { last = outcome.ended_ms }
+  pub ended : now.clock.last ≡ outcome.ended_ms
+  pub slept : now.clock.slept ≡ before.clock.slept
   pub words : now.words ≡ before.words
 
 -- each call of a list was made so

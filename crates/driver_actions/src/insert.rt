@@ -83,13 +83,21 @@ fn insert_counted<S: SessionStore, L: Link, K: Clock, R: Rng, Q: Ledger>(
     ensures call { outside.new.call ≡ outside.old.call }
 {
     let PlacedWrite { place, written } = write;
+    let Written {
+        kind: _,
+        namespace,
+        document,
+    } = written;
+    drop(document);
     let collection = Collection {
-        namespace: written.namespace,
+        namespace,
         write_concern: None,
     };
     let mut insert = Insert::new(collection, bytes, id);
     let mut sends: Steps<Q> = Steps::new(blank);
-    match execute_operation(alloc, client, &mut insert, &[place], outside, &mut sends) {
+    let result = execute_operation(alloc, client, &mut insert, &[place], outside, &mut sends);
+    drop(insert);
+    match result {
         Ok(output) => Ok(output),
         Err(error) => Err(convert_insert_many_error(alloc, error)),
     }

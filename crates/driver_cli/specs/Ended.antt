@@ -3,6 +3,7 @@ use Rattle.std.specs.Prelude.{◌≡◌, ℕ, ◌<◌, ◌≤◌, List, [], ◌�
 use Rattle.driver_link.specs.CountingIds.{IdsDrawn, counted_ids, none_drawn}
 use Rattle.driver_link.specs.Exchange.{after_picks, replayed, empty_server}
 use Rattle.driver_link.specs.Faults.{Rose}
+use Rattle.driver_link.specs.MemClock.{readings_from}
 use Rattle.driver_link.specs.Streams.{Appends}
 use Rattle.model_server.specs.ModelState.{ModelState, model_tells, no_calls}
 use Rattle.driver_session.specs.Pool.{StorePool, empty_pool}
@@ -42,7 +43,7 @@ new_store = record { ids = none_drawn; pool = empty_pool }
 pub record IsFirstMoment (asked : Script) (first : Moment) : Type 0 where
   pub store : first.store ≡ store_tells new_store
   pub link : first.link ≡ model_tells (new_model asked)
-  pub clock : first.clock ≡ record { last = 0; slept = 0 }
+  pub clock : first.clock ≡ record { last = 0; slept = 0; to_come = Some (readings_from 0 0) }
   pub client : first.client ≡ record { options = asked.options }
 
 -- a moment that has the store and the options of a client, and a model server for its link

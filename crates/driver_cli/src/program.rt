@@ -20,6 +20,7 @@ use model_server::ModelServer;
 use rand_core::SeedableRng;
 use rand_pcg::Pcg32;
 use std::alloc::{AllocError, Global};
+use std::mem;
 use std::sync::Wait;
 use std::thread::Threads;
 
@@ -190,7 +191,7 @@ fn script_status<I: Source, O: Sink>(
     };
     drop(bytes);
     match run_of(alloc, asked) {
-        Ok(made) => *run = made,
+        Ok(made) => drop(mem::replace(run, made)),
         Err(AllocError) => return Status::Memory,
     }
     report_status(alloc, sink, run)

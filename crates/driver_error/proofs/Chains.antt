@@ -1,5 +1,5 @@
 -- The chain of an error is the error and the chain of its source.
-use Rattle.std.proofs.Common.{◌≡◌, refl, sym, ap, ◌∙◌, ℕ, ℤ, suc, zero, true, ◌||◌, List, [], ◌∷◌, Option, None, Some, is_some}
+use Rattle.std.proofs.Common.{◌≡◌, refl, sym, ap, ◌∙◌, ℕ, ℤ, true, ◌||◌, List, [], ◌∷◌, Option, None, Some, is_some}
 use Rattle.std.specs.List.{list_any}
 use Rattle.std.specs.Option.{option_map}
 use Rattle.driver_error.specs.declared.error.Error.{Error, Error-F, out-Error, fold_out-Error}

@@ -8,12 +8,11 @@ use Rattle.bson_lite.proofs.FinMaps.{get-changed}
 use Rattle.bson_lite.specs.Indexed.{changed}
 use Rattle.driver_error.specs.declared.error.Error.{Error, Error-F, out-Error, roll-Error, out-roll-Error}
 use Rattle.driver_error.specs.declared.kind.ErrorKind.TheVariants as kind
-use Rattle.driver_error.specs.declared.write.WriteError.{WriteError}
 use Rattle.driver_error.specs.declared.write.WriteFailure.TheVariants as failure
 use Rattle.driver_error.specs.Chains.{one_more, depth}
 use Rattle.driver_error.specs.Error.{ErrorKind, source_of, kind_of, labels_of, wire_version_of, response_of}
 use Rattle.driver_error.specs.LabelTexts.{LabelSet}
-use Rattle.driver_error.specs.Redaction.{redacted_concern, redacted_write, redacted_indexed, redacted_many, redacted_bulk, redacted_kind, redacted_layer, redacted_down, redacted, redacted_reply}
+use Rattle.driver_error.specs.Redaction.{redacted_concern, redacted_write, redacted_indexed, redacted_kind, redacted_layer, redacted_down, redacted, redacted_reply}
 use Rattle.driver_error.proofs.Chains.{depth_out, depth_of}
 
 redacted_from : (error : Error) (source : Option Error) → source_of error ≡ source

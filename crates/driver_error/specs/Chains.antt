@@ -1,7 +1,7 @@
 -- An error and those below it: its source, that one's source, and so on.
 use Rattle.std.specs.Prelude.{ℕ, ℤ, suc, zero, Bool, List, [], ◌∷◌, Option, None, Some}
 use Rattle.std.specs.List.{list_any}
-use Rattle.driver_error.specs.declared.error.Error.{Error, Error-F, fold-Error}
+use Rattle.driver_error.specs.declared.error.Error.{Error, fold-Error}
 use Rattle.driver_error.specs.Error.{kind_of, labels_of, source_of}
 use Rattle.driver_error.specs.Kinds.{own_code}
 use Rattle.driver_error.specs.LabelTexts.{has_label}

@@ -1,6 +1,5 @@
 -- What one error becomes in another form.
 use Rattle.std.specs.Prelude.{◌≡◌, ℕ, List, [], ◌∷◌, ◌++◌, codes, Option, None, Some, ◌⊎◌}
-use Rattle.driver_error.specs.declared.command.CommandErrorBody.{CommandErrorBody}
 use Rattle.driver_error.specs.declared.error.Error.{Error}
 use Rattle.driver_error.specs.declared.kind.ErrorKind.TheVariants as kind
 use Rattle.driver_error.specs.declared.write.IndexedWriteError.{IndexedWriteError}

@@ -1,5 +1,5 @@
 -- What an error holds, read one level at a time.
-use Rattle.std.specs.Prelude.{◌≡◌, ℕ, ℤ, List, [], Option, None}
+use Rattle.std.specs.Prelude.{◌≡◌, ℕ, ℤ, List, Option, None}
 use Rattle.bson_lite.specs.declared.fault.EncodeFault.{EncodeFault}
 use Rattle.bson_lite.specs.declared.fault.EncodeFault.TheVariants as fault
 use Rattle.driver_error.specs.declared.error.Error.{Error, out-Error, roll-Error}

@@ -4,6 +4,7 @@ pub mod Conversions
 pub mod Error
 pub mod Kinds
 pub mod LabelTexts
+pub mod Labelling
 pub mod Predicates
 pub mod Redaction
 pub mod Shown

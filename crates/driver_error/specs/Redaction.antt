@@ -1,5 +1,5 @@
 -- What an error becomes when all that may tell of the data is taken out of it.
-use Rattle.std.specs.Prelude.{ℕ, suc, zero, true, List, [], ◌∷◌, map, codes, Option, None, Some}
+use Rattle.std.specs.Prelude.{ℕ, suc, zero, true, List, [], ◌∷◌, map, codes, Option, None}
 use Rattle.std.specs.Option.{option_map}
 use Rattle.bson_lite.specs.declared.bson.Bson as bson
 use Rattle.bson_lite.specs.declared.bson.Bson.{Bson}

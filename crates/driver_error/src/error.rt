@@ -206,7 +206,21 @@ impl Error {
     pub fn with_kind(self, kind: ErrorKind) -> Error
         ensures { result ≡ with_kind kind self }
     {
-        Error { kind, ..self }
+        let Error {
+            kind: old,
+            labels,
+            wire_version,
+            source,
+            server_response,
+        } = self;
+        drop(old);
+        Error {
+            kind,
+            labels,
+            wire_version,
+            source,
+            server_response,
+        }
     }
 
     /// The same error, as it came on a connection with this wire version. It takes no memory.

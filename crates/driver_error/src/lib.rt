@@ -13,6 +13,7 @@ pub mod error;
 pub mod gridfs;
 pub mod kind;
 pub mod labels;
+pub mod laws;
 pub mod predicates;
 pub mod redact;
 pub mod redaction;

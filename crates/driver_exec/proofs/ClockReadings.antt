@@ -1,12 +1,12 @@
 -- An operation only reads its clock.
-use Rattle.std.proofs.Common.{◌≡◌, ℕ, List, [], ◌∷◌, sym, ap, subst, ◌∙◌, inl, inr, arith}
+use Rattle.std.proofs.Common.{◌≡◌, ℕ, List, [], ◌∷◌, ◌++◌, ◌≤◌, refl, sym, ap, subst, ◌∙◌, inl, inr, arith}
 use Rattle.std.specs.Prelude.{Bool, true, false, Option, None, Some, Result, Ok, Err}
 use Rattle.driver_error.specs.declared.error.Error.{Error}
 use Rattle.driver_link.specs.declared.fault.LinkError.{LinkError}
 use Rattle.driver_link.specs.declared.fault.LinkError.TheVariants.{Fault}
 use Rattle.driver_link.specs.declared.options.Address.{Address}
 use Rattle.driver_link.specs.declared.options.Conn.{Conn}
-use Rattle.driver_link.specs.Clock.{ClockTells}
+use Rattle.driver_link.specs.Clock.{ClockTells, ReadsClock}
 use Rattle.driver_session.specs.Session.{Session}
 use Rattle.driver_session.specs.StoreTells.{StoreTells}
 use Rattle.driver_ops.specs.Operations.{Batch, OperationSpec}
@@ -20,19 +20,40 @@ use Rattle.driver_exec.specs.Attempting.{AttemptState, EndsAtOnce, FailsIn, Read
 use Rattle.driver_exec.specs.Executing.{Ends, Executes, first_state}
 use Rattle.driver_exec.specs.Holding.{ExecutionSession, GivesBack, HoldsSession, IsBackAt, IsLentAt, needs_session}
 use Rattle.driver_exec.specs.Moment.{Moment}
-use Rattle.driver_exec.specs.Readings.{OnlyRead}
+use Rattle.driver_exec.specs.Readings.{MayRead, OnlyRead, Reads}
 use Rattle.driver_exec.specs.Retry.{RetryState}
 use Rattle.driver_exec.specs.inside.Executing.{Reaches}
 use Rattle.driver_exec.proofs.Folding.{came_of}
-use Rattle.driver_exec.proofs.Trying.{read_nothing, read_once}
 
 -- a clock that is as it was
 read_same : (clock now : ClockTells) → now ≡ clock → OnlyRead clock now
-read_same clock now same = subst (OnlyRead clock) (sym same) (read_nothing clock)
+read_same clock now same = record { readings = []; reads = same }
+
+-- one that was read once
+read_once : (clock now : ClockTells) (at : ℕ) → ReadsClock clock now at → OnlyRead clock now
+read_once clock now at reads = record { readings = at ∷ []; reads = (now, (reads, refl)) }
+
+-- readings after others
+reads_on : (a b c : ClockTells) (first second : List ℕ) → Reads a b first → Reads b c second → Reads a c (first ++ second)
+reads_on a b c [] second same reads = subst (λ clock. Reads clock c second) same reads
+reads_on a b c (reading ∷ first) second reads more = (reads.0, (reads.1.0, reads_on reads.0 b c first second reads.1.1 more))
 
 -- a clock that was only read twice
 pub read_twice : (a b c : ClockTells) → OnlyRead a b → OnlyRead b c → OnlyRead a c
-read_twice a b c first second = record { later = omega (arith, first.later, second.later); slept = second.slept ∙ first.slept }
+read_twice a b c first second = record { readings = first.readings ++ second.readings; reads = reads_on a b c first.readings second.readings first.reads second.reads }
+
+-- its last reading is no earlier then, and nobody slept
+pub reads_later : (clock now : ClockTells) (readings : List ℕ) → Reads clock now readings → (clock.last ≤ now.last) × (now.slept ≡ clock.slept)
+reads_later clock now [] same = let last : now.last ≡ clock.last = ap (λ c. c.last) same in (omega (arith, last), ap (λ c. c.slept) same)
+reads_later clock now (reading ∷ readings) reads =
+    let mid = reads.0 in
+    let later = reads_later mid now readings reads.1.1 in
+    let rest = later.0 in
+    (omega (arith, rest, reads.1.0.forward, reads.1.0.last_is), later.1 ∙ reads.1.0.slept)
+
+-- a clock that was read once or not at all
+may_read : (clock now : ClockTells) → MayRead clock now → OnlyRead clock now
+may_read clock now may = elim may [ inl same ↦ read_same clock now same | inr reads ↦ read_once clock now reads.0 reads.1 ]
 
 -- for a lending it is read
 lent_read : (needed : Bool) (store now : StoreTells) (held held_now : ExecutionSession) (holds : HoldsSession needed store now held held_now (Ok tt)) (clock clock_now : ClockTells)
@@ -65,7 +86,7 @@ module _ {A : Type 0} (trial : Trial A) (kept : Option RetryState) (before now :
 
   ended_read : (error : Error) → EndsAtOnce trial kept before now error → OnlyRead before.clock now.clock
   ended_read error ends = elim ends [
-    | inl unready ↦ unready.clock
+    | inl unready ↦ may_read before.clock now.clock unready.clock
     | inr other ↦ elim other [
       | inl refused ↦ subst (OnlyRead before.clock) (sym refused.clock) (readies_read trial kept before refused.ready refused.address refused.conn refused.readies)
       | inr sent ↦ sends_read sent.address sent.conn sent.result sent.sends

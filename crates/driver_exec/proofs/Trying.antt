@@ -5,7 +5,7 @@ use Rattle.driver_error.specs.declared.error.Error.{Error}
 use Rattle.driver_error.specs.declared.kind.ErrorKind.TheVariants as kind
 use Rattle.driver_error.specs.Error.{IsAlone}
 use Rattle.driver_error.specs.LabelTexts.{no_labels}
-use Rattle.driver_link.specs.Clock.{ClockTells}
+use Rattle.driver_link.specs.Clock.{ClockTells, ReadsClock}
 use Rattle.driver_link.specs.declared.fault.Answered.{Answered}
 use Rattle.driver_link.specs.declared.fault.LinkCall.{LinkCall}
 use Rattle.driver_link.specs.declared.fault.LinkCall.TheVariants.{CheckOut, Select}
@@ -35,7 +35,6 @@ use Rattle.driver_exec.specs.declared.attempt_end.AttemptEnd.TheVariants.{Ended,
 use Rattle.driver_exec.specs.Attempting.{AsksEarly, AttemptState, Connects, FailsIn, LosesExchange, NotConnected, Readies, Selects, Sends, SpellsFailure, Trial, Tries, asked_for, asks_session, avoided, besides_out, is_nothing, may_use, on_connection, stops, trial_of}
 use Rattle.driver_exec.specs.Causes.{AllEarly}
 use Rattle.driver_exec.specs.Holding.{ExecutionSession, needs_session, number_before}
-use Rattle.driver_exec.specs.Readings.{IsReadAt, OnlyRead}
 use Rattle.driver_exec.specs.Retry.{RetryState}
 use Rattle.driver_exec.proofs.Attempts.{check_out_counts, counts_twice, select_counts, sent_number}
 use Rattle.driver_exec.proofs.Causes.{notes_since}
@@ -265,23 +264,15 @@ module _ {A : Type 0} (old now : OperationSpec A) (same : SameSpec old now) wher
       record { answer = comes.answer; reads = answers_same reply comes.answer comes.reads; ends = comes.ends }
   comes_same turn version address number (Err failure) attempt comes = comes
 
--- a clock that was not read
-pub read_nothing : (clock : ClockTells) → OnlyRead clock clock
-read_nothing clock = record { later = omega arith; slept = refl }
-
--- one that was read once
-pub read_once : (clock now : ClockTells) (at : ℕ) → IsReadAt clock now at → OnlyRead clock now
-read_once clock now at reads = subst (OnlyRead clock) (sym reads.now_is) (record { later = reads.later; slept = refl })
-
 -- a session that was lent where one was needed, at a reading of the clock
 pub holds_lent : (needed : Bool) → needed ≡ true → (store now : StoreTells) (clock clock_now : ClockTells) (held held_now : ExecutionSession) (session : Session) (at : ℕ)
-    → LendsSession store now at session → held_now ≡ record held { session = Some session } → IsReadAt clock clock_now at → HoldsAt needed store now clock clock_now held held_now (Ok tt)
+    → LendsSession store now at session → held_now ≡ record held { session = Some session } → ReadsClock clock clock_now at → HoldsAt needed store now clock clock_now held held_now (Ok tt)
 holds_lent needed need store now clock clock_now held held_now session at lends is reads =
     subst (λ n. HoldsAt n store now clock clock_now held held_now (Ok tt)) (sym need) (record { holds = record { at = at; session = session; lends = lends; is = is }; lent_at = reads })
 
 -- a session that came back at a reading of the clock
 pub gives_held : (held : Option Session) (session : Session) → held ≡ Some session → (store now : StoreTells) (clock clock_now : ClockTells) (at : ℕ)
-    → TakesSession store now session at → IsReadAt clock clock_now at → GivesBackAt store now clock clock_now held
+    → TakesSession store now session at → ReadsClock clock clock_now at → GivesBackAt store now clock clock_now held
 gives_held held session is store now clock clock_now at takes reads =
     subst (GivesBackAt store now clock clock_now) (sym is) (record { back = record { at = at; takes = takes }; back_at = reads })
 
@@ -295,9 +286,9 @@ module _ {A : Type 0} (spec : OperationSpec A) (batch : Batch) (which : SendKind
   unselected_tries store link now clock held count (Fault fault labels) (Unselected error) selects is =
       record { fault = fault; own = labels; selects = selects; is = is; rest = record { store = refl; clock = refl; held = refl; count = refl } }
   unselected_tries store link now clock held count (Fault fault labels) (Ended error) selects memory =
-      inl (record { asks = inl (record { failure = Fault fault labels; selects = selects }); store = refl; clock = read_nothing clock; held = refl; count = refl; why = memory })
+      inl (record { asks = inl (record { failure = Fault fault labels; selects = selects }); store = refl; clock = inl refl; held = refl; count = refl; why = memory })
   unselected_tries store link now clock held count Memory (Ended error) selects memory =
-      inl (record { asks = inl (record { failure = Memory; selects = selects }); store = refl; clock = read_nothing clock; held = refl; count = refl; why = memory })
+      inl (record { asks = inl (record { failure = Memory; selects = selects }); store = refl; clock = inl refl; held = refl; count = refl; why = memory })
   unselected_tries store link now clock held count (Fault fault labels) _ selects ends = absurd ends
   unselected_tries store link now clock held count Memory _ selects ends = absurd ends
 
@@ -319,9 +310,9 @@ module _ {A : Type 0} (spec : OperationSpec A) (batch : Batch) (which : SendKind
     ends.number_is,
   )
   unconnected_tries store link mid now clock held count address (Fault fault labels) (Ended error) selects checks memory =
-      inl (record { asks = asks_connection (avoided past) (besides_out link) mid (besides_out now) address (Err (Fault fault labels)) selects checks; store = refl; clock = read_nothing clock; held = refl; count = refl; why = memory })
+      inl (record { asks = asks_connection (avoided past) (besides_out link) mid (besides_out now) address (Err (Fault fault labels)) selects checks; store = refl; clock = inl refl; held = refl; count = refl; why = memory })
   unconnected_tries store link mid now clock held count address Memory (Ended error) selects checks memory =
-      inl (record { asks = asks_connection (avoided past) (besides_out link) mid (besides_out now) address (Err Memory) selects checks; store = refl; clock = read_nothing clock; held = refl; count = refl; why = memory })
+      inl (record { asks = asks_connection (avoided past) (besides_out link) mid (besides_out now) address (Err Memory) selects checks; store = refl; clock = inl refl; held = refl; count = refl; why = memory })
   unconnected_tries store link mid now clock held count address (Fault fault labels) _ selects checks ends = absurd ends
   unconnected_tries store link mid now clock held count address Memory _ selects checks ends = absurd ends
 
@@ -344,7 +335,7 @@ module _ {A : Type 0} (spec : OperationSpec A) (batch : Batch) (which : SendKind
 
         by_need : (needed : Bool) → HoldsAt needed store store_now clock clock_now held ready (Err error) → Tries trial past (attempt_state store before clock held count) (attempt_state store_now link clock_now ready count) (Ended error)
         by_need false holds = absurd (ok_err (sym holds.holds.2))
-        by_need true holds = inl (record { asks = asks_connection (avoided past) (besides_out before) connects.mid (besides_out link) address (Ok conn) connects.selects connects.checks_out; store = holds.holds.0; clock = read_once clock clock_now holds.lent_at.0 holds.lent_at.1; held = holds.holds.1; count = refl; why = holds.holds.2 })
+        by_need true holds = inl (record { asks = asks_connection (avoided past) (besides_out before) connects.mid (besides_out link) address (Ok conn) connects.selects connects.checks_out; store = holds.holds.0; clock = inr holds.lent_at; held = holds.holds.1; count = refl; why = holds.holds.2 })
 
     module _ (holds : HoldsAt (needs_session (asks_session spec.sessions conn.description) held) store store_now clock clock_now held ready (Ok tt)) where
       readied : Readies trial past (attempt_state store before clock held count) (attempt_state store_now link clock_now ready count) address conn

@@ -28,7 +28,7 @@ use Rattle.driver_exec.specs.declared.failure.FailurePhase.{FailurePhase}
 use Rattle.driver_exec.specs.declared.failure.FailurePhase.TheVariants.{ConnectionEstablishment, Execution}
 use Rattle.driver_exec.specs.Failures.{IsFaultOf, IsLabelledRead, IsVersioned}
 use Rattle.driver_exec.specs.Holding.{DrawsNumber, ExecutionSession, HoldsSession, IsLentAt, held_after_failure, held_id, needs_session, number_before}
-use Rattle.driver_exec.specs.Readings.{OnlyRead}
+use Rattle.driver_exec.specs.Readings.{MayRead}
 use Rattle.driver_exec.specs.Retry.{RetryState}
 
 -- what a link tells besides the connections that are out
@@ -217,11 +217,11 @@ pub record AsksConnection (avoid : List Address) (link now : LinkState) : Type 0
 abbrev pub AsksEarly : List Address → LinkState → LinkState → Type 0
 AsksEarly avoid link now = SelectionFails avoid link now ⊎ AsksConnection avoid link now
 
--- there was no memory before a session was lent, for which the clock may have been read
+-- there was no memory before a session was lent, for which the clock may have been read once
 pub record EndsUnready (kept : Option RetryState) (before now : AttemptState) (error : Error) : Type 0 where
   pub asks : AsksEarly (avoided kept) before.link now.link
   pub store : now.store ≡ before.store
-  pub clock : OnlyRead before.clock now.clock
+  pub clock : MayRead before.clock now.clock
   pub held : now.held ≡ before.held
   pub count : now.count ≡ before.count
   pub why : kind_of error ≡ kind.Memory

@@ -7,13 +7,12 @@ use Rattle.driver_error.specs.declared.kind.ErrorKind.TheVariants as kind
 use Rattle.driver_error.specs.Error.{kind_of}
 use Rattle.driver_link.specs.declared.fault.LinkError.{LinkError}
 use Rattle.driver_link.specs.declared.fault.LinkError.TheVariants.{Fault, Memory}
-use Rattle.driver_link.specs.Clock.{ClockTells}
+use Rattle.driver_link.specs.Clock.{ClockTells, ReadsClock}
 use Rattle.driver_link.specs.Failures.{is_network}
 use Rattle.driver_session.specs.declared.retryability.Retryability.{Retryability}
 use Rattle.driver_session.specs.declared.retryability.Retryability.TheVariants.{Write}
 use Rattle.driver_session.specs.Session.{Numbers, Session}
 use Rattle.driver_session.specs.StoreTells.{LendsSession, StoreTells, TakesSession}
-use Rattle.driver_exec.specs.Readings.{IsReadAt}
 
 -- the session that it was lent, if it was; and the number of the send before, which may be none, once there was one
 pub record ExecutionSession : Type 0 where
@@ -62,12 +61,12 @@ HoldsSession false store now held held_now result = (now ≡ store) × (held_now
 HoldsSession true store now held held_now (Ok given) = HoldsLent store now held held_now
 HoldsSession true store now held held_now (Err error) = (now ≡ store) × (held_now ≡ held) × (kind_of error ≡ kind.Memory)
 
--- a session is lent at the clock's last reading then; where none is lent the clock stays
+-- a session is lent at a reading of the clock, its one then; where none is lent the clock stays
 abbrev pub IsLentAt : (needed : Bool) (store now : StoreTells) (held held_now : ExecutionSession) (result : Result (Unit {0}) Error)
     → HoldsSession needed store now held held_now result → ClockTells → ClockTells → Type 0
 IsLentAt false store now held held_now result holds clock clock_now = clock_now ≡ clock
-IsLentAt true store now held held_now (Ok given) holds clock clock_now = IsReadAt clock clock_now holds.at
-IsLentAt true store now held held_now (Err error) holds clock clock_now = (at : ℕ) × IsReadAt clock clock_now at
+IsLentAt true store now held held_now (Ok given) holds clock clock_now = ReadsClock clock clock_now holds.at
+IsLentAt true store now held held_now (Err error) holds clock clock_now = (at : ℕ) × ReadsClock clock clock_now at
 
 -- the number of a session as that of a send, or why there is none
 abbrev pub GivesNumber : Result ℤ Error → Result (Option ℤ) Error → Type 0
@@ -108,7 +107,7 @@ abbrev pub GivesBack : StoreTells → StoreTells → Option Session → Type 0
 GivesBack store now None = now ≡ store
 GivesBack store now (Some session) = TakesHeld store now session
 
--- it comes back at the clock's last reading then; where there is none the clock stays
+-- it comes back at a reading of the clock, its one then; where there is none the clock stays
 abbrev pub IsBackAt : (store now : StoreTells) (session : Option Session) → GivesBack store now session → ClockTells → ClockTells → Type 0
 IsBackAt store now None back clock clock_now = clock_now ≡ clock
-IsBackAt store now (Some session) back clock clock_now = IsReadAt clock clock_now back.at
+IsBackAt store now (Some session) back clock clock_now = ReadsClock clock clock_now back.at

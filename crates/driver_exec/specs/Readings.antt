@@ -1,13 +1,17 @@
--- Readings of a clock.
-use Rattle.std.specs.Prelude.{◌≡◌, ℕ, ◌≤◌}
-use Rattle.driver_link.specs.Clock.{ClockTells}
+-- Readings of a clock, one after another.
+use Rattle.std.specs.Prelude.{◌≡◌, ℕ, List, [], ◌∷◌, ◌⊎◌}
+use Rattle.driver_link.specs.Clock.{ClockTells, ReadsClock}
 
--- a clock was read, and this is its last reading, which is no earlier than the one before; nobody slept
-pub record IsReadAt (clock now : ClockTells) (at : ℕ) : Type 0 where
-  pub later : clock.last ≤ at
-  pub now_is : now ≡ record clock { last = at }
+-- these are a clock's readings from one moment to another, the oldest first, and nobody slept
+abbrev pub Reads : ClockTells → ClockTells → List ℕ → Type 0
+Reads clock now [] = now ≡ clock
+Reads clock now (reading ∷ readings) = (mid : ClockTells) × (ReadsClock clock mid reading × Reads mid now readings)
 
--- a clock was only read, if at all: its last reading is no earlier than it was, and nobody slept
+-- a clock was read once, or not at all
+abbrev pub MayRead : ClockTells → ClockTells → Type 0
+MayRead clock now = (now ≡ clock) ⊎ ((reading : ℕ) × ReadsClock clock now reading)
+
+-- a clock was only read
 pub record OnlyRead (clock now : ClockTells) : Type 0 where
-  pub later : clock.last ≤ now.last
-  pub slept : now.slept ≡ clock.slept
+  pub readings : List ℕ
+  pub reads : Reads clock now readings

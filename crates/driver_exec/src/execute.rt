@@ -157,7 +157,11 @@ fn answer_of<T>(end: AttemptEnd<T>, kept: Option<Retry>) -> Result<T>
     ensures { EndsWith kept end result }
 {
     match end {
-        AttemptEnd::Failed(_) => unreachable!(),
+        AttemptEnd::Failed(failing) => {
+            drop(failing);
+            drop(kept);
+            unreachable!()
+        }
         AttemptEnd::Done(output) => {
             drop(kept);
             Ok(output)

@@ -49,7 +49,7 @@ pub fn an_operation_sends_twice_at_most<O: Operation>()
         more ≤ count + 2 }
 {}
 
-/// It only reads its clock: its last reading is no earlier than before, and nobody slept.
+/// It only reads its clock.
 pub fn an_operation_only_reads_the_clock<O: Operation>()
     ensures { (op : O) (batch : Batch) (which : SendKind) (before now : Moment) (count more : ℕ)
         (result : Result O.Output Error) → Executes (O.spec op) batch which before now count more result →

@@ -21,11 +21,14 @@ const ILLEGAL_OPERATION: i32 = 20;
 pub(crate) fn reworded(alloc: Global, error: Error) -> Result<Error, AllocError>
     ensures { IfOk result (λ now. now ≡ reworded error) }
 {
-    let changed = reworded_kind(alloc, error.kind())?;
-    Ok(match changed {
-        None => error,
-        Some(kind) => error.with_kind(kind),
-    })
+    match reworded_kind(alloc, error.kind()) {
+        Ok(None) => Ok(error),
+        Ok(Some(kind)) => Ok(error.with_kind(kind)),
+        Err(refused) => {
+            drop(error);
+            Err(refused)
+        }
+    }
 }
 
 /// The kind with the message for the caller, where it gets one.

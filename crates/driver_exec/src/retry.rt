@@ -182,7 +182,13 @@ fn after_failure(
     ensures { Decides
         (decide kept (failure_at failure number address.now) retryability sharded) result }
 {
-    let failure = told(alloc, failure)?;
+    let failure = match told(alloc, failure) {
+        Ok(failure) => failure,
+        Err(refused) => {
+            drop(kept);
+            return Err(Error::from(refused));
+        }
+    };
     let is_retried = may_be_retried(&failure, number, retryability);
     let retry = after(alloc, kept, failure, number);
     if is_retried {
@@ -223,14 +229,20 @@ fn avoiding(
         number,
         mut deprioritized,
     } = retry;
-    add_server(alloc, &mut deprioritized, address)?;
-    Ok(Retry {
-        attempt,
-        limit,
-        failure,
-        number,
-        deprioritized,
-    })
+    match add_server(alloc, &mut deprioritized, address) {
+        Ok(()) => Ok(Retry {
+            attempt,
+            limit,
+            failure,
+            number,
+            deprioritized,
+        }),
+        Err(refused) => {
+            drop(failure);
+            drop(deprioritized);
+            Err(refused)
+        }
+    }
 }
 
 /// The first number that was drawn.

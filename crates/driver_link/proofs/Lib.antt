@@ -16,3 +16,4 @@ pub mod ReplyingUnnumbered
 pub mod Replaying
 pub mod Keeping
 pub mod Retrying
+pub mod Readings

@@ -17,6 +17,7 @@ pub mod Framed
 pub mod Honesty
 pub mod Ids
 pub mod Interrupting
+pub mod Keys
 pub mod LinkCalls
 pub mod LinkState
 pub mod MemClock

@@ -13,6 +13,7 @@ pub mod fault;
 pub mod frame;
 pub mod ids;
 pub mod keys;
+pub mod laws;
 pub mod link;
 pub mod machine;
 pub mod mem_clock;

@@ -41,14 +41,14 @@ impl MemClock {
 }
 
 impl Clock for MemClock {
-    ghost use Rattle.driver_link.specs.Clock.{ClockTells, capped_sum};
+    ghost use Rattle.driver_link.specs.Clock.{ReadsClock, SleepsFor, capped_sum};
     ghost use Rattle.driver_link.specs.MemClock.{clock_tells};
 
     ghost tells = { clock_tells };
 
+    #[tactic(auto, using(crate::proofs::Readings::reads_clock))]
     fn now_ms(&mut self) -> u64
-        ensures reading { clock_tells self.new ≡ record (clock_tells self.old) { last = result } }
-        ensures forward { self.old.last ≤ result }
+        ensures reads { ReadsClock (clock_tells self.old) (clock_tells self.new) result }
         ensures moment { result ≡ self.old.moment }
         ensures steps { self.new ≡ record self.old {
           moment = capped_sum self.old.moment self.old.step;
@@ -62,8 +62,7 @@ impl Clock for MemClock {
     }
 
     fn sleep_ms(&mut self, ms: u64)
-        ensures slept { clock_tells self.new ≡
-            record (clock_tells self.old) { slept = capped_sum self.old.slept ms } }
+        ensures sleeps { SleepsFor (clock_tells self.old) (clock_tells self.new) ms }
         ensures goes_on { self.new ≡ record self.old {
           moment = capped_sum self.old.moment ms;
           slept = capped_sum self.old.slept ms;

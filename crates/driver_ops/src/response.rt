@@ -110,6 +110,9 @@ pub(crate) fn with_reply(alloc: Global, error: Error, bytes: &[u8], reply: &Docu
 {
     match Bytes::from_slice(alloc, bytes) {
         Ok(bytes) => error.with_server_response(Some(RawDocumentBuf::from_spelling(bytes, reply))),
-        Err(_refused) => Error::from_kind(ErrorKind::Memory),
+        Err(_refused) => {
+            drop(error);
+            Error::from_kind(ErrorKind::Memory)
+        }
     }
 }

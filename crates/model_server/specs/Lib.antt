@@ -8,6 +8,7 @@ pub mod Parts
 pub mod Waiting
 pub mod Transient
 pub mod Meets
+pub mod ModelAddress
 pub mod ModelState
 pub mod Displacing
 pub mod Undoing

@@ -11,6 +11,7 @@ ghost use Rattle.driver_link.specs.declared.machine.Send.{Send};
 ghost use Rattle.driver_link.specs.declared.machine.SendBody.TheVariants.{Commit};
 ghost use Rattle.driver_link.specs.declared.machine.Server.{Server};
 ghost use Rattle.driver_link.specs.declared.machine.ServerTransaction.TheVariants as transaction;
+ghost use Rattle.model_server.specs.ModelAddress.{IsModelAddress};
 ghost use Rattle.model_server.specs.Steady.{GoesUnder, HasResults, HasTransaction, OnlyAdds};
 
 /// A number below the greatest of its session changes nothing.
@@ -74,4 +75,9 @@ pub fn exchanges_only_add()
 #[tactic(auto, using(crate::proofs::GrowLaws::delivered_adds))]
 pub fn deliveries_only_add()
     ensures { (server : Server) (at : ℕ) → OnlyAdds server (delivered server at) }
+{}
+
+/// The model server stands here.
+pub fn the_model_server_has_its_address()
+    ensures { IsModelAddress }
 {}

@@ -7,4 +7,4 @@ pub returns-in-Some-clause-takes : goal.returns-in-Some-clause-takes
 returns-in-Some-clause-takes g c =
     let is : c.args.held.session ≡ Some c.in-Some.session = search rules in
     gives_held c.args.held.session c.in-Some.session is _ _ _ _ c.now_ms-now.result c.give_back.ensures.takes
-    (record { later = c.now_ms-now.ensures.forward; now_is = c.now_ms-now.ensures.reading })
+    c.now_ms-now.ensures

@@ -8,4 +8,4 @@ pub returns-in-Ok-clause-holds : goal.returns-in-Ok-clause-holds
 returns-in-Ok-clause-holds g c =
     let need : needs_session c.args.asked c.args.held ≡ true = search rules in
     holds_lent (needs_session c.args.asked c.args.held) need _ _ _ _ c.args.held c.with_session.result c.in-Ok.session c.now_ms-now.result c.in-Ok.ensures.lends c.with_session.ensures
-    (record { later = c.now_ms-now.ensures.forward; now_is = c.now_ms-now.ensures.reading })
+    c.now_ms-now.ensures
