@@ -21,8 +21,6 @@ mod parts;
 pub mod raw;
 mod same;
 mod survey;
-#[cfg(test)]
-mod tests;
 pub mod text;
 
 pub use boxed::Boxed;

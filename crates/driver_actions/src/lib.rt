@@ -12,8 +12,6 @@ mod making;
 mod refusal;
 pub mod run;
 mod single;
-#[cfg(test)]
-mod tests;
 
 pub use call::{Answer, Call, Outcome, SingleAnswer, SingleWrite};
 pub use call_run::CallRun;

@@ -1,36 +1,12 @@
 //! The program `driver_cli`: it runs the script on its standard input against the model server, and
 //! writes the report to its standard output.
-//!
-//! `top` and `run_script` carry the program's promise; the rest reads the script or writes the report.
 #![tactic(auto)]
 
-mod details;
-mod distinct;
-mod json;
-mod keys;
-pub mod laws;
-mod leaves;
-mod lines;
-mod namespaces;
-pub mod program;
-pub mod report;
-pub mod running;
-mod schedule;
-pub mod script;
 mod standard;
-mod status;
-mod streams;
-#[cfg(test)]
-mod tests;
-mod values;
-mod words;
 
 use crate::standard::{Reading, Writing};
 use bson_lite::Text;
-pub use program::{run_script, top};
-pub use report::report_text;
-pub use running::Run;
-pub use script::{Script, ScriptFault, read_script};
+use driver_script::{Run, top};
 use std::alloc::AllocError;
 use std::env::Env;
 use std::io::ErrorKind;

@@ -19,8 +19,6 @@ pub mod redact;
 pub mod redaction;
 pub mod results;
 pub mod specifications;
-#[cfg(test)]
-mod tests;
 pub mod write;
 
 pub use command::{CommandError, CommandErrorBody};

@@ -1,4 +1,3 @@
-mod AbortReads
 pub mod Counting
 pub mod SessionIds
 pub mod Lists

@@ -1,4 +1,3 @@
-pub mod AbortFrame
 pub mod Apart
 pub mod Asking
 pub mod Cases

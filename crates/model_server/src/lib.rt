@@ -33,6 +33,3 @@ pub mod writing;
 
 pub use exchange::new_server;
 pub use server::ModelServer;
-
-#[cfg(test)]
-mod tests;

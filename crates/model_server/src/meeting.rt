@@ -272,7 +272,7 @@ fn put_met(server: &mut Server, alloc: Global, made: Meeting) -> Result<(), Allo
 /// Takes a send by its item: it joins the trace, its answer is noted, and what it comes to is put into the
 /// server. The answer is the bytes of its reply, or none where the connection is reset. A refusal leaves
 /// both as they were.
-pub(crate) fn take(
+pub fn take(
     server: &mut Server,
     notes: &mut List<Answered>,
     alloc: Global,

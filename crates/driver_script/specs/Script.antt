@@ -1,0 +1,105 @@
+-- What a script is: one JSON object, with its defaults.
+use Rattle.std.specs.Prelude.{◌≡◌, ℕ, ◌<◌, ◌≤◌, true, false, if◌then◌else◌, pos, List, [], ◌∷◌, length, codes, Option, None, Some, Result, Ok, Err, unwrap_or, bytes_eq}
+use Rattle.std.specs.Option.{option_and_then, option_map, ok_or}
+use Rattle.std.specs.Str.{is_utf8}
+use Rattle.driver_link.specs.declared.machine.Scheduled.{Scheduled}
+use Rattle.driver_link.specs.declared.machine.Setup.{Setup}
+use Rattle.driver_link.specs.declared.options.ClientOptions.{ClientOptions}
+use Rattle.driver_actions.specs.declared.call.Call.{Call}
+use Rattle.driver_actions.specs.declared.call.Call.TheVariants.{Single}
+use Rattle.driver_actions.specs.declared.call.SingleWrite.TheVariants.{InsertOne}
+use Rattle.serde_json.specs.Data.{Data, object, no_members, member}
+use Rattle.serde_json.specs.Read.{read}
+use Rattle.driver_script.specs.declared.keys.TheConstants.{CALLS, DOC, FAULTS, INSERT_ONE, LATE, NS, SCHEDULE}
+use Rattle.driver_script.specs.declared.schedule.Faults.{Faults}
+use Rattle.driver_script.specs.declared.script.TheConstants.{MOST_CALLS}
+use Rattle.driver_script.specs.declared.script.Script.{Script}
+use Rattle.driver_script.specs.declared.script.ScriptFault.{ScriptFault}
+use Rattle.driver_script.specs.declared.script.ScriptFault.TheVariants.{Wrong, TooManyCalls, Memory}
+use Rattle.driver_script.specs.Json.{list_of, needed, optional, has_only}
+use Rattle.driver_script.specs.Steps.{count_of, faults_of, no_faults, schedule_with, step_of}
+use Rattle.driver_script.specs.Values.{namespace_of, document_of}
+
+-- the options of a script's client, which is the first
+abbrev pub usual_options : ClientOptions
+usual_options = record { client_number = 1; retry_writes = None }
+
+-- the setup of a script's server
+abbrev pub usual_setup : Setup
+usual_setup = record {
+  description = record {
+    max_wire_version = Some (pos 25);
+    max_bson_object_size = pos 16777216;
+    max_message_size_bytes = pos 48000000;
+    max_write_batch_size = pos 100000;
+    supports_sessions = true;
+    supports_retryable_writes = true;
+    sharded = false;
+  };
+  transactions = true;
+  timeout_ms = Some 1800000;
+}
+
+-- an insert of one document, with its namespace
+unfoldable pub insert_one_of : Data → Option Call
+insert_one_of d =
+    if has_only (NS.now ∷ DOC.now ∷ []) d
+    then option_and_then (λ namespace. option_map (λ document. Single (InsertOne namespace document)) (needed document_of DOC.now d)) (needed namespace_of NS.now d)
+    else None
+
+-- a call: an object whose one key names it
+unfoldable pub call_of : Data → Option Call
+call_of (object (member name d no_members)) = if bytes_eq name INSERT_ONE.now then insert_one_of d else None
+call_of d = None
+
+-- a script with these calls
+abbrev pub script_with : List Call → Option (List Scheduled) → Option Faults → Option (List ℕ) → Script
+script_with calls steps faults late = record {
+  options = usual_options;
+  setup = usual_setup;
+  calls = calls;
+  schedule = schedule_with (unwrap_or steps []) (unwrap_or faults no_faults);
+  late = unwrap_or late [];
+}
+
+-- what a script may leave out: its schedule, the calls of the link that fail, and the waiting sends to serve
+-- after the calls
+unfoldable pub script_around : List Call → Data → Option Script
+script_around calls d =
+    option_and_then (λ steps. option_and_then (λ faults. option_map (script_with calls steps faults)
+    (optional (list_of count_of) LATE.now d)) (optional faults_of FAULTS.now d)) (optional (list_of step_of) SCHEDULE.now d)
+
+-- a script: an object with its calls, and what it may leave out
+unfoldable pub script_of : Data → Option Script
+script_of d =
+    if has_only (CALLS.now ∷ SCHEDULE.now ∷ FAULTS.now ∷ LATE.now ∷ []) d
+    then option_and_then (λ calls. script_around calls d) (needed (list_of call_of) CALLS.now d)
+    else None
+
+-- the value of a text in JSON
+abbrev pub value_read : List ℕ → Option Data
+value_read bytes = if is_utf8 bytes then read bytes else None
+
+-- the script that bytes are, or the path of what is wrong
+unfoldable pub script : List ℕ → Result Script (List ℕ)
+script bytes = ok_or (option_and_then script_of (value_read bytes)) (codes "$")
+
+-- what was given is a script of so many calls, more than may be made
+pub record HasTooMany (count : ℕ) (given : Result Script (List ℕ)) : Type 0 where
+  pub asked : Script
+  pub is : given ≡ Ok asked
+  pub counts : count ≡ length asked.calls
+  pub many : MOST_CALLS < count
+
+-- the answer is the one given, or it has too many calls; want of memory says nothing
+abbrev pub Reads : Result Script ScriptFault → Result Script (List ℕ) → Type 0
+Reads (Ok found) given = (given ≡ Ok found) × (length found.calls ≤ MOST_CALLS)
+Reads (Err (Wrong path)) given = given ≡ Err path
+Reads (Err (TooManyCalls count)) given = HasTooMany count given
+Reads (Err Memory) given = Unit {0}
+
+-- the fault names the path, or memory ran out
+abbrev pub IsWrong : List ℕ → ScriptFault → Type 0
+IsWrong path (Wrong found) = found ≡ path
+IsWrong path (TooManyCalls count) = ⊥
+IsWrong path Memory = Unit {0}

@@ -1,0 +1,118 @@
+//! Readers of JSON values: each gives exactly what its definition says, or refuses the value.
+ghost use Rattle.std.specs.Prelude.{◌≡◌, Option, map};
+ghost use Rattle.serde_json.specs.Data.{Data};
+ghost use Rattle.serde_json.specs.View.{view, items_view};
+ghost use Rattle.driver_script.specs.Json.{Gives, each, list_of, needed, optional, has_only, among};
+
+use bson_lite::List;
+use serde_json::Value;
+use std::alloc::{AllocError, Global};
+
+/// Why a value was not read.
+#[derive(Clone, Copy, Debug, PartialEq, Eq)]
+pub(crate) enum Unread {
+    /// It has not the form that is asked for.
+    Wrong,
+    Memory,
+}
+
+impl From<AllocError> for Unread {
+    ghost use Rattle.std.specs.Prelude.{◌≡◌};
+    ghost use Rattle.driver_script.specs.declared.json.Unread.TheVariants.{Memory};
+
+    ghost from_gives = { λ _ unread. unread ≡ Memory };
+
+    fn from(_refused: AllocError) -> Unread {
+        Unread::Memory
+    }
+}
+
+/// What a JSON value can be read as.
+pub(crate) trait FromJson: Sized + Drop {
+    // What the value is, or none where its form is wrong.
+    ghost spec: { Data → Option Self };
+
+    fn read(alloc: Global, value: &Value) -> Result<Self, Unread>
+        ensures { Gives result (spec (view value.now)) };
+}
+
+impl<T: FromJson> FromJson for List<T> {
+    ghost spec = { list_of T.spec };
+
+    #[tactic(auto, unfolding(crate::specs::Json::list_of))]
+    fn read(alloc: Global, value: &Value) -> Result<List<T>, Unread> {
+        match value {
+            Value::Array(items) => read_each(alloc, items.as_slice()),
+            _ => Err(Unread::Wrong),
+        }
+    }
+}
+
+#[tactic(auto, unfolding(crate::specs::Json::each))]
+fn read_each<T: FromJson>(alloc: Global, items: &[Value]) -> Result<List<T>, Unread>
+    ensures { Gives result (each T.spec (items_view items.now)) }
+{
+    let mut found = List::new(alloc);
+    for item in items {
+        found.push(T::read(alloc, item)?)?;
+    }
+    Ok(found)
+}
+
+/// The value under a key that has to be there.
+#[tactic(auto, unfolding(crate::specs::Json::needed))]
+pub(crate) fn read_needed<T: FromJson>(
+    alloc: Global,
+    object: &Value,
+    key: &str,
+) -> Result<T, Unread>
+    ensures { Gives result (needed T.spec key.now (view object.now)) }
+{
+    match object.get(key) {
+        Some(value) => T::read(alloc, value),
+        None => Err(Unread::Wrong),
+    }
+}
+
+/// The value under a key, where it is there.
+#[tactic(auto, unfolding(crate::specs::Json::optional))]
+pub(crate) fn read_optional<T: FromJson>(
+    alloc: Global,
+    object: &Value,
+    key: &str,
+) -> Result<Option<T>, Unread>
+    ensures { Gives result (optional T.spec key.now (view object.now)) }
+{
+    match object.get(key) {
+        Some(value) => Ok(Some(T::read(alloc, value)?)),
+        None => Ok(None),
+    }
+}
+
+/// Whether a value is an object with no other keys than these.
+#[tactic(auto, unfolding(crate::specs::Json::has_only, crate::specs::Json::has_keys_among))]
+pub(crate) fn is_object_of(value: &Value, keys: &[&str]) -> bool
+    ensures { result ≡ has_only (map (λ key. key.now) keys.now) (view value.now) }
+{
+    let Value::Object(members) = value else {
+        return false;
+    };
+    for (key, _) in members.iter() {
+        if !is_among(key.as_str(), keys) {
+            return false;
+        }
+    }
+    true
+}
+
+#[tactic(auto, unfolding(crate::specs::Json::among))]
+fn is_among(key: &str, keys: &[&str]) -> bool
+    ensures { result ≡ among (map (λ known. known.now) keys.now) key.now }
+{
+    for known in keys {
+        if *known == key {
+            return true;
+        }
+    }
+    false
+}

@@ -1,0 +1,122 @@
+//! Readers of the values that hold no other.
+ghost use Rattle.std.specs.Prelude.{◌≡◌};
+ghost use Rattle.serde_json.specs.View.{view};
+ghost use Rattle.driver_script.specs.Json.{Gives};
+ghost use Rattle.driver_script.specs.Values.{tagged_leaf, whole_of, small_of, stamp_of, sized_of, bytes_of, whole_number};
+
+use crate::json::Unread;
+use crate::keys::{BYTES, DATE, DOUBLE, INT64, OID, TS};
+use bson_lite::{Binary, Bson, Bytes, ObjectId, Timestamp};
+use hex::{FromHex, FromHexError};
+use serde_json::Value;
+use std::alloc::Global;
+
+/// A value that holds no other, under a key which says what it is.
+#[tactic(auto, unfolding(crate::specs::Values::tagged_leaf))]
+pub(crate) fn read_leaf(alloc: Global, key: &str, value: &Value) -> Result<Bson, Unread>
+    ensures { Gives result (tagged_leaf key.now (view value.now)) }
+{
+    if key == INT64 {
+        return Ok(Bson::Int64(whole(value)?));
+    }
+    if key == DATE {
+        return Ok(Bson::DateTime(whole(value)?));
+    }
+    if key == TS {
+        return Ok(Bson::Timestamp(stamp(value)?));
+    }
+    if key == OID {
+        let bytes = sized::<12>(value)?;
+        return Ok(Bson::ObjectId(ObjectId { bytes }));
+    }
+    if key == DOUBLE {
+        return Ok(Bson::Double(sized::<8>(value)?));
+    }
+    if key == BYTES {
+        let bytes = read_bytes(alloc, value)?;
+        return Ok(Bson::Binary(Binary { subtype: 0, bytes }));
+    }
+    Err(Unread::Wrong)
+}
+
+/// A whole number of 64 bits with a sign.
+#[tactic(auto, unfolding(crate::specs::Values::whole_of))]
+fn whole(value: &Value) -> Result<i64, Unread>
+    ensures { Gives result (whole_of (view value.now)) }
+{
+    match value.as_i64() {
+        Some(number) => Ok(number),
+        None => Err(Unread::Wrong),
+    }
+}
+
+/// A number of 32 bits without a sign.
+#[tactic(auto, unfolding(crate::specs::Values::small_of))]
+fn small(value: &Value) -> Result<u32, Unread>
+    ensures { Gives result (small_of (view value.now)) }
+{
+    let Some(number) = value.as_u64() else {
+        return Err(Unread::Wrong);
+    };
+    match u32::try_from(number) {
+        Ok(small) => Ok(small),
+        Err(_) => Err(Unread::Wrong),
+    }
+}
+
+/// A time and an increment, as a list of the two.
+#[tactic(auto, unfolding(crate::specs::Values::stamp_of, crate::specs::Values::item_of))]
+fn stamp(value: &Value) -> Result<Timestamp, Unread>
+    ensures { Gives result (stamp_of (view value.now)) }
+{
+    if value.get(2).is_some() {
+        return Err(Unread::Wrong);
+    }
+    let (Some(time), Some(increment)) = (value.get(0), value.get(1)) else {
+        return Err(Unread::Wrong);
+    };
+    Ok(Timestamp {
+        time: small(time)?,
+        increment: small(increment)?,
+    })
+}
+
+/// So many bytes, two hexadecimal digits of either case for each.
+#[tactic(auto, unfolding(crate::specs::Values::sized_of))]
+fn sized<const N: usize>(value: &Value) -> Result<[u8; N], Unread>
+    ensures { Gives result (sized_of N (view value.now)) }
+{
+    let Value::String(text) = value else {
+        return Err(Unread::Wrong);
+    };
+    match <[u8; N] as FromHex>::from_hex(text.as_str()) {
+        Ok(bytes) => Ok(bytes),
+        Err(_) => Err(Unread::Wrong),
+    }
+}
+
+/// Bytes of any number, two hexadecimal digits of either case for each.
+#[tactic(auto, unfolding(crate::specs::Values::bytes_of))]
+fn read_bytes(alloc: Global, value: &Value) -> Result<Bytes, Unread>
+    ensures { Gives result (bytes_of (view value.now)) }
+{
+    let Value::String(text) = value else {
+        return Err(Unread::Wrong);
+    };
+    match hex::decode(alloc, text.as_str()) {
+        Ok(bytes) => Ok(Bytes::from_vec(bytes)),
+        Err(FromHexError::OutOfMemory) => Err(Unread::Memory),
+        Err(_) => Err(Unread::Wrong),
+    }
+}
+
+/// An `Int32` where the number fits, else an `Int64`.
+#[tactic(auto, unfolding(crate::specs::Values::whole_number))]
+pub(crate) fn integer(number: i64) -> Bson
+    ensures { result ≡ whole_number number }
+{
+    match i32::try_from(number) {
+        Ok(small) => Bson::Int32(small),
+        Err(_) => Bson::Int64(number),
+    }
+}

@@ -1,0 +1,63 @@
+//! Readers of the script's texts and namespaces.
+ghost use Rattle.serde_json.specs.View.{view};
+ghost use Rattle.driver_script.specs.Json.{Gives};
+ghost use Rattle.driver_script.specs.Values.{text_of, namespace_of, cut, two_texts};
+
+use crate::json::{FromJson, Unread};
+use bson_lite::{Namespace, Text};
+use serde_json::Value;
+use std::alloc::Global;
+
+impl FromJson for Text {
+    ghost spec = { text_of };
+
+    #[tactic(auto, unfolding(crate::specs::Values::text_of))]
+    fn read(alloc: Global, value: &Value) -> Result<Text, Unread> {
+        match value {
+            Value::String(text) => Ok(Text::from_str(alloc, text.as_str())?),
+            _ => Err(Unread::Wrong),
+        }
+    }
+}
+
+impl FromJson for Namespace {
+    ghost spec = { namespace_of };
+
+    #[tactic(auto, unfolding(crate::specs::Values::namespace_of))]
+    fn read(alloc: Global, value: &Value) -> Result<Namespace, Unread> {
+        match value {
+            Value::String(text) => cut_at_dot(alloc, text.as_str()),
+            Value::Array(_) => read_two_texts(alloc, value),
+            _ => Err(Unread::Wrong),
+        }
+    }
+}
+
+#[tactic(auto, unfolding(crate::specs::Values::cut))]
+fn cut_at_dot(alloc: Global, text: &str) -> Result<Namespace, Unread>
+    ensures { Gives result (cut text.now) }
+{
+    match text.split_once('.') {
+        Some((db, coll)) => Ok(Namespace {
+            db: Text::from_str(alloc, db)?,
+            coll: Text::from_str(alloc, coll)?,
+        }),
+        None => Err(Unread::Wrong),
+    }
+}
+
+#[tactic(auto, unfolding(crate::specs::Values::two_texts, crate::specs::Values::item_of))]
+fn read_two_texts(alloc: Global, value: &Value) -> Result<Namespace, Unread>
+    ensures { Gives result (two_texts (view value.now)) }
+{
+    if value.get(2).is_some() {
+        return Err(Unread::Wrong);
+    }
+    let (Some(db), Some(coll)) = (value.get(0), value.get(1)) else {
+        return Err(Unread::Wrong);
+    };
+    Ok(Namespace {
+        db: Text::read(alloc, db)?,
+        coll: Text::read(alloc, coll)?,
+    })
+}

@@ -1,0 +1,179 @@
+//! The script: one JSON object with the calls to be made and the schedule of the model server.
+ghost use Rattle.std.specs.Prelude.{◌≡◌, codes, option_and_then, IfOk};
+ghost use Rattle.driver_link.specs.WellFormed.{IsWellFormed};
+ghost use Rattle.serde_json.specs.Data.{Data};
+ghost use Rattle.serde_json.specs.View.{view};
+ghost use Rattle.driver_script.specs.Json.{Gives};
+ghost use Rattle.driver_script.specs.Script.{insert_one_of, call_of, script_of, script, value_read, usual_options, usual_setup, IsWrong, Reads};
+
+use crate::json::{FromJson, Unread, is_object_of, read_needed, read_optional};
+use crate::keys::{CALLS, DOC, FAULTS, INSERT_ONE, LATE, NS, SCHEDULE};
+use crate::schedule::{no_faults, schedule_with};
+use bson_lite::{List, Text};
+use driver_actions::{Call, SingleWrite};
+use driver_link::{ClientOptions, Description, Schedule, Setup};
+use serde_json::Value;
+use std::alloc::{AllocError, Global};
+
+/// The greatest number of calls of a script.
+pub(crate) const MOST_CALLS: usize = 10_000;
+
+/// What a script asks for.
+#[derive(Debug, Drop)]
+pub struct Script {
+    pub options: ClientOptions,
+    pub setup: Setup,
+    pub calls: List<Call>,
+    pub schedule: Schedule,
+    /// The waiting sends to serve after the calls, by the order of lateness from 0.
+    pub late: List<u64>,
+}
+
+/// Why bytes are not run as a script.
+#[derive(Debug, Drop)]
+pub enum ScriptFault {
+    /// They are no script: the path of the first wrong item, from `$` on.
+    Wrong { path: Text },
+    /// They are a script of so many calls, more than may be made.
+    TooManyCalls { count: u64 },
+    Memory,
+}
+
+/// The script that the bytes are, where it has no more than 10000 calls.
+#[tactic(auto, unfolding(crate::specs::Script::script))]
+pub fn read_script(alloc: Global, bytes: &[u8]) -> Result<Script, ScriptFault>
+    ensures reads { Reads result (script bytes.now) }
+    ensures well_formed { IfOk result (λ asked. IsWellFormed asked.schedule) }
+{
+    match any_script(alloc, bytes) {
+        Ok(script) => {
+            let count = script.calls.len();
+            if count > MOST_CALLS {
+                return Err(ScriptFault::TooManyCalls {
+                    count: count as u64,
+                });
+            }
+            Ok(script)
+        }
+        Err(Unread::Wrong) => Err(wrong(alloc)),
+        Err(Unread::Memory) => Err(ScriptFault::Memory),
+    }
+}
+
+/// The fault of a script that is wrong.
+fn wrong(alloc: Global) -> ScriptFault
+    ensures { IsWrong (codes "$") result }
+{
+    match Text::from_str(alloc, "$") {
+        Ok(path) => ScriptFault::Wrong { path },
+        Err(AllocError) => ScriptFault::Memory,
+    }
+}
+
+#[tactic(auto, using(crate::proofs::Bytes::value_read_text, crate::proofs::Bytes::value_read_none))]
+fn any_script(alloc: Global, bytes: &[u8]) -> Result<Script, Unread>
+    ensures { Gives result (option_and_then script_of (value_read bytes.now)) }
+{
+    let value = match Value::from_slice(alloc, bytes) {
+        Ok(value) => value,
+        Err(error) => {
+            if error.is_memory() {
+                return Err(Unread::Memory);
+            }
+            return Err(Unread::Wrong);
+        }
+    };
+    Script::read(alloc, &value)
+}
+
+impl FromJson for Script {
+    ghost spec = { script_of };
+
+    #[tactic(auto, unfolding(crate::specs::Script::script_of, crate::specs::Script::script_around))]
+    fn read(alloc: Global, value: &Value) -> Result<Script, Unread> {
+        if !is_object_of(value, &[CALLS, SCHEDULE, FAULTS, LATE]) {
+            return Err(Unread::Wrong);
+        }
+        let calls = read_needed(alloc, value, CALLS)?;
+        let steps = read_optional(alloc, value, SCHEDULE)?;
+        let faults = read_optional(alloc, value, FAULTS)?;
+        let late = read_optional(alloc, value, LATE)?;
+        Ok(Script {
+            options: options_of_scripts(),
+            setup: setup_of_scripts(),
+            calls,
+            schedule: schedule_with(
+                alloc,
+                steps.unwrap_or(List::new(alloc)),
+                faults.unwrap_or(no_faults(alloc)),
+            ),
+            late: late.unwrap_or(List::new(alloc)),
+        })
+    }
+}
+
+fn options_of_scripts() -> ClientOptions
+    ensures { result ≡ usual_options }
+{
+    ClientOptions {
+        client_number: 1,
+        retry_writes: None,
+    }
+}
+
+fn setup_of_scripts() -> Setup
+    ensures { result ≡ usual_setup }
+{
+    Setup {
+        description: Description {
+            max_wire_version: Some(25),
+            max_bson_object_size: 16_777_216,
+            max_message_size_bytes: 48_000_000,
+            max_write_batch_size: 100_000,
+            supports_sessions: true,
+            supports_retryable_writes: true,
+            sharded: false,
+        },
+        transactions: true,
+        timeout_ms: Some(1_800_000),
+    }
+}
+
+impl FromJson for Call {
+    ghost spec = { call_of };
+
+    #[tactic(auto, unfolding(crate::specs::Script::call_of))]
+    fn read(alloc: Global, value: &Value) -> Result<Call, Unread> {
+        let Value::Object(members) = value else {
+            return Err(Unread::Wrong);
+        };
+        let mut entries = members.iter();
+        match (entries.next(), entries.next()) {
+            (Some((name, inner)), None) => {
+                if name.as_str() == INSERT_ONE {
+                    insert_one(alloc, inner)
+                } else {
+                    Err(Unread::Wrong)
+                }
+            }
+            _ => Err(Unread::Wrong),
+        }
+    }
+}
+
+#[tactic(auto, unfolding(crate::specs::Script::insert_one_of))]
+fn insert_one(alloc: Global, value: &Value) -> Result<Call, Unread>
+    ensures { Gives result (insert_one_of (view value.now)) }
+{
+    if !is_object_of(value, &[NS, DOC]) {
+        return Err(Unread::Wrong);
+    }
+    let namespace = read_needed(alloc, value, NS)?;
+    let document = read_needed(alloc, value, DOC)?;
+    Ok(Call::Single {
+        write: SingleWrite::InsertOne {
+            namespace,
+            document,
+        },
+    })
+}

@@ -1,0 +1,145 @@
+//! Readers of the script's values and documents, which hold one another.
+ghost use Rattle.serde_json.specs.View.{view, items_view};
+ghost use Rattle.driver_script.specs.Json.{Gives};
+ghost use Rattle.driver_script.specs.Values.{value_of, tagged, document_of, pairs_of, pair_of, array_of, values_of};
+
+use crate::json::{FromJson, Unread};
+use crate::keys::{ARRAY, DOC};
+use crate::leaves::{integer, read_leaf};
+use bson_lite::{Bson, Document, List, Pair, Text};
+use serde_json::Value;
+use std::alloc::Global;
+
+impl FromJson for Bson {
+    ghost spec = { value_of };
+
+    fn read(alloc: Global, value: &Value) -> Result<Bson, Unread> {
+        read_value(alloc, value)
+    }
+}
+
+impl FromJson for Pair<Bson> {
+    ghost spec = { pair_of };
+
+    fn read(alloc: Global, value: &Value) -> Result<Pair<Bson>, Unread> {
+        read_pair(alloc, value)
+    }
+}
+
+impl FromJson for Document {
+    ghost spec = { document_of };
+
+    fn read(alloc: Global, value: &Value) -> Result<Document, Unread> {
+        read_document(alloc, value)
+    }
+}
+
+#[cycle(value)]
+#[tactic(auto, unfolding(crate::specs::Values::value_of))]
+fn read_value(alloc: Global, value: &Value) -> Result<Bson, Unread>
+    ensures { Gives result (value_of (view value.now)) }
+{
+    match value {
+        Value::Null => Ok(Bson::Null),
+        Value::Bool(flag) => Ok(Bson::Boolean(*flag)),
+        Value::Number(_) => match value.as_i64() {
+            Some(number) => Ok(integer(number)),
+            None => Err(Unread::Wrong),
+        },
+        Value::String(text) => Ok(Bson::String(Text::from_str(alloc, text.as_str())?)),
+        Value::Array(_) => Err(Unread::Wrong),
+        Value::Object(members) => {
+            let mut entries = members.iter();
+            match (entries.next(), entries.next()) {
+                (Some((key, inner)), None) => read_tagged(alloc, key.as_str(), inner),
+                _ => Err(Unread::Wrong),
+            }
+        }
+    }
+}
+
+/// The value that stands under a key which says what it is.
+#[cycle(value)]
+#[tactic(auto, unfolding(crate::specs::Values::tagged))]
+fn read_tagged(alloc: Global, key: &str, value: &Value) -> Result<Bson, Unread>
+    ensures { Gives result
+        (tagged key.now (view value.now) (document_of (view value.now)) (array_of (view value.now))) }
+{
+    if key == DOC {
+        return Ok(Bson::Document(read_document(alloc, value)?));
+    }
+    if key == ARRAY {
+        return Ok(Bson::Array(read_array(alloc, value)?));
+    }
+    read_leaf(alloc, key, value)
+}
+
+#[cycle(value)]
+#[tactic(auto, unfolding(crate::specs::Values::document_of))]
+fn read_document(alloc: Global, value: &Value) -> Result<Document, Unread>
+    ensures { Gives result (document_of (view value.now)) }
+{
+    match value {
+        Value::Array(items) => read_pairs(alloc, items.as_slice()),
+        _ => Err(Unread::Wrong),
+    }
+}
+
+#[cycle(value)]
+#[tactic(auto, unfolding(crate::specs::Values::pairs_of))]
+fn read_pairs(alloc: Global, items: &[Value]) -> Result<Document, Unread>
+    ensures { Gives result (pairs_of (items_view items.now)) }
+{
+    let mut document = Document::new(alloc);
+    for item in items {
+        document.push_pair(read_pair(alloc, item)?)?;
+    }
+    Ok(document)
+}
+
+/// A key and a value, as a list of the two.
+#[cycle(value)]
+#[tactic(auto, unfolding(crate::specs::Values::pair_of))]
+fn read_pair(alloc: Global, value: &Value) -> Result<Pair<Bson>, Unread>
+    ensures { Gives result (pair_of (view value.now)) }
+{
+    let Value::Array(items) = value else {
+        return Err(Unread::Wrong);
+    };
+    let Some((key, rest)) = items.as_slice().split_first() else {
+        return Err(Unread::Wrong);
+    };
+    let Some((inner, more)) = rest.split_first() else {
+        return Err(Unread::Wrong);
+    };
+    match more.split_first() {
+        Some(_) => Err(Unread::Wrong),
+        None => Ok(Pair {
+            key: Text::read(alloc, key)?,
+            value: read_value(alloc, inner)?,
+        }),
+    }
+}
+
+#[cycle(value)]
+#[tactic(auto, unfolding(crate::specs::Values::array_of))]
+fn read_array(alloc: Global, value: &Value) -> Result<List<Bson>, Unread>
+    ensures { Gives result (array_of (view value.now)) }
+{
+    match value {
+        Value::Array(items) => read_values(alloc, items.as_slice()),
+        _ => Err(Unread::Wrong),
+    }
+}
+
+#[cycle(value)]
+#[tactic(auto, unfolding(crate::specs::Values::values_of))]
+fn read_values(alloc: Global, items: &[Value]) -> Result<List<Bson>, Unread>
+    ensures { Gives result (values_of (items_view items.now)) }
+{
+    let mut values = List::new(alloc);
+    for item in items {
+        values.push(read_value(alloc, item)?)?;
+    }
+    Ok(values)
+}

@@ -1,0 +1,16 @@
+//! Tests of errors, labels and results from outside: their texts, and that calls succeed with ample memory.
+//! They stand apart so that the library is proved once and not once more for its tests.
+#![tactic(auto)]
+
+#[cfg(test)]
+mod codes;
+#[cfg(test)]
+mod copies;
+#[cfg(test)]
+mod errors;
+#[cfg(test)]
+mod kinds;
+#[cfg(test)]
+mod results;
+#[cfg(test)]
+mod texts;

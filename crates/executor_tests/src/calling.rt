@@ -1,0 +1,338 @@
+//! What no clause shows: that a call succeeds with ample memory, over a link whose replies a test chooses.
+use bson_lite::{Bson, Bytes, Document, EncodeFault, List, Namespace, Text, TryClone};
+use driver_actions::{Answer, Call, CallRun, Outcome, SingleAnswer, SingleWrite, run_calls};
+use driver_error::{Error, ErrorKind, IoKind};
+use driver_exec::{Client, Outside};
+use driver_link::{
+    Address, Answered, ClientOptions, Conn, CountingIds, Description, Frame, Link, LinkError,
+    LinkFault, MemClock, Place, SelectionCriteria,
+};
+use driver_session::PlainStore;
+use rand_core::SeedableRng;
+use rand_pcg::Pcg32;
+use std::alloc::{AllocError, Global};
+use std::test::Fail;
+
+/// A link that gives one reply to each exchange, whatever is sent.
+#[derive(Drop)]
+struct OneReply {
+    reply: Bytes,
+    answered: List<Answered>,
+}
+
+impl Link for OneReply {
+    ghost use Rattle.std.specs.Prelude.{None, Some};
+    ghost use Rattle.driver_link.specs.LinkState.{Untold};
+
+    ghost tells = { λ link. record {
+      making = Untold;
+      answers = Some link.answered;
+      frames = None;
+      over = None;
+      asked = None;
+      addresses = None;
+      connections = None;
+      out = None;
+      faults = 0;
+    } };
+
+    fn select(
+        &mut self,
+        alloc: Global,
+        _criteria: Option<&SelectionCriteria>,
+        _deprioritized: &[Address],
+    ) -> Result<Address, LinkError> {
+        let host = Text::from_str(alloc, "test")?;
+        Ok(Address { host, port: 1 })
+    }
+
+    fn is_sharded(&self) -> bool {
+        false
+    }
+
+    fn session_timeout_ms(&self) -> Option<u64> {
+        None
+    }
+
+    fn transaction_support(&mut self, _alloc: Global) -> Result<bool, LinkError> {
+        Ok(true)
+    }
+
+    fn check_out(&mut self, alloc: Global, address: &Address) -> Result<Conn, LinkError> {
+        let host = address.host.try_clone(alloc)?;
+        Ok(Conn {
+            address: Address {
+                host,
+                port: address.port,
+            },
+            description: description(),
+            number: 0,
+        })
+    }
+
+    fn exchange(
+        &mut self,
+        alloc: Global,
+        _conn: &Conn,
+        _frame: &Frame,
+        _places: &[Place],
+    ) -> Result<Bytes, LinkError> {
+        let reply = self.reply.try_clone(alloc)?;
+        self.answered
+            .push(Answered::Reply(self.reply.try_clone(alloc)?))?;
+        Ok(reply)
+    }
+
+    fn reauthenticate(&mut self, _alloc: Global, _conn: &Conn) -> Result<(), LinkError> {
+        Ok(())
+    }
+
+    fn check_in(&mut self, conn: Conn) {
+        let Conn {
+            address,
+            description: _,
+            number: _,
+        } = conn;
+        drop(address);
+    }
+
+    fn report(&mut self, _address: &Address, _error: &Error) {}
+}
+
+fn description() -> Description {
+    Description {
+        max_wire_version: Some(25),
+        max_bson_object_size: 16_777_216,
+        max_message_size_bytes: 48_000_000,
+        max_write_batch_size: 100_000,
+        supports_sessions: true,
+        supports_retryable_writes: true,
+        sharded: false,
+    }
+}
+
+/// The reply `{ok: 1, n: 1}`.
+const DONE: &[u8] = b"\x14\0\0\0\x10ok\0\x01\0\0\0\x10n\0\x01\0\0\0\0";
+
+/// The document `{x: 1}`.
+fn small(alloc: Global) -> Result<Document, AllocError> {
+    let mut document = Document::new(alloc);
+    document.push("x", Bson::Int32(1))?;
+    Ok(document)
+}
+
+/// A document that nests so many levels deep, itself counting one.
+fn nested(alloc: Global, levels: usize) -> Result<Document, AllocError> {
+    let mut document = Document::new(alloc);
+    for _ in 1..levels {
+        let mut outer = Document::new(alloc);
+        outer.push("d", Bson::Document(document))?;
+        document = outer;
+    }
+    Ok(document)
+}
+
+/// An insert of a document.
+fn insert(alloc: Global, document: Document) -> Result<Call, AllocError> {
+    let namespace = Namespace {
+        db: Text::from_str(alloc, "shop")?,
+        coll: Text::from_str(alloc, "items")?,
+    };
+    Ok(Call::Single {
+        write: SingleWrite::InsertOne {
+            namespace,
+            document,
+        },
+    })
+}
+
+/// A client that has done nothing.
+fn new_client(alloc: Global) -> Client<PlainStore<CountingIds>> {
+    let options = ClientOptions {
+        client_number: 1,
+        retry_writes: None,
+    };
+    Client::new(options, PlainStore::new(alloc, CountingIds::new()))
+}
+
+/// The outside with a link that gives this reply. Its clock moves on by one each time it is read.
+fn new_outside(
+    alloc: Global,
+    reply: &[u8],
+) -> Result<Outside<OneReply, MemClock, Pcg32>, AllocError> {
+    let link = OneReply {
+        reply: Bytes::from_slice(alloc, reply)?,
+        answered: List::new(alloc),
+    };
+    Ok(Outside {
+        link,
+        clock: MemClock::new(0, 1),
+        words: Pcg32::seed_from_u64(1),
+        call: 0,
+    })
+}
+
+/// The outcomes of one insert of a document over a link with this reply.
+fn outcomes_over(
+    alloc: Global,
+    reply: &[u8],
+    document: Document,
+) -> Result<List<Outcome>, AllocError> {
+    let mut client = new_client(alloc);
+    let mut outside = new_outside(alloc, reply)?;
+    let calls = [insert(alloc, document)?];
+    run_calls(alloc, &mut client, &mut outside, &calls)
+}
+
+/// The outcomes of two inserts that are made as one list.
+fn outcomes_at_once(alloc: Global) -> Result<List<Outcome>, AllocError> {
+    let mut client = new_client(alloc);
+    let mut outside = new_outside(alloc, DONE)?;
+    let calls = [insert(alloc, small(alloc)?)?, insert(alloc, small(alloc)?)?];
+    run_calls(alloc, &mut client, &mut outside, &calls)
+}
+
+/// The outcomes of the same inserts, the second of which comes into the list once the first was made.
+fn outcomes_one_by_one(alloc: Global) -> Result<List<Outcome>, AllocError> {
+    let mut client = new_client(alloc);
+    let mut outside = new_outside(alloc, DONE)?;
+    let first = insert(alloc, small(alloc)?)?;
+    let second = insert(alloc, small(alloc)?)?;
+    let mut calls = Vec::with_capacity(alloc, 2)?;
+    let mut run = CallRun::begin(alloc, 2)?;
+    calls.push_reserved(first);
+    run.make(alloc, &mut client, &mut outside, calls.as_slice());
+    calls.push_reserved(second);
+    run.make(alloc, &mut client, &mut outside, calls.as_slice());
+    Ok(run.finish(&mut client, &mut outside, calls.as_slice()))
+}
+
+/// The last byte of the object id that an outcome tells.
+fn id_of(outcome: &Outcome) -> Option<u8> {
+    let Ok(Answer::Single(SingleAnswer::Inserted(done))) = &outcome.result else {
+        return None;
+    };
+    match &done.inserted_id {
+        Bson::ObjectId(id) => Some(id.bytes[11]),
+        _ => None,
+    }
+}
+
+/// Whether two outcomes tell this id and the same moments.
+fn is_same(one: &Outcome, other: &Outcome, id: u8) -> bool {
+    match (id_of(one), id_of(other)) {
+        (Some(here), Some(there)) => {
+            here == id
+                && there == id
+                && one.started_ms == other.started_ms
+                && one.ended_ms == other.ended_ms
+        }
+        _ => false,
+    }
+}
+
+/// Whether two pairs of outcomes are the same, the first with the first id and the second with the next.
+fn are_same(ones: &List<Outcome>, others: &List<Outcome>) -> bool {
+    let [first, second] = ones.as_slice() else {
+        return false;
+    };
+    let [also_first, also_second] = others.as_slice() else {
+        return false;
+    };
+    is_same(first, also_first, 1) && is_same(second, also_second, 2)
+}
+
+/// Whether the one outcome is Ok, or else a document that nests too deep.
+fn is_too_deep(outcomes: &List<Outcome>) -> Option<bool> {
+    let [outcome] = outcomes.as_slice() else {
+        return None;
+    };
+    match &outcome.result {
+        Ok(_) => Some(false),
+        Err(error) => match error.kind() {
+            ErrorKind::BsonSerialization(EncodeFault::TooDeep) => Some(true),
+            _ => None,
+        },
+    }
+}
+
+/// Whether the one outcome is Ok, or else an invalid response.
+fn is_taken(outcomes: &List<Outcome>) -> Option<bool> {
+    let [outcome] = outcomes.as_slice() else {
+        return None;
+    };
+    match &outcome.result {
+        Ok(_) => Some(true),
+        Err(error) => match error.kind() {
+            ErrorKind::InvalidResponse { .. } => Some(false),
+            _ => None,
+        },
+    }
+}
+
+#[test]
+fn an_insert_is_ok_only_after_a_reply_that_says_so(rt: HostRuntime) -> Result<(), Fail> {
+    let alloc = rt.alloc();
+    let table: [(&[u8], bool); 8] = [
+        (DONE, true),
+        // the same as int64s, and as doubles
+        (
+            b"\x1c\0\0\0\x12ok\0\x01\0\0\0\0\0\0\0\x12n\0\x01\0\0\0\0\0\0\0\0",
+            true,
+        ),
+        (
+            b"\x1c\0\0\0\x01ok\0\0\0\0\0\0\0\xf0\x3f\x01n\0\0\0\0\0\0\0\xf0\x3f\0",
+            true,
+        ),
+        // {ok: 1, n: 0}
+        (b"\x14\0\0\0\x10ok\0\x01\0\0\0\x10n\0\0\0\0\0\0", false),
+        // {ok: 0, n: 1}
+        (b"\x14\0\0\0\x10ok\0\0\0\0\0\x10n\0\x01\0\0\0\0", false),
+        // {ok: 1}
+        (b"\x0d\0\0\0\x10ok\0\x01\0\0\0\0", false),
+        // no document at all
+        (b"", false),
+        (b"nonsense", false),
+    ];
+    for (reply, taken) in table {
+        let outcomes = outcomes_over(alloc, reply, small(alloc)?)?;
+        assert_eq!(rt; is_taken(&outcomes), Some(taken));
+    }
+    Ok(())
+}
+
+#[test]
+fn a_callers_document_nests_at_most_96_levels(rt: HostRuntime) -> Result<(), Fail> {
+    let alloc = rt.alloc();
+    for (levels, refused) in [(1, false), (96, false), (97, true), (101, true)] {
+        let outcomes = outcomes_over(alloc, DONE, nested(alloc, levels)?)?;
+        assert_eq!(rt; is_too_deep(&outcomes), Some(refused), "of {levels} levels");
+    }
+    Ok(())
+}
+
+#[test]
+fn calls_may_come_into_the_list_between_two(rt: HostRuntime) -> Result<(), Fail> {
+    let at_once = outcomes_at_once(rt.alloc())?;
+    let one_by_one = outcomes_one_by_one(rt.alloc())?;
+    let same = are_same(&at_once, &one_by_one);
+    assert!(rt; same);
+    Ok(())
+}
+
+/// The error of a fault that came with one label.
+fn labelled_fault(alloc: Global) -> Result<Error, AllocError> {
+    let mut labels = List::new(alloc);
+    labels.push(Text::from_str(alloc, "told")?)?;
+    let fault = LinkFault::Io(IoKind::BrokenPipe);
+    Ok(Error::from(LinkError::Fault { fault, labels }))
+}
+
+#[test]
+fn a_fault_becomes_an_error_with_its_labels(rt: HostRuntime) -> Result<(), Fail> {
+    let error = labelled_fault(rt.alloc())?;
+    assert!(rt; matches!(error.kind(), ErrorKind::Io(IoKind::BrokenPipe)));
+    assert!(rt; error.has_own_label("told"));
+    assert!(rt; !error.has_own_label("RetryableWriteError"));
+    Ok(())
+}

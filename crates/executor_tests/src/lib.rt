@@ -1,0 +1,27 @@
+//! Tests of the executor and of calls over it: what one insert comes to over a model server with a schedule and
+//! over a fake link, when it is timed and its session lent, every short schedule over a few inserts, and the
+//! store and the replies with ample memory. They stand apart since a row crosses executor and server.
+#![tactic(auto)]
+
+#[cfg(test)]
+mod calling;
+#[cfg(test)]
+mod faking;
+#[cfg(test)]
+mod frames;
+#[cfg(test)]
+mod inserting;
+#[cfg(test)]
+mod ports;
+#[cfg(test)]
+mod replies;
+#[cfg(test)]
+mod rows;
+#[cfg(test)]
+mod schedules;
+#[cfg(test)]
+mod selections;
+#[cfg(test)]
+mod sessions;
+#[cfg(test)]
+mod timing;

@@ -1,0 +1,396 @@
+//! Tests of the fake link, and of copies of concerns.
+ghost use Rattle.std.specs.Prelude.{◌≡◌, [], IfOk};
+ghost use Rattle.link_tests.specs.AbortFrame.{abort_body as body_of_abort, abort_send};
+ghost use Rattle.driver_link.specs.Reads.{Reads};
+
+use bson_lite::{Bson, Bytes, Document, List, Text, TryClone, encode};
+use driver_error::IoKind;
+use driver_link::keys::{ABORT_TRANSACTION, ADMIN, DATABASE};
+use driver_link::{
+    Acknowledgment, Address, Answered, Asked, Conn, Description, FakeLink, FakeStep, Frame, Link,
+    LinkCall, LinkError, LinkFault, NotedConn, ReadConcern, ReadConcernLevel, SelectionCriteria,
+    WriteConcern,
+};
+use std::alloc::{AllocError, Global};
+
+/// `{ abortTransaction: 1, $db: "admin" }`.
+const ABORT: [u8; 42] = *b"\x2a\0\0\0\x10abortTransaction\0\x01\0\0\0\x02$db\0\x06\0\0\0admin\0\0";
+
+/// What a server of a wire version says of itself.
+fn described(version: i32, sharded: bool) -> Description {
+    Description {
+        max_wire_version: Some(version),
+        max_bson_object_size: 16_777_216,
+        max_message_size_bytes: 48_000_000,
+        max_write_batch_size: 100_000,
+        supports_sessions: true,
+        supports_retryable_writes: true,
+        sharded,
+    }
+}
+
+/// A link with two descriptions and two steps: a reply and a fault.
+fn two_steps(alloc: Global) -> Result<FakeLink, AllocError> {
+    let mut descriptions = List::new(alloc);
+    descriptions.push(described(17, true))?;
+    descriptions.push(described(25, false))?;
+    let mut steps = List::new(alloc);
+    steps.push(FakeStep::Reply(Bytes::from_slice(alloc, b"reply")?))?;
+    steps.push(FakeStep::Fault(LinkFault::Io(IoKind::BrokenPipe)))?;
+    Ok(FakeLink::new(alloc, descriptions, steps))
+}
+
+/// The address of the tests.
+fn there(alloc: Global) -> Result<Address, AllocError> {
+    Ok(Address {
+        host: Text::from_str(alloc, "there")?,
+        port: 5,
+    })
+}
+
+/// Whether an address is this one.
+fn is_at(address: &Address, host: &str, port: u16) -> bool {
+    address.host.as_str() == host && address.port == port
+}
+
+/// The body of a command that ends a transaction.
+#[tactic(auto, unfolding(crate::specs::AbortFrame::abort_body))]
+fn abort_body(alloc: Global) -> Result<Document, AllocError>
+    ensures { IfOk result (λ body. body ≡ body_of_abort) }
+{
+    let mut body = Document::new(alloc);
+    body.push(ABORT_TRANSACTION, Bson::Int32(1))?;
+    body.push(DATABASE, Bson::String(Text::from_str(alloc, ADMIN)?))?;
+    Ok(body)
+}
+
+/// Its frame.
+#[tactic(auto, using(crate::proofs::AbortReads::abort_reads))]
+fn abort_frame(alloc: Global) -> Result<Frame, AllocError>
+    ensures { IfOk result (λ frame. Reads frame [] abort_send) }
+{
+    let body = abort_body(alloc)?;
+    match encode(alloc, &body) {
+        Ok(bytes) => Ok(Frame::new(Text::from_str(alloc, ADMIN)?, bytes, List::new(alloc))),
+        Err(_) => Err(AllocError),
+    }
+}
+
+/// Selects with an address that is asked for, and one to be avoided.
+fn select_there(link: &mut FakeLink, alloc: Global) -> Result<Address, LinkError> {
+    let criteria = SelectionCriteria::Address(there(alloc)?);
+    let avoided = there(alloc)?;
+    link.select(alloc, Some(&criteria), &[avoided])
+}
+
+/// Selects without criteria.
+fn select_any(link: &mut FakeLink, alloc: Global) -> Result<Address, LinkError> {
+    link.select(alloc, None, &[])
+}
+
+/// Checks a connection out, and answers its number and its wire version.
+fn check_out(link: &mut FakeLink, alloc: Global) -> Result<(u64, Option<i32>), LinkError> {
+    let address = there(alloc)?;
+    let conn = link.check_out(alloc, &address)?;
+    let seen = (conn.number, conn.description.max_wire_version);
+    link.check_in(conn);
+    Ok(seen)
+}
+
+/// Sends one frame over a connection of its own.
+fn exchange(link: &mut FakeLink, alloc: Global) -> Result<Bytes, LinkError> {
+    let address = there(alloc)?;
+    let frame = abort_frame(alloc)?;
+    let conn = link.check_out(alloc, &address)?;
+    let answer = link.exchange(alloc, &conn, &frame, &[]);
+    link.check_in(conn);
+    answer
+}
+
+/// Whether a check that may lack memory or meet a fault held.
+fn holds(checked: Result<bool, LinkError>) -> bool {
+    match checked {
+        Ok(held) => held,
+        Err(failure) => {
+            drop(failure);
+            false
+        }
+    }
+}
+
+/// Whether an exchange answered these bytes.
+fn is_given(answer: Result<Bytes, LinkError>, bytes: &[u8]) -> bool {
+    match answer {
+        Ok(reply) => reply.as_slice() == bytes,
+        Err(_) => false,
+    }
+}
+
+/// Whether an exchange answered a fault without labels.
+fn is_fault(answer: Result<Bytes, LinkError>, kind: IoKind) -> bool {
+    match answer {
+        Err(
+            LinkError::Fault {
+                fault: LinkFault::Io(found),
+                labels,
+            },
+        ) => found == kind && labels.is_empty(),
+        _ => false,
+    }
+}
+
+/// Whether an answer is told as a reply of these bytes.
+fn is_reply(answered: &[Answered], at: usize, bytes: &[u8]) -> bool {
+    match answered.get(at) {
+        Some(Answered::Reply(reply)) => reply.as_slice() == bytes,
+        _ => false,
+    }
+}
+
+/// Whether an answer is told as a fault of an exchange.
+fn is_noted(answered: &[Answered], at: usize, kind: IoKind) -> bool {
+    match answered.get(at) {
+        Some(
+            Answered::Fault {
+                call: LinkCall::Exchange,
+                fault: LinkFault::Io(found),
+                labels,
+            },
+        ) => *found == kind && labels.is_empty(),
+        _ => false,
+    }
+}
+
+/// Whether a frame is the one of the tests.
+fn is_abort(frames: &[Frame], at: usize, body: &[u8]) -> bool {
+    match frames.get(at) {
+        Some(frame) => {
+            frame.database() == "admin" && frame.body() == body && frame.sequence_count() == 0
+        }
+        None => false,
+    }
+}
+
+/// Whether a selection asked for the tests' address, with one to be avoided.
+fn asked_there(asked: &[Asked], at: usize) -> bool {
+    match asked.get(at) {
+        Some(
+            Asked {
+                criteria: Some(SelectionCriteria::Address(address)),
+                deprioritized,
+            },
+        ) => is_at(address, "there", 5) && deprioritized.len() == 1,
+        _ => false,
+    }
+}
+
+/// Whether a selection answered this address.
+fn selected(addresses: &[Address], at: usize, host: &str, port: u16) -> bool {
+    match addresses.get(at) {
+        Some(address) => is_at(address, host, port),
+        None => false,
+    }
+}
+
+/// Whether a selection asked for nothing.
+fn asked_any(asked: &[Asked], at: usize) -> bool {
+    match asked.get(at) {
+        Some(
+            Asked {
+                criteria: None,
+                deprioritized,
+            },
+        ) => deprioritized.is_empty(),
+        _ => false,
+    }
+}
+
+/// Whether a selection with an address gives that one, and one without gives the usual one.
+fn selects(link: &mut FakeLink, alloc: Global) -> Result<bool, LinkError> {
+    let asked = select_there(link, alloc)?;
+    if !is_at(&asked, "there", 5) {
+        return Ok(false);
+    }
+    drop(asked);
+    let any = select_any(link, alloc)?;
+    Ok(is_at(&any, "fake", 27017))
+}
+
+/// Whether these two selections are told.
+fn tells_selections(link: &FakeLink) -> bool {
+    let asked = link.asked();
+    let addresses = link.addresses();
+    asked.len() == 2
+        && asked_there(asked, 0)
+        && asked_any(asked, 1)
+        && addresses.len() == 2
+        && selected(addresses, 0, "there", 5)
+        && selected(addresses, 1, "fake", 27017)
+}
+
+#[test]
+fn selections_are_told(rt: HostRuntime) -> Result<(), AllocError> {
+    let mut link = two_steps(rt.alloc())?;
+    assert!(rt; holds(selects(&mut link, rt.alloc())));
+    assert!(rt; tells_selections(&link));
+    Ok(())
+}
+
+/// Whether three check-outs have the two descriptions in turn, and then the last one again.
+fn describes_in_turn(link: &mut FakeLink, alloc: Global) -> Result<bool, LinkError> {
+    let first = check_out(link, alloc)?;
+    let second = check_out(link, alloc)?;
+    let third = check_out(link, alloc)?;
+    Ok(first == (0, Some(17)) && second == (1, Some(25)) && third == (2, Some(25)))
+}
+
+#[test]
+fn check_outs_give_the_descriptions_in_turn(rt: HostRuntime) -> Result<(), AllocError> {
+    let mut link = two_steps(rt.alloc())?;
+    assert!(rt; holds(describes_in_turn(&mut link, rt.alloc())));
+    Ok(())
+}
+
+#[test]
+fn exchanges_do_the_steps_in_turn(rt: HostRuntime) -> Result<(), AllocError> {
+    let alloc = rt.alloc();
+    let mut link = two_steps(alloc)?;
+    assert!(rt; is_given(exchange(&mut link, alloc), b"reply"));
+    assert_eq!(rt; link.faults(), 0);
+    assert!(rt; is_fault(exchange(&mut link, alloc), IoKind::BrokenPipe));
+    assert_eq!(rt; link.faults(), 1);
+    assert!(rt; is_fault(exchange(&mut link, alloc), IoKind::ConnectionReset));
+    assert!(rt; is_fault(exchange(&mut link, alloc), IoKind::ConnectionReset));
+    assert_eq!(rt; link.faults(), 3);
+    Ok(())
+}
+
+/// Whether the three exchanges are told, with their answers and the numbers of their connections.
+fn tells_exchanges(link: &FakeLink) -> bool {
+    link.frames().len() == 3
+        && is_abort(link.frames(), 2, &ABORT)
+        && link.answered().len() == 3
+        && is_reply(link.answered(), 0, b"reply")
+        && is_noted(link.answered(), 1, IoKind::BrokenPipe)
+        && is_noted(link.answered(), 2, IoKind::ConnectionReset)
+        && link.over() == [0, 1, 2].as_slice()
+        && link.out().is_empty()
+}
+
+#[test]
+fn exchanges_are_told_with_their_connections(rt: HostRuntime) -> Result<(), AllocError> {
+    let alloc = rt.alloc();
+    let mut link = two_steps(alloc)?;
+    for _ in 0..3 {
+        drop(exchange(&mut link, alloc));
+    }
+    assert!(rt; tells_exchanges(&link));
+    Ok(())
+}
+
+/// Whether the calls that take no step answer what they always do.
+fn answers_the_same(link: &mut FakeLink, alloc: Global) -> Result<bool, LinkError> {
+    let supports = link.transaction_support(alloc)?;
+    let address = there(alloc)?;
+    let conn = link.check_out(alloc, &address)?;
+    let answer = link.reauthenticate(alloc, &conn);
+    link.check_in(conn);
+    answer?;
+    Ok(supports && link.is_sharded() && link.session_timeout_ms().is_none())
+}
+
+#[test]
+fn the_other_calls_answer_the_same_each_time(rt: HostRuntime) -> Result<(), AllocError> {
+    let mut link = two_steps(rt.alloc())?;
+    assert!(rt; holds(answers_the_same(&mut link, rt.alloc())));
+    Ok(())
+}
+
+/// Checks a connection out that is never handed back.
+fn keep_out(link: &mut FakeLink, alloc: Global) -> Result<(), LinkError> {
+    let there = there(alloc)?;
+    let conn = link.check_out(alloc, &there)?;
+    let Conn {
+        address,
+        description: _,
+        number: _,
+    } = conn;
+    drop(address);
+    Ok(())
+}
+
+/// Whether a noted connection has this number and leads to the tests' address.
+fn is_noted_as(conns: &[NotedConn], at: usize, number: u64) -> bool {
+    match conns.get(at) {
+        Some(conn) => conn.number() == number && is_at(conn.address(), "there", 5),
+        None => false,
+    }
+}
+
+/// Three connections, of which the second is handed back.
+fn keeps_two_out(link: &mut FakeLink, alloc: Global) -> Result<bool, LinkError> {
+    keep_out(link, alloc)?;
+    check_out(link, alloc)?;
+    keep_out(link, alloc)?;
+    Ok(true)
+}
+
+/// Whether these three are told, and that two are out.
+fn tells_connections(link: &FakeLink) -> bool {
+    let all = link.connections();
+    let out = link.out();
+    all.len() == 3
+        && is_noted_as(all, 0, 0)
+        && is_noted_as(all, 1, 1)
+        && is_noted_as(all, 2, 2)
+        && out.len() == 2
+        && is_noted_as(out, 0, 0)
+        && is_noted_as(out, 1, 2)
+}
+
+#[test]
+fn connections_are_told_and_those_that_are_out(rt: HostRuntime) -> Result<(), AllocError> {
+    let mut link = two_steps(rt.alloc())?;
+    assert!(rt; holds(keeps_two_out(&mut link, rt.alloc())));
+    assert!(rt; tells_connections(&link));
+    Ok(())
+}
+
+/// Whether a copy of a concern has its fields.
+fn copies_concern(alloc: Global) -> Result<bool, AllocError> {
+    let concern = WriteConcern {
+        w: Some(Acknowledgment::Nodes(2)),
+        w_timeout: Some(10_000),
+        journal: Some(true),
+    };
+    let copy = concern.try_clone(alloc)?;
+    Ok(asks_two_nodes(&copy))
+}
+
+/// Whether two servers are asked for, their journals and ten seconds.
+fn asks_two_nodes(concern: &WriteConcern) -> bool {
+    let nodes = match concern.w {
+        Some(Acknowledgment::Nodes(nodes)) => nodes,
+        _ => 0,
+    };
+    nodes == 2 && concern.w_timeout == Some(10_000) && concern.journal == Some(true)
+}
+
+/// Whether a copy of a read concern has its level.
+fn copies_level(alloc: Global) -> Result<bool, AllocError> {
+    let concern = ReadConcern {
+        level: ReadConcernLevel::Custom(Text::from_str(alloc, "mine")?),
+    };
+    let copy = concern.try_clone(alloc)?;
+    Ok(match &copy.level {
+        ReadConcernLevel::Custom(name) => name.as_str() == "mine",
+        _ => false,
+    })
+}
+
+#[test]
+fn concerns_are_copied(rt: HostRuntime) -> Result<(), AllocError> {
+    assert!(rt; copies_concern(rt.alloc())?);
+    assert!(rt; copies_level(rt.alloc())?);
+    Ok(())
+}

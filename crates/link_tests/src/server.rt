@@ -1,0 +1,268 @@
+//! Sends written by hand, and the bytes of their replies by the layout of BSON.
+use bson_lite::{Bytes, Document, List, Namespace, Text};
+use driver_error::{NO_WRITES_PERFORMED, SYSTEM_OVERLOADED_ERROR, TRANSIENT_TRANSACTION_ERROR};
+use driver_link::{
+    Failing, Item, Place, PlacedWrite, Planned, PlannedConcern, Send, SendBody, SendCommand,
+    Server, WriteKind, Written,
+};
+use model_server::meeting::take;
+use model_server::new_server;
+use rows::{CASES, HONESTY, ITEMS};
+use std::alloc::{AllocError, Global};
+use std::test::Fail;
+
+mod faulty;
+mod framed;
+mod rows;
+mod undone;
+
+/// One document.
+const ONE: &[u8] = b"\x14\0\0\0\x10ok\0\x01\0\0\0\x10n\0\x01\0\0\0\0";
+
+/// Two documents.
+const TWO: &[u8] = b"\x14\0\0\0\x10ok\0\x01\0\0\0\x10n\0\x02\0\0\0\0";
+
+/// A commit or an abort.
+const DONE: &[u8] = b"\x0d\0\0\0\x10ok\0\x01\0\0\0\0";
+
+/// The number is too old.
+const TOO_OLD: &[u8] =
+    b"?\0\0\0\x10ok\0\0\0\0\0\x10code\0\xe1\0\0\0\x02errmsg\0\x0a\0\0\0scheduled\0\x04errorLabels\0\x05\0\0\0\0\0";
+
+/// The committed transaction takes no such send.
+const NO_SUCH: &[u8] =
+    b"?\0\0\0\x10ok\0\0\0\0\0\x10code\0\xfb\0\0\0\x02errmsg\0\x0a\0\0\0scheduled\0\x04errorLabels\0\x05\0\0\0\0\0";
+
+/// The transaction is gone.
+const TRANSIENT: &[u8] =
+    b"`\0\0\0\x10ok\0\0\0\0\0\x10code\0\xfb\0\0\0\x02errmsg\0\x0a\0\0\0scheduled\0\x04errorLabels\0&\0\0\0\x020\0\x1a\0\0\0TransientTransactionError\0\0\0";
+
+/// Two inserts, of which the first page holds one.
+const FIRST_PAGE: &[u8] =
+    b"\xbe\0\0\0\x10ok\0\x01\0\0\0\x10nErrors\0\0\0\0\0\x10nInserted\0\x02\0\0\0\x10nMatched\0\0\0\0\0\x10nModified\0\0\0\0\0\x10nUpserted\0\0\0\0\0\x10nDeleted\0\0\0\0\0\x03cursor\0S\0\0\0\x10id\0\x01\0\0\0\x02ns\0\x15\0\0\0admin.$cmd.bulkWrite\0\x04firstBatch\0\x1d\0\0\0\x030\0\x15\0\0\0\x10idx\0\0\0\0\0\x10n\0\x01\0\0\0\0\0\0\0";
+
+/// The rest of them.
+const NEXT_PAGE: &[u8] =
+    b"g\0\0\0\x10ok\0\x01\0\0\0\x03cursor\0R\0\0\0\x10id\0\0\0\0\0\x02ns\0\x15\0\0\0admin.$cmd.bulkWrite\0\x04nextBatch\0\x1d\0\0\0\x030\0\x15\0\0\0\x10idx\0\x01\0\0\0\x10n\0\x01\0\0\0\0\0\0\0";
+
+/// The cursor is not open.
+const NO_CURSOR: &[u8] =
+    b"?\0\0\0\x10ok\0\0\0\0\0\x10code\0+\0\0\0\x02errmsg\0\x0a\0\0\0scheduled\0\x04errorLabels\0\x05\0\0\0\0\0";
+
+/// A planned result, a failing statement and a write concern error.
+const PLANNED: &[u8] =
+    b"\x8c\0\0\0\x10ok\0\x01\0\0\0\x10n\0\x03\0\0\0\x04writeErrors\08\0\0\0\x030\00\0\0\0\x10index\0\x01\0\0\0\x10code\0\xf8*\0\0\x02errmsg\0\x0a\0\0\0scheduled\0\0\0\x03writeConcernError\0 \0\0\0\x10code\0@\0\0\0\x02errmsg\0\x05\0\0\0slow\0\0\0";
+
+/// Code 91 without a label.
+const REFUSED: &[u8] =
+    b"?\0\0\0\x10ok\0\0\0\0\0\x10code\0[\0\0\0\x02errmsg\0\x0a\0\0\0scheduled\0\x04errorLabels\0\x05\0\0\0\0\0";
+
+/// Code 91, and nothing ran.
+const REFUSED_BEFORE: &[u8] =
+    b"u\0\0\0\x10ok\0\0\0\0\0\x10code\0[\0\0\0\x02errmsg\0\x0a\0\0\0scheduled\0\x04errorLabels\0;\0\0\0\x020\0\x12\0\0\0NoWritesPerformed\0\x021\0\x16\0\0\0SystemOverloadedError\0\0\0";
+
+/// Code 91 with the label of overload alone.
+const REFUSED_OVERLOADED: &[u8] =
+    b"\x5c\0\0\0\x10ok\0\0\0\0\0\x10code\0[\0\0\0\x02errmsg\0\x0a\0\0\0scheduled\0\x04errorLabels\0\x22\0\0\0\x020\0\x16\0\0\0SystemOverloadedError\0\0\0";
+
+/// Code 91 with the transient label.
+const REFUSED_TRANSIENT: &[u8] =
+    b"`\0\0\0\x10ok\0\0\0\0\0\x10code\0[\0\0\0\x02errmsg\0\x0a\0\0\0scheduled\0\x04errorLabels\0&\0\0\0\x020\0\x1a\0\0\0TransientTransactionError\0\0\0";
+
+/// A question for another authentication.
+const AUTHENTICATE: &[u8] =
+    b"?\0\0\0\x10ok\0\0\0\0\0\x10code\0\x87\x01\0\0\x02errmsg\0\x0a\0\0\0scheduled\0\x04errorLabels\0\x05\0\0\0\0\0";
+
+/// What a send asks for.
+#[derive(Clone, Copy)]
+enum Asks {
+    Insert,
+    InsertTwo,
+    Bulk,
+    Commit,
+    Abort,
+    More,
+    Kill,
+}
+
+/// The labels of a scheduled answer.
+#[derive(Clone, Copy)]
+enum Given {
+    Nothing,
+    NoWritesAndOverload,
+    Transient,
+}
+
+/// An item of a schedule.
+#[derive(Clone, Copy)]
+enum Meets {
+    Serve,
+    Planned,
+    Lost,
+    Late,
+    ReplyLost,
+    Interrupted(u64, Given),
+    Refused(Given),
+    Reauthenticate,
+}
+
+/// A send with its item, the bytes of its reply, and how many entries the log then has. No bytes stand for
+/// a connection that was reset.
+struct Row {
+    number: Option<i64>,
+    start: bool,
+    inside: bool,
+    asks: Asks,
+    meets: Meets,
+    expected: &'static [u8],
+    entries: usize,
+}
+
+/// Inserts into one collection.
+fn inserts(alloc: Global, command: SendCommand, count: u64) -> Result<SendBody, AllocError> {
+    let mut writes = List::new(alloc);
+    for index in 0..count {
+        let db = Text::from_str(alloc, "a")?;
+        let coll = Text::from_str(alloc, "c")?;
+        writes.push(PlacedWrite {
+            place: Place { call: 0, index },
+            written: Written {
+                kind: WriteKind::Insert,
+                namespace: Namespace { db, coll },
+                document: Document::new(alloc),
+            },
+        })?;
+    }
+    Ok(SendBody::Write {
+        command,
+        ordered: true,
+        writes,
+    })
+}
+
+fn body_of(alloc: Global, asks: Asks) -> Result<SendBody, AllocError> {
+    match asks {
+        Asks::Insert => inserts(alloc, SendCommand::Insert, 1),
+        Asks::InsertTwo => inserts(alloc, SendCommand::Insert, 2),
+        Asks::Bulk => inserts(alloc, SendCommand::BulkWrite, 2),
+        Asks::Commit => Ok(SendBody::Commit),
+        Asks::Abort => Ok(SendBody::Abort),
+        Asks::More => Ok(SendBody::More { cursor: 1 }),
+        Asks::Kill => Ok(SendBody::Kill { cursor: 1 }),
+    }
+}
+
+fn labels_of(alloc: Global, given: Given) -> Result<List<Text>, AllocError> {
+    let mut labels = List::new(alloc);
+    match given {
+        Given::Nothing => {}
+        Given::NoWritesAndOverload => {
+            labels.push(Text::from_str(alloc, NO_WRITES_PERFORMED)?)?;
+            labels.push(Text::from_str(alloc, SYSTEM_OVERLOADED_ERROR)?)?;
+        }
+        Given::Transient => labels.push(Text::from_str(alloc, TRANSIENT_TRANSACTION_ERROR)?)?,
+    }
+    Ok(labels)
+}
+
+/// The first statement counts 3, the second fails, and the write concern is not met.
+fn planned(alloc: Global) -> Result<Item, AllocError> {
+    let mut results = List::new(alloc);
+    results.push(Planned {
+        n: Some(3),
+        modified: None,
+        upserted: None,
+        value: None,
+    })?;
+    let mut fail = List::new(alloc);
+    fail.push(Failing { at: 1, code: 11000 })?;
+    let message = Text::from_str(alloc, "slow")?;
+    Ok(Item::Serve {
+        results,
+        fail,
+        write_concern_error: Some(PlannedConcern { code: 64, message }),
+        page: None,
+    })
+}
+
+fn item_of(alloc: Global, meets: Meets) -> Result<Item, AllocError> {
+    match meets {
+        Meets::Serve => Ok(Item::Serve {
+            results: List::new(alloc),
+            fail: List::new(alloc),
+            write_concern_error: None,
+            page: Some(1),
+        }),
+        Meets::Planned => planned(alloc),
+        Meets::Lost => Ok(Item::Lost),
+        Meets::Late => Ok(Item::Late),
+        Meets::ReplyLost => Ok(Item::ReplyLost),
+        Meets::Interrupted(after, given) => Ok(Item::Interrupted {
+            after,
+            code: 91,
+            labels: labels_of(alloc, given)?,
+        }),
+        Meets::Refused(given) => Ok(Item::Refused {
+            code: 91,
+            labels: labels_of(alloc, given)?,
+        }),
+        Meets::Reauthenticate => Ok(Item::Reauthenticate),
+    }
+}
+
+/// The bytes of the reply to a send, and no bytes where the connection is reset.
+fn answered(
+    server: &mut Server,
+    alloc: Global,
+    send: Send,
+    item: &Item,
+) -> Result<Bytes, AllocError> {
+    let mut notes = List::new(alloc);
+    match take(server, &mut notes, alloc, send, item)? {
+        Some(bytes) => Ok(bytes),
+        None => Ok(Bytes::new(alloc)),
+    }
+}
+
+/// Whether a row's send is answered as it says.
+fn holds(server: &mut Server, alloc: Global, row: &Row) -> Result<bool, AllocError> {
+    let send = Send {
+        session: Some([7; 16]),
+        number: row.number,
+        start: row.start,
+        in_transaction: row.inside,
+        body: body_of(alloc, row.asks)?,
+    };
+    let item = item_of(alloc, row.meets)?;
+    let bytes = answered(server, alloc, send, &item)?;
+    Ok(bytes.as_slice() == row.expected && server.log.len() == row.entries)
+}
+
+/// Whether the rows of a table are answered as they say, one after another by one server.
+fn all_hold(alloc: Global, rows: &[Row]) -> Result<bool, AllocError> {
+    let mut server = new_server(alloc);
+    for row in rows {
+        if !holds(&mut server, alloc, row)? {
+            return Ok(false);
+        }
+    }
+    Ok(true)
+}
+
+#[test]
+fn each_case_is_served(rt: HostRuntime) -> Result<(), Fail> {
+    assert!(rt; all_hold(rt.alloc(), &CASES)?);
+    Ok(())
+}
+
+#[test]
+fn each_item_is_met(rt: HostRuntime) -> Result<(), Fail> {
+    assert!(rt; all_hold(rt.alloc(), &ITEMS)?);
+    Ok(())
+}
+
+#[test]
+fn no_label_tells_a_lie(rt: HostRuntime) -> Result<(), Fail> {
+    assert!(rt; all_hold(rt.alloc(), &HONESTY)?);
+    Ok(())
+}
