@@ -146,6 +146,11 @@ fn insert(alloc: Global, document: Document) -> Result<Call, AllocError> {
     })
 }
 
+/// The insert of `{x: 1}`.
+fn small_insert(alloc: Global) -> Result<Call, AllocError> {
+    insert(alloc, small(alloc)?)
+}
+
 /// A client that has done nothing.
 fn new_client(alloc: Global) -> Client<PlainStore<CountingIds>> {
     let options = ClientOptions {
@@ -178,27 +183,27 @@ fn outcomes_over(
     reply: &[u8],
     document: Document,
 ) -> Result<List<Outcome>, AllocError> {
-    let mut client = new_client(alloc);
-    let mut outside = new_outside(alloc, reply)?;
     let calls = [insert(alloc, document)?];
+    let mut outside = new_outside(alloc, reply)?;
+    let mut client = new_client(alloc);
     run_calls(alloc, &mut client, &mut outside, &calls)
 }
 
 /// The outcomes of two inserts that are made as one list.
 fn outcomes_at_once(alloc: Global) -> Result<List<Outcome>, AllocError> {
-    let mut client = new_client(alloc);
+    let calls = [small_insert(alloc)?, small_insert(alloc)?];
     let mut outside = new_outside(alloc, DONE)?;
-    let calls = [insert(alloc, small(alloc)?)?, insert(alloc, small(alloc)?)?];
+    let mut client = new_client(alloc);
     run_calls(alloc, &mut client, &mut outside, &calls)
 }
 
 /// The outcomes of the same inserts, the second of which comes into the list once the first was made.
 fn outcomes_one_by_one(alloc: Global) -> Result<List<Outcome>, AllocError> {
-    let mut client = new_client(alloc);
-    let mut outside = new_outside(alloc, DONE)?;
-    let first = insert(alloc, small(alloc)?)?;
-    let second = insert(alloc, small(alloc)?)?;
     let mut calls = Vec::with_capacity(alloc, 2)?;
+    let first = small_insert(alloc)?;
+    let second = small_insert(alloc)?;
+    let mut outside = new_outside(alloc, DONE)?;
+    let mut client = new_client(alloc);
     let mut run = CallRun::begin(alloc, 2)?;
     calls.push_reserved(first);
     run.make(alloc, &mut client, &mut outside, calls.as_slice());
@@ -270,6 +275,22 @@ fn is_taken(outcomes: &List<Outcome>) -> Option<bool> {
     }
 }
 
+/// Whether an insert is Ok over a link with this reply, or else an invalid response.
+fn taken_over(alloc: Global, reply: &[u8]) -> Result<Option<bool>, AllocError> {
+    let outcomes = outcomes_over(alloc, reply, small(alloc)?)?;
+    let taken = is_taken(&outcomes);
+    drop(outcomes);
+    Ok(taken)
+}
+
+/// Whether the insert of a document of so many levels is refused as too deep, or else is Ok.
+fn too_deep_at(alloc: Global, levels: usize) -> Result<Option<bool>, AllocError> {
+    let outcomes = outcomes_over(alloc, DONE, nested(alloc, levels)?)?;
+    let refused = is_too_deep(&outcomes);
+    drop(outcomes);
+    Ok(refused)
+}
+
 #[test]
 fn an_insert_is_ok_only_after_a_reply_that_says_so(rt: HostRuntime) -> Result<(), Fail> {
     let alloc = rt.alloc();
@@ -295,8 +316,8 @@ fn an_insert_is_ok_only_after_a_reply_that_says_so(rt: HostRuntime) -> Result<()
         (b"nonsense", false),
     ];
     for (reply, taken) in table {
-        let outcomes = outcomes_over(alloc, reply, small(alloc)?)?;
-        assert_eq!(rt; is_taken(&outcomes), Some(taken));
+        let found = taken_over(alloc, reply)?;
+        assert_eq!(rt; found, Some(taken));
     }
     Ok(())
 }
@@ -305,8 +326,8 @@ fn an_insert_is_ok_only_after_a_reply_that_says_so(rt: HostRuntime) -> Result<()
 fn a_callers_document_nests_at_most_96_levels(rt: HostRuntime) -> Result<(), Fail> {
     let alloc = rt.alloc();
     for (levels, refused) in [(1, false), (96, false), (97, true), (101, true)] {
-        let outcomes = outcomes_over(alloc, DONE, nested(alloc, levels)?)?;
-        assert_eq!(rt; is_too_deep(&outcomes), Some(refused), "of {levels} levels");
+        let found = too_deep_at(alloc, levels)?;
+        assert_eq!(rt; found, Some(refused), "of {levels} levels");
     }
     Ok(())
 }
@@ -328,11 +349,18 @@ fn labelled_fault(alloc: Global) -> Result<Error, AllocError> {
     Ok(Error::from(LinkError::Fault { fault, labels }))
 }
 
+/// Whether it is the error of that fault, with that label and not the one of a retryable write.
+fn is_labelled(error: &Error) -> bool {
+    matches!(error.kind(), ErrorKind::Io(IoKind::BrokenPipe))
+        && error.has_own_label("told")
+        && !error.has_own_label("RetryableWriteError")
+}
+
 #[test]
 fn a_fault_becomes_an_error_with_its_labels(rt: HostRuntime) -> Result<(), Fail> {
     let error = labelled_fault(rt.alloc())?;
-    assert!(rt; matches!(error.kind(), ErrorKind::Io(IoKind::BrokenPipe)));
-    assert!(rt; error.has_own_label("told"));
-    assert!(rt; !error.has_own_label("RetryableWriteError"));
+    let labelled = is_labelled(&error);
+    drop(error);
+    assert!(rt; labelled);
     Ok(())
 }

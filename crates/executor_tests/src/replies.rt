@@ -26,8 +26,15 @@ fn read(alloc: Global, bytes: &[u8]) -> Result<CommandResponse> {
 /// Whether a reply is taken as done.
 fn is_done(alloc: Global, bytes: &[u8]) -> bool {
     match read(alloc, bytes) {
-        Ok(response) => response.ok == 1 && response.body.get("ok").is_some(),
-        Err(_) => false,
+        Ok(response) => {
+            let done = response.ok == 1 && response.body.get("ok").is_some();
+            drop(response);
+            done
+        }
+        Err(error) => {
+            drop(error);
+            false
+        }
     }
 }
 
@@ -39,14 +46,34 @@ fn keeps(error: &Error, bytes: &[u8]) -> bool {
     }
 }
 
+/// Whether an error tells of a reply that breaks the form of replies, with this message, and keeps it.
+fn is_broken(error: &Error, bytes: &[u8], text: &str) -> bool {
+    match error.kind() {
+        ErrorKind::InvalidResponse { message } => message.as_str() == text && keeps(error, bytes),
+        _ => false,
+    }
+}
+
 /// Whether a reply breaks the form of replies, with this message, and is kept.
 fn breaks(alloc: Global, bytes: &[u8], text: &str) -> bool {
-    let Err(error) = read(alloc, bytes) else {
-        return false;
-    };
+    match read(alloc, bytes) {
+        Ok(response) => {
+            drop(response);
+            false
+        }
+        Err(error) => {
+            let broken = is_broken(&error, bytes, text);
+            drop(error);
+            broken
+        }
+    }
+}
+
+/// Whether an error is that of a command with this code and message, and keeps its reply.
+fn is_failed(error: &Error, bytes: &[u8], code: i32, text: &str) -> bool {
     match error.kind() {
-        ErrorKind::InvalidResponse { message } => {
-            message.as_str() == text && keeps(&error, bytes)
+        ErrorKind::Command(failed) => {
+            failed.code == code && failed.message.as_str() == text && keeps(error, bytes)
         }
         _ => false,
     }
@@ -54,14 +81,16 @@ fn breaks(alloc: Global, bytes: &[u8], text: &str) -> bool {
 
 /// Whether a reply spells a command error of this code and message, and is kept.
 fn fails(alloc: Global, bytes: &[u8], code: i32, text: &str) -> bool {
-    let Err(error) = read(alloc, bytes) else {
-        return false;
-    };
-    match error.kind() {
-        ErrorKind::Command(failed) => {
-            failed.code == code && failed.message.as_str() == text && keeps(&error, bytes)
+    match read(alloc, bytes) {
+        Ok(response) => {
+            drop(response);
+            false
         }
-        _ => false,
+        Err(error) => {
+            let failed = is_failed(&error, bytes, code, text);
+            drop(error);
+            failed
+        }
     }
 }
 

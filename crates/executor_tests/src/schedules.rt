@@ -275,10 +275,21 @@ fn orders(count: u64) -> Option<u64> {
     }
 }
 
+/// Serves the waiting send of this number.
+fn delivers(server: &mut ModelServer, alloc: Global, pick: u64) -> bool {
+    match server.deliver_late(alloc, pick) {
+        Ok(delivered) => delivered,
+        Err(error) => {
+            drop(error);
+            false
+        }
+    }
+}
+
 /// Serves the waiting sends in this order.
 fn deliver(server: &mut ModelServer, alloc: Global, order: &[u64]) -> bool {
     for pick in order {
-        if !matches!(server.deliver_late(alloc, *pick), Ok(true)) {
+        if !delivers(server, alloc, *pick) {
             return false;
         }
     }

@@ -30,6 +30,14 @@ fn lending(history: &[StoreEvent]) -> Option<(u64, u64)> {
     }
 }
 
+/// Two pairs of times, where both are there.
+fn both(one: Option<(u64, u64)>, other: Option<(u64, u64)>) -> Option<((u64, u64), (u64, u64))> {
+    match (one, other) {
+        (Some(one), Some(other)) => Some((one, other)),
+        _ => None,
+    }
+}
+
 /// The times of a run, and those of its lending, with a clock that reads 100 first and 7 more each time.
 fn timed(alloc: Global, link: FakeLink, calls: &[Call]) -> Option<((u64, u64), (u64, u64))> {
     let options = ClientOptions {
@@ -44,7 +52,7 @@ fn timed(alloc: Global, link: FakeLink, calls: &[Call]) -> Option<((u64, u64), (
         call: 0,
     };
     match run_calls(alloc, &mut client, &mut outside, calls) {
-        Ok(outcomes) => Some((times(outcomes)?, lending(client.store().history())?)),
+        Ok(outcomes) => both(times(outcomes), lending(client.store().history())),
         Err(AllocError) => None,
     }
 }
