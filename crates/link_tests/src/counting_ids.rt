@@ -7,20 +7,19 @@ const GREATEST_OBJECT: u128 = 0xffff_ffff_ffff_ffff_ffff_ffff;
 #[test]
 fn ids_count_from_one(rt: HostRuntime) {
     let mut ids = CountingIds::new();
-    assert_eq!(rt;
-        ids.session_id(),
-        [0, 0, 0, 0, 0, 0, 0, 0, 0, 0, 0, 0, 0, 0, 0, 1]
-    );
-    assert_eq!(rt;
-        ids.session_id(),
-        [0, 0, 0, 0, 0, 0, 0, 0, 0, 0, 0, 0, 0, 0, 0, 2]
-    );
-    assert_eq!(rt; ids.object_id(), [0, 0, 0, 0, 0, 0, 0, 0, 0, 0, 0, 1]);
+    let sessions = [ids.session_id(), ids.session_id()];
+    let object = ids.object_id();
     let mut ids = CountingIds::after(0x1_0002, GREATEST_OBJECT - 1);
+    let later = ids.session_id();
+    let last = [ids.object_id(), ids.object_id()];
     assert_eq!(rt;
-        ids.session_id(),
-        [0, 0, 0, 0, 0, 0, 0, 0, 0, 0, 0, 0, 0, 1, 0, 3]
+        sessions,
+        [
+            [0, 0, 0, 0, 0, 0, 0, 0, 0, 0, 0, 0, 0, 0, 0, 1],
+            [0, 0, 0, 0, 0, 0, 0, 0, 0, 0, 0, 0, 0, 0, 0, 2],
+        ]
     );
-    assert_eq!(rt; ids.object_id(), [255; 12]);
-    assert_eq!(rt; ids.object_id(), [0, 0, 0, 0, 0, 0, 0, 0, 0, 0, 0, 1]);
+    assert_eq!(rt; object, [0, 0, 0, 0, 0, 0, 0, 0, 0, 0, 0, 1]);
+    assert_eq!(rt; later, [0, 0, 0, 0, 0, 0, 0, 0, 0, 0, 0, 0, 0, 1, 0, 3]);
+    assert_eq!(rt; last, [[255; 12], [0, 0, 0, 0, 0, 0, 0, 0, 0, 0, 0, 1]]);
 }

@@ -231,8 +231,10 @@ fn tells_selections(link: &FakeLink) -> bool {
 #[test]
 fn selections_are_told(rt: HostRuntime) -> Result<(), AllocError> {
     let mut link = two_steps(rt.alloc())?;
-    assert!(rt; holds(selects(&mut link, rt.alloc())));
-    assert!(rt; tells_selections(&link));
+    let done = holds(selects(&mut link, rt.alloc()));
+    let told = tells_selections(&link);
+    drop(link);
+    assert!(rt; done && told);
     Ok(())
 }
 
@@ -251,17 +253,23 @@ fn check_outs_give_the_descriptions_in_turn(rt: HostRuntime) -> Result<(), Alloc
     Ok(())
 }
 
+/// Whether exchanges do the steps in turn and then are reset, and each fault is counted.
+fn exchanges_in_turn(link: &mut FakeLink, alloc: Global) -> bool {
+    is_given(exchange(link, alloc), b"reply")
+        && link.faults() == 0
+        && is_fault(exchange(link, alloc), IoKind::BrokenPipe)
+        && link.faults() == 1
+        && is_fault(exchange(link, alloc), IoKind::ConnectionReset)
+        && is_fault(exchange(link, alloc), IoKind::ConnectionReset)
+        && link.faults() == 3
+}
+
 #[test]
 fn exchanges_do_the_steps_in_turn(rt: HostRuntime) -> Result<(), AllocError> {
-    let alloc = rt.alloc();
-    let mut link = two_steps(alloc)?;
-    assert!(rt; is_given(exchange(&mut link, alloc), b"reply"));
-    assert_eq!(rt; link.faults(), 0);
-    assert!(rt; is_fault(exchange(&mut link, alloc), IoKind::BrokenPipe));
-    assert_eq!(rt; link.faults(), 1);
-    assert!(rt; is_fault(exchange(&mut link, alloc), IoKind::ConnectionReset));
-    assert!(rt; is_fault(exchange(&mut link, alloc), IoKind::ConnectionReset));
-    assert_eq!(rt; link.faults(), 3);
+    let mut link = two_steps(rt.alloc())?;
+    let in_turn = exchanges_in_turn(&mut link, rt.alloc());
+    drop(link);
+    assert!(rt; in_turn);
     Ok(())
 }
 
@@ -351,8 +359,10 @@ fn tells_connections(link: &FakeLink) -> bool {
 #[test]
 fn connections_are_told_and_those_that_are_out(rt: HostRuntime) -> Result<(), AllocError> {
     let mut link = two_steps(rt.alloc())?;
-    assert!(rt; holds(keeps_two_out(&mut link, rt.alloc())));
-    assert!(rt; tells_connections(&link));
+    let done = holds(keeps_two_out(&mut link, rt.alloc()));
+    let told = tells_connections(&link);
+    drop(link);
+    assert!(rt; done && told);
     Ok(())
 }
 

@@ -4,10 +4,10 @@ use driver_link::{Clock, MemClock};
 #[test]
 fn readings_and_sleeps(rt: HostRuntime) {
     let mut clock = MemClock::new(100, 5);
-    assert_eq!(rt; clock.now_ms(), 100);
+    let first = clock.now_ms();
     clock.sleep_ms(20);
-    assert_eq!(rt; clock.now_ms(), 125);
+    let second = clock.now_ms();
     clock.sleep_ms(u64::MAX);
-    assert_eq!(rt; clock.now_ms(), u64::MAX);
-    assert_eq!(rt; clock.now_ms(), u64::MAX);
+    let readings = [first, second, clock.now_ms(), clock.now_ms()];
+    assert_eq!(rt; readings, [100, 125, u64::MAX, u64::MAX]);
 }

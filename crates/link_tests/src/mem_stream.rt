@@ -6,17 +6,21 @@ use std::alloc::AllocError;
 #[test]
 fn reads_fail_at_their_calls(rt: HostRuntime) -> Result<(), AllocError> {
     let alloc = rt.alloc();
-    let bytes = Bytes::from_slice(alloc, b"abc")?;
     let mut fails = List::new(alloc);
     fails.push(1)?;
-    let mut source = MemSource::new(bytes, fails);
-    let mut piece = [0; 2];
-    assert_eq!(rt; source.read(&mut piece), Ok(2));
-    assert_eq!(rt; piece, *b"ab");
-    assert_eq!(rt; source.read(&mut piece), Err(Failed));
-    assert_eq!(rt; source.read(&mut piece), Ok(1));
-    assert_eq!(rt; piece[0], b'c');
-    assert_eq!(rt; source.read(&mut piece), Ok(0));
+    let mut source = MemSource::new(Bytes::from_slice(alloc, b"abc")?, fails);
+    let mut front = [0; 2];
+    let mut back = [0; 2];
+    let first = source.read(&mut front);
+    let others = [
+        source.read(&mut back),
+        source.read(&mut back),
+        source.read(&mut [0; 2]),
+    ];
+    drop(source);
+    assert_eq!(rt; (first, front), (Ok(2), *b"ab"));
+    assert_eq!(rt; others, [Err(Failed), Ok(1), Ok(0)]);
+    assert_eq!(rt; back[0], b'c');
     Ok(())
 }
 
@@ -26,10 +30,15 @@ fn writes_fail_at_their_calls_and_when_full(rt: HostRuntime) -> Result<(), Alloc
     let mut fails = List::new(alloc);
     fails.push(0)?;
     let mut sink = MemSink::new(alloc, 3, fails)?;
-    assert_eq!(rt; sink.write(b"ab"), Err(Failed));
-    assert_eq!(rt; sink.write(b"ab"), Ok(2));
-    assert_eq!(rt; sink.write(b"cd"), Ok(1));
-    assert_eq!(rt; sink.write(b"d"), Err(Failed));
-    assert_eq!(rt; sink.contents(), b"abc".as_slice());
+    let written = [
+        sink.write(b"ab"),
+        sink.write(b"ab"),
+        sink.write(b"cd"),
+        sink.write(b"d"),
+    ];
+    let holds = sink.contents() == b"abc".as_slice();
+    drop(sink);
+    assert_eq!(rt; written, [Err(Failed), Ok(2), Ok(1), Err(Failed)]);
+    assert!(rt; holds);
     Ok(())
 }

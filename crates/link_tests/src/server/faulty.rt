@@ -95,7 +95,10 @@ fn rounds(alloc: Global, model: &mut ModelServer) -> Result<bool, AllocError> {
 fn listed_calls_fail(rt: HostRuntime) -> Result<(), Fail> {
     let alloc = rt.alloc();
     let mut model = ModelServer::new(alloc, SETUP, first_calls_fail(alloc)?);
-    assert!(rt; rounds(alloc, &mut model)?);
-    assert_eq!(rt; model.answered().len(), 5);
+    let done = rounds(alloc, &mut model);
+    let answered = model.answered().len();
+    drop(model);
+    assert!(rt; done?);
+    assert_eq!(rt; answered, 5);
     Ok(())
 }
