@@ -3,6 +3,7 @@ use bson_lite::{Bytes, EncodeFault, List, Text, encode};
 use driver_actions::{Call, SingleWrite};
 use driver_link::{MemSink, MemSource};
 use driver_script::{Run, ScriptFault, read_script, run_script, top};
+use serde_json::Value;
 use std::alloc::{AllocError, Global};
 use std::sync::Wait;
 use std::test::Fail;
@@ -156,8 +157,12 @@ fn spelled(alloc: Global, call: &Call) -> Result<Option<Bytes>, AllocError> {
     }
 }
 
-/// The bytes of a document that a script writes so, and none where it is refused.
+/// The bytes of a document that a script writes so, and none where it is refused. The text is JSON.
 fn encoded(alloc: Global, text: &str) -> Result<Option<Bytes>, AllocError> {
+    let Ok(value) = Value::from_slice(alloc, text.as_bytes()) else {
+        return Err(AllocError);
+    };
+    drop(value);
     let script = insert_of(alloc, text)?;
     match read_script(alloc, script.as_bytes()) {
         Ok(read) => match read.calls.get(0) {
