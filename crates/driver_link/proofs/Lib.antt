@@ -16,3 +16,4 @@ pub mod Replaying
 pub mod Keeping
 pub mod Retrying
 pub mod Readings
+pub mod Forms

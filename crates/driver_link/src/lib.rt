@@ -20,6 +20,8 @@ pub mod mem_clock;
 pub mod mem_stream;
 pub mod options;
 pub mod stream;
+mod updates;
+mod write_options;
 
 pub use by_id::ById;
 pub use clock::Clock;
@@ -42,3 +44,5 @@ pub use options::{
     Address, Asked, ClientOptions, Conn, Description, ReadPreference, SelectionCriteria,
 };
 pub use stream::{Failed, Sink, Source};
+pub use updates::{Hint, UpdateModifications, UpdateOrReplace};
+pub use write_options::{DeleteOptions, InsertManyOptions, UpdateOptions};

@@ -1,4 +1,5 @@
 //! Options, addresses and connections, as plain data.
+use crate::concerns::{ReadConcern, WriteConcern};
 use bson_lite::{List, Text, TryClone};
 use std::alloc::{AllocError, Global};
 
@@ -56,12 +57,27 @@ pub struct Asked {
 }
 
 /// What a client is made with.
-#[derive(Debug, Drop)]
+#[derive(Debug, Default, Drop)]
 pub struct ClientOptions {
     /// Tells clients apart: a session belongs to the client of its number.
     pub client_number: u64,
     /// Whether writes may be sent again after a failure, which they may where this is not set.
     pub retry_writes: Option<bool>,
+    /// The read concern of operations that have none of their own.
+    pub read_concern: Option<ReadConcern>,
+    /// The write concern of writes that have none of their own.
+    pub write_concern: Option<WriteConcern>,
+}
+
+impl TryClone for ClientOptions {
+    fn try_clone(&self, alloc: Global) -> Result<ClientOptions, AllocError> {
+        Ok(ClientOptions {
+            client_number: self.client_number,
+            retry_writes: self.retry_writes,
+            read_concern: self.read_concern.try_clone(alloc)?,
+            write_concern: self.write_concern.try_clone(alloc)?,
+        })
+    }
 }
 
 /// What a connection's server said of itself. Sizes are in bytes.

@@ -54,7 +54,7 @@ differ : (value : Bson) → Some value ≡ None → ⊥
 differ value is = cc
 
 -- a key that a body does not have is found behind it
-skips : (key : List ℕ) (body fields : List (Pair Bson)) → value_of key body ≡ None → value_of key (body ++ fields) ≡ value_of key fields
+pub skips : (key : List ℕ) (body fields : List (Pair Bson)) → value_of key body ≡ None → value_of key (body ++ fields) ≡ value_of key fields
 skips key [] fields none = refl
 skips key (pair ∷ body) fields none = by_test (bytes_eq pair.key key) (skips key body fields) none
   where

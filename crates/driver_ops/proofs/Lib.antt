@@ -4,3 +4,4 @@ pub mod InsertLaw
 pub mod InsertReading
 pub mod Inserting
 pub mod Responding
+mod Stating

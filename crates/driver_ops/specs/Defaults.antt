@@ -1,5 +1,5 @@
 -- What an operation answers where it has nothing of its own to say.
-use Rattle.std.specs.Prelude.{Bool, true, false}
+use Rattle.std.specs.Prelude.{Bool, true, false, Option, Some}
 use Rattle.driver_session.specs.declared.retryability.Retryability.{Retryability}
 use Rattle.driver_session.specs.declared.retryability.Retryability.TheVariants as may
 
@@ -7,3 +7,8 @@ use Rattle.driver_session.specs.declared.retryability.Retryability.TheVariants a
 abbrev pub is_repeatable : Retryability → Bool
 is_repeatable may.None = false
 is_repeatable other = true
+
+-- a write may be repeated, unless the client's options forbid it
+abbrev pub repeated_where : Option Bool → Retryability
+repeated_where (Some false) = may.None
+repeated_where other = may.Write

@@ -17,13 +17,12 @@ use Rattle.driver_link.specs.declared.machine.SendBody.TheVariants.{Write}
 use Rattle.driver_link.specs.declared.machine.SendCommand.TheVariants as command
 use Rattle.driver_link.specs.declared.options.ClientOptions.{ClientOptions}
 use Rattle.driver_session.specs.declared.retryability.Retryability.{Retryability}
-use Rattle.driver_session.specs.declared.retryability.Retryability.TheVariants as may
 use Rattle.driver_ops.specs.declared.command.Command.{Command}
 use Rattle.driver_ops.specs.declared.feature.Feature.TheVariants.{Inherit, NotSupported}
 use Rattle.driver_ops.specs.declared.operation.Reading.{Reading}
 use Rattle.driver_ops.specs.declared.operation.Reading.TheVariants.{Done}
 use Rattle.driver_ops.specs.declared.target.OperationTarget.{OperationTarget}
-use Rattle.driver_ops.specs.Defaults.{is_repeatable}
+use Rattle.driver_ops.specs.Defaults.{is_repeatable, repeated_where}
 use Rattle.driver_ops.specs.InsertAnswers.{ReadsInsert}
 use Rattle.driver_ops.specs.Inserts.{IsOneDocument, insert_command, insert_write}
 use Rattle.driver_ops.specs.Operations.{OperationSpec, Page, never}
@@ -45,11 +44,6 @@ pub record AsksInsert (namespace : Namespace) (bytes : List ℕ) (id : Bson) (st
   pub found : value_of id_key document ≡ Some id
   pub alone : places ≡ place ∷ []
   pub is : body ≡ Write command.Insert true (insert_write namespace document place ∷ [])
-
--- an insert is a write that may be repeated, unless the client's options forbid it
-abbrev pub repeated_where : Option Bool → Retryability
-repeated_where (Some false) = may.None
-repeated_where other = may.Write
 
 -- what an insert may repeat under these options
 abbrev pub own_of_insert : ClientOptions → Retryability

@@ -1,5 +1,6 @@
--- The texts of those keys of a reply that are constants of this crate.
+-- The texts of those keys that are constants of this crate.
 use Rattle.std.specs.Prelude.{◌≡◌, codes}
+use Rattle.driver_ops.specs.declared.option_keys.TheConstants.{ARRAY_FILTERS, BYPASS_DOCUMENT_VALIDATION, CHANGE, COLLATION, COMMENT, HINT, LET, LIMIT, MULTI, QUERY, SORT, UPSERT}
 use Rattle.driver_ops.specs.declared.reply_fields.TheConstants.{BASE_BACKOFF, CODE_NAME}
 use Rattle.driver_ops.specs.declared.write_reply.TheConstants.{ERROR_INFO}
 
@@ -8,3 +9,15 @@ pub record HaveTexts : Type 0 where
   pub base_backoff : BASE_BACKOFF.now ≡ codes "baseBackoffMS"
   pub code_name : CODE_NAME.now ≡ codes "codeName"
   pub error_info : ERROR_INFO.now ≡ codes "errInfo"
+  pub array_filters : ARRAY_FILTERS.now ≡ codes "arrayFilters"
+  pub bypass : BYPASS_DOCUMENT_VALIDATION.now ≡ codes "bypassDocumentValidation"
+  pub change : CHANGE.now ≡ codes "u"
+  pub collation : COLLATION.now ≡ codes "collation"
+  pub comment : COMMENT.now ≡ codes "comment"
+  pub hint : HINT.now ≡ codes "hint"
+  pub let_vars : LET.now ≡ codes "let"
+  pub limit : LIMIT.now ≡ codes "limit"
+  pub multi : MULTI.now ≡ codes "multi"
+  pub query : QUERY.now ≡ codes "q"
+  pub sort : SORT.now ≡ codes "sort"
+  pub upsert : UPSERT.now ≡ codes "upsert"

@@ -1,4 +1,7 @@
+pub mod CountAnswers
 pub mod Defaults
+pub mod DeleteLawful
+pub mod Deleting
 pub mod Encoding
 pub mod Features
 pub mod Fields
@@ -10,11 +13,15 @@ pub mod Inserts
 pub mod Keys
 pub mod OperationLaw
 pub mod Operations
+pub mod OptionFields
 pub mod Readings
 pub mod Responses
 pub mod SendKinds
 pub mod Served
+pub mod StatementSpec
 pub mod Targets
+pub mod UpdateLawful
+pub mod Updating
 pub mod WriteReplies
 pub mod inside
 pub mod lawful

@@ -1,4 +1,6 @@
 -- Lemmas that the law of operations needs.
+pub mod CountsTold
 pub mod InsertRead
 pub mod InsertTold
+pub mod OneTold
 pub mod Statements

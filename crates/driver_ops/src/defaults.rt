@@ -1,7 +1,7 @@
 //! What an operation answers where it has nothing of its own to say.
 ghost use Rattle.std.specs.Prelude.{◌≡◌, Ok, true};
 ghost use Rattle.driver_session.specs.declared.retryability.Retryability.TheVariants.{None as Nothing};
-ghost use Rattle.driver_ops.specs.Defaults.{is_repeatable};
+ghost use Rattle.driver_ops.specs.Defaults.{is_repeatable, repeated_where};
 ghost use Rattle.driver_ops.specs.Features.{feature_told, is_supported};
 ghost use Rattle.driver_ops.specs.declared.feature.Feature.TheVariants.{NotSupported};
 
@@ -29,6 +29,16 @@ pub fn repeats_nothing() -> Retryability
     ensures { result ≡ Nothing }
 {
     Retryability::None
+}
+
+/// A write may be repeated unless the client's options forbid it.
+pub fn repeats_unless_forbidden(retry_writes: Option<bool>) -> Retryability
+    ensures { result ≡ repeated_where retry_writes }
+{
+    match retry_writes {
+        Some(false) => Retryability::None,
+        _ => Retryability::Write,
+    }
 }
 
 /// It may be repeated after an overloaded server refused it where it may be repeated at all.

@@ -15,8 +15,8 @@ ghost use Rattle.driver_ops.specs.declared.target.OperationTarget.TheVariants.{C
 
 use crate::command::Command;
 use crate::defaults::{
-    lacks_option, repeats_under_backpressure, stays_for_retry, takes_sessions,
-    writes_after_cluster_time,
+    lacks_option, repeats_under_backpressure, repeats_unless_forbidden, stays_for_retry,
+    takes_sessions, writes_after_cluster_time,
 };
 use crate::feature::Feature;
 use crate::operation::{Operation, Reading};
@@ -116,10 +116,7 @@ impl Operation for Insert {
     }
 
     fn retryability(&self, options: &ClientOptions) -> Retryability {
-        match options.retry_writes {
-            Some(false) => Retryability::None,
-            _ => Retryability::Write,
-        }
+        repeats_unless_forbidden(options.retry_writes)
     }
 
     fn is_backpressure_retryable(&self, options: &ClientOptions) -> bool {

@@ -17,7 +17,7 @@ pub fn an_insert_is_read_exactly()
         IsReadExactly target bytes id server send step reply }
 {}
 
-/// The keys of a reply that stand in this crate have these texts.
+/// The keys of options and replies that stand in this crate have these texts.
 pub fn the_keys_have_their_texts()
     ensures { HaveTexts }
 {}

@@ -4,22 +4,28 @@
 mod answer;
 mod command;
 mod defaults;
+mod delete;
+mod failed_write;
 mod feature;
 mod insert;
 pub mod laws;
 mod operation;
+mod option_fields;
+mod option_keys;
 mod reply_fields;
 mod response;
 mod spelling;
 mod target;
+mod update;
 mod write_reply;
 
 pub use answer::read_answer;
 pub use command::Command;
 pub use defaults::{
-    lacks_option, repeats_nothing, repeats_under_backpressure, stays_for_retry, takes_sessions,
-    writes_after_cluster_time,
+    lacks_option, repeats_nothing, repeats_under_backpressure, repeats_unless_forbidden,
+    stays_for_retry, takes_sessions, writes_after_cluster_time,
 };
+pub use delete::Delete;
 pub use feature::Feature;
 pub use insert::Insert;
 pub use operation::{Operation, Reading};
@@ -27,4 +33,5 @@ pub use reply_fields::{BASE_BACKOFF, CODE_NAME};
 pub use response::{CommandResponse, read_response};
 pub use spelling::encoded;
 pub use target::{Collection, Database, OperationTarget};
+pub use update::Update;
 pub use write_reply::ERROR_INFO;

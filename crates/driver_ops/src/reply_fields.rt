@@ -51,7 +51,7 @@ fn small_of(value: &Bson) -> Option<i32>
 
 /// A whole number that is not negative.
 #[tactic(auto, unfolding(crate::specs::Readings::natural_of))]
-pub(crate) fn natural_of(value: &Bson) -> Option<u64>
+fn natural_of(value: &Bson) -> Option<u64>
     ensures { result ≡ natural_of value.now }
 {
     let number = get_int(value)?;
@@ -85,6 +85,20 @@ pub(crate) fn int_at(document: &Document, key: &str) -> Result<i64, Unread>
     };
     match get_int(value) {
         Some(number) => Ok(number),
+        None => Err(Unread::Wrong),
+    }
+}
+
+/// A number that is not negative, which is needed.
+#[tactic(auto, unfolding(driver_link::specs::Commands::needed))]
+pub(crate) fn count_at(document: &Document, key: &str) -> Result<u64, Unread>
+    ensures { Gives result (needed natural_of key.now document.now) }
+{
+    let Some(value) = document.get(key) else {
+        return Err(Unread::Wrong);
+    };
+    match natural_of(value) {
+        Some(count) => Ok(count),
         None => Err(Unread::Wrong),
     }
 }

@@ -1,13 +1,12 @@
 //! What the reply to a command of writes tells of writes that failed and of a write concern that was not met.
 ghost use Rattle.std.specs.Prelude.{◌≡◌};
 ghost use Rattle.std.specs.Option.{option_copied};
-ghost use Rattle.driver_link.specs.Commands.{needed, optional};
+ghost use Rattle.driver_link.specs.Commands.{optional};
 ghost use Rattle.driver_link.specs.Values.{document_of, text_of};
-ghost use Rattle.driver_ops.specs.Readings.{natural_of};
 ghost use Rattle.driver_ops.specs.inside.Readings.{Gives};
 ghost use Rattle.driver_ops.specs.WriteReplies.{concern_error_in, concern_error_of, concern_in, indexed_error_in, indexed_error_of, indexed_errors, indexed_errors_of, write_errors_in};
 
-use crate::reply_fields::{CODE_NAME, Unread, code_at, labels_at, natural_of, text_at};
+use crate::reply_fields::{CODE_NAME, Unread, code_at, count_at, labels_at, text_at};
 use bson_lite::{Bson, Document, List, Text, TryClone};
 use driver_error::{IndexedWriteError, WriteConcernError};
 use driver_link::keys;
@@ -50,26 +49,12 @@ fn optional_text_at(alloc: Global, document: &Document, key: &str) -> Result<Opt
     }
 }
 
-/// An index, which is needed.
-#[tactic(auto, unfolding(driver_link::specs::Commands::needed))]
-fn index_at(document: &Document, key: &str) -> Result<usize, Unread>
-    ensures { Gives result (needed natural_of key.now document.now) }
-{
-    let Some(value) = document.get(key) else {
-        return Err(Unread::Wrong);
-    };
-    match natural_of(value) {
-        Some(index) => Ok(index as usize),
-        None => Err(Unread::Wrong),
-    }
-}
-
 /// A write error by its fields.
 #[tactic(auto, unfolding(crate::specs::WriteReplies::indexed_error_in))]
 fn indexed_error_in(alloc: Global, document: &Document) -> Result<IndexedWriteError, Unread>
     ensures { Gives result (indexed_error_in document.now) }
 {
-    let index = index_at(document, keys::INDEX)?;
+    let index = count_at(document, keys::INDEX)? as usize;
     let code = code_at(document, keys::CODE)?;
     let code_name = optional_text_at(alloc, document, CODE_NAME)?;
     let message = text_at(alloc, document, keys::ERROR_MESSAGE)?;

@@ -22,7 +22,7 @@ use Rattle.driver_script.specs.Values.{namespace_of, document_of}
 
 -- the options of a script's client, which is the first
 abbrev pub usual_options : ClientOptions
-usual_options = record { client_number = 1; retry_writes = None }
+usual_options = record { client_number = 1; retry_writes = None; read_concern = None; write_concern = None }
 
 -- the setup of a script's server
 abbrev pub usual_setup : Setup

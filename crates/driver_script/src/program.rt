@@ -14,7 +14,7 @@ use crate::streams::{LIMIT, ReadFault, read_all, write_all};
 use bson_lite::{Bytes, Text, TryClone};
 use driver_actions::run_calls;
 use driver_exec::{Client, Outside};
-use driver_link::{ClientOptions, CountingIds, Failed, MemClock, Sink, Source};
+use driver_link::{CountingIds, Failed, MemClock, Sink, Source};
 use driver_session::PlainStore;
 use model_server::ModelServer;
 use rand_core::SeedableRng;
@@ -64,10 +64,7 @@ fn run_of(alloc: Global, asked: Script) -> Result<Run, AllocError>
     requires { IsWellFormed asked.schedule }
     ensures { IfOk result (λ run. IsRunOf asked run) }
 {
-    let options = ClientOptions {
-        client_number: asked.options.client_number,
-        retry_writes: asked.options.retry_writes,
-    };
+    let options = asked.options.try_clone(alloc)?;
     let mut client = Client::new(options, PlainStore::new(alloc, CountingIds::new()));
     let schedule = asked.schedule.try_clone(alloc)?;
     let mut outside = Outside {

@@ -118,6 +118,8 @@ fn options_of_scripts() -> ClientOptions
     ClientOptions {
         client_number: 1,
         retry_writes: None,
+        read_concern: None,
+        write_concern: None,
     }
 }
 

@@ -155,7 +155,7 @@ fn small_insert(alloc: Global) -> Result<Call, AllocError> {
 fn new_client(alloc: Global) -> Client<PlainStore<CountingIds>> {
     let options = ClientOptions {
         client_number: 1,
-        retry_writes: None,
+        ..ClientOptions::default()
     };
     Client::new(options, PlainStore::new(alloc, CountingIds::new()))
 }

@@ -123,7 +123,7 @@ pub(crate) fn insert<L: Link + Drop>(alloc: Global, link: L) -> Option<(Seen, L)
     };
     let options = ClientOptions {
         client_number: 1,
-        retry_writes: None,
+        ..ClientOptions::default()
     };
     let mut client = Client::new(options, PlainStore::new(alloc, CountingIds::new()));
     let mut outside = Outside {

@@ -107,7 +107,7 @@ fn run(
     };
     let options = ClientOptions {
         client_number: 1,
-        retry_writes: None,
+        ..ClientOptions::default()
     };
     let mut client = Client::new(options, PlainStore::new(alloc, CountingIds::new()));
     let mut outside = Outside {

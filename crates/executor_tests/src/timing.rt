@@ -42,7 +42,7 @@ fn both(one: Option<(u64, u64)>, other: Option<(u64, u64)>) -> Option<((u64, u64
 fn timed(alloc: Global, link: FakeLink, calls: &[Call]) -> Option<((u64, u64), (u64, u64))> {
     let options = ClientOptions {
         client_number: 1,
-        retry_writes: None,
+        ..ClientOptions::default()
     };
     let mut client = Client::new(options, PlainStore::new(alloc, CountingIds::new()));
     let mut outside = Outside {

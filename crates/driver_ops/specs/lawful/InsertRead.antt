@@ -55,7 +55,7 @@ done_with None reply is = absurd (let e : breaks missing_ok_text ≡ done = is i
 done_with (Some value) reply is = done_by (int_of value) reply is
 
 -- and by the reply
-ok_is_one : (reply : List (Pair Bson)) → said reply ≡ done → is_one (int_at OK.now reply) ≡ true
+pub ok_is_one : (reply : List (Pair Bson)) → said reply ≡ done → is_one (int_at OK.now reply) ≡ true
 unfolding said
 ok_is_one reply is = done_with (value_of OK.now reply) reply is
 

@@ -1,0 +1,90 @@
+//! The options of writes. Each one that is not set is left to the server, or to the client where it is a concern.
+use crate::concerns::WriteConcern;
+use crate::updates::Hint;
+use bson_lite::{Bson, Document, List, TryClone};
+use std::alloc::{AllocError, Global};
+
+/// The options of an insert.
+#[derive(Debug, Default, Drop)]
+pub struct InsertManyOptions {
+    /// Whether the insert stops at the first document that fails, which it does where this is not set.
+    pub ordered: Option<bool>,
+    /// Whether documents that the collection's rules forbid are taken.
+    pub bypass_document_validation: Option<bool>,
+    /// What a server's log says of the command.
+    pub comment: Option<Bson>,
+    pub write_concern: Option<WriteConcern>,
+}
+
+impl TryClone for InsertManyOptions {
+    fn try_clone(&self, alloc: Global) -> Result<InsertManyOptions, AllocError> {
+        Ok(InsertManyOptions {
+            ordered: self.ordered,
+            bypass_document_validation: self.bypass_document_validation,
+            comment: self.comment.try_clone(alloc)?,
+            write_concern: self.write_concern.try_clone(alloc)?,
+        })
+    }
+}
+
+/// The options of an update or a replacement.
+#[derive(Debug, Default, Drop)]
+pub struct UpdateOptions {
+    /// Whether a document is put in where none is found.
+    pub upsert: Option<bool>,
+    /// Which elements of an array the operators change.
+    pub array_filters: Option<List<Document>>,
+    pub hint: Option<Hint>,
+    /// How texts are compared.
+    pub collation: Option<Document>,
+    /// Whether documents that the collection's rules forbid are taken.
+    pub bypass_document_validation: Option<bool>,
+    /// Values that the filter and the update may name.
+    pub let_vars: Option<Document>,
+    /// What a server's log says of the command.
+    pub comment: Option<Bson>,
+    /// Which of the documents found comes first.
+    pub sort: Option<Document>,
+    pub write_concern: Option<WriteConcern>,
+}
+
+impl TryClone for UpdateOptions {
+    fn try_clone(&self, alloc: Global) -> Result<UpdateOptions, AllocError> {
+        Ok(UpdateOptions {
+            upsert: self.upsert,
+            array_filters: self.array_filters.try_clone(alloc)?,
+            hint: self.hint.try_clone(alloc)?,
+            collation: self.collation.try_clone(alloc)?,
+            bypass_document_validation: self.bypass_document_validation,
+            let_vars: self.let_vars.try_clone(alloc)?,
+            comment: self.comment.try_clone(alloc)?,
+            sort: self.sort.try_clone(alloc)?,
+            write_concern: self.write_concern.try_clone(alloc)?,
+        })
+    }
+}
+
+/// The options of a delete.
+#[derive(Debug, Default, Drop)]
+pub struct DeleteOptions {
+    /// How texts are compared.
+    pub collation: Option<Document>,
+    pub hint: Option<Hint>,
+    /// Values that the filter may name.
+    pub let_vars: Option<Document>,
+    /// What a server's log says of the command.
+    pub comment: Option<Bson>,
+    pub write_concern: Option<WriteConcern>,
+}
+
+impl TryClone for DeleteOptions {
+    fn try_clone(&self, alloc: Global) -> Result<DeleteOptions, AllocError> {
+        Ok(DeleteOptions {
+            collation: self.collation.try_clone(alloc)?,
+            hint: self.hint.try_clone(alloc)?,
+            let_vars: self.let_vars.try_clone(alloc)?,
+            comment: self.comment.try_clone(alloc)?,
+            write_concern: self.write_concern.try_clone(alloc)?,
+        })
+    }
+}

@@ -1,0 +1,22 @@
+-- The command is one of a delete.
+use Rattle.std.proofs.Common.{◌∙◌, ap, refl, sym}
+use Rattle.driver_ops.specs.Deleting.{delete_command}
+use Rattle.driver_ops.specs.SendKinds.{first}
+use Rattle.driver_ops.specs.Targets.{namespace_of}
+use Rattle.driver_ops.proofs.Stating.{built_delete}
+use Rattle.driver_ops.proofs.delete.DeleteOperation.build.Goals as goal
+
+pub returns-clause-builds : goal.returns-clause-builds
+returns-clause-builds c =
+    record {
+      statements = 1;
+      built = built_delete c.args.self.now.target c.args.self.now.filter c.args.self.now.multi c.args.self.now.options _ first refl (record {
+        one = refl;
+        database = c.in_ok-from_str.ensures ∙ c.database.ensures;
+        body = c.in_ok-delete_command.ensures
+            ∙ ap (λ statement. delete_command (namespace_of c.args.self.now.target) statement c.args.self.now.options) c.in_ok-statement.ensures;
+        sequences = c.new.ensures;
+      });
+      fixed = refl;
+      now_is = refl;
+    }

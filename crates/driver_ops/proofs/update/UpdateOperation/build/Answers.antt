@@ -1,0 +1,22 @@
+-- The command is one of an update.
+use Rattle.std.proofs.Common.{◌∙◌, ap, refl, sym}
+use Rattle.driver_ops.specs.Updating.{update_command}
+use Rattle.driver_ops.specs.SendKinds.{first}
+use Rattle.driver_ops.specs.Targets.{namespace_of}
+use Rattle.driver_ops.proofs.Stating.{built_update}
+use Rattle.driver_ops.proofs.update.UpdateOperation.build.Goals as goal
+
+pub returns-clause-builds : goal.returns-clause-builds
+returns-clause-builds c =
+    record {
+      statements = 1;
+      built = built_update c.args.self.now.target c.args.self.now.filter c.args.self.now.change c.args.self.now.multi c.args.self.now.options _ first refl (record {
+        one = refl;
+        database = c.in_ok-from_str.ensures ∙ c.database.ensures;
+        body = c.in_ok-update_command.ensures
+            ∙ ap (λ statement. update_command (namespace_of c.args.self.now.target) statement c.args.self.now.options) c.in_ok-statement.ensures;
+        sequences = c.new.ensures;
+      });
+      fixed = refl;
+      now_is = refl;
+    }
