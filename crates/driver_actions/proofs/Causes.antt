@@ -13,6 +13,7 @@ use Rattle.driver_error.specs.declared.results.InsertManyResult.{InsertManyResul
 use Rattle.driver_error.specs.Error.{kind_of}
 use Rattle.driver_link.specs.declared.machine.PlacedWrite.{PlacedWrite}
 use Rattle.driver_ops.specs.InsertSpec.{insert_spec}
+use Rattle.driver_ops.specs.SendKinds.{first}
 use Rattle.driver_ops.specs.Targets.{in_collection}
 use Rattle.driver_exec.specs.Causes.{end_of, outline_of}
 use Rattle.driver_exec.specs.Moment.{Moment}
@@ -71,7 +72,7 @@ module _ (before mid now : Moment) (namespace : Namespace) (document : List (Pai
     id = inserts.id;
     found = subst (λ d. value_of id_key d ≡ Some inserts.id) is inserts.found;
     executed = inserts.executed;
-    caused = subst (λ n. Caused (insert_spec (in_collection n) inserts.bytes inserts.id) mid now (end_of inserts.executed)) same inserts.caused;
+    caused = subst (λ n. Caused (insert_spec (in_collection n) inserts.bytes inserts.id) first mid now (end_of inserts.executed)) same inserts.caused;
     becomes = becomes;
   }
 

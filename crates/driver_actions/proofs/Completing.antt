@@ -30,6 +30,7 @@ use Rattle.driver_ops.specs.Targets.{in_collection}
 use Rattle.driver_ops.proofs.InsertReading.{inserted_plain, plain_read}
 use Rattle.driver_ops.proofs.Inserting.{body_refused}
 use Rattle.driver_exec.specs.Attempting.{besides_out}
+use Rattle.driver_exec.specs.Concerns.{concern_refusal}
 use Rattle.driver_exec.specs.BetweenCalls.{Between, NumbersWithin, Sound}
 use Rattle.driver_exec.specs.Gentle.{IsGentlePart, IsGentleTold}
 use Rattle.driver_exec.specs.Moment.{Moment}
@@ -85,7 +86,8 @@ record Ready (made : ℕ) (pool : Pool) (told : ServerRun) : Type 0 where
 past_end : (made : ℕ) (number : ℤ) → number ≡ last_number → number ≤ℤ pos made → pos made <ℤ last_number → ⊥
 past_end made number is within below = omega (arith, ints)
 
-module _ (made : ℕ) (before now : Moment) (namespace : Namespace) (document : List (Pair Bson)) (valid : IsValidInsert made namespace document) where
+module _ (made : ℕ) (before now : Moment) (namespace : Namespace) (document : List (Pair Bson))
+    (valid : IsValidInsert made before.client.options.write_concern namespace document) where
   -- the part of the schedule of the call is gentle
   abbrev IsGentleCall : ServerRun → ServerRun → Type 0
   IsGentleCall told told_now = IsGentlePart (DrawsNumbers true (own_of_insert before.client.options) (setup_of before.link)) told told_now
@@ -125,17 +127,25 @@ module _ (made : ℕ) (before now : Moment) (namespace : Namespace) (document : 
         lent_goes sent.write mid.store lent pool told.server mid_pool (may_send told.server.trace (first_place made) sent.write sent.placed (new_place made told.server.trace ready.below))
         ready.sound ready.between at session number lends drawn is
 
+    -- the client's options are as they were
+    options_are : mid.client.options ≡ before.client.options
+    options_are = ap (λ moment. moment.client.options) sent.draws.rest
+
+    -- the concern is not refused
+    accepted : concern_refusal mid.client.options.write_concern ≡ None
+    accepted = ap (λ options. concern_refusal options.write_concern) options_are ∙ valid.concerned
+
     -- its command has a spelling
-    unspelled : (context : SendContext) (fault : EncodeFault) → BodyRefused sent.write.written.namespace context fault → ⊥
-    unspelled context fault refused =
+    unspelled : (context : SendContext) (fault : EncodeFault) → context.concern ≡ mid.client.options.write_concern → BodyRefused sent.write.written.namespace context fault → ⊥
+    unspelled context fault goes refused =
         let spelled : refusal (insert_body sent.write.written.namespace context) ≡ None
-        = ap (λ n. refusal (insert_body n context)) sent.own.namespace ∙ valid.command context refused.sixteen in
+        = ap (λ n. refusal (insert_body n context)) sent.own.namespace ∙ valid.command context (goes ∙ ap (λ options. options.write_concern) options_are) refused.sixteen in
         let e : ◌≡◌ {A = Option EncodeFault} None (Some fault) = sym spelled ∙ refused.is in cc
 
     -- so there is a frame, unless memory runs out
-    has_frame : (context : SendContext) (fault : EncodeFault) → HasNoSpelling spec context fault → ⊥
-    has_frame context fault none =
-        unspelled context fault (body_refused sent.write.written.namespace sent.inserts.bytes context none.statements none.command fault none.is none.sixteen none.refused)
+    has_frame : (context : SendContext) (fault : EncodeFault) → context.concern ≡ mid.client.options.write_concern → HasNoSpelling spec context fault → ⊥
+    has_frame context fault goes none =
+        unspelled context fault goes (body_refused sent.write.written.namespace sent.inserts.bytes context none.statements none.command fault none.is none.sixteen none.refused)
 
     -- its session has a further number
     not_last : (at : ℕ) (lent : StoreTells) (session : Session) → LendsSession mid.store lent at session → session.number ≡ last_number → ⊥
@@ -156,6 +166,8 @@ module _ (made : ℕ) (before now : Moment) (namespace : Namespace) (document : 
       body = insert_asked sent.write;
       asked = inserts_ask sent.inserts;
       own = own_of_insert mid.client.options;
+      concern = mid.client.options.write_concern;
+      accepted = accepted;
       store = mid.store;
       told = told;
       link = besides_out mid.link;
@@ -176,7 +188,7 @@ module _ (made : ℕ) (before now : Moment) (namespace : Namespace) (document : 
     unfolding known
     sent_quiet gentle =
         single_quiet sent.inserts.executed sent.ended sent.inserts.becomes
-        (gentle_ends known mid now told_now refl refl refl now_is apart (gentle_mid gentle) 0 sent.inserts.count sent.inserts.executed sent.inserts.executes)
+        (gentle_ends known mid now told_now refl refl refl refl now_is apart (gentle_mid gentle) 0 sent.inserts.count sent.inserts.executed sent.inserts.executes)
 
     -- so does its call
     sent_well : (error : Error) → result ≡ Err error → IsGentleCall told told_now → kind_of error ≡ kind.Memory
@@ -203,7 +215,7 @@ module _ (run : RunState) (calls : List Call) (before now : Moment) (left : Leav
   -- by what is told
   by_told : (store : Option Pool) (link link_now : Option ServerRun) → before.store.pool ≡ store → server_run before.link ≡ link → server_run now.link ≡ link_now
       → LeavesTold (take run.made calls) run.outcomes store link → (namespace : Namespace) (document : List (Pair Bson)) (result : Result Answer Error)
-      → MakesCall before now (Single (InsertOne namespace document)) run.made result → IsValidInsert run.made namespace document
+      → MakesCall before now (Single (InsertOne namespace document)) run.made result → IsValidInsert run.made before.client.options.write_concern namespace document
       → IsGentleTold (DrawsNumbers true (own_of_insert before.client.options) (setup_of before.link)) link link_now → EndsWell result
   by_told None link link_now pool_is link_is now_is leaves namespace document result makes valid gentle = absurd leaves
   by_told (Some pool) None link_now pool_is link_is now_is leaves namespace document result makes valid gentle = absurd leaves

@@ -8,7 +8,8 @@ use Rattle.driver_ops.specs.SendKinds.{first}
 use Rattle.driver_ops.specs.Targets.{in_collection}
 use Rattle.driver_exec.specs.Moment.{Moment}
 use Rattle.driver_exec.specs.Readings.{OnlyRead}
-use Rattle.driver_exec.proofs.ClockReadings.{executes_read, read_twice, reads_later}
+use Rattle.driver_exec.proofs.ClockReadings.{read_twice, reads_later}
+use Rattle.driver_exec.proofs.Refusing.{executes_read, executes_words}
 use Rattle.driver_actions.specs.declared.call.Answer.{Answer}
 use Rattle.driver_actions.specs.declared.call.Call.{Call}
 use Rattle.driver_actions.specs.declared.call.Outcome.{Outcome}
@@ -36,7 +37,7 @@ call_reads before now call number result sends = by_call (OnlyReads before now) 
     let read = executes_read (insert_spec (in_collection write.written.namespace) inserts.bytes inserts.id) (batch_of (write.place ∷ []) 1) first sent.mid now 0 inserts.count inserts.executed inserts.executes in
     record {
       read = read_twice before.clock sent.mid.clock now.clock drew.read read;
-      words = inserts.executes.words_are ∙ drew.words;
+      words = executes_words (insert_spec (in_collection write.written.namespace) inserts.bytes inserts.id) (batch_of (write.place ∷ []) 1) first sent.mid now 0 inserts.count inserts.executed inserts.executes ∙ drew.words;
     })
 
 -- so are the times of its outcome

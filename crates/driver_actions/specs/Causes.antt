@@ -14,6 +14,7 @@ use Rattle.driver_error.specs.Error.{ErrorKind, kind_of}
 use Rattle.driver_error.specs.LabelTexts.{no_labels}
 use Rattle.driver_ops.specs.Encoding.{IsUnspelled}
 use Rattle.driver_ops.specs.InsertSpec.{insert_spec}
+use Rattle.driver_ops.specs.SendKinds.{first}
 use Rattle.driver_ops.specs.Targets.{in_collection}
 use Rattle.driver_exec.specs.Causes.{ErrorOutline, end_of}
 use Rattle.driver_exec.specs.Moment.{Moment}
@@ -77,7 +78,7 @@ pub record InsertCaused {A : Type 0} (before now : Moment) (namespace : Namespac
   pub id : Bson
   pub found : value_of id_key (with_id own document) ≡ Some id
   pub executed : Result InsertManyResult Error
-  pub caused : Caused (insert_spec (in_collection namespace) bytes id) mid now (end_of executed)
+  pub caused : Caused (insert_spec (in_collection namespace) bytes id) first mid now (end_of executed)
   pub becomes : BecomesEnd executed result
 
 -- the operation of a write ended with its cause

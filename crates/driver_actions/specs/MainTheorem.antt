@@ -11,6 +11,7 @@ use Rattle.bson_lite.specs.Spelling.{refusal}
 use Rattle.driver_error.specs.declared.error.Error.{Error}
 use Rattle.driver_error.specs.declared.kind.ErrorKind.TheVariants as kind
 use Rattle.driver_error.specs.Error.{kind_of}
+use Rattle.driver_link.specs.declared.concerns.WriteConcern.{WriteConcern}
 use Rattle.driver_link.specs.declared.machine.PlacedWrite.{PlacedWrite}
 use Rattle.driver_link.specs.declared.machine.Send.{Send}
 use Rattle.driver_link.specs.declared.machine.Server.{Server}
@@ -24,6 +25,7 @@ use Rattle.driver_session.specs.StoreTells.{DrawnApart, IsNewStore}
 use Rattle.driver_ops.specs.Fields.{IsSixteen, SendContext}
 use Rattle.driver_ops.specs.InsertSpec.{own_of_insert}
 use Rattle.driver_ops.specs.Inserts.{insert_body}
+use Rattle.driver_exec.specs.Concerns.{concern_refusal}
 use Rattle.driver_exec.specs.Gentle.{IsGentleTold}
 use Rattle.driver_exec.specs.Moment.{Moment}
 use Rattle.driver_exec.specs.OperationCauses.{DrawsNumbers}
@@ -53,17 +55,18 @@ abbrev pub EndsWell : Result Answer Error → Type 0
 EndsWell (Ok given) = Unit {0}
 EndsWell (Err error) = kind_of error ≡ kind.Memory
 
--- an insert is valid as the call of a number: its database's name has no dot, its document nests at most 96
--- levels deep and has a spelling with any id, its command has one under any session and number or none, and fewer
--- calls came before it than a session has numbers
-pub record IsValidInsert (call : ℕ) (namespace : Namespace) (document : List (Pair Bson)) : Type 0 where
+-- an insert is valid as the call of a number, with a write concern: its database's name has no dot, its document nests at most
+-- 96 levels deep and has a spelling with any id, the concern is not refused, the command has a spelling with it under any session
+-- and number or none, and fewer calls came before it than a session has numbers
+pub record IsValidInsert (call : ℕ) (concern : Option WriteConcern) (namespace : Namespace) (document : List (Pair Bson)) : Type 0 where
   pub accepted : IsAccepted namespace document
-  pub command : (context : SendContext) → IsSixteen context.session → refusal (insert_body namespace context) ≡ None
+  pub concerned : concern_refusal concern ≡ None
+  pub command : (context : SendContext) → context.concern ≡ concern → IsSixteen context.session → refusal (insert_body namespace context) ≡ None
   pub number : pos call <ℤ last_number
 
--- the call at a number of a list is valid
-abbrev pub IsValid : ℕ → Call → Type 0
-IsValid call (Single (InsertOne namespace document)) = IsValidInsert call namespace document
+-- the call at a number of a list is valid at a moment: its write has no concern of its own, so it goes out with the client's
+abbrev pub IsValid : ℕ → Moment → Call → Type 0
+IsValid call before (Single (InsertOne namespace document)) = IsValidInsert call before.client.options.write_concern namespace document
 
 -- one of the writes is of this call
 abbrev pub HasWriteOf : ℕ → List PlacedWrite → Type 0
@@ -82,7 +85,7 @@ IsGentle before now call = IsGentleTold (MayRepeat before call) (server_run befo
 
 -- completeness of a call: a valid one whose part of the schedule is gentle ends well, whatever came before it
 abbrev pub CallCompletes : ℕ → Moment → Moment → Call → Result Answer Error → Type 0
-CallCompletes number before now call result = IsValid number call → IsGentle before now call → EndsWell result
+CallCompletes number before now call result = IsValid number before call → IsGentle before now call → EndsWell result
 
 -- each send that a told server got between two moments is of this call
 abbrev pub SendsOwn : ℕ → Option ServerRun → Option ServerRun → Type 0

@@ -69,7 +69,7 @@ pub record Inserts (before now : Moment) (write : PlacedWrite) (ended : Result I
   pub executes : Executes (insert_spec (in_collection write.written.namespace) bytes id) (batch_of (write.place ∷ []) 1) first before now 0 count executed
   pub twice : count ≤ 2
   pub one_command : SendsOneCommand (insert_spec (in_collection write.written.namespace) bytes id) (batch_of (write.place ∷ []) 1) before now executed
-  pub caused : Caused (insert_spec (in_collection write.written.namespace) bytes id) before now (end_of executed)
+  pub caused : Caused (insert_spec (in_collection write.written.namespace) bytes id) first before now (end_of executed)
   pub becomes : BecomesSingle executed ended
   pub keeps : KeepsInvariant before now (insert_asked write)
   pub entries : OkHasEntries (insert_spec (in_collection write.written.namespace) bytes id) (insert_asked write) before now executed

@@ -17,7 +17,8 @@ use Rattle.driver_exec.specs.declared.failure.AttemptFailure.{AttemptFailure}
 use Rattle.driver_exec.specs.declared.failure.FailurePhase.{FailurePhase}
 use Rattle.driver_exec.specs.declared.failure.FailurePhase.TheVariants.{ConnectionEstablishment, Execution}
 use Rattle.driver_exec.specs.Attempting.{AttemptState, EndsAtOnce, FailsIn, Readies, Sends, Trial, Tries, asks_session, besides_out, trial_of}
-use Rattle.driver_exec.specs.Executing.{Ends, Executes, first_state}
+use Rattle.driver_exec.specs.Concerns.{concern_of}
+use Rattle.driver_exec.specs.Executing.{Ends, Proceeds, first_state}
 use Rattle.driver_exec.specs.Holding.{ExecutionSession, GivesBack, HoldsSession, IsBackAt, IsLentAt, needs_session}
 use Rattle.driver_exec.specs.Moment.{Moment}
 use Rattle.driver_exec.specs.Readings.{MayRead, OnlyRead, Reads}
@@ -26,7 +27,7 @@ use Rattle.driver_exec.specs.inside.Executing.{Reaches}
 use Rattle.driver_exec.proofs.Folding.{came_of}
 
 -- a clock that is as it was
-read_same : (clock now : ClockTells) → now ≡ clock → OnlyRead clock now
+pub read_same : (clock now : ClockTells) → now ≡ clock → OnlyRead clock now
 read_same clock now same = record { readings = []; reads = same }
 
 -- one that was read once
@@ -120,11 +121,11 @@ module _ {A : Type 0} (trial : Trial A) (sharded : Bool) (before : AttemptState)
     ]
   ]
 
--- so it is of an operation
-pub executes_read : {A : Type 0} (spec : OperationSpec A) (batch : Batch) (which : SendKind) (before now : Moment) (count count_now : ℕ) (result : Result A Error)
-    → Executes spec batch which before now count count_now result → OnlyRead before.clock now.clock
-executes_read spec batch which before now count count_now result executes =
-    let trial = trial_of spec batch which (spec.retryability before.client.options) in
+-- so it is of an operation that is not refused for its concern
+pub proceeds_read : {A : Type 0} (spec : OperationSpec A) (batch : Batch) (which : SendKind) (before now : Moment) (count count_now : ℕ) (result : Result A Error)
+    → Proceeds spec batch which before now count count_now result → OnlyRead before.clock now.clock
+proceeds_read spec batch which before now count count_now result executes =
+    let trial = trial_of spec batch which (spec.retryability before.client.options) (concern_of spec which before.client.options) in
     let first = first_state before.store (besides_out before.link) before.clock count in
     let last = executes.last in
     let came = came_of trial executes.sharded first last result executes.attempts in

@@ -4,9 +4,11 @@ use Rattle.std.specs.Prelude.{ℤ, Bool, true, false, length, take, Option, None
 use Rattle.driver_error.specs.declared.error.Error.{Error}
 use Rattle.driver_error.specs.declared.kind.ErrorKind.TheVariants as kind
 use Rattle.driver_error.specs.Error.{kind_of}
+use Rattle.driver_link.specs.declared.concerns.WriteConcern.{WriteConcern}
 use Rattle.driver_link.specs.declared.machine.Place.{Place}
 use Rattle.driver_link.specs.declared.machine.Send.{Send}
 use Rattle.driver_link.specs.declared.options.Address.{Address}
+use Rattle.driver_link.specs.declared.options.ClientOptions.{ClientOptions}
 use Rattle.driver_link.specs.declared.options.Conn.{Conn}
 use Rattle.driver_link.specs.Framed.{Framed}
 use Rattle.driver_link.specs.LinkCalls.{ExchangesFrame}
@@ -14,13 +16,14 @@ use Rattle.driver_link.specs.LinkState.{LinkState}
 use Rattle.driver_link.specs.Reads.{Reads}
 use Rattle.driver_session.specs.declared.retryability.Retryability.{Retryability}
 use Rattle.driver_ops.specs.declared.command.Command.{Command}
-use Rattle.driver_ops.specs.Fields.{FramesUnder, SendContext, under}
+use Rattle.driver_ops.specs.Fields.{FramesUnder, SendContext, in_context}
 use Rattle.driver_ops.specs.Operations.{BuildsCommand, HasBodies, IsBuilt, IsFixed, IsUnframed, OperationSpec, Refuses, SameSpec, StaysFixed, batch_of, send_of}
 use Rattle.driver_ops.specs.SendKinds.{SendKind}
 use Rattle.driver_ops.proofs.Frames.{reads_as_asked, unframed}
 use Rattle.driver_exec.specs.declared.attempt_end.AttemptEnd.{AttemptEnd}
 use Rattle.driver_exec.specs.declared.attempt_end.AttemptEnd.TheVariants.{Ended, Unfit}
 use Rattle.driver_exec.specs.Attempting.{builds_again}
+use Rattle.driver_exec.specs.Concerns.{concern_of, effective_concern}
 use Rattle.driver_exec.specs.Failures.{is_memory}
 use Rattle.driver_exec.specs.Holding.{DrawsNumber, ExecutionSession, held_id}
 use Rattle.driver_exec.specs.inside.Attempting.{EndsUnbuilt, ExchangesOnce, Sending}
@@ -31,6 +34,14 @@ pub build_fixes : {A : Type 0} {spec : OperationSpec A} {which : SendKind} {befo
 build_fixes {before = before} built = λ statements fixed.
     let same : built.statements ≡ statements = subst (λ n. IsFixed n statements) built.now_is fixed in
     subst (IsFixed before) same built.fixed
+
+-- an operation that tells the same goes out with the same concern
+pub concern_same : {A : Type 0} (old now : OperationSpec A) → SameSpec old now → (which now_which : SendKind) (options : ClientOptions) → now_which ≡ which
+    → concern_of now now_which options ≡ concern_of old which options
+concern_same old now same which now_which options is =
+    ap (λ kind_now. concern_of now kind_now options) is
+    ∙ ap (λ own. effective_concern own now.target options.write_concern) (same.write_concern which)
+    ∙ ap (λ goal. effective_concern (old.write_concern which) goal options.write_concern) same.target
 
 -- a number that was not fixed anew stays
 pub same_fixes : {before now : Option ℕ} → now ≡ before → StaysFixed before now
@@ -94,14 +105,14 @@ reads_some {spec = spec} {which = which} {command = command} {frame = frame} pla
           (reads_as_asked spec which (batch_of places built.statements) context command frame framed.0 built.built framed.1 body.0 body.1),
     )
 
-module _ {A : Type 0} (spec : OperationSpec A) (which : SendKind) (places : List Place) (statements : ℕ) (again : Bool) (link link_now : LinkState) (turn : Retryability) (conn : Conn) (address : Address)
+module _ {A : Type 0} (spec : OperationSpec A) (which : SendKind) (concern : Option WriteConcern) (places : List Place) (statements : ℕ) (again : Bool) (link link_now : LinkState) (turn : Retryability) (conn : Conn) (address : Address)
     (held numbered : ExecutionSession) (number : Option ℤ) (draws : DrawsNumber held.sent turn held numbered (Ok number)) (count count_now : ℕ) where
   abbrev Sends : ExecutionSession → AttemptEnd A → Type 0
-  Sends held_now attempt = Sending spec which (batch_of places statements) again link link_now turn conn address held held_now count count_now attempt
+  Sends held_now attempt = Sending spec which concern (batch_of places statements) again link link_now turn conn address held held_now count count_now attempt
 
   -- why there is no frame
   abbrev Why : Error → Type 0
-  Why error = ((builds_again again held ≡ false) × Refuses spec conn.description error) ⊎ (IsUnframed spec (under (held_id numbered) number) error ⊎ (kind_of error ≡ kind.Memory))
+  Why error = ((builds_again again held ≡ false) × Refuses spec conn.description error) ⊎ (IsUnframed spec (in_context (held_id numbered) number concern) error ⊎ (kind_of error ≡ kind.Memory))
 
   -- the build was refused, or there was no memory for it
   pub ends_unbuilt : (error : Error) (found : Bool) (attempt : AttemptEnd A) → found ≡ builds_again again held → (Refuses spec conn.description error ⊎ (kind_of error ≡ kind.Memory))
@@ -142,7 +153,7 @@ module _ {A : Type 0} (spec : OperationSpec A) (which : SendKind) (places : List
 
   module _ (before now : Option ℕ) (command : Command) (built : BuildsCommand spec which before now command) where
     -- the built command has no spelling, or there was no memory
-    pub ends_unframed : (error : Error) (attempt : AttemptEnd A) → FramesUnder (under (held_id numbered) number) command (Err error)
+    pub ends_unframed : (error : Error) (attempt : AttemptEnd A) → FramesUnder (in_context (held_id numbered) number concern) command (Err error)
         → attempt ≡ Ended error → link_now ≡ link → count_now ≡ count → Sends numbered attempt
     ends_unframed error attempt framed ends same uncounted = inr (inl (record {
       error = error;
@@ -150,7 +161,7 @@ module _ {A : Type 0} (spec : OperationSpec A) (which : SendKind) (places : List
       draws = draws;
       why = inr (elim framed.1 [
         | inl memory ↦ inr memory
-        | inr none ↦ inl (unframed spec which built.statements (under (held_id numbered) number) command error framed.0 built.built none)
+        | inr none ↦ inl (unframed spec which built.statements (in_context (held_id numbered) number concern) command error framed.0 built.built none)
       ]);
       link_is = same;
       uncounted = uncounted;
@@ -159,7 +170,7 @@ module _ {A : Type 0} (spec : OperationSpec A) (which : SendKind) (places : List
 
     -- it went out with the front of the places
     pub sends_out : (fixed : IsFixed now statements) (mid : OperationSpec A) (same : SameSpec spec mid) (frame : Framed) (found : List Place) (held_now : ExecutionSession) (attempt : AttemptEnd A)
-        → FramesUnder (under (held_id numbered) number) command (Ok frame) → (told : ℕ) → IfSome now (λ n. told ≡ n) → found ≡ take told places
+        → FramesUnder (in_context (held_id numbered) number concern) command (Ok frame) → (told : ℕ) → IfSome now (λ n. told ≡ n) → found ≡ take told places
         → ExchangesOnce mid link link_now turn conn address frame found (record numbered { sent = Some number }) held_now attempt → count_now ≡ count + 1 → Sends held_now attempt
     sends_out fixed mid same frame found held_now attempt framed told tells front_is once counted =
         let same_number : built.statements ≡ statements = subst (λ n. IsFixed n statements) built.now_is fixed in
@@ -173,7 +184,7 @@ module _ {A : Type 0} (spec : OperationSpec A) (which : SendKind) (places : List
             exchanges = record {
               frame = frame;
               framed = record { command = command; built = here; is = framed.1 };
-              reads = reads_as_asked spec which (batch_of places statements) (under (held_id numbered) number) command frame framed.0 here framed.1;
+              reads = reads_as_asked spec which (batch_of places statements) (in_context (held_id numbered) number concern) command frame framed.0 here framed.1;
               exchanges = subst (λ p. ExchangesFrame link link_now conn frame p once.result) (front_is ∙ ap (λ n. take n places) (so_many built told tells ∙ same_number)) once.exchanges;
             };
             held_is = once.held_is;

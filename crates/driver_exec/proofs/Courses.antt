@@ -3,6 +3,7 @@ use Rattle.std.proofs.Common.{◌≡◌, ℕ, suc, ◌≤◌, List, refl, sym, a
 use Rattle.std.specs.Prelude.{ℤ, pos, ◌+ℤ◌, Bool, true, false, ◌&&◌, Option, None, Some, is_none, Result, Ok, Err, if◌then◌else◌}
 use Rattle.std.specs.Option.{option_map}
 use Rattle.driver_error.specs.declared.error.Error.{Error}
+use Rattle.driver_link.specs.declared.concerns.WriteConcern.{WriteConcern}
 use Rattle.driver_link.specs.declared.fault.LinkError.{LinkError}
 use Rattle.driver_link.specs.declared.fault.LinkError.TheVariants.{Fault, Memory}
 use Rattle.driver_link.specs.declared.fault.LinkFault.{LinkFault}
@@ -18,7 +19,7 @@ use Rattle.driver_session.specs.declared.retryability.Retryability.TheVariants a
 use Rattle.driver_session.specs.StoreTells.{LendsSession, StoreTells}
 use Rattle.driver_session.specs.Session.{Numbers, Raises, Session}
 use Rattle.driver_session.proofs.Staying.{stays_then_lends, stays_twice}
-use Rattle.driver_ops.specs.Fields.{under}
+use Rattle.driver_ops.specs.Fields.{in_context, under}
 use Rattle.driver_ops.specs.Operations.{AsksFor, Batch, OperationSpec, send_of}
 use Rattle.driver_ops.specs.SendKinds.{SendKind}
 use Rattle.driver_exec.specs.Attempting.{Exchanges, held_after}
@@ -298,7 +299,8 @@ module _ {A : Type 0} (spec : OperationSpec A) (batch : Batch) (store : StoreTel
     so_far body asked = subst (λ id. SentTimes link (server_run mid) (send_of (under id number) body) course.count) (sym is_drawn.same_id)
         (same_send (server_run mid) (id_of ready.session) ready.sent number course.count body is_drawn.again course.fits (course.sends body asked))
 
-    module _ {which : SendKind} (conn : Conn) (result : Result (List ℕ) LinkError) (exchanges : Exchanges spec which batch mid now conn (under (held_id numbered) number) result) where
+    module _ {which : SendKind} {concern : Option WriteConcern} (conn : Conn) (result : Result (List ℕ) LinkError)
+        (exchanges : Exchanges spec which batch mid now conn (in_context (held_id numbered) number concern) result) where
       kept : HeldAfter held (held_after result held) store_now
       kept = after_exchange store_now held result is_drawn.holds
 

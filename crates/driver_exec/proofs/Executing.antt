@@ -5,6 +5,7 @@ use Rattle.driver_error.specs.declared.error.Error.{Error}
 use Rattle.driver_error.specs.declared.labels.TheConstants.{RETRYABLE_WRITE_ERROR}
 use Rattle.driver_error.specs.Error.{labels_of}
 use Rattle.driver_error.specs.LabelTexts.{has_label}
+use Rattle.driver_link.specs.declared.concerns.WriteConcern.{WriteConcern}
 use Rattle.driver_link.specs.declared.options.Address.{Address}
 use Rattle.driver_session.specs.declared.retryability.Retryability.{Retryability}
 use Rattle.driver_session.specs.declared.retryability.Retryability.TheVariants as may
@@ -97,15 +98,16 @@ module _ {A : Type 0} (trial : Trial A) (sharded : Bool) (before : AttemptState)
       }
 
 -- one attempt of a turn, of the operation as it was
-pub tried : {A : Type 0} (old now : OperationSpec A) (same : SameSpec old now) (batch : Batch) (which seen_kind : SendKind) (found own : Retryability) (seen past : Option RetryState) (before after : AttemptState)
-    (given attempt : AttemptEnd A) → seen_kind ≡ which → found ≡ own → seen ≡ past → given ≡ attempt → Tries (trial_of now batch seen_kind found) seen before after given
-    → Tries (trial_of old batch which own) past before after attempt
-tried old now same batch which seen_kind found own seen past before after given attempt is_kind is_own is_again is_attempt tries =
-    tries_same old now same batch which own past before after attempt
-    (subst (λ a. Tries (trial_of now batch which own) past before after a) is_attempt
-    (subst (λ b. Tries (trial_of now batch which own) b before after given) is_again
-    (subst (λ o. Tries (trial_of now batch which o) seen before after given) is_own
-    (subst (λ k. Tries (trial_of now batch k found) seen before after given) is_kind tries))))
+pub tried : {A : Type 0} (old now : OperationSpec A) (same : SameSpec old now) (batch : Batch) (which seen_kind : SendKind) (found own : Retryability) (found_concern concern : Option WriteConcern) (seen past : Option RetryState)
+    (before after : AttemptState) (given attempt : AttemptEnd A) → seen_kind ≡ which → found ≡ own → found_concern ≡ concern → seen ≡ past → given ≡ attempt
+    → Tries (trial_of now batch seen_kind found found_concern) seen before after given → Tries (trial_of old batch which own concern) past before after attempt
+tried old now same batch which seen_kind found own found_concern concern seen past before after given attempt is_kind is_own is_concern is_again is_attempt tries =
+    tries_same old now same batch which own concern past before after attempt
+    (subst (λ a. Tries (trial_of now batch which own concern) past before after a) is_attempt
+    (subst (λ b. Tries (trial_of now batch which own concern) b before after given) is_again
+    (subst (λ c. Tries (trial_of now batch which own c) seen before after given) is_concern
+    (subst (λ o. Tries (trial_of now batch which o found_concern) seen before after given) is_own
+    (subst (λ k. Tries (trial_of now batch k found found_concern) seen before after given) is_kind tries)))))
 
 -- an operation that tells the same twice
 pub same_twice : {A : Type 0} (a b c : OperationSpec A) → SameSpec a b → SameSpec b c → SameSpec a c

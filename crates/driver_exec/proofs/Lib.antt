@@ -5,6 +5,7 @@ pub mod Causes
 pub mod ClockReadings
 pub mod Commanding
 pub mod Completing
+pub mod Concerns
 pub mod Courses
 pub mod Executing
 pub mod Faulting
@@ -17,6 +18,7 @@ pub mod MoreAnswers
 pub mod Moves
 pub mod Numbering
 pub mod OperationCausing
+pub mod Refusing
 pub mod Resending
 pub mod Resends
 pub mod Retelling

@@ -71,6 +71,7 @@ module _ {A : Type 0} (on : Grounds A) (before now from to : ℕ) (items all : L
   kind_elsewhere labels (kind.ConnectionPoolCleared message) needs = (rises needs.0, faults (fault.PoolCleared message) labels needs.1)
   kind_elsewhere labels (kind.ServerSelection message) needs = (rises needs.0, faults (fault.Selection message) labels needs.1)
   kind_elsewhere labels (kind.Authentication message) needs = (rises needs.0, faults (fault.Authentication message) labels needs.1)
+  kind_elsewhere labels (kind.InvalidArgument message) needs = needs
   kind_elsewhere labels (kind.BsonSerialization refusal) needs = needs
   kind_elsewhere labels (kind.Internal message) needs = needs
   kind_elsewhere labels kind.SessionsNotSupported needs = needs

@@ -8,6 +8,7 @@ use Rattle.driver_error.specs.Error.{IsAlone, kind_of, labels_of, with_kind}
 use Rattle.driver_error.specs.LabelTexts.{LabelSet, label_set, no_labels, with_label}
 use Rattle.driver_error.specs.Predicates.{of_network}
 use Rattle.driver_link.specs.Clock.{ClockTells}
+use Rattle.driver_link.specs.declared.concerns.WriteConcern.{WriteConcern}
 use Rattle.driver_link.specs.declared.fault.Answered.{Answered}
 use Rattle.driver_link.specs.declared.fault.Answered.TheVariants as answer
 use Rattle.driver_link.specs.declared.fault.LinkCall.{LinkCall}
@@ -31,7 +32,7 @@ use Rattle.driver_link.specs.ServerRun.{ServerRun}
 use Rattle.driver_session.specs.declared.retryability.Retryability.{Retryability}
 use Rattle.driver_session.specs.declared.retryability.Retryability.TheVariants as may
 use Rattle.driver_session.specs.StoreTells.{StoreTells}
-use Rattle.driver_ops.specs.Fields.{SendContext, under}
+use Rattle.driver_ops.specs.Fields.{SendContext, in_context}
 use Rattle.driver_ops.specs.Operations.{Batch, IsUnframed, OperationSpec, Refuses, front}
 use Rattle.driver_ops.specs.SendKinds.{SendKind}
 use Rattle.driver_exec.specs.declared.attempt_end.AttemptEnd.{AttemptEnd}
@@ -42,7 +43,8 @@ use Rattle.driver_exec.specs.declared.failure.FailurePhase.TheVariants.{Connecti
 use Rattle.driver_exec.specs.Attempting.{Connects, EndsAtOnce, EndsRefused, EndsSent, EndsUnready, FailsIn, IsAnswered, LosesExchange, NoFrame, NoNumber, NoSessions, NotConnected, NotSelected, Readies, AttemptState, Sends, SpellsFailure, Trial, Tries, besides_out, on_connection, trial_of}
 use Rattle.driver_exec.specs.Causes as causes
 use Rattle.driver_exec.specs.Causes.{AllEarly, IsLast, KindAtLast, end_of, outline_of, next_number}
-use Rattle.driver_exec.specs.Executing.{Ends, EndsWith, Executes, first_state}
+use Rattle.driver_exec.specs.Executing.{Ends, EndsWith, Proceeds, first_state}
+use Rattle.driver_exec.specs.Concerns.{concern_of}
 use Rattle.driver_exec.specs.Failures.{IsFaultOf}
 use Rattle.driver_exec.specs.Holding.{DrawsNumber, ExecutionSession, held_id}
 use Rattle.driver_exec.specs.LabelTable.{labels_outside_transactions}
@@ -239,9 +241,9 @@ module _ {A : Type 0} (on : Grounds A) (before now : ℕ) (items : List Answered
   sessions_needs none is = inl (subst (KindNeeds on before now items (labels_of error)) (sym is.kind_is) (none, is.labels_are))
 
   -- a built command without a frame
-  unspelled_needs : (context : SendContext) → (IsUnframed on.spec context error ⊎ (kind_of error ≡ kind.Memory)) → EndNeeds on before now items (Some (outline_of error))
-  unspelled_needs context why = elim why [
-    | inl none ↦ inl (subst (KindNeeds on before now items (labels_of error)) (sym none.is.kind_is) (record { context = context; is = none.none }, none.is.labels_are))
+  unspelled_needs : (context : SendContext) → context.concern ≡ on.concern → (IsUnframed on.spec context error ⊎ (kind_of error ≡ kind.Memory)) → EndNeeds on before now items (Some (outline_of error))
+  unspelled_needs context goes why = elim why [
+    | inl none ↦ inl (subst (KindNeeds on before now items (labels_of error)) (sym none.is.kind_is) (record { context = context; goes_with = goes; is = none.none }, none.is.labels_are))
     | inr memory ↦ memory_needs memory
   ]
 
@@ -267,14 +269,14 @@ module _ {A : Type 0} (on : Grounds A) (before now : ℕ) (items : List Answered
     | inr ends ↦ subst (KindAtLast) (sym ends.is.kind_is) tt
   ]
 
-module _ {A : Type 0} (spec : OperationSpec A) (batch : Batch) (which : SendKind) (own : Retryability) (store : StoreTells) (link : LinkState) where
+module _ {A : Type 0} (spec : OperationSpec A) (batch : Batch) (which : SendKind) (own : Retryability) (concern : Option WriteConcern) (store : StoreTells) (link : LinkState) where
   -- the operation as its attempts see it
   abbrev trial : Trial A
-  trial = trial_of spec batch which own
+  trial = trial_of spec batch which own concern
 
   -- what its end is judged by
   abbrev on : Grounds A
-  on = record { spec = spec; own = own; setup = setup_of link; number = next_number store }
+  on = record { spec = spec; own = own; concern = concern; setup = setup_of link; number = next_number store }
 
   -- what it holds at a moment
   abbrev StandsAt : AttemptState → Type 0
@@ -506,13 +508,13 @@ module _ {A : Type 0} (spec : OperationSpec A) (batch : Batch) (which : SendKind
           }
 
       -- there was no frame
-      finishes_unframed : NoFrame spec past conn.description (on_connection own conn.description) ready.held now.held error → Finishes now (Some (outline_of error))
+      finishes_unframed : NoFrame spec concern past conn.description (on_connection own conn.description) ready.held now.held error → Finishes now (Some (outline_of error))
       finishes_unframed refused = record {
         more = [];
         adds = refused_adds;
         needs = elim refused.why [
           | inl early ↦ refused_needs on mid.link.faults now.link.faults [] error conn.description (is_conn ready address conn readies) early.1
-          | inr none ↦ unspelled_needs on mid.link.faults now.link.faults [] error (under (held_id now.held) refused.number) none
+          | inr none ↦ unspelled_needs on mid.link.faults now.link.faults [] error (in_context (held_id now.held) refused.number concern) refl none
         ];
         early = λ at unsent. absurd (draws_none ready address conn readies at unsent now.held refused.number refused.draws);
       }
@@ -634,7 +636,7 @@ module _ {A : Type 0} (spec : OperationSpec A) (batch : Batch) (which : SendKind
           noted = adds.noted;
           never_falls = adds.later;
           needs = end_after on far.items finishes.more link.faults mid.link.faults now.link.faults ended far.adds.later finishes.needs;
-          at_last = λ draws last.
+          at_last = λ accepted draws last.
               let at = at_last draws last in
               let was = far.early at in
               last_after on far.items finishes.more ended was.0 (finishes.early at was.1);
@@ -650,7 +652,7 @@ module _ {A : Type 0} (spec : OperationSpec A) (batch : Batch) (which : SendKind
           noted = adds.noted;
           never_falls = adds.later;
           needs = end_before on far.items more link.faults mid.link.faults now.link.faults (Some (outline_of retry.failure.error)) added.later needs;
-          at_last = λ draws last. let was = far.early (at_last draws last) in (early_twice far.items more was.0 early, subst (KeptHas Lasts) is was.2);
+          at_last = λ accepted draws last. let was = far.early (at_last draws last) in (early_twice far.items more was.0 early, subst (KeptHas Lasts) is was.2);
         }
 
     -- a result has its cause
@@ -709,14 +711,14 @@ module _ {A : Type 0} (spec : OperationSpec A) (batch : Batch) (which : SendKind
             noted = adds.noted;
             never_falls = adds.later;
             needs = decided_needs sharded kept mid now far failing past tries (Err error) is;
-            at_last = λ draws last. let early = decided_early sharded kept mid now far failing past tries (Err error) is (at_last draws last) in (early.items_are, early.lasts);
+            at_last = λ accepted draws last. let early = decided_early sharded kept mid now far failing past tries (Err error) is (at_last draws last) in (early.items_are, early.lasts);
           }
           | inr memory ↦ record {
             items = all;
             noted = adds.noted;
             never_falls = adds.later;
             needs = memory_needs on link.faults now.link.faults all error memory;
-            at_last = λ draws last.
+            at_last = λ accepted draws last.
                 let at = at_last draws last in
                 let was = far.early at in
                 (early_twice far.items fails.more was.0 (fails.early at was.1).0, memory_at_last on link.faults now.link.faults all error memory);
@@ -734,15 +736,16 @@ module _ {A : Type 0} (spec : OperationSpec A) (batch : Batch) (which : SendKind
       ]
     ]
 
--- an operation has its cause
-pub executes_caused : {A : Type 0} (spec : OperationSpec A) (batch : Batch) (which : SendKind) (before now : Moment) (count count_now : ℕ) (result : Result A Error)
-    → Executes spec batch which before now count count_now result → Caused spec before now (end_of result)
-executes_caused spec batch which before now count count_now result executes =
+-- an operation that is not refused for its concern has its cause
+pub proceeds_caused : {A : Type 0} (spec : OperationSpec A) (batch : Batch) (which : SendKind) (before now : Moment) (count count_now : ℕ) (result : Result A Error)
+    → Proceeds spec batch which before now count count_now result → Caused spec which before now (end_of result)
+proceeds_caused spec batch which before now count count_now result executes =
     let own = spec.retryability before.client.options in
+    let concern = concern_of spec which before.client.options in
     let link = besides_out before.link in
     let attempts = executes.attempts in
-    let came = came_of (trial_of spec batch which own) executes.sharded (first_state before.store link before.clock count) executes.last result attempts in
-    let far = reaches_far spec batch which own before.store link before.clock count executes.sharded came.0 attempts.kept attempts.mid came.1 in
-    let caused = caused_ends spec batch which own before.store link executes.sharded attempts.kept attempts.mid executes.last far result attempts.ends in
-    let ends = subst (λ l. EndsCaused (grounds spec before) link l (end_of result)) (sym executes.link_is) caused in
+    let came = came_of (trial_of spec batch which own concern) executes.sharded (first_state before.store link before.clock count) executes.last result attempts in
+    let far = reaches_far spec batch which own concern before.store link before.clock count executes.sharded came.0 attempts.kept attempts.mid came.1 in
+    let caused = caused_ends spec batch which own concern before.store link executes.sharded attempts.kept attempts.mid executes.last far result attempts.ends in
+    let ends = subst (λ l. EndsCaused (grounds spec which before) link l (end_of result)) (sym executes.link_is) caused in
     record { items = ends.items; noted = ends.noted; never_falls = ends.never_falls; needs = ends.needs; at_last = ends.at_last }

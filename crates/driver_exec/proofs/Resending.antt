@@ -18,7 +18,8 @@ use Rattle.driver_exec.specs.declared.attempt_end.AttemptEnd.{AttemptEnd}
 use Rattle.driver_exec.specs.declared.attempt_end.AttemptEnd.TheVariants.{Done, Ended, Failed, Stopped, Unfit, Unselected}
 use Rattle.driver_exec.specs.declared.failure.AttemptFailure.{AttemptFailure}
 use Rattle.driver_exec.specs.Attempting.{AttemptState, EndsAtOnce, EndsRefused, RefusedAgain, Trial, Tries, besides_out, on_connection, trial_of}
-use Rattle.driver_exec.specs.Executing.{Ends, EndsWith, Executes, first_state}
+use Rattle.driver_exec.specs.Concerns.{concern_of}
+use Rattle.driver_exec.specs.Executing.{Ends, EndsWith, Proceeds, first_state}
 use Rattle.driver_exec.specs.Holding.{DrawsNumber, DrawsSession, GivesBack, GivesNumber, ExecutionSession}
 use Rattle.driver_exec.specs.Moment.{Moment}
 use Rattle.driver_exec.specs.Resending.{Borrows, EndsWithReading, SendsOneCommand, SentWithin}
@@ -293,11 +294,11 @@ borrows_draws store now (Some id) number borrows =
     draws_twice store borrows.lent now (draws_lending store borrows.lent borrows.out_at borrows.session borrows.lends)
     (draws_taking borrows.lent now borrows.back borrows.back_at borrows.takes)
 
--- an operation as a whole
+-- an operation as a whole, which is not refused for its concern
 module _ {A : Type 0} (spec : OperationSpec A) (batch : Batch) (which : SendKind) (before now : Moment) (count count_now : ℕ) (result : Result A Error)
-    (executes : Executes spec batch which before now count count_now result) where
+    (executes : Proceeds spec batch which before now count count_now result) where
   abbrev trial : Trial A
-  trial = trial_of spec batch which (spec.retryability before.client.options)
+  trial = trial_of spec batch which (spec.retryability before.client.options) (concern_of spec which before.client.options)
 
   -- its attempts are those of a loop
   came : Came trial executes.sharded (first_state before.store (besides_out before.link) before.clock count) executes.attempts.kept executes.attempts.mid
@@ -311,8 +312,8 @@ module _ {A : Type 0} (spec : OperationSpec A) (batch : Batch) (which : SendKind
   server_is : server_run now.link ≡ server_run executes.last.link
   server_is = ap server_run executes.link_is
 
-  pub executes_works : SendsOneCommand spec batch before now result
-  executes_works = record {
+  pub proceeds_works : SendsOneCommand spec batch before now result
+  proceeds_works = record {
     session = id_of executes.last.held.session;
     number = number_of executes.last.held.sent;
     borrows = borrows trial executes.sharded before.store (besides_out before.link) executes.last.store now.store (number_of executes.last.held.sent) executes.last.held.session done.over.holds executes.comes_back;
@@ -323,8 +324,8 @@ module _ {A : Type 0} (spec : OperationSpec A) (batch : Batch) (which : SendKind
     ends = subst (λ server. EndsWithReading spec batch (server_run before.link) server (id_of executes.last.held.session) (number_of executes.last.held.sent) result) (sym server_is) done.ends;
   }
 
-  pub executes_lends : LendsAsBefore before.store now.store
-  executes_lends = borrows_lends before.store now.store executes_works.session executes_works.number executes_works.borrows
+  pub proceeds_lends : LendsAsBefore before.store now.store
+  proceeds_lends = borrows_lends before.store now.store proceeds_works.session proceeds_works.number proceeds_works.borrows
 
-  pub executes_draws : Draws before.store now.store
-  executes_draws = borrows_draws before.store now.store executes_works.session executes_works.number executes_works.borrows
+  pub proceeds_draws : Draws before.store now.store
+  proceeds_draws = borrows_draws before.store now.store proceeds_works.session proceeds_works.number proceeds_works.borrows

@@ -3,6 +3,7 @@ use Rattle.std.proofs.Common.{ℕ, List, subst, inl, inr}
 use Rattle.std.specs.Prelude.{Option, Result, Ok, Err}
 use Rattle.driver_error.specs.declared.error.Error.{Error}
 use Rattle.driver_link.specs.declared.fault.LinkError.{LinkError}
+use Rattle.driver_link.specs.declared.concerns.WriteConcern.{WriteConcern}
 use Rattle.driver_link.specs.declared.options.Address.{Address}
 use Rattle.driver_link.specs.declared.options.Conn.{Conn}
 use Rattle.driver_link.specs.LinkState.{LinkState}
@@ -20,12 +21,12 @@ use Rattle.driver_exec.specs.inside.Holding.{HoldsAt}
 use Rattle.driver_exec.specs.Retry.{RetryState}
 use Rattle.driver_exec.proofs.Trying.{answers_same, framed_same, refuses_same, unspelled_same}
 
-module _ {A : Type 0} (old now : OperationSpec A) (same : SameSpec old now) (batch : Batch) (which : SendKind) (own : Retryability) where
+module _ {A : Type 0} (old now : OperationSpec A) (same : SameSpec old now) (batch : Batch) (which : SendKind) (own : Retryability) (concern : Option WriteConcern) where
   abbrev told : Trial A
-  told = trial_of now batch which own
+  told = trial_of now batch which own concern
 
   abbrev was : Trial A
-  was = trial_of old batch which own
+  was = trial_of old batch which own concern
 
   readies_same : {past : Option RetryState} (before after : AttemptState) (address : Address) (conn : Conn) → Readies told past before after address conn → Readies was past before after address conn
   readies_same before after address conn readies =

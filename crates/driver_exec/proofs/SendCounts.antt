@@ -17,7 +17,8 @@ use Rattle.driver_exec.specs.declared.failure.AttemptFailure.{AttemptFailure}
 use Rattle.driver_exec.specs.declared.failure.FailurePhase.{FailurePhase}
 use Rattle.driver_exec.specs.declared.failure.FailurePhase.TheVariants.{ConnectionEstablishment, Execution}
 use Rattle.driver_exec.specs.Attempting.{AttemptState, EndsAtOnce, FailsIn, Sends, Trial, Tries, besides_out, trial_of}
-use Rattle.driver_exec.specs.Executing.{Ends, Executes, first_state}
+use Rattle.driver_exec.specs.Concerns.{concern_of}
+use Rattle.driver_exec.specs.Executing.{Ends, Proceeds, first_state}
 use Rattle.driver_exec.specs.Moment.{Moment}
 use Rattle.driver_exec.specs.Retry.{RetryState}
 use Rattle.driver_exec.specs.inside.Executing.{Reaches}
@@ -88,11 +89,11 @@ module _ {A : Type 0} (trial : Trial A) (sharded : Bool) (store : StoreTells) (l
         ]
       ]
 
--- an operation counts two sends at most
-pub executes_few : {A : Type 0} (spec : OperationSpec A) (batch : Batch) (which : SendKind) (before now : Moment) (count count_now : ℕ) (result : Result A Error)
-    → Executes spec batch which before now count count_now result → count_now ≤ count + 2
-executes_few spec batch which before now count count_now result executes =
-    let trial = trial_of spec batch which (spec.retryability before.client.options) in
+-- an operation that is not refused for its concern counts two sends at most
+pub proceeds_few : {A : Type 0} (spec : OperationSpec A) (batch : Batch) (which : SendKind) (before now : Moment) (count count_now : ℕ) (result : Result A Error)
+    → Proceeds spec batch which before now count count_now result → count_now ≤ count + 2
+proceeds_few spec batch which before now count count_now result executes =
+    let trial = trial_of spec batch which (spec.retryability before.client.options) (concern_of spec which before.client.options) in
     let came = came_of trial executes.sharded (first_state before.store (besides_out before.link) before.clock count) executes.last result executes.attempts in
     let few = ended_few trial executes.sharded before.store (besides_out before.link) before.clock count came.0 executes.attempts.kept executes.attempts.mid executes.last result came.1 executes.attempts.ends in
     omega (arith, few, executes.count_is)

@@ -12,6 +12,7 @@ use Rattle.driver_link.specs.declared.fault.LinkCall.TheVariants.{CheckOut, Sele
 use Rattle.driver_link.specs.declared.fault.LinkError.{LinkError}
 use Rattle.driver_link.specs.declared.fault.LinkError.TheVariants.{Fault, Memory}
 use Rattle.driver_link.specs.declared.machine.Place.{Place}
+use Rattle.driver_link.specs.declared.concerns.WriteConcern.{WriteConcern}
 use Rattle.driver_link.specs.declared.options.Address.{Address}
 use Rattle.driver_link.specs.declared.options.Conn.{Conn}
 use Rattle.driver_link.specs.declared.options.Description.{Description}
@@ -276,9 +277,9 @@ pub gives_held : (held : Option Session) (session : Session) → held ≡ Some s
 gives_held held session is store now clock clock_now at takes reads =
     subst (GivesBackAt store now clock clock_now) (sym is) (record { back = record { at = at; takes = takes }; back_at = reads })
 
-module _ {A : Type 0} (spec : OperationSpec A) (batch : Batch) (which : SendKind) (own : Retryability) (past : Option RetryState) where
+module _ {A : Type 0} (spec : OperationSpec A) (batch : Batch) (which : SendKind) (own : Retryability) (concern : Option WriteConcern) (past : Option RetryState) where
   abbrev trial : Trial A
-  trial = trial_of spec batch which own
+  trial = trial_of spec batch which own concern
 
   -- no server was selected
   pub unselected_tries : (store : StoreTells) (link now : LinkState) (clock : ClockTells) (held : ExecutionSession) (count : ℕ) (failure : LinkError) (attempt : AttemptEnd A)
@@ -421,7 +422,7 @@ module _ {A : Type 0} (spec : OperationSpec A) (batch : Batch) (which : SendKind
         came_tries (Ok reply) attempt sends comes = read_tries reply comes.answer attempt sends comes.reads comes.ends
         came_tries (Err failure) attempt sends comes = lost_tries failure attempt sends comes
 
-        sending_tries : (attempt : AttemptEnd A) → Sending spec which batch (is_some past) (besides_out link) (besides_out link_now) turn conn address ready held_now count count_now attempt → Tries trial past began came attempt
+        sending_tries : (attempt : AttemptEnd A) → Sending spec which concern batch (is_some past) (besides_out link) (besides_out link_now) turn conn address ready held_now count count_now attempt → Tries trial past began came attempt
         sending_tries attempt sending = elim sending [
           | inl none ↦ subst (λ a. Tries trial past began came a) (sym none.ends) (inr (inl (record {
             ready = attempt_state store_now link clock_now ready count;
@@ -487,8 +488,8 @@ module _ {A : Type 0} (spec : OperationSpec A) (batch : Batch) (which : SendKind
 
         -- the command of an attempt on its connection
         pub sent_tries : (found : Retryability) (again : Bool) (attempt : AttemptEnd A) → found ≡ turn → again ≡ is_some past
-            → Sending spec which batch again (besides_out link) (besides_out link_now) found conn address ready held_now count count_now attempt → Tries trial past began came attempt
+            → Sending spec which concern batch again (besides_out link) (besides_out link_now) found conn address ready held_now count count_now attempt → Tries trial past began came attempt
         sent_tries found again attempt is again_is sending =
             sending_tries attempt
-            (subst (λ a. Sending spec which batch a (besides_out link) (besides_out link_now) turn conn address ready held_now count count_now attempt) again_is
-            (subst (λ t. Sending spec which batch again (besides_out link) (besides_out link_now) t conn address ready held_now count count_now attempt) is sending))
+            (subst (λ a. Sending spec which concern batch a (besides_out link) (besides_out link_now) turn conn address ready held_now count count_now attempt) again_is
+            (subst (λ t. Sending spec which concern batch again (besides_out link) (besides_out link_now) t conn address ready held_now count count_now attempt) is sending))

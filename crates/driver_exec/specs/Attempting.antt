@@ -5,6 +5,7 @@ use Rattle.driver_error.specs.declared.error.Error.{Error}
 use Rattle.driver_error.specs.declared.kind.ErrorKind.TheVariants as kind
 use Rattle.driver_error.specs.Error.{IsAlone, kind_of}
 use Rattle.driver_error.specs.LabelTexts.{no_labels}
+use Rattle.driver_link.specs.declared.concerns.WriteConcern.{WriteConcern}
 use Rattle.driver_link.specs.declared.fault.LinkError.{LinkError}
 use Rattle.driver_link.specs.declared.fault.LinkError.TheVariants.{Fault}
 use Rattle.driver_link.specs.declared.fault.LinkFault.{LinkFault}
@@ -19,7 +20,7 @@ use Rattle.driver_link.specs.LinkState.{LinkState}
 use Rattle.driver_session.specs.declared.retryability.Retryability.{Retryability}
 use Rattle.driver_session.specs.declared.retryability.Retryability.TheVariants as may
 use Rattle.driver_session.specs.StoreTells.{StoreTells}
-use Rattle.driver_ops.specs.Fields.{SendContext, under}
+use Rattle.driver_ops.specs.Fields.{SendContext, in_context}
 use Rattle.driver_ops.specs.Operations.{Batch, IsFramed, IsUnframed, OperationSpec, ReadsAnswer, ReadsAsAsked, Refuses, front}
 use Rattle.driver_ops.specs.SendKinds.{SendKind}
 use Rattle.driver_exec.specs.declared.attempt_end.AttemptEnd.{AttemptEnd}
@@ -45,16 +46,17 @@ pub record AttemptState : Type 0 where
   pub count : ℕ
 
 -- an operation as its attempts see it: what it tells, the places of its writes with the number of its command's statements,
--- the kind of its sends, and what of it may be repeated by its own rules
+-- the kind of its sends, what of it may be repeated by its own rules, and the write concern that it goes out with
 pub record Trial (A : Type 0) : Type 1 where
   pub spec : OperationSpec A
   pub batch : Batch
   pub which : SendKind
   pub own : Retryability
+  pub concern : Option WriteConcern
 
 -- an operation of these parts
-abbrev pub trial_of : {A : Type 0} → OperationSpec A → Batch → SendKind → Retryability → Trial A
-trial_of spec batch which own = record { spec = spec; batch = batch; which = which; own = own }
+abbrev pub trial_of : {A : Type 0} → OperationSpec A → Batch → SendKind → Retryability → Option WriteConcern → Trial A
+trial_of spec batch which own concern = record { spec = spec; batch = batch; which = which; own = own; concern = concern }
 
 -- what of an operation may be repeated on a connection: a write where that takes such writes
 abbrev pub on_connection : Retryability → Description → Retryability
@@ -152,7 +154,7 @@ pub record Sends {A : Type 0} (trial : Trial A) (kept : Option RetryState) (befo
   pub numbered : ExecutionSession
   pub number : Option ℤ
   pub draws : DrawsNumber ready.held.sent (on_connection trial.own conn.description) ready.held numbered (Ok number)
-  pub exchanges : Exchanges trial.spec trial.which trial.batch ready.link now.link conn (under (held_id numbered) number) result
+  pub exchanges : Exchanges trial.spec trial.which trial.batch ready.link now.link conn (in_context (held_id numbered) number trial.concern) result
   pub store_is : now.store ≡ ready.store
   pub clock_is : now.clock ≡ ready.clock
   pub held_is : now.held ≡ held_after result (record numbered { sent = Some number })
@@ -243,12 +245,12 @@ abbrev pub builds_again : Bool → ExecutionSession → Bool
 builds_again again held = again && is_some held.sent
 
 -- there was no frame under the number: the first build was refused, what was built has no spelling, or memory ran out
-pub record NoFrame {A : Type 0} (spec : OperationSpec A) (kept : Option RetryState) (description : Description) (turn : Retryability) (ready now : ExecutionSession) (error : Error) : Type 0 where
+pub record NoFrame {A : Type 0} (spec : OperationSpec A) (concern : Option WriteConcern) (kept : Option RetryState) (description : Description) (turn : Retryability) (ready now : ExecutionSession) (error : Error) : Type 0 where
   pub goes : stops (is_some kept) turn ≡ false
   pub number : Option ℤ
   pub draws : DrawsNumber ready.sent turn ready now (Ok number)
   pub allowed : may_use ready description ≡ true
-  pub why : ((builds_again (is_some kept) ready ≡ false) × Refuses spec description error) ⊎ (IsUnframed spec (under (held_id now) number) error ⊎ (kind_of error ≡ kind.Memory))
+  pub why : ((builds_again (is_some kept) ready ≡ false) × Refuses spec description error) ⊎ (IsUnframed spec (in_context (held_id now) number concern) error ⊎ (kind_of error ≡ kind.Memory))
 
 -- a connection was had, and the command was refused before it went out
 pub record EndsRefused {A : Type 0} (trial : Trial A) (kept : Option RetryState) (before now : AttemptState) (error : Error) : Type 0 where
@@ -261,7 +263,7 @@ pub record EndsRefused {A : Type 0} (trial : Trial A) (kept : Option RetryState)
   pub clock : now.clock ≡ ready.clock
   pub count : now.count ≡ ready.count
   pub refused : NoSessions conn.description ready.held now.held error
-      ⊎ (NoNumber kept conn.description (on_connection trial.own conn.description) ready.held now.held error ⊎ NoFrame trial.spec kept conn.description (on_connection trial.own conn.description) ready.held now.held error)
+      ⊎ (NoNumber kept conn.description (on_connection trial.own conn.description) ready.held now.held error ⊎ NoFrame trial.spec trial.concern kept conn.description (on_connection trial.own conn.description) ready.held now.held error)
 
 -- a connection was had for which the command, which went out before, was not built again: that was refused
 pub record RefusedAgain {A : Type 0} (trial : Trial A) (kept : Option RetryState) (before now : AttemptState) : Type 0 where

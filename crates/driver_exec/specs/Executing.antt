@@ -13,6 +13,7 @@ use Rattle.driver_exec.specs.declared.attempt_end.AttemptEnd.{AttemptEnd}
 use Rattle.driver_exec.specs.declared.attempt_end.AttemptEnd.TheVariants.{Done, Ended, Failed, Stopped, Unfit, Unselected}
 use Rattle.driver_exec.specs.declared.failure.AttemptFailure.{AttemptFailure}
 use Rattle.driver_exec.specs.Attempting.{AttemptState, Trial, Tries, besides_out, trial_of}
+use Rattle.driver_exec.specs.Concerns.{IsConcernError, concern_of, concern_refusal}
 use Rattle.driver_exec.specs.Holding.{GivesBack, IsBackAt, holds_nothing}
 use Rattle.driver_exec.specs.Moment.{Moment}
 use Rattle.driver_exec.specs.Retry.{RetryState, decide, folded}
@@ -94,15 +95,23 @@ pub record Attempts {A : Type 0} (trial : Trial A) (sharded : Bool) (before now 
   pub kept_is : kept_after trial sharded failures ≡ Ok kept
   pub ends : Ends trial sharded kept mid now result
 
--- an operation outside transactions, with the places of its writes and the number of its command's statements: its
--- attempts, under one kind of send, and with a count of all its sends, where the link tells its setup by whether that has
--- routers of shards; then the session that it was lent comes back, at a reading of the clock. The connections that are out, the
--- client's options and the words to come are as before
-pub record Executes {A : Type 0} (spec : OperationSpec A) (batch : Batch) (which : SendKind) (before now : Moment) (count count_now : ℕ) (result : Result A Error) : Type 0 where
+-- an operation whose concern is refused ends with that error: nothing is asked, drawn, sent or counted
+pub record RefusesConcern {A : Type 0} (spec : OperationSpec A) (which : SendKind) (before now : Moment) (count count_now : ℕ) (result : Result A Error) : Type 0 where
+  pub error : Error
+  pub answers : result ≡ Err error
+  pub is : IsConcernError (concern_of spec which before.client.options) error
+  pub same : now ≡ before
+  pub uncounted : count_now ≡ count
+
+-- an operation whose concern is not refused: its attempts, under one kind of send, and with a count of all its sends, where the
+-- link tells its setup by whether that has routers of shards; then the session that it was lent comes back, at a reading of the
+-- clock. The connections that are out, the client's options and the words to come are as before
+pub record Proceeds {A : Type 0} (spec : OperationSpec A) (batch : Batch) (which : SendKind) (before now : Moment) (count count_now : ℕ) (result : Result A Error) : Type 0 where
+  pub accepted : concern_refusal (concern_of spec which before.client.options) ≡ None
   pub sharded : Bool
   pub sharded_is : IfSome (setup_of before.link) (λ setup. sharded ≡ setup.description.sharded)
   pub last : AttemptState
-  pub attempts : Attempts (trial_of spec batch which (spec.retryability before.client.options)) sharded (first_state before.store (besides_out before.link) before.clock count) last result
+  pub attempts : Attempts (trial_of spec batch which (spec.retryability before.client.options) (concern_of spec which before.client.options)) sharded (first_state before.store (besides_out before.link) before.clock count) last result
   pub link_is : besides_out now.link ≡ last.link
   pub out : now.link.out ≡ before.link.out
   pub count_is : count_now ≡ last.count
@@ -110,3 +119,9 @@ pub record Executes {A : Type 0} (spec : OperationSpec A) (batch : Batch) (which
   pub back_at : IsBackAt last.store now.store last.held.session comes_back last.clock now.clock
   pub client_is : now.client ≡ before.client
   pub words_are : now.words ≡ before.words
+
+-- an operation outside transactions, with the places of its writes and the number of its command's statements: it is refused
+-- for its concern, before anything is asked, else it goes its way
+abbrev pub Executes : {A : Type 0} → OperationSpec A → Batch → SendKind → Moment → Moment → ℕ → ℕ → Result A Error → Type 0
+Executes spec batch which before now count count_now result =
+    RefusesConcern spec which before now count count_now result ⊎ Proceeds spec batch which before now count count_now result

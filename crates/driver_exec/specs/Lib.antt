@@ -2,6 +2,7 @@ pub mod Attempting
 pub mod BetweenCalls
 pub mod Causes
 pub mod Client
+pub mod Concerns
 pub mod Executing
 pub mod Failures
 pub mod Gentle

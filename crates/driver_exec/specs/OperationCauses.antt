@@ -6,6 +6,7 @@ use Rattle.driver_error.specs.declared.kind.ErrorKind.TheVariants as kind
 use Rattle.driver_error.specs.declared.labels.TheConstants.{RETRYABLE_WRITE_ERROR}
 use Rattle.driver_error.specs.Error.{ErrorKind, kind_of}
 use Rattle.driver_error.specs.LabelTexts.{LabelSet, label_set, no_labels, with_label}
+use Rattle.driver_link.specs.declared.concerns.WriteConcern.{WriteConcern}
 use Rattle.driver_link.specs.declared.fault.Answered.{Answered}
 use Rattle.driver_link.specs.declared.fault.Answered.TheVariants as answer
 use Rattle.driver_link.specs.declared.fault.LinkCall.{LinkCall}
@@ -22,8 +23,10 @@ use Rattle.driver_session.specs.Session.{number_at_its_end}
 use Rattle.driver_link.specs.declared.options.Description.{Description}
 use Rattle.driver_ops.specs.Fields.{SendContext}
 use Rattle.driver_ops.specs.Operations.{HasNoSpelling, OperationSpec, ReadsAnswer, Refuses}
+use Rattle.driver_ops.specs.SendKinds.{SendKind}
 use Rattle.driver_exec.specs.Attempting.{on_connection}
 use Rattle.driver_exec.specs.Causes.{AllEarly, ErrorOutline, HasReply, IsLast, KindAtLast, MayBeLast, next_number, outline_of}
+use Rattle.driver_exec.specs.Concerns.{concern_of, concern_refusal}
 use Rattle.driver_exec.specs.LabelTable.{labels_outside_transactions}
 use Rattle.driver_exec.specs.OldDeployment.{reworded_kind}
 use Rattle.driver_exec.specs.Moment.{Moment}
@@ -58,9 +61,10 @@ pub record SpellsEnd {A : Type 0} (spec : OperationSpec A) (why : ErrorOutline) 
   pub kind_is : why.kind ≡ reworded_kind (kind_of bare)
   pub labels_are : why.labels ≡ labels_outside_transactions turn bare
 
--- a built command has no spelling, under some session and number
-pub record Unspelled {A : Type 0} (spec : OperationSpec A) (fault : EncodeFault) : Type 0 where
+-- a built command with this concern has no spelling, under some session and number
+pub record Unspelled {A : Type 0} (spec : OperationSpec A) (concern : Option WriteConcern) (fault : EncodeFault) : Type 0 where
   pub context : SendContext
+  pub goes_with : context.concern ≡ concern
   pub is : HasNoSpelling spec context fault
 
 -- a build of the operation is refused so for a connection, which has the setup's description where the link tells its setup
@@ -75,19 +79,21 @@ pub record RefusesBuild {A : Type 0} (spec : OperationSpec A) (setup : Option Se
 abbrev pub IsRead : {A : Type 0} → OperationSpec A → List ℕ → Type 0
 IsRead {A} spec bytes = (output : A) × ReadsAnswer spec bytes (Ok output)
 
--- what an end is judged by: what the operation tells, what it may repeat by its own rules, what the link tells of its setup,
--- and the number of the session that is lent next
+-- what an end is judged by: what the operation tells, what it may repeat by its own rules, the concern that it goes out with,
+-- what the link tells of its setup, and the number of the session that is lent next
 pub record Grounds (A : Type 0) : Type 1 where
   pub spec : OperationSpec A
   pub own : Retryability
+  pub concern : Option WriteConcern
   pub setup : Option Setup
   pub number : Option ℤ
 
 -- what the end of an operation that begins at a moment is judged by
-abbrev pub grounds : {A : Type 0} → OperationSpec A → Moment → Grounds A
-grounds spec before = record {
+abbrev pub grounds : {A : Type 0} → OperationSpec A → SendKind → Moment → Grounds A
+grounds spec which before = record {
   spec = spec;
   own = spec.retryability before.client.options;
+  concern = concern_of spec which before.client.options;
   setup = setup_of before.link;
   number = next_number before.store;
 }
@@ -98,7 +104,8 @@ KindNeeds on before now items labels (kind.Io io) = Rose before now × HasFault 
 KindNeeds on before now items labels (kind.ConnectionPoolCleared message) = Rose before now × HasFault on.own on.setup (fault.PoolCleared message) labels items
 KindNeeds on before now items labels (kind.ServerSelection message) = Rose before now × HasFault on.own on.setup (fault.Selection message) labels items
 KindNeeds on before now items labels (kind.Authentication message) = Rose before now × HasFault on.own on.setup (fault.Authentication message) labels items
-KindNeeds on before now items labels (kind.BsonSerialization fault) = Unspelled on.spec fault × (labels ≡ no_labels)
+KindNeeds on before now items labels (kind.InvalidArgument message) = (concern_refusal on.concern ≡ Some message) × (labels ≡ no_labels)
+KindNeeds on before now items labels (kind.BsonSerialization fault) = Unspelled on.spec on.concern fault × (labels ≡ no_labels)
 KindNeeds on before now items labels (kind.Internal message) = MayBeLast on.number × (message ≡ number_at_its_end) × (labels ≡ no_labels)
 KindNeeds on before now items labels kind.SessionsNotSupported = (on.setup ≡ None) × (labels ≡ no_labels)
 KindNeeds on before now items labels kind.Memory = Unit {0}
@@ -128,8 +135,8 @@ pub record EndsCaused {A : Type 0} (on : Grounds A) (link now : LinkState) (ende
   pub noted : GainsAll link.answers now.answers items
   pub never_falls : link.faults ≤ now.faults
   pub needs : EndNeeds on link.faults now.faults items ended
-  pub at_last : DrawsNumbers on.spec.sessions on.own on.setup → IsLast on.number → EndAtLast on items ended
+  pub at_last : concern_refusal on.concern ≡ None → DrawsNumbers on.spec.sessions on.own on.setup → IsLast on.number → EndAtLast on items ended
 
 -- an operation that began at a moment ended so
-abbrev pub Caused : {A : Type 0} → OperationSpec A → Moment → Moment → Option ErrorOutline → Type 0
-Caused spec before now ended = EndsCaused (grounds spec before) before.link now.link ended
+abbrev pub Caused : {A : Type 0} → OperationSpec A → SendKind → Moment → Moment → Option ErrorOutline → Type 0
+Caused spec which before now ended = EndsCaused (grounds spec which before) before.link now.link ended

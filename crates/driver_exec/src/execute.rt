@@ -1,10 +1,11 @@
 //! An operation outside transactions: attempts, and between them the decision on a retry.
-ghost use Rattle.std.specs.Prelude.{◌≡◌, ◌⊎◌, ℕ, IsSome};
+ghost use Rattle.std.specs.Prelude.{◌≡◌, ◌⊎◌, ℕ, List as Listed, IsSome, Some};
 ghost use Rattle.driver_link.specs.declared.machine.SendBody.{SendBody};
 ghost use Rattle.driver_ops.specs.Operations.{AsksFor, HasBodies, IsFixed, SameSpec, StaysFixed, batch_of};
 ghost use Rattle.driver_exec.specs.Attempting.{trial_of};
 ghost use Rattle.driver_exec.specs.Causes.{end_of};
 ghost use Rattle.driver_exec.specs.Client.{options_of, store_of};
+ghost use Rattle.driver_exec.specs.Concerns.{concern_of, concern_refusal};
 ghost use Rattle.driver_exec.specs.Executing.{Attempts, EndsWith, Executes, limit_reached};
 ghost use Rattle.driver_exec.specs.Holding.{holds_nothing};
 ghost use Rattle.driver_exec.specs.Keeping.{KeepsInvariant, OkHasEntries};
@@ -17,6 +18,7 @@ ghost use Rattle.driver_exec.specs.inside.Executing.{FailureOf, IsLastError, May
 
 use crate::attempt_end::AttemptEnd;
 use crate::client::Client;
+use crate::concern::concern_refusal;
 use crate::execution_session::{ExecutionSession, check_in_session};
 use crate::failure::{AttemptFailure, FailurePhase};
 use crate::outside::Outside;
@@ -31,11 +33,12 @@ use rand_core::Rng;
 use std::alloc::Global;
 use std::sync::ledger::Ledger;
 
-/// Runs an operation outside transactions, with the places of its writes: attempts until one ends it, or its
-/// failure may not be followed by another. An error is that of the failure which is kept, or what ended the
-/// operation at once. `sends` counts the sends of its command, each once, of which there are two at most
-/// (`laws` says this, and what of store and clock stays). Where store and link tell, and its places are new,
-/// it keeps what stands between the operations of one client (`keeps`), and an Ok has the entry of each of
+/// Runs an operation outside transactions, with the places of its writes. Its write concern is judged first, and
+/// where that is refused nothing is built or asked (`unbuilt`). Then it makes attempts until one ends it, or its
+/// failure may not be followed by another. An error is that of the concern, or of the failure which is kept, or
+/// what ended the operation at once. `sends` counts the sends of its command, each once, of which there are two
+/// at most (`laws` says this, and what of store and clock stays). Where store and link tell, and its places are
+/// new, it keeps what stands between the operations of one client (`keeps`), and an Ok has the entry of each of
 /// its writes in the log, which tell the output (`entries`).
 pub fn execute_operation<O: Operation, S: SessionStore, L: Link, K: Clock, R: Rng, Q: Ledger>(
     alloc: Global,
@@ -66,16 +69,23 @@ pub fn execute_operation<O: Operation, S: SessionStore, L: Link, K: Clock, R: Rn
         (moment_of S.tells L.tells K.tells R.stream client.old outside.old)
         (moment_of S.tells L.tells K.tells R.stream client.new outside.new)
         result }
-    ensures caused { Caused (O.spec op.old)
+    ensures caused { Caused (O.spec op.old) (O.next op.old)
         (moment_of S.tells L.tells K.tells R.stream client.old outside.old)
         (moment_of S.tells L.tells K.tells R.stream client.new outside.new)
         (end_of result) }
     ensures spec { SameSpec (O.spec op.old) (O.spec op.new) }
     ensures fixed { StaysFixed (O.built op.old) (O.built op.new) }
+    ensures unbuilt { (text : Listed ℕ) →
+        concern_refusal (concern_of (O.spec op.old) (O.next op.old) (options_of client.old)) ≡ Some text →
+        O.built op.new ≡ O.built op.old }
     ensures next { O.next op.new ≡ O.next op.old }
     ensures call { outside.new.call ≡ outside.old.call }
     ensures counted { (sends.new ≡ sends.old) ⊎ IsSome (O.built op.new) }
 {
+    match concern_refusal(alloc, op, client.options()) {
+        None => {}
+        Some(error) => return Err(error),
+    }
     let sharded = outside.link.is_sharded();
     let (held, result) = execute_operation_with_retry(
         alloc, client, outside, op, places, sharded, sends,
@@ -97,7 +107,8 @@ fn execute_operation_with_retry<O: Operation, S: SessionStore, L: Link, K: Clock
     requires { HasBodies (O.spec op.old) places.now }
     ensures attempts { (statements : ℕ) → IsFixed (O.built op.new) statements → Attempts
         (trial_of (O.spec op.old) (batch_of places.now statements) (O.next op.old)
-        ((O.spec op.old).retryability (options_of client.old))) sharded
+        ((O.spec op.old).retryability (options_of client.old))
+        (concern_of (O.spec op.old) (O.next op.old) (options_of client.old))) sharded
         (attempt_state (S.tells (store_of client.old)) (L.tells outside.old.link)
         (K.tells outside.old.clock) holds_nothing sends.old)
         (attempt_state (S.tells (store_of client.new)) (L.tells outside.new.link)

@@ -3,6 +3,7 @@
 
 mod attempt_end;
 mod client;
+mod concern;
 mod execute;
 mod execution_session;
 mod failure;

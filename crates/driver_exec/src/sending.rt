@@ -4,17 +4,19 @@ ghost use Rattle.std.specs.Prelude.{◌≡◌, ◌≤◌, ◌+◌, ◌⊎◌, �
 ghost use Rattle.std.specs.Option.{option_copied};
 ghost use Rattle.driver_link.specs.declared.machine.Send.{Send as Sent};
 ghost use Rattle.driver_link.specs.Reads.{Reads};
-ghost use Rattle.driver_ops.specs.Fields.{FramesUnder, under};
+ghost use Rattle.driver_ops.specs.Fields.{FramesUnder, in_context};
 ghost use Rattle.driver_ops.specs.Operations.{HasBodies, IsFixed, SameSpec, StaysFixed, batch_of};
 ghost use Rattle.driver_exec.specs.Attempting.{besides_out, builds_again};
+ghost use Rattle.driver_exec.specs.Concerns.{concern_of};
 ghost use Rattle.driver_exec.specs.inside.Attempting.{ExchangesOnce, Sending};
 
 use crate::attempt_end::{AttemptEnd, lost, read, unbuilt};
+use crate::concern::effective_concern;
 use crate::execution_session::{ExecutionSession, draw_number};
 use crate::fields::append_fields;
 use crate::steps::Steps;
 use driver_error::Result;
-use driver_link::{Address, Conn, Frame, Link, Place};
+use driver_link::{Address, ClientOptions, Conn, Frame, Link, Place, WriteConcern};
 use driver_ops::{Command, Operation, read_answer};
 use driver_session::Retryability;
 use std::alloc::Global;
@@ -28,11 +30,12 @@ pub(crate) struct AttemptConnection<'a> {
     pub again: bool,
 }
 
-/// The command of an attempt, under the number of the send before or a first one.
+/// The command of an attempt, under the number of the send before or a first one, for a client with these options.
 pub(crate) fn send<O: Operation, L: Link, Q: Ledger>(
     alloc: Global,
     link: &mut L,
     op: &mut O,
+    options: &ClientOptions,
     places: &[Place],
     held: ExecutionSession,
     turn: &AttemptConnection<'_>,
@@ -41,7 +44,8 @@ pub(crate) fn send<O: Operation, L: Link, Q: Ledger>(
 ) -> (ExecutionSession, AttemptEnd<O::Output>)
     requires { HasBodies (O.spec op.old) places.now }
     ensures sending { (statements : ℕ) → IsFixed (O.built op.new) statements →
-        Sending (O.spec op.old) (O.next op.old) (batch_of places.now statements) turn.now.again
+        Sending (O.spec op.old) (O.next op.old) (concern_of (O.spec op.old) (O.next op.old) options.now)
+        (batch_of places.now statements) turn.now.again
         (besides_out (L.tells link.old)) (besides_out (L.tells link.new))
         turn.now.turn turn.now.conn.now address held result.0 sends.old sends.new result.1 }
     ensures spec { SameSpec (O.spec op.old) (O.spec op.new) }
@@ -60,7 +64,8 @@ pub(crate) fn send<O: Operation, L: Link, Q: Ledger>(
         Ok(command) => command,
         Err(error) => return (held, unbuilt(error, again)),
     };
-    let frame = match frame_of(alloc, command, held.id(), number) {
+    let concern = effective_concern(op, options);
+    let frame = match frame_of(alloc, command, held.id(), number, concern) {
         Ok(frame) => frame,
         Err(error) => return (held, AttemptEnd::Ended(error)),
     };
@@ -130,9 +135,11 @@ fn frame_of(
     mut command: Command,
     session: Option<&[u8; 16]>,
     number: Option<i64>,
+    concern: Option<&WriteConcern>,
 ) -> Result<Frame>
-    ensures { FramesUnder (under (option_copied session.entry) number) command result }
+    ensures { FramesUnder (in_context (option_copied session.entry) number (option_copied concern.entry))
+        command result }
 {
-    append_fields(alloc, &mut command, session, number)?;
+    append_fields(alloc, &mut command, session, number, concern)?;
     command.framed(alloc)
 }

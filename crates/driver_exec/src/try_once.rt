@@ -8,6 +8,7 @@ ghost use Rattle.driver_session.specs.declared.retryability.Retryability.{Retrya
 ghost use Rattle.driver_ops.specs.Operations.{HasBodies, IsFixed, SameSpec, StaysFixed, batch_of};
 ghost use Rattle.driver_exec.specs.Attempting.{Connects, Tries, asks_session, avoided, besides_out, is_nothing, may_use, on_connection, stops, trial_of};
 ghost use Rattle.driver_exec.specs.Client.{options_of, store_of};
+ghost use Rattle.driver_exec.specs.Concerns.{concern_of};
 ghost use Rattle.driver_exec.specs.Retry.{RetryState};
 ghost use Rattle.driver_exec.specs.inside.Attempting.{attempt_state};
 
@@ -40,7 +41,8 @@ pub(crate) fn try_once<O: Operation, S: SessionStore, L: Link, K: Clock, R, Q: L
     requires { HasBodies (O.spec op.old) places.now }
     ensures tries { (statements : ℕ) → IsFixed (O.built op.new) statements → Tries
         (trial_of (O.spec op.old) (batch_of places.now statements) (O.next op.old)
-        ((O.spec op.old).retryability (options_of client.old)))
+        ((O.spec op.old).retryability (options_of client.old))
+        (concern_of (O.spec op.old) (O.next op.old) (options_of client.old)))
         (option_copied kept.entry)
         (attempt_state (S.tells (store_of client.old)) (L.tells outside.old.link)
         (K.tells outside.old.clock) held sends.old)
@@ -179,7 +181,8 @@ fn execute_operation_on_connection<O: Operation, S: SessionStore, L: Link, K: Cl
         (kept : Option RetryState) → turn.now.again ≡ is_some kept → (before : LinkState) →
         Connects (avoided kept) (besides_out before) (besides_out (L.tells outside.old.link))
         address turn.now.conn.now →
-        Tries (trial_of (O.spec op.old) (batch_of places.now statements) (O.next op.old) own) kept
+        Tries (trial_of (O.spec op.old) (batch_of places.now statements) (O.next op.old) own
+        (concern_of (O.spec op.old) (O.next op.old) (options_of client.old))) kept
         (attempt_state (S.tells (store_of client.old)) before (K.tells outside.old.clock) held sends.old)
         (attempt_state (S.tells (store_of client.new)) (L.tells outside.new.link)
         (K.tells outside.new.clock) result.0 sends.new)
@@ -208,6 +211,7 @@ fn execute_operation_on_connection<O: Operation, S: SessionStore, L: Link, K: Cl
             alloc,
             &mut outside.link,
             op,
+            client.options(),
             places,
             held,
             turn,

@@ -1,13 +1,11 @@
 -- A command of one statement asks for its write: an update's, a delete's.
-use Rattle.std.proofs.Common.{◌≡◌, ℕ, ◌≤◌, List, [], ◌∷◌, ◌++◌, length, refl, ap, Bool, subst, sym, ◌∙◌, arith}
+use Rattle.std.proofs.Common.{◌≡◌, ℕ, ◌≤◌, List, [], ◌∷◌, ◌++◌, length, refl, Bool, subst, sym, ◌∙◌, arith}
 use Rattle.std.specs.Prelude.{take, true, false, Option, None, Some, bytes_eq, if◌then◌else◌}
-use Rattle.std.specs.Option.{option_and_then}
 use Rattle.bson_lite.specs.declared.bson.Bson.{Bson}
 use Rattle.bson_lite.specs.declared.bson.Bson as bson
 use Rattle.bson_lite.specs.declared.document.Pair.{Pair}
 use Rattle.bson_lite.specs.declared.namespace.Namespace.{Namespace}
 use Rattle.bson_lite.specs.Fields.{value_of}
-use Rattle.driver_link.specs.declared.command.CommandName.{CommandName}
 use Rattle.driver_link.specs.declared.command.CommandName.TheVariants as name
 use Rattle.driver_link.specs.declared.keys.TheConstants.{DELETE, DELETES, ORDERED, UPDATE, UPDATES}
 use Rattle.driver_link.specs.declared.machine.Place.{Place}
@@ -24,7 +22,6 @@ use Rattle.driver_link.specs.Asking.{asks, asks_alone, asks_as, asks_statements,
 use Rattle.driver_link.specs.CommandNames.{named}
 use Rattle.driver_link.specs.Commands.{needed}
 use Rattle.driver_link.specs.Reads.{SpellSequences}
-use Rattle.driver_link.specs.Values.{array_of, bool_of, document_of, text_of}
 use Rattle.driver_link.specs.Writes.{common_keys, documents_in, placed}
 use Rattle.driver_ops.specs.declared.command.Command.{Command}
 use Rattle.driver_ops.specs.declared.option_keys.TheConstants.{BYPASS_DOCUMENT_VALIDATION, COMMENT, LET}

@@ -1,9 +1,8 @@
 -- A delete of one statement keeps the law of operations.
-use Rattle.std.proofs.Common.{◌≡◌, ℕ, Bool, true, false, List, [], ◌∷◌, refl, sym, ap, subst, ◌∙◌, inl, inr}
+use Rattle.std.proofs.Common.{◌≡◌, Bool, true, false, List, [], ◌∷◌, refl, sym, ap, subst, ◌∙◌, inl, inr}
 use Rattle.std.specs.Prelude.{Some}
 use Rattle.bson_lite.specs.declared.bson.Bson.{Bson}
 use Rattle.bson_lite.specs.declared.document.Pair.{Pair}
-use Rattle.bson_lite.specs.Spelling.{Spells}
 use Rattle.driver_error.specs.declared.results.DeleteResult.{DeleteResult}
 use Rattle.driver_link.specs.declared.keys.TheConstants.{OK}
 use Rattle.driver_link.specs.declared.machine.PlacedWrite.{PlacedWrite}
@@ -22,7 +21,7 @@ use Rattle.driver_ops.specs.CountAnswers.{deleted_by}
 use Rattle.driver_ops.specs.Deleting.{delete_statement}
 use Rattle.driver_ops.specs.Inserts.{int_at, is_one}
 use Rattle.driver_ops.specs.OperationLaw.{IsLawful}
-use Rattle.driver_ops.specs.Operations.{ReadsOutput, send_of}
+use Rattle.driver_ops.specs.Operations.{send_of}
 use Rattle.driver_ops.specs.Served.{statements_in}
 use Rattle.driver_ops.specs.StatementSpec.{statement_write, delete_spec}
 use Rattle.driver_ops.specs.Targets.{namespace_of}

@@ -8,11 +8,14 @@ use Rattle.bson_lite.specs.Spelling.{Spells}
 use Rattle.driver_error.specs.declared.error.Error.{Error}
 use Rattle.driver_error.specs.declared.kind.ErrorKind.TheVariants.{Memory}
 use Rattle.driver_error.specs.Error.{kind_of}
-use Rattle.driver_link.specs.declared.keys.TheConstants.{SESSION, SESSION_ID, TRANSACTION_NUMBER, DATABASE, UUID_SUBTYPE}
+use Rattle.driver_link.specs.declared.concerns.WriteConcern.{WriteConcern}
+use Rattle.driver_link.specs.declared.keys.TheConstants.{SESSION, SESSION_ID, TRANSACTION_NUMBER, DATABASE, UUID_SUBTYPE, WRITE_CONCERN}
 use Rattle.driver_link.specs.Framed.{Framed}
 use Rattle.driver_link.specs.Writes.{common_keys, is_common}
 use Rattle.driver_ops.specs.declared.command.Command.{Command}
+use Rattle.driver_ops.specs.ConcernFields.{concern_value}
 use Rattle.driver_ops.specs.Encoding.{IsUnspelled}
+use Rattle.driver_ops.specs.OptionFields.{option_field}
 
 -- one field of a document
 abbrev pub field : List ℕ → Bson → Pair Bson
@@ -32,19 +35,25 @@ unfoldable pub number_field : Option ℤ → List (Pair Bson)
 number_field None = []
 number_field (Some number) = field TRANSACTION_NUMBER.now (bson.Int64 number) ∷ []
 
--- what the executor's fields come from at one exchange: the session and the number that the command is under, of which
--- either may be missing
+-- what the executor's fields come from at one exchange: the session and the number that the command is under, and the write
+-- concern that it goes with, of which each may be missing
 pub record SendContext : Type 0 where
   pub session : Option (List ℕ)
   pub number : Option ℤ
+  pub concern : Option WriteConcern
 
--- under this session and this number
+-- under this session and this number, with this concern
+abbrev pub in_context : Option (List ℕ) → Option ℤ → Option WriteConcern → SendContext
+in_context session number concern = record { session = session; number = number; concern = concern }
+
+-- the same without a concern, which a send does not tell
 abbrev pub under : Option (List ℕ) → Option ℤ → SendContext
-under session number = record { session = session; number = number }
+under session number = in_context session number None
 
 -- the executor's fields of a command that goes to a database
 unfoldable pub executor_fields : SendContext → List ℕ → List (Pair Bson)
-executor_fields context database = session_field context.session ++ number_field context.number ++ field DATABASE.now (bson.String database) ∷ []
+executor_fields context database =
+    session_field context.session ++ number_field context.number ++ option_field WRITE_CONCERN.now (concern_value context.concern) ++ field DATABASE.now (bson.String database) ∷ []
 
 -- the command with the executor's fields behind its own
 abbrev pub with_fields : SendContext → Command → Command

@@ -1,6 +1,6 @@
 -- The texts of those keys that are constants of this crate.
 use Rattle.std.specs.Prelude.{◌≡◌, codes}
-use Rattle.driver_ops.specs.declared.option_keys.TheConstants.{ARRAY_FILTERS, BYPASS_DOCUMENT_VALIDATION, CHANGE, COLLATION, COMMENT, HINT, LET, LIMIT, MULTI, QUERY, SORT, UPSERT}
+use Rattle.driver_ops.specs.declared.option_keys.TheConstants.{ARRAY_FILTERS, BYPASS_DOCUMENT_VALIDATION, CHANGE, COLLATION, COMMENT, HINT, JOURNAL, LET, LIMIT, MAJORITY, MULTI, QUERY, SORT, UPSERT, W, W_TIMEOUT}
 use Rattle.driver_ops.specs.declared.reply_fields.TheConstants.{BASE_BACKOFF, CODE_NAME}
 use Rattle.driver_ops.specs.declared.write_reply.TheConstants.{ERROR_INFO}
 
@@ -15,9 +15,13 @@ pub record HaveTexts : Type 0 where
   pub collation : COLLATION.now ≡ codes "collation"
   pub comment : COMMENT.now ≡ codes "comment"
   pub hint : HINT.now ≡ codes "hint"
+  pub journal : JOURNAL.now ≡ codes "j"
   pub let_vars : LET.now ≡ codes "let"
   pub limit : LIMIT.now ≡ codes "limit"
+  pub majority : MAJORITY.now ≡ codes "majority"
   pub multi : MULTI.now ≡ codes "multi"
   pub query : QUERY.now ≡ codes "q"
   pub sort : SORT.now ≡ codes "sort"
   pub upsert : UPSERT.now ≡ codes "upsert"
+  pub w : W.now ≡ codes "w"
+  pub w_timeout : W_TIMEOUT.now ≡ codes "wtimeout"

@@ -1,3 +1,4 @@
+pub mod ConcernFields
 pub mod CountAnswers
 pub mod Defaults
 pub mod DeleteLawful

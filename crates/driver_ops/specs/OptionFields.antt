@@ -5,12 +5,11 @@ use Rattle.bson_lite.specs.declared.bson.Bson as bson
 use Rattle.bson_lite.specs.declared.document.Pair.{Pair}
 use Rattle.driver_link.specs.declared.updates.Hint.{Hint}
 use Rattle.driver_link.specs.declared.updates.Hint.TheVariants.{Keys, Name}
-use Rattle.driver_ops.specs.Fields.{field}
 
 -- the field of an option that is set to a value
 abbrev pub option_field : List ℕ → Option Bson → List (Pair Bson)
 option_field key None = []
-option_field key (Some value) = field key value ∷ []
+option_field key (Some value) = record { key = key; value = value } ∷ []
 
 -- a flag as a value
 abbrev pub flag_of : Option Bool → Option Bson

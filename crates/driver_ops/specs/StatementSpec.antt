@@ -1,15 +1,11 @@
 -- What a command with one statement tells as an operation: an update, a delete.
-use Rattle.std.specs.Prelude.{◌≡◌, ℕ, Bool, true, false, List, [], ◌∷◌, Option, Some}
+use Rattle.std.specs.Prelude.{◌≡◌, ℕ, Bool, true, false, List, [], ◌∷◌}
 use Rattle.bson_lite.specs.declared.bson.Bson.{Bson}
 use Rattle.bson_lite.specs.declared.document.Pair.{Pair}
 use Rattle.bson_lite.specs.declared.namespace.Namespace.{Namespace}
-use Rattle.driver_error.specs.declared.error.Error.{Error}
 use Rattle.driver_error.specs.declared.results.DeleteResult.{DeleteResult}
 use Rattle.driver_error.specs.declared.results.UpdateResult.{UpdateResult}
-use Rattle.driver_link.specs.declared.command.CommandName.{CommandName}
 use Rattle.driver_link.specs.declared.command.CommandName.TheVariants as name
-use Rattle.driver_link.specs.declared.concerns.WriteConcern.{WriteConcern}
-use Rattle.driver_link.specs.declared.machine.Entry.{Entry}
 use Rattle.driver_link.specs.declared.machine.Place.{Place}
 use Rattle.driver_link.specs.declared.machine.PlacedWrite.{PlacedWrite}
 use Rattle.driver_link.specs.declared.machine.SendBody.{SendBody}
@@ -32,7 +28,7 @@ use Rattle.driver_ops.specs.CountAnswers.{ReadsDelete, ReadsUpdate, TellsDelete,
 use Rattle.driver_ops.specs.Deleting.{delete_command, delete_statement}
 use Rattle.driver_ops.specs.Features.{feature_of}
 use Rattle.driver_ops.specs.InsertSpec.{ReadsAlone}
-use Rattle.driver_ops.specs.Operations.{OperationSpec, Page, never}
+use Rattle.driver_ops.specs.Operations.{OperationSpec, never}
 use Rattle.driver_ops.specs.Defaults.{is_repeatable, repeated_where}
 use Rattle.driver_ops.specs.Targets.{namespace_of}
 use Rattle.driver_ops.specs.Updating.{update_command, update_statement}

@@ -3,6 +3,7 @@
 
 mod answer;
 mod command;
+mod concern;
 mod defaults;
 mod delete;
 mod failed_write;
@@ -21,6 +22,7 @@ mod write_reply;
 
 pub use answer::read_answer;
 pub use command::Command;
+pub use concern::concern_document;
 pub use defaults::{
     lacks_option, repeats_nothing, repeats_under_backpressure, repeats_unless_forbidden,
     stays_for_retry, takes_sessions, writes_after_cluster_time,

@@ -3,7 +3,7 @@ use bson_lite::{Bson, Document, Namespace, Text};
 use driver_actions::{SingleAnswer, SingleWrite, SingleWrites};
 use driver_error::{Error, ErrorKind, IoKind, RETRYABLE_WRITE_ERROR, Result};
 use driver_exec::{Client, Outside};
-use driver_link::{ClientOptions, CountingIds, Description, Link, MemClock};
+use driver_link::{ClientOptions, CountingIds, Description, Link, MemClock, WriteConcern};
 use driver_session::PlainStore;
 use rand_core::SeedableRng;
 use rand_pcg::Pcg32;
@@ -36,6 +36,9 @@ pub(crate) enum Ended {
     /// The connection takes no sessions.
     NoSessions,
     InvalidResponse,
+    /// Under its write concern no server would answer what became of it.
+    Unacknowledged,
+    InvalidConcern,
     Other,
 }
 
@@ -59,8 +62,20 @@ fn how_ended(error: &Error) -> Ended {
             if message.as_str() == "scheduled selection failure" => { Ended::Selection }
         ErrorKind::SessionsNotSupported => Ended::NoSessions,
         ErrorKind::InvalidResponse { .. } => Ended::InvalidResponse,
+        ErrorKind::InvalidArgument { message } => how_refused(message.as_str()),
         _ => Ended::Other,
     }
+}
+
+/// What the message about a refused argument tells.
+fn how_refused(message: &str) -> Ended {
+    if message == "Unacknowledged write concerns are not supported" {
+        return Ended::Unacknowledged;
+    }
+    if message == "invalid write concern" {
+        return Ended::InvalidConcern;
+    }
+    Ended::Other
 }
 
 /// How many labels an error has, or none where there is no memory.
@@ -118,12 +133,23 @@ fn write(alloc: Global) -> std::result::Result<SingleWrite, AllocError> {
 
 /// The insert's end and the link afterwards, or none where there is no memory.
 pub(crate) fn insert<L: Link + Drop>(alloc: Global, link: L) -> Option<(Seen, L)> {
+    insert_under(alloc, link, None)
+}
+
+/// The same by a client with this write concern.
+pub(crate) fn insert_under<L: Link + Drop>(
+    alloc: Global,
+    link: L,
+    concern: Option<WriteConcern>,
+) -> Option<(Seen, L)> {
     let Ok(write) = write(alloc) else {
         return None;
     };
     let options = ClientOptions {
         client_number: 1,
-        ..ClientOptions::default()
+        retry_writes: None,
+        read_concern: None,
+        write_concern: concern,
     };
     let mut client = Client::new(options, PlainStore::new(alloc, CountingIds::new()));
     let mut outside = Outside {

@@ -6,6 +6,8 @@
 #[cfg(test)]
 mod calling;
 #[cfg(test)]
+mod concerns;
+#[cfg(test)]
 mod faking;
 #[cfg(test)]
 mod frames;

@@ -19,8 +19,7 @@ use Rattle.driver_exec.specs.Keeping.{KeepsInvariant, OkHasEntries}
 use Rattle.driver_exec.specs.Moment.{Moment}
 use Rattle.driver_exec.specs.OperationCauses.{Caused}
 use Rattle.driver_exec.specs.Resending.{SendsOneCommand, SentWithin}
-use Rattle.driver_exec.proofs.Resending.{executes_draws, executes_lends}
-use Rattle.driver_exec.proofs.SendCounts.{executes_few}
+use Rattle.driver_exec.proofs.Refusing.{executes_draws, executes_few, executes_lends}
 use Rattle.driver_actions.specs.SingleCalls.{Inserts}
 use Rattle.driver_actions.specs.Singles.{BecomesSingle}
 use Rattle.driver_actions.specs.Writing.{insert_asked, insert_send}
@@ -64,7 +63,7 @@ pub inserts_write : {made : OperationTarget} {held bytes : List ℕ} {kept id : 
     → Spells write.written.document bytes → value_of id_key write.written.document ≡ Some id → from ≡ 0
     → Executes (insert_spec made held kept) (batch_of (write.place ∷ []) 1) first before now from count executed
     → SendsOneCommand (insert_spec made held kept) (batch_of (write.place ∷ []) 1) before now executed
-    → Caused (insert_spec made held kept) before now (end_of executed) → KeepsInvariant before now (insert_asked write)
+    → Caused (insert_spec made held kept) first before now (end_of executed) → KeepsInvariant before now (insert_asked write)
     → OkHasEntries (insert_spec made held kept) (insert_asked write) before now executed → executed ≡ found → BecomesSingle found ended → Inserts before now write ended
 inserts_write {made = made} {held = held} {bytes = bytes} {kept = kept} {id = id} {before = before} {now = now} {from = from} {count = count} {executed = executed} write ended is_target is_bytes is_id spelled has none executes one_command caused keeps entries is becomes = record {
   bytes = bytes;
@@ -77,7 +76,7 @@ inserts_write {made = made} {held = held} {bytes = bytes} {kept = kept} {id = id
       (of_insert (λ t b i. Executes (insert_spec t b i) (batch_of (write.place ∷ []) 1) first before now from count executed) is_target is_bytes is_id executes);
   twice = two_at_most from count none (executes_few (insert_spec made held kept) (batch_of (write.place ∷ []) 1) first before now from count executed executes);
   one_command = of_insert (λ t b i. SendsOneCommand (insert_spec t b i) (batch_of (write.place ∷ []) 1) before now executed) is_target is_bytes is_id one_command;
-  caused = of_insert (λ t b i. Caused (insert_spec t b i) before now (end_of executed)) is_target is_bytes is_id caused;
+  caused = of_insert (λ t b i. Caused (insert_spec t b i) first before now (end_of executed)) is_target is_bytes is_id caused;
   becomes = subst (λ r. BecomesSingle r ended) (sym is) becomes;
   keeps = keeps;
   entries = of_insert (λ t b i. OkHasEntries (insert_spec t b i) (insert_asked write) before now executed) is_target is_bytes is_id entries;

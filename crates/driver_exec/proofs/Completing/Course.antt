@@ -17,7 +17,8 @@ use Rattle.driver_exec.specs.declared.attempt_end.AttemptEnd.TheVariants.{Done, 
 use Rattle.driver_exec.specs.declared.failure.AttemptFailure.{AttemptFailure}
 use Rattle.driver_exec.specs.declared.failure.FailurePhase.{FailurePhase}
 use Rattle.driver_exec.specs.Attempting.{AttemptState, EndsAtOnce, FailsIn, Stops, Tries, besides_out, is_nothing, trial_of}
-use Rattle.driver_exec.specs.Executing.{Attempts, Ends, EndsWith, Executes, first_state, limit_reached}
+use Rattle.driver_exec.specs.Concerns.{concern_of, concern_refusal}
+use Rattle.driver_exec.specs.Executing.{Attempts, Ends, EndsWith, Executes, Proceeds, first_state, limit_reached}
 use Rattle.driver_exec.specs.Gentle.{IsGentlePart}
 use Rattle.driver_exec.specs.Holding.{number_before}
 use Rattle.driver_exec.specs.Moment.{Moment}
@@ -234,17 +235,30 @@ module _ {A : Type 0} (known : KnownCommand A) where
       let came = came_of (trial known) sharded (first_state store link clock count) last result attempts in
       ends_quietly clock count told_now gentle sharded came.0 attempts.kept attempts.mid last came.1 last_is apart_mid apart result attempts.ends
 
--- an operation whose part of the schedule is gentle ends well, from one moment to another
-pub gentle_ends : {A : Type 0} (known : KnownCommand A) (before now : Moment) (told_now : ServerRun) → known.store ≡ before.store → known.link ≡ besides_out before.link
-    → known.own ≡ known.spec.retryability before.client.options → server_run now.link ≡ Some told_now → DrawnApart now.store
+-- an operation whose concern is not refused and whose part of the schedule is gentle ends well, from one moment to another
+gentle_proceeds : {A : Type 0} (known : KnownCommand A) (before now : Moment) (told_now : ServerRun) → known.store ≡ before.store → known.link ≡ besides_out before.link
+    → known.own ≡ known.spec.retryability before.client.options → known.concern ≡ concern_of known.spec known.which before.client.options
+    → server_run now.link ≡ Some told_now → DrawnApart now.store
     → IsGentlePart (DrawsNumbers true known.own (setup_of known.link)) known.told told_now → (count count_now : ℕ) (result : Result A Error)
-    → Executes known.spec known.batch known.which before now count count_now result → EndsQuietly result
-gentle_ends known before now told_now store_is link_is own_is now_is drawn gentle count count_now result executes =
+    → Proceeds known.spec known.batch known.which before now count count_now result → EndsQuietly result
+gentle_proceeds known before now told_now store_is link_is own_is concern_is now_is drawn gentle count count_now result executes =
     let last = executes.last in
     let last_is = ap server_run (sym executes.link_is) ∙ now_is in
     let apart = back_apart last.store now.store last.held.session executes.comes_back drawn in
     gentle_turns known before.clock count told_now gentle executes.sharded last last_is apart result
-    (subst (λ own. Attempts (trial_of known.spec known.batch known.which own) executes.sharded (first_state known.store known.link before.clock count) last result) (sym own_is)
-    (subst (λ l. Attempts (trial_of known.spec known.batch known.which (known.spec.retryability before.client.options)) executes.sharded (first_state known.store l before.clock count) last result) (sym link_is)
-    (subst (λ s. Attempts (trial_of known.spec known.batch known.which (known.spec.retryability before.client.options)) executes.sharded (first_state s (besides_out before.link) before.clock count) last result) (sym store_is)
-    executes.attempts)))
+    (subst (λ own. Attempts (trial_of known.spec known.batch known.which own known.concern) executes.sharded (first_state known.store known.link before.clock count) last result) (sym own_is)
+    (subst (λ c. Attempts (trial_of known.spec known.batch known.which (known.spec.retryability before.client.options) c) executes.sharded (first_state known.store known.link before.clock count) last result) (sym concern_is)
+    (subst (λ l. Attempts (trial_of known.spec known.batch known.which (known.spec.retryability before.client.options) (concern_of known.spec known.which before.client.options)) executes.sharded (first_state known.store l before.clock count) last result) (sym link_is)
+    (subst (λ s. Attempts (trial_of known.spec known.batch known.which (known.spec.retryability before.client.options) (concern_of known.spec known.which before.client.options)) executes.sharded (first_state s (besides_out before.link) before.clock count) last result) (sym store_is)
+    executes.attempts))))
+
+-- so it is of an operation whose concern is not refused
+pub gentle_ends : {A : Type 0} (known : KnownCommand A) (before now : Moment) (told_now : ServerRun) → known.store ≡ before.store → known.link ≡ besides_out before.link
+    → known.own ≡ known.spec.retryability before.client.options → known.concern ≡ concern_of known.spec known.which before.client.options
+    → server_run now.link ≡ Some told_now → DrawnApart now.store
+    → IsGentlePart (DrawsNumbers true known.own (setup_of known.link)) known.told told_now → (count count_now : ℕ) (result : Result A Error)
+    → Executes known.spec known.batch known.which before now count count_now result → EndsQuietly result
+gentle_ends known before now told_now store_is link_is own_is concern_is now_is drawn gentle count count_now result executes = elim executes [
+  | inl refuses ↦ absurd (let e : ◌≡◌ {A = Option (List ℕ)} None (Some refuses.is.text) = sym known.accepted ∙ ap concern_refusal concern_is ∙ refuses.is.refused in cc)
+  | inr proceeds ↦ gentle_proceeds known before now told_now store_is link_is own_is concern_is now_is drawn gentle count count_now result proceeds
+]

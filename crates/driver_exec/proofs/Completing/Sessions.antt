@@ -6,6 +6,7 @@ use Rattle.driver_error.specs.declared.error.Error.{Error}
 use Rattle.driver_error.specs.declared.kind.ErrorKind.TheVariants as kind
 use Rattle.driver_error.specs.Error.{kind_of}
 use Rattle.driver_link.specs.Clock.{ClockTells}
+use Rattle.driver_link.specs.declared.concerns.WriteConcern.{WriteConcern}
 use Rattle.driver_link.specs.declared.machine.Scheduled.{Scheduled}
 use Rattle.driver_link.specs.declared.machine.Send.{Send}
 use Rattle.driver_link.specs.declared.machine.SendBody.{SendBody}
@@ -25,6 +26,7 @@ use Rattle.driver_ops.specs.Fields.{SendContext, under}
 use Rattle.driver_ops.specs.Operations.{AsksFor, Batch, HasNoSpelling, OperationSpec, Refuses, send_of}
 use Rattle.driver_ops.specs.SendKinds.{SendKind}
 use Rattle.driver_exec.specs.Attempting.{AttemptState, EndsRefused, Readies, Trial, asks_session, may_use, on_connection, trial_of}
+use Rattle.driver_exec.specs.Concerns.{concern_refusal}
 use Rattle.driver_exec.specs.Executing.{first_state}
 use Rattle.driver_exec.specs.Gentle.{IsLossy}
 use Rattle.driver_exec.specs.Holding.{DrawsNumber, DrawsSession, GivesNumber, ExecutionSession, HoldsSession, held_id, holds_nothing, needs_session}
@@ -44,6 +46,9 @@ pub record KnownCommand (A : Type 0) : Type 1 where
   pub asked : AsksFor spec batch body
   -- what of it may be repeated by its own rules
   pub own : Retryability
+  -- the concern that it goes out with, which is not refused
+  pub concern : Option WriteConcern
+  pub accepted : concern_refusal concern ≡ None
   -- what store and link tell before it
   pub store : StoreTells
   pub told : ServerRun
@@ -64,15 +69,15 @@ pub record KnownCommand (A : Type 0) : Type 1 where
   -- it takes a session, no build of it is refused, its command has a spelling, and the number of its session is not the last
   pub takes_sessions : spec.sessions ≡ true
   pub unrefused : (description : Description) (error : Error) → Refuses spec description error → ⊥
-  pub spelled : (context : SendContext) (fault : EncodeFault) → HasNoSpelling spec context fault → ⊥
+  pub spelled : (context : SendContext) (fault : EncodeFault) → context.concern ≡ concern → HasNoSpelling spec context fault → ⊥
   pub not_last : (at : ℕ) (lent : StoreTells) (session : Session) → LendsSession store lent at session → session.number ≡ last_number → ⊥
 
 module _ {A : Type 0} (known : KnownCommand A) where
-  open known use {spec, batch, which, body, own, store, told, link, link_is, Ready, first_ready, bare_ready, takes_sessions, unrefused, spelled, not_last}
+  open known use {spec, batch, which, body, own, concern, store, told, link, link_is, Ready, first_ready, bare_ready, takes_sessions, unrefused, spelled, not_last}
 
   -- the operation as its attempts see it
   abbrev pub trial : Trial A
-  trial = trial_of spec batch which own
+  trial = trial_of spec batch which own concern
 
   -- what may go out under what was drawn
   pub record MayGo (server : Server) (description : Description) (turn : Retryability) (held : ExecutionSession) (number : Option ℤ) : Type 0 where
@@ -225,6 +230,6 @@ module _ {A : Type 0} (known : KnownCommand A) where
           | inl none ↦ absurd (here.allowed none.none)
           | inr other ↦ elim other [
             | inl none ↦ here.unnumbered (on_connection own refused.conn.description) now.held error none.draws
-            | inr none ↦ elim none.why [ inl early ↦ absurd (unrefused refused.conn.description error early.1) | inr late ↦ elim late [ inl unspelled ↦ absurd (spelled _ unspelled.fault unspelled.none) | inr memory ↦ memory ] ]
+            | inr none ↦ elim none.why [ inl early ↦ absurd (unrefused refused.conn.description error early.1) | inr late ↦ elim late [ inl unspelled ↦ absurd (spelled _ unspelled.fault refl unspelled.none) | inr memory ↦ memory ] ]
           ]
         ]

@@ -3,6 +3,7 @@ use Rattle.std.specs.Prelude.{◌≡◌, ℕ, ◌+◌, ℤ, Bool, true, false, L
 use Rattle.driver_error.specs.declared.error.Error.{Error}
 use Rattle.driver_error.specs.declared.kind.ErrorKind.TheVariants as kind
 use Rattle.driver_error.specs.Error.{kind_of}
+use Rattle.driver_link.specs.declared.concerns.WriteConcern.{WriteConcern}
 use Rattle.driver_link.specs.declared.fault.LinkError.{LinkError}
 use Rattle.driver_link.specs.declared.machine.Place.{Place}
 use Rattle.driver_link.specs.declared.options.Address.{Address}
@@ -13,7 +14,7 @@ use Rattle.driver_link.specs.LinkCalls.{ExchangesFrame}
 use Rattle.driver_link.specs.LinkState.{LinkState}
 use Rattle.driver_session.specs.declared.retryability.Retryability.{Retryability}
 use Rattle.driver_session.specs.StoreTells.{StoreTells}
-use Rattle.driver_ops.specs.Fields.{under}
+use Rattle.driver_ops.specs.Fields.{in_context}
 use Rattle.driver_ops.specs.Operations.{Batch, IsUnframed, OperationSpec, ReadsAnswer, Refuses}
 use Rattle.driver_ops.specs.SendKinds.{SendKind}
 use Rattle.driver_exec.specs.declared.attempt_end.AttemptEnd.{AttemptEnd}
@@ -47,10 +48,10 @@ pub record ExchangesOnce {A : Type 0} (spec : OperationSpec A) (link link_now : 
   pub comes : Comes spec turn conn.description.max_wire_version address (number_before held) result attempt
 
 -- one exchange of the command under what is held, and what came of it
-pub record Exchanging {A : Type 0} (spec : OperationSpec A) (which : SendKind) (batch : Batch) (link link_now : LinkState) (turn : Retryability) (conn : Conn) (address : Address)
+pub record Exchanging {A : Type 0} (spec : OperationSpec A) (which : SendKind) (concern : Option WriteConcern) (batch : Batch) (link link_now : LinkState) (turn : Retryability) (conn : Conn) (address : Address)
     (held held_now : ExecutionSession) (attempt : AttemptEnd A) : Type 0 where
   pub result : Result (List ℕ) LinkError
-  pub exchanges : Exchanges spec which batch link link_now conn (under (held_id held) (number_before held)) result
+  pub exchanges : Exchanges spec which batch link link_now conn (in_context (held_id held) (number_before held) concern) result
   pub held_is : held_now ≡ held_after result held
   pub comes : Comes spec turn conn.description.max_wire_version address (number_before held) result attempt
 
@@ -69,12 +70,12 @@ pub record EndsUnnumbered {A : Type 0} (link link_now : LinkState) (turn : Retry
   pub ends : attempt ≡ Ended error
 
 -- there was a number and no frame under it, and nothing went out
-pub record EndsUnframed {A : Type 0} (spec : OperationSpec A) (again : Bool) (link link_now : LinkState) (turn : Retryability) (conn : Conn) (held held_now : ExecutionSession)
+pub record EndsUnframed {A : Type 0} (spec : OperationSpec A) (concern : Option WriteConcern) (again : Bool) (link link_now : LinkState) (turn : Retryability) (conn : Conn) (held held_now : ExecutionSession)
     (count count_now : ℕ) (attempt : AttemptEnd A) : Type 0 where
   pub error : Error
   pub number : Option ℤ
   pub draws : DrawsNumber held.sent turn held held_now (Ok number)
-  pub why : ((builds_again again held ≡ false) × Refuses spec conn.description error) ⊎ (IsUnframed spec (under (held_id held_now) number) error ⊎ (kind_of error ≡ kind.Memory))
+  pub why : ((builds_again again held ≡ false) × Refuses spec conn.description error) ⊎ (IsUnframed spec (in_context (held_id held_now) number concern) error ⊎ (kind_of error ≡ kind.Memory))
   pub link_is : link_now ≡ link
   pub uncounted : count_now ≡ count
   pub ends : attempt ≡ Ended error
@@ -92,18 +93,18 @@ pub record EndsUnfit {A : Type 0} (spec : OperationSpec A) (again : Bool) (link 
   pub ends : attempt ≡ Unfit
 
 -- the command went out under its number
-pub record SendsOut {A : Type 0} (spec : OperationSpec A) (which : SendKind) (batch : Batch) (link link_now : LinkState) (turn : Retryability) (conn : Conn) (address : Address)
+pub record SendsOut {A : Type 0} (spec : OperationSpec A) (which : SendKind) (concern : Option WriteConcern) (batch : Batch) (link link_now : LinkState) (turn : Retryability) (conn : Conn) (address : Address)
     (held held_now : ExecutionSession) (count count_now : ℕ) (attempt : AttemptEnd A) : Type 0 where
   pub numbered : ExecutionSession
   pub number : Option ℤ
   pub draws : DrawsNumber held.sent turn held numbered (Ok number)
-  pub exchanging : Exchanging spec which batch link link_now turn conn address (record numbered { sent = Some number }) held_now attempt
+  pub exchanging : Exchanging spec which concern batch link link_now turn conn address (record numbered { sent = Some number }) held_now attempt
   pub counted : count_now ≡ count + 1
 
 -- the command of an attempt, of which a failure may be kept
-abbrev pub Sending : {A : Type 0} → OperationSpec A → SendKind → Batch → Bool → LinkState → LinkState → Retryability → Conn → Address → ExecutionSession → ExecutionSession → ℕ → ℕ → AttemptEnd A → Type 0
-Sending spec which batch again link link_now turn conn address held held_now count count_now attempt =
+abbrev pub Sending : {A : Type 0} → OperationSpec A → SendKind → Option WriteConcern → Batch → Bool → LinkState → LinkState → Retryability → Conn → Address → ExecutionSession → ExecutionSession → ℕ → ℕ → AttemptEnd A → Type 0
+Sending spec which concern batch again link link_now turn conn address held held_now count count_now attempt =
     EndsUnnumbered link link_now turn held held_now count count_now attempt
-    ⊎ (EndsUnframed spec again link link_now turn conn held held_now count count_now attempt
+    ⊎ (EndsUnframed spec concern again link link_now turn conn held held_now count count_now attempt
     ⊎ (EndsUnfit spec again link link_now turn conn held held_now count count_now attempt
-    ⊎ SendsOut spec which batch link link_now turn conn address held held_now count count_now attempt))
+    ⊎ SendsOut spec which concern batch link link_now turn conn address held held_now count count_now attempt))

@@ -7,27 +7,24 @@ use Rattle.std.proofs.Math.IntN.{+ℤ_idr}
 use denote.Hole.Carrier.{out}
 use Rattle.bson_lite.specs.declared.bson.Bson.{Bson}
 use Rattle.bson_lite.specs.declared.bson.Bson as bson
-use Rattle.bson_lite.specs.declared.document.Pair.{Pair}
 use Rattle.bson_lite.specs.Fields.{int_of, value_of}
 use Rattle.driver_error.specs.declared.results.DeleteResult.{DeleteResult}
 use Rattle.driver_error.specs.declared.results.UpdateResult.{UpdateResult}
 use Rattle.driver_error.specs.declared.write.IndexedWriteError.{IndexedWriteError}
 use Rattle.driver_error.specs.declared.write.WriteConcernError.{WriteConcernError}
-use Rattle.driver_error.specs.declared.write.WriteFailure.{WriteFailure}
 use Rattle.driver_error.specs.Conversions.{first_failure}
 use Rattle.driver_link.specs.declared.keys.TheConstants.{DOCUMENT_ID, INDEX, N, N_MODIFIED, OK, WRITE_ERRORS}
 use Rattle.driver_link.specs.declared.machine.Counted.{Counted}
 use Rattle.driver_link.specs.declared.machine.PlacedWrite.{PlacedWrite}
 use Rattle.driver_link.specs.declared.machine.PlannedConcern.{PlannedConcern}
-use Rattle.driver_link.specs.declared.machine.SendCommand.{SendCommand}
 use Rattle.driver_link.specs.declared.machine.SendCommand.TheVariants as command
 use Rattle.driver_link.specs.declared.machine.Server.{Server}
 use Rattle.driver_link.specs.declared.machine.Statement.{Statement}
 use Rattle.driver_link.specs.declared.machine.Statement.TheVariants.{Kept, Ran, Failed}
-use Rattle.driver_link.specs.Commands.{needed, optional, optional_value}
+use Rattle.driver_link.specs.Commands.{needed, optional_value}
 use Rattle.driver_link.specs.Cursors.{Reply}
 use Rattle.driver_link.specs.Numbers.{field, reply_count, reply_number}
-use Rattle.driver_link.specs.Replies.{concern_field, done_field, error_reply, errors_field, result_of, results_in, sum_of, upserted_at, upserted_field, upserts, write_error, write_errors, write_reply}
+use Rattle.driver_link.specs.Replies.{concern_field, done_field, error_reply, errors_field, result_of, sum_of, upserted_at, upserted_field, upserts, write_error, write_errors, write_reply}
 use Rattle.driver_link.specs.Serving.{Plan}
 use Rattle.driver_link.proofs.Forms.{array_is, document_is}
 use Rattle.driver_link.proofs.Lists.{none_is_some, some_is_some}

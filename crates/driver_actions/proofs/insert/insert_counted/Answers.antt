@@ -1,6 +1,7 @@
 -- The insert is that of an operation, with the number of its sends, and its error takes the form of a single write's.
 use Rattle.std.proofs.Common.{ap, refl, sym}
 use Rattle.std.specs.Prelude.{Ok, Err}
+use Rattle.driver_exec.proofs.Refusing.{executes_client}
 use Rattle.driver_actions.specs.Writing.{insert_asked}
 use Rattle.driver_actions.proofs.Inserting.Making.{inserts_write, made_asks, made_bodies}
 use Rattle.driver_actions.proofs.insert.insert_counted.Goals as goal
@@ -26,7 +27,7 @@ returns-clause-inserts g c =
     c.in-Err.is c.convert_insert_many_error.ensures
 
 pub returns-in-Ok-clause-options : goal.returns-in-Ok-clause-options
-returns-in-Ok-clause-options g c = ap (λ client. client.options) (c.execute_operation-result.ensures.executes 1 refl).client_is
+returns-in-Ok-clause-options g c = ap (λ client. client.options) (executes_client _ _ _ _ _ _ _ _ (c.execute_operation-result.ensures.executes 1 refl))
 
 pub returns-clause-options : goal.returns-clause-options
-returns-clause-options g c = ap (λ client. client.options) (c.execute_operation-result.ensures.executes 1 refl).client_is
+returns-clause-options g c = ap (λ client. client.options) (executes_client _ _ _ _ _ _ _ _ (c.execute_operation-result.ensures.executes 1 refl))

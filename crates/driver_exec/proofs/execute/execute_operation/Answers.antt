@@ -1,16 +1,19 @@
--- The operation's attempts, and the session that came back, tell what it left and the cause of its end.
-use Rattle.std.proofs.Common.{refl, ap, ◌∙◌}
+-- A concern that is refused leaves all as it was; else the operation's attempts, and the session that came back, tell what it left
+-- and the cause of its end.
+use Rattle.std.proofs.Common.{◌≡◌, ℕ, List, refl, sym, ap, inl, inr, subst, ◌∙◌}
+use Rattle.std.specs.Prelude.{Option, None, Some, Err}
 use Rattle.driver_ops.specs.Operations.{batch_of}
 use Rattle.driver_exec.specs.Client.{store_of}
+use Rattle.driver_exec.specs.Concerns.{IsConcernError, concern_of, concern_refusal}
 use Rattle.driver_exec.proofs.Commanding.{fixed_some}
 use Rattle.driver_exec.proofs.Keeping.Standing.{one_command_entries, one_command_keeps}
-use Rattle.driver_exec.proofs.OperationCausing.{executes_caused}
-use Rattle.driver_exec.proofs.Resending.{executes_works}
+use Rattle.driver_exec.proofs.Refusing.{executes_caused, executes_works}
 use Rattle.driver_exec.proofs.execute.execute_operation.Goals as goal
 use Rattle.driver_exec.specs.inside.Attempting.{attempt_state}
 
 pub returns-clause-executes : goal.returns-clause-executes
-returns-clause-executes g c = λ statements fixed. record {
+returns-clause-executes g c = λ statements fixed. inr (record {
+  accepted = subst (λ options. concern_refusal (concern_of (g.O.Operation.spec c.args.op.now) (g.O.Operation.next c.args.op.now) options) ≡ None) c.options.ensures c.in-None.ensures;
   sharded = c.is_sharded-sharded.result;
   sharded_is = c.is_sharded-sharded.ensures;
   last = attempt_state (g.S.SessionStore.tells (store_of c.execute_operation_with_retry-held.new.client)) (g.L.Link.tells c.execute_operation_with_retry-held.new.outside.link) (g.K.Clock.tells c.execute_operation_with_retry-held.new.outside.clock) c.execute_operation_with_retry-held.result.0 c.execute_operation_with_retry-held.new.sends;
@@ -22,7 +25,13 @@ returns-clause-executes g c = λ statements fixed. record {
   back_at = c.check_in_session.ensures.takes.back_at;
   words_are = ap g.R.Rng.stream c.execute_operation_with_retry-held.ensures.words;
   client_is = ap (λ options. record { options = options }) (c.check_in_session.ensures.options ∙ c.execute_operation_with_retry-held.ensures.options);
-}
+})
+
+-- its concern is not refused
+pub returns-clause-unbuilt : goal.returns-clause-unbuilt
+returns-clause-unbuilt g c = λ text refused.
+    let accepted = subst (λ options. concern_refusal (concern_of (g.O.Operation.spec c.args.op.now) (g.O.Operation.next c.args.op.now) options) ≡ None) c.options.ensures c.in-None.ensures in
+    absurd (let e : ◌≡◌ {A = Option (List ℕ)} None (Some text) = sym accepted ∙ refused in cc)
 
 pub returns-clause-one_command : goal.returns-clause-one_command
 returns-clause-one_command g c = λ statements fixed.
@@ -44,3 +53,27 @@ pub returns-clause-entries : goal.returns-clause-entries
 returns-clause-entries g c = λ statements fixed body asked.
     one_command_entries (g.O.Operation.spec c.args.op.now) (batch_of c.args.places.now statements) _ _ body asked (g.met.O.Operation.law c.args.op.now) c.execute_operation_with_retry-held.result.1
     (returns-clause-one_command g c statements fixed)
+
+pub returns-in-Some-clause-executes : goal.returns-in-Some-clause-executes
+returns-in-Some-clause-executes g c = λ statements fixed. inl (record {
+  error = c.in-Some.error;
+  answers = refl;
+  is = subst (λ options. IsConcernError (concern_of (g.O.Operation.spec c.args.op.now) (g.O.Operation.next c.args.op.now) options) c.in-Some.error) c.options.ensures c.in-Some.ensures;
+  same = refl;
+  uncounted = refl;
+})
+
+pub returns-in-Some-clause-one_command : goal.returns-in-Some-clause-one_command
+returns-in-Some-clause-one_command g c = λ statements fixed.
+    executes_works (g.O.Operation.spec c.args.op.now) (batch_of c.args.places.now statements) (g.O.Operation.next c.args.op.now) _ _ c.args.sends.now c.args.sends.now (Err c.in-Some.error)
+    (returns-in-Some-clause-executes g c statements fixed)
+
+pub returns-in-Some-clause-caused : goal.returns-in-Some-clause-caused
+returns-in-Some-clause-caused g c =
+    let some = fixed_some (g.O.Operation.built c.args.op.now) in
+    executes_caused (g.O.Operation.spec c.args.op.now) (batch_of c.args.places.now some.0) (g.O.Operation.next c.args.op.now) _ _ c.args.sends.now c.args.sends.now (Err c.in-Some.error)
+    (returns-in-Some-clause-executes g c some.0 some.1)
+
+pub returns-in-Some-clause-keeps : goal.returns-in-Some-clause-keeps
+returns-in-Some-clause-keeps g c = λ statements fixed body asked.
+    one_command_keeps (g.O.Operation.spec c.args.op.now) (batch_of c.args.places.now statements) _ _ body asked (Err c.in-Some.error) (returns-in-Some-clause-one_command g c statements fixed)

@@ -5,9 +5,10 @@ use Rattle.driver_exec.specs.declared.attempt_end.AttemptEnd.TheVariants.{Failed
 use Rattle.driver_ops.specs.Operations.{batch_of}
 use Rattle.driver_exec.specs.Attempting.{trial_of}
 use Rattle.driver_exec.specs.Client.{options_of, store_of}
+use Rattle.driver_exec.specs.Concerns.{concern_of}
 use Rattle.driver_exec.specs.Holding.{holds_nothing}
 use Rattle.driver_exec.specs.Retry.{Decides, decide}
-use Rattle.driver_exec.proofs.Commanding.{bodies_same, counted_twice, fixed_some, fixes_twice}
+use Rattle.driver_exec.proofs.Commanding.{bodies_same, concern_same, counted_twice, fixed_some, fixes_twice}
 use Rattle.driver_exec.proofs.Executing.{decided_fewer, ends_at_limit, ends_last, ends_refused, failed_is, goes_further, may_answer, same_twice, tried}
 use Rattle.driver_exec.proofs.execute.execute_operation_with_retry.Goals as goal
 use Rattle.driver_exec.specs.inside.Attempting.{attempt_state}
@@ -16,7 +17,8 @@ pub returns-then-limit_reached-clause-attempts : goal.returns-then-limit_reached
 returns-then-limit_reached-clause-attempts g c = λ statements fixed.
     let spec = g.O.Operation.spec c.args.op.now in
     let own = spec.retryability (options_of c.args.client.now) in
-    let trial = trial_of spec (batch_of c.args.places.now statements) (g.O.Operation.next c.args.op.now) own in
+    let concern = concern_of spec (g.O.Operation.next c.args.op.now) (options_of c.args.client.now) in
+    let trial = trial_of spec (batch_of c.args.places.now statements) (g.O.Operation.next c.args.op.now) own concern in
     let began = (attempt_state (g.S.SessionStore.tells (store_of c.args.client.now)) (g.L.Link.tells c.args.outside.now.link) (g.K.Clock.tells c.args.outside.now.clock) holds_nothing c.args.sends.now) in
     let mid = (attempt_state (g.S.SessionStore.tells (store_of c.attempts.client)) (g.L.Link.tells c.attempts.outside.link) (g.K.Clock.tells c.attempts.outside.clock) c.attempts.held c.attempts.sends) in
     ends_at_limit trial c.args.sharded began c.attempts.kept mid (c.attempts.invariant.far statements fixed) c.last_error.result (sym c.limit_reached.ensures ∙ c.if-limit_reached.true) c.last_error.ensures
@@ -30,20 +32,23 @@ pub attempts-preserved : goal.attempts-preserved
 attempts-preserved g c =
     let spec = g.O.Operation.spec c.args.op.now in
     let own = spec.retryability (options_of c.args.client.now) in
+    let concern = concern_of spec (g.O.Operation.next c.args.op.now) (options_of c.args.client.now) in
     let began = (attempt_state (g.S.SessionStore.tells (store_of c.args.client.now)) (g.L.Link.tells c.args.outside.now.link) (g.K.Clock.tells c.args.outside.now.clock) holds_nothing c.args.sends.now) in
     let mid = (attempt_state (g.S.SessionStore.tells (store_of c.attempts.client)) (g.L.Link.tells c.attempts.outside.link) (g.K.Clock.tells c.attempts.outside.clock) c.attempts.held c.attempts.sends) in
     let now = (attempt_state (g.S.SessionStore.tells (store_of c.try_once-next.new.client)) (g.L.Link.tells c.try_once-next.new.outside.link) (g.K.Clock.tells c.try_once-next.new.outside.clock) c.try_once-next.result.0 c.try_once-next.new.sends) in
     let goes_on = sym c.limit_reached.ensures ∙ c.if-limit_reached.false in
     let owned = c.attempts.invariant.spec.retryability (options_of c.attempts.client) ∙ ap (λ options. spec.retryability options) c.attempts.invariant.options in
+    let goes_with = ap (λ options. concern_of (g.O.Operation.spec c.attempts.op) (g.O.Operation.next c.attempts.op) options) c.attempts.invariant.options
+    ∙ concern_same spec (g.O.Operation.spec c.attempts.op) c.attempts.invariant.spec (g.O.Operation.next c.args.op.now) (g.O.Operation.next c.attempts.op) (options_of c.args.client.now) c.attempts.invariant.next in
     let decided = subst (λ o. Decides (decide c.attempts.kept c.in-Ok.failing o c.args.sharded) (Ok c.in-Ok-decide.retry)) c.attempts.invariant.own c.in-Ok-decide.ensures in
     let fewer = decided_fewer c.in-Ok.failing c.retryability-own.result c.args.sharded c.attempts.kept c.in-Ok-decide.retry c.attempts.invariant.once goes_on c.in-Ok-decide.ensures in
     record {
       far = λ statements fixed.
           let batch = batch_of c.args.places.now statements in
           let which = g.O.Operation.next c.args.op.now in
-          let tries = tried spec (g.O.Operation.spec c.attempts.op) c.attempts.invariant.spec batch which _ _ own _ c.attempts.kept mid now c.try_once-next.result.1 (Failed c.in-Ok.failing)
-          c.attempts.invariant.next owned c.as_ref.ensures.value (failed_is c.try_once-next.result.1 c.in-Ok.failing c.in-Ok.ensures) (c.try_once-next.ensures.tries statements fixed) in
-          goes_further (trial_of spec batch which own) c.args.sharded began c.attempts.kept mid (c.attempts.invariant.far statements (c.try_once-next.ensures.fixed statements fixed)) now goes_on
+          let tries = tried spec (g.O.Operation.spec c.attempts.op) c.attempts.invariant.spec batch which _ _ own _ concern _ c.attempts.kept mid now c.try_once-next.result.1 (Failed c.in-Ok.failing)
+          c.attempts.invariant.next owned goes_with c.as_ref.ensures.value (failed_is c.try_once-next.result.1 c.in-Ok.failing c.in-Ok.ensures) (c.try_once-next.ensures.tries statements fixed) in
+          goes_further (trial_of spec batch which own concern) c.args.sharded began c.attempts.kept mid (c.attempts.invariant.far statements (c.try_once-next.ensures.fixed statements fixed)) now goes_on
           c.in-Ok.failing c.in-Ok-decide.retry tries decided;
       spec = same_twice spec (g.O.Operation.spec c.attempts.op) (g.O.Operation.spec c.try_once-next.new.op) c.attempts.invariant.spec c.try_once-next.ensures.spec;
       fixed = fixes_twice _ (g.O.Operation.built c.attempts.op) _ c.attempts.invariant.fixed c.try_once-next.ensures.fixed;
@@ -62,14 +67,17 @@ pub returns-in-Err-decide-clause-attempts : goal.returns-in-Err-decide-clause-at
 returns-in-Err-decide-clause-attempts g c = λ statements fixed.
     let spec = g.O.Operation.spec c.args.op.now in
     let own = spec.retryability (options_of c.args.client.now) in
-    let trial = trial_of spec (batch_of c.args.places.now statements) (g.O.Operation.next c.args.op.now) own in
+    let concern = concern_of spec (g.O.Operation.next c.args.op.now) (options_of c.args.client.now) in
+    let trial = trial_of spec (batch_of c.args.places.now statements) (g.O.Operation.next c.args.op.now) own concern in
     let began = (attempt_state (g.S.SessionStore.tells (store_of c.args.client.now)) (g.L.Link.tells c.args.outside.now.link) (g.K.Clock.tells c.args.outside.now.clock) holds_nothing c.args.sends.now) in
     let mid = (attempt_state (g.S.SessionStore.tells (store_of c.attempts.client)) (g.L.Link.tells c.attempts.outside.link) (g.K.Clock.tells c.attempts.outside.clock) c.attempts.held c.attempts.sends) in
     let now = (attempt_state (g.S.SessionStore.tells (store_of c.try_once-next.new.client)) (g.L.Link.tells c.try_once-next.new.outside.link) (g.K.Clock.tells c.try_once-next.new.outside.clock) c.try_once-next.result.0 c.try_once-next.new.sends) in
     let goes_on = sym c.limit_reached.ensures ∙ c.if-limit_reached.false in
     let owned = c.attempts.invariant.spec.retryability (options_of c.attempts.client) ∙ ap (λ options. spec.retryability options) c.attempts.invariant.options in
-    let tries = tried spec (g.O.Operation.spec c.attempts.op) c.attempts.invariant.spec (batch_of c.args.places.now statements) (g.O.Operation.next c.args.op.now) _ _ own _ c.attempts.kept mid now c.try_once-next.result.1 (Failed c.in-Ok.failing)
-    c.attempts.invariant.next owned c.as_ref.ensures.value (failed_is c.try_once-next.result.1 c.in-Ok.failing c.in-Ok.ensures) (c.try_once-next.ensures.tries statements fixed) in
+    let goes_with = ap (λ options. concern_of (g.O.Operation.spec c.attempts.op) (g.O.Operation.next c.attempts.op) options) c.attempts.invariant.options
+    ∙ concern_same spec (g.O.Operation.spec c.attempts.op) c.attempts.invariant.spec (g.O.Operation.next c.args.op.now) (g.O.Operation.next c.attempts.op) (options_of c.args.client.now) c.attempts.invariant.next in
+    let tries = tried spec (g.O.Operation.spec c.attempts.op) c.attempts.invariant.spec (batch_of c.args.places.now statements) (g.O.Operation.next c.args.op.now) _ _ own _ concern _ c.attempts.kept mid now c.try_once-next.result.1 (Failed c.in-Ok.failing)
+    c.attempts.invariant.next owned goes_with c.as_ref.ensures.value (failed_is c.try_once-next.result.1 c.in-Ok.failing c.in-Ok.ensures) (c.try_once-next.ensures.tries statements fixed) in
     let decided = subst (λ o. Decides (decide c.attempts.kept c.in-Ok.failing o c.args.sharded) (Err c.in-Err-decide.error)) c.attempts.invariant.own c.in-Err-decide.ensures in
     ends_refused trial c.args.sharded began c.attempts.kept mid (c.attempts.invariant.far statements (c.try_once-next.ensures.fixed statements fixed)) now goes_on c.in-Ok.failing c.in-Err-decide.error tries decided
 
@@ -78,20 +86,24 @@ pub answer_of-requires : goal.answer_of-requires
 answer_of-requires g c =
     let spec = g.O.Operation.spec c.args.op.now in
     let own = spec.retryability (options_of c.args.client.now) in
+    let concern = concern_of spec (g.O.Operation.next c.args.op.now) (options_of c.args.client.now) in
     let some = fixed_some (g.O.Operation.built c.try_once-next.new.op) in
     let batch = batch_of c.args.places.now some.0 in
     let which = g.O.Operation.next c.args.op.now in
     let mid = (attempt_state (g.S.SessionStore.tells (store_of c.attempts.client)) (g.L.Link.tells c.attempts.outside.link) (g.K.Clock.tells c.attempts.outside.clock) c.attempts.held c.attempts.sends) in
     let now = (attempt_state (g.S.SessionStore.tells (store_of c.try_once-next.new.client)) (g.L.Link.tells c.try_once-next.new.outside.link) (g.K.Clock.tells c.try_once-next.new.outside.clock) c.try_once-next.result.0 c.try_once-next.new.sends) in
     let owned = c.attempts.invariant.spec.retryability (options_of c.attempts.client) ∙ ap (λ options. spec.retryability options) c.attempts.invariant.options in
-    let tries = tried spec (g.O.Operation.spec c.attempts.op) c.attempts.invariant.spec batch which _ _ own _ c.attempts.kept mid now c.try_once-next.result.1 c.try_once-next.result.1
-    c.attempts.invariant.next owned c.as_ref.ensures.value refl (c.try_once-next.ensures.tries some.0 some.1) in
-    may_answer (trial_of spec batch which own) c.attempts.kept mid now c.try_once-next.result.1 c.in-Err.end tries c.in-Err.ensures
+    let goes_with = ap (λ options. concern_of (g.O.Operation.spec c.attempts.op) (g.O.Operation.next c.attempts.op) options) c.attempts.invariant.options
+    ∙ concern_same spec (g.O.Operation.spec c.attempts.op) c.attempts.invariant.spec (g.O.Operation.next c.args.op.now) (g.O.Operation.next c.attempts.op) (options_of c.args.client.now) c.attempts.invariant.next in
+    let tries = tried spec (g.O.Operation.spec c.attempts.op) c.attempts.invariant.spec batch which _ _ own _ concern _ c.attempts.kept mid now c.try_once-next.result.1 c.try_once-next.result.1
+    c.attempts.invariant.next owned goes_with c.as_ref.ensures.value refl (c.try_once-next.ensures.tries some.0 some.1) in
+    may_answer (trial_of spec batch which own concern) c.attempts.kept mid now c.try_once-next.result.1 c.in-Err.end tries c.in-Err.ensures
 
 pub returns-in-Err-clause-attempts : goal.returns-in-Err-clause-attempts
 returns-in-Err-clause-attempts g c = λ statements fixed.
     let spec = g.O.Operation.spec c.args.op.now in
     let own = spec.retryability (options_of c.args.client.now) in
+    let concern = concern_of spec (g.O.Operation.next c.args.op.now) (options_of c.args.client.now) in
     let batch = batch_of c.args.places.now statements in
     let which = g.O.Operation.next c.args.op.now in
     let began = (attempt_state (g.S.SessionStore.tells (store_of c.args.client.now)) (g.L.Link.tells c.args.outside.now.link) (g.K.Clock.tells c.args.outside.now.clock) holds_nothing c.args.sends.now) in
@@ -99,9 +111,11 @@ returns-in-Err-clause-attempts g c = λ statements fixed.
     let now = (attempt_state (g.S.SessionStore.tells (store_of c.try_once-next.new.client)) (g.L.Link.tells c.try_once-next.new.outside.link) (g.K.Clock.tells c.try_once-next.new.outside.clock) c.try_once-next.result.0 c.try_once-next.new.sends) in
     let goes_on = sym c.limit_reached.ensures ∙ c.if-limit_reached.false in
     let owned = c.attempts.invariant.spec.retryability (options_of c.attempts.client) ∙ ap (λ options. spec.retryability options) c.attempts.invariant.options in
-    let tries = tried spec (g.O.Operation.spec c.attempts.op) c.attempts.invariant.spec batch which _ _ own _ c.attempts.kept mid now c.try_once-next.result.1 c.try_once-next.result.1
-    c.attempts.invariant.next owned c.as_ref.ensures.value refl (c.try_once-next.ensures.tries statements fixed) in
-    ends_last (trial_of spec batch which own) c.args.sharded began c.attempts.kept mid (c.attempts.invariant.far statements (c.try_once-next.ensures.fixed statements fixed)) now goes_on
+    let goes_with = ap (λ options. concern_of (g.O.Operation.spec c.attempts.op) (g.O.Operation.next c.attempts.op) options) c.attempts.invariant.options
+    ∙ concern_same spec (g.O.Operation.spec c.attempts.op) c.attempts.invariant.spec (g.O.Operation.next c.args.op.now) (g.O.Operation.next c.attempts.op) (options_of c.args.client.now) c.attempts.invariant.next in
+    let tries = tried spec (g.O.Operation.spec c.attempts.op) c.attempts.invariant.spec batch which _ _ own _ concern _ c.attempts.kept mid now c.try_once-next.result.1 c.try_once-next.result.1
+    c.attempts.invariant.next owned goes_with c.as_ref.ensures.value refl (c.try_once-next.ensures.tries statements fixed) in
+    ends_last (trial_of spec batch which own concern) c.args.sharded began c.attempts.kept mid (c.attempts.invariant.far statements (c.try_once-next.ensures.fixed statements fixed)) now goes_on
     c.try_once-next.result.1 c.in-Err.end c.answer_of.result tries c.in-Err.ensures c.answer_of.ensures
 
 pub returns-in-Err-clause-spec : goal.returns-in-Err-clause-spec

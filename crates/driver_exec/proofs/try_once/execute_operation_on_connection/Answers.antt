@@ -1,9 +1,11 @@
 -- Where there is no session, or nothing may be repeated, the attempt ends so; else its command goes out.
-use Rattle.std.proofs.Common.{ap, ◌∙◌, sym}
+use Rattle.std.proofs.Common.{ap, subst, ◌∙◌, sym}
 use Rattle.std.specs.Prelude.{Ok, Err}
 use Rattle.driver_ops.specs.Operations.{batch_of}
-use Rattle.driver_exec.specs.Attempting.{asks_session, is_nothing, on_connection, stops}
-use Rattle.driver_exec.specs.Client.{store_of}
+use Rattle.driver_exec.specs.Attempting.{asks_session, besides_out, is_nothing, on_connection, stops}
+use Rattle.driver_exec.specs.Client.{options_of, store_of}
+use Rattle.driver_exec.specs.Concerns.{concern_of}
+use Rattle.driver_exec.specs.inside.Attempting.{Sending}
 use Rattle.driver_exec.proofs.Trying.{both_true, holds_asked, sent_tries, sessionless_tries, stopped_tries, unready_tries}
 use Rattle.driver_exec.proofs.try_once.execute_operation_on_connection.Goals as goal
 
@@ -12,14 +14,15 @@ returns-in-Err-clause-tries g c = λ statements fixed own turn kept again before
     let batch = batch_of c.args.places.now statements in
     let which = g.O.Operation.next c.args.op.now in
     let spec = g.O.Operation.spec c.args.op.now in
+    let concern = concern_of spec which (options_of c.args.client.now) in
     let store = g.S.SessionStore.tells (store_of c.args.client.now) in
     let store_now = g.S.SessionStore.tells (store_of c.check_out_session-held.new.client) in
     let link = (g.L.Link.tells c.args.outside.now.link) in
     let clock = g.K.Clock.tells c.args.outside.now.clock in
     let clock_now = g.K.Clock.tells c.check_out_session-held.new.clock in
     let asked = c.asks_session-asked.ensures ∙ ap (λ sessions. asks_session sessions c.args.turn.now.conn.now.description) c.supports_sessions.ensures in
-    unready_tries spec batch which own kept store store_now before link clock clock_now c.args.held c.check_out_session-held.result.0 c.args.sends.now c.args.address c.args.turn.now.conn.now connects c.in-Err.error
-    (holds_asked spec batch which own kept store store_now before link clock clock_now c.args.held c.check_out_session-held.result.0 c.args.sends.now c.args.address c.args.turn.now.conn.now connects
+    unready_tries spec batch which own concern kept store store_now before link clock clock_now c.args.held c.check_out_session-held.result.0 c.args.sends.now c.args.address c.args.turn.now.conn.now connects c.in-Err.error
+    (holds_asked spec batch which own concern kept store store_now before link clock clock_now c.args.held c.check_out_session-held.result.0 c.args.sends.now c.args.address c.args.turn.now.conn.now connects
     c.asks_session-asked.result c.check_out_session-held.result.1 (Err c.in-Err.error) asked c.in-Err.is c.check_out_session-held.ensures.holds)
 
 pub returns-then-stops-clause-tries : goal.returns-then-stops-clause-tries
@@ -27,6 +30,7 @@ returns-then-stops-clause-tries g c = λ statements fixed own turn kept again be
     let batch = batch_of c.args.places.now statements in
     let which = g.O.Operation.next c.args.op.now in
     let spec = g.O.Operation.spec c.args.op.now in
+    let concern = concern_of spec which (options_of c.args.client.now) in
     let store = g.S.SessionStore.tells (store_of c.args.client.now) in
     let store_now = g.S.SessionStore.tells (store_of c.check_out_session-held.new.client) in
     let link = (g.L.Link.tells c.args.outside.now.link) in
@@ -34,8 +38,8 @@ returns-then-stops-clause-tries g c = λ statements fixed own turn kept again be
     let clock_now = g.K.Clock.tells c.check_out_session-held.new.clock in
     let asked = c.asks_session-asked.ensures ∙ ap (λ sessions. asks_session sessions c.args.turn.now.conn.now.description) c.supports_sessions.ensures in
     let both = both_true c.args.turn.now.again (is_nothing c.args.turn.now.turn) (sym c.stops.ensures ∙ c.if-stops.true) in
-    stopped_tries spec batch which own kept store store_now before link clock clock_now c.args.held c.check_out_session-held.result.0 c.args.sends.now c.args.address c.args.turn.now.conn.now connects
-    (holds_asked spec batch which own kept store store_now before link clock clock_now c.args.held c.check_out_session-held.result.0 c.args.sends.now c.args.address c.args.turn.now.conn.now connects
+    stopped_tries spec batch which own concern kept store store_now before link clock clock_now c.args.held c.check_out_session-held.result.0 c.args.sends.now c.args.address c.args.turn.now.conn.now connects
+    (holds_asked spec batch which own concern kept store store_now before link clock clock_now c.args.held c.check_out_session-held.result.0 c.args.sends.now c.args.address c.args.turn.now.conn.now connects
     c.asks_session-asked.result c.check_out_session-held.result.1 (Ok tt) asked c.in-Ok.is c.check_out_session-held.ensures.holds)
     (sym again ∙ both.0) (sym c.may_use.ensures ∙ c.if-may_use.true) (sym (ap is_nothing turn) ∙ both.1)
 
@@ -44,29 +48,34 @@ returns-then-may_use-clause-tries g c = λ statements fixed own turn kept again 
     let batch = batch_of c.args.places.now statements in
     let which = g.O.Operation.next c.args.op.now in
     let spec = g.O.Operation.spec c.args.op.now in
+    let concern = concern_of spec which (options_of c.args.client.now) in
     let store = g.S.SessionStore.tells (store_of c.args.client.now) in
     let store_now = g.S.SessionStore.tells (store_of c.check_out_session-held.new.client) in
     let link = (g.L.Link.tells c.args.outside.now.link) in
     let clock = g.K.Clock.tells c.args.outside.now.clock in
     let clock_now = g.K.Clock.tells c.check_out_session-held.new.clock in
     let asked = c.asks_session-asked.ensures ∙ ap (λ sessions. asks_session sessions c.args.turn.now.conn.now.description) c.supports_sessions.ensures in
-    sent_tries spec batch which own kept store store_now before link clock clock_now c.args.held c.check_out_session-held.result.0 c.args.sends.now c.args.address c.args.turn.now.conn.now connects
-    (holds_asked spec batch which own kept store store_now before link clock clock_now c.args.held c.check_out_session-held.result.0 c.args.sends.now c.args.address c.args.turn.now.conn.now connects
+    sent_tries spec batch which own concern kept store store_now before link clock clock_now c.args.held c.check_out_session-held.result.0 c.args.sends.now c.args.address c.args.turn.now.conn.now connects
+    (holds_asked spec batch which own concern kept store store_now before link clock clock_now c.args.held c.check_out_session-held.result.0 c.args.sends.now c.args.address c.args.turn.now.conn.now connects
     c.asks_session-asked.result c.check_out_session-held.result.1 (Ok tt) asked c.in-Ok.is c.check_out_session-held.ensures.holds)
-    (sym c.may_use.ensures ∙ c.if-may_use.true) (ap (λ b. stops b (on_connection own c.args.turn.now.conn.now.description)) (sym again) ∙ ap (λ t. stops c.args.turn.now.again t) (sym turn) ∙ sym c.stops.ensures ∙ c.if-stops.false) (g.L.Link.tells c.send.new.link) _ _ _ _ _ turn again (c.send.ensures.sending statements fixed)
+    (sym c.may_use.ensures ∙ c.if-may_use.true) (ap (λ b. stops b (on_connection own c.args.turn.now.conn.now.description)) (sym again) ∙ ap (λ t. stops c.args.turn.now.again t) (sym turn) ∙ sym c.stops.ensures ∙ c.if-stops.false) (g.L.Link.tells c.send.new.link) _ _ _ _ _ turn again
+    (subst (λ k. Sending spec which k batch c.args.turn.now.again (besides_out link) (besides_out (g.L.Link.tells c.send.new.link)) c.args.turn.now.turn c.args.turn.now.conn.now c.args.address
+    c.check_out_session-held.result.0 c.send.result.0 c.args.sends.now c.send.new.sends c.send.result.1)
+    (ap (λ options. concern_of spec which options) (c.options.ensures ∙ c.check_out_session-held.ensures.options)) (c.send.ensures.sending statements fixed))
 
 pub returns-clause-tries : goal.returns-clause-tries
 returns-clause-tries g c = λ statements fixed own turn kept again before connects.
     let batch = batch_of c.args.places.now statements in
     let which = g.O.Operation.next c.args.op.now in
     let spec = g.O.Operation.spec c.args.op.now in
+    let concern = concern_of spec which (options_of c.args.client.now) in
     let store = g.S.SessionStore.tells (store_of c.args.client.now) in
     let store_now = g.S.SessionStore.tells (store_of c.check_out_session-held.new.client) in
     let link = (g.L.Link.tells c.args.outside.now.link) in
     let clock = g.K.Clock.tells c.args.outside.now.clock in
     let clock_now = g.K.Clock.tells c.check_out_session-held.new.clock in
     let asked = c.asks_session-asked.ensures ∙ ap (λ sessions. asks_session sessions c.args.turn.now.conn.now.description) c.supports_sessions.ensures in
-    sessionless_tries spec batch which own kept store store_now before link clock clock_now c.args.held c.check_out_session-held.result.0 c.args.sends.now c.args.address c.args.turn.now.conn.now connects
-    (holds_asked spec batch which own kept store store_now before link clock clock_now c.args.held c.check_out_session-held.result.0 c.args.sends.now c.args.address c.args.turn.now.conn.now connects
+    sessionless_tries spec batch which own concern kept store store_now before link clock clock_now c.args.held c.check_out_session-held.result.0 c.args.sends.now c.args.address c.args.turn.now.conn.now connects
+    (holds_asked spec batch which own concern kept store store_now before link clock clock_now c.args.held c.check_out_session-held.result.0 c.args.sends.now c.args.address c.args.turn.now.conn.now connects
     c.asks_session-asked.result c.check_out_session-held.result.1 (Ok tt) asked c.in-Ok.is c.check_out_session-held.ensures.holds)
     c.from_kind-refused.result (sym c.may_use.ensures ∙ c.if-may_use.false) c.from_kind-refused.ensures

@@ -6,6 +6,7 @@ use Rattle.driver_link.specs.LinkState.{GainsAnswer}
 use Rattle.driver_ops.specs.Operations.{batch_of}
 use Rattle.driver_exec.specs.Attempting.{Tries, avoided, besides_out, trial_of}
 use Rattle.driver_exec.specs.Client.{options_of, store_of}
+use Rattle.driver_exec.specs.Concerns.{concern_of}
 use Rattle.driver_exec.proofs.Trying.{asks_avoided, checks_besides, handed_besides, out_again, unconnected_tries, unselected_tries}
 use Rattle.driver_exec.proofs.try_once.try_once.Goals as goal
 use Rattle.driver_exec.specs.inside.Attempting.{attempt_state}
@@ -13,7 +14,7 @@ use Rattle.driver_exec.specs.inside.Failures.{EndsUnconnected}
 
 pub returns-in-Err-clause-tries : goal.returns-in-Err-clause-tries
 returns-in-Err-clause-tries g c = λ statements fixed.
-    unselected_tries (g.O.Operation.spec c.args.op.now) (batch_of c.args.places.now statements) (g.O.Operation.next c.args.op.now) _ (option_copied c.args.kept) (g.S.SessionStore.tells (store_of c.args.client.now))
+    unselected_tries (g.O.Operation.spec c.args.op.now) (batch_of c.args.places.now statements) (g.O.Operation.next c.args.op.now) _ _ (option_copied c.args.kept) (g.S.SessionStore.tells (store_of c.args.client.now))
     (g.L.Link.tells c.args.outside.now.link) (g.L.Link.tells c.select.new.self) (g.K.Clock.tells c.args.outside.now.clock) c.args.held c.args.sends.now c.in-Err.failure c.unselected.result
     (asks_avoided _ (avoided (option_copied c.args.kept)) (g.L.Link.tells c.args.outside.now.link) (g.L.Link.tells c.select.new.self) (Err c.in-Err.failure) c.avoided.ensures c.in-Err.ensures)
     c.unselected.ensures
@@ -23,17 +24,18 @@ returns-in-Err-check_out-clause-tries g c = λ statements fixed.
     let batch = batch_of c.args.places.now statements in
     let which = g.O.Operation.next c.args.op.now in
     let spec = g.O.Operation.spec c.args.op.now in
+    let concern = concern_of spec which (options_of c.args.client.now) in
     let store = g.S.SessionStore.tells (store_of c.args.client.now) in
     let link = g.L.Link.tells c.args.outside.now.link in
     let clock = g.K.Clock.tells c.args.outside.now.clock in
     let mid = g.L.Link.tells c.select.new.self in
     let checked = g.L.Link.tells c.check_out.new.self in
-    let tries = unconnected_tries spec batch which c.retryability-own.result (option_copied c.args.kept) store link (besides_out mid) checked
+    let tries = unconnected_tries spec batch which c.retryability-own.result concern (option_copied c.args.kept) store link (besides_out mid) checked
     clock c.args.held c.args.sends.now c.in-Ok.address c.in-Err-check_out.failure c.unconnected.result
     (asks_avoided _ (avoided (option_copied c.args.kept)) link mid (Ok c.in-Ok.address) c.avoided.ensures c.in-Ok.ensures)
     (checks_besides mid checked c.in-Ok.address (Err c.in-Err-check_out.failure) c.in-Err-check_out.ensures)
     (subst (λ n. EndsUnconnected c.retryability-own.result c.in-Ok.address n c.in-Err-check_out.failure c.unconnected.result) c.number-number.ensures c.unconnected.ensures) in
-    subst (λ own. Tries (trial_of spec batch which own) (option_copied c.args.kept) (attempt_state store link clock c.args.held c.args.sends.now)
+    subst (λ own. Tries (trial_of spec batch which own concern) (option_copied c.args.kept) (attempt_state store link clock c.args.held c.args.sends.now)
     (attempt_state store checked clock c.args.held c.args.sends.now) c.unconnected.result)
     (c.retryability-own.ensures ∙ ap (λ options. spec.retryability options) c.options.ensures) tries
 
@@ -42,6 +44,7 @@ returns-clause-tries g c = λ statements fixed.
     let batch = batch_of c.args.places.now statements in
     let which = g.O.Operation.next c.args.op.now in
     let spec = g.O.Operation.spec c.args.op.now in
+    let concern = concern_of spec which (options_of c.args.client.now) in
     let store = g.S.SessionStore.tells (store_of c.args.client.now) in
     let store_now = g.S.SessionStore.tells (store_of c.execute_operation_on_connection-held.new.client) in
     let link = g.L.Link.tells c.args.outside.now.link in
@@ -57,10 +60,10 @@ returns-clause-tries g c = λ statements fixed.
       selects = asks_avoided _ (avoided (option_copied c.args.kept)) link mid (Ok c.in-Ok.address) c.avoided.ensures c.in-Ok.ensures;
       checks_out = checks_besides mid checked c.in-Ok.address (Ok c.in-Ok-check_out.conn) c.in-Ok-check_out.ensures;
     }) in
-    subst (λ l. Tries (trial_of spec batch which (spec.retryability (options_of c.args.client.now))) (option_copied c.args.kept) (attempt_state store link clock c.args.held c.args.sends.now)
+    subst (λ l. Tries (trial_of spec batch which (spec.retryability (options_of c.args.client.now)) concern) (option_copied c.args.kept) (attempt_state store link clock c.args.held c.args.sends.now)
     (record { store = store_now; link = l; clock = clock_now; held = c.execute_operation_on_connection-held.result.0; count = c.execute_operation_on_connection-held.new.sends }) c.execute_operation_on_connection-held.result.1)
     (sym (handed_besides sent now c.in-Ok-check_out.conn c.check_in_connection.ensures))
-    (subst (λ own. Tries (trial_of spec batch which own) (option_copied c.args.kept) (attempt_state store link clock c.args.held c.args.sends.now)
+    (subst (λ own. Tries (trial_of spec batch which own concern) (option_copied c.args.kept) (attempt_state store link clock c.args.held c.args.sends.now)
     (attempt_state store_now sent clock_now c.execute_operation_on_connection-held.result.0 c.execute_operation_on_connection-held.new.sends) c.execute_operation_on_connection-held.result.1) owned tries)
 
 -- what was checked out and handed back is out no more

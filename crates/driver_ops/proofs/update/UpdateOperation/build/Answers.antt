@@ -1,5 +1,5 @@
 -- The command is one of an update.
-use Rattle.std.proofs.Common.{◌∙◌, ap, refl, sym}
+use Rattle.std.proofs.Common.{◌∙◌, ap, refl}
 use Rattle.driver_ops.specs.Updating.{update_command}
 use Rattle.driver_ops.specs.SendKinds.{first}
 use Rattle.driver_ops.specs.Targets.{namespace_of}
