@@ -26,3 +26,4 @@ pub mod Sameness
 pub mod SendCounts
 pub mod Storing
 pub mod Trying
+pub mod Unnumbered

@@ -12,6 +12,7 @@ use Rattle.driver_link.specs.declared.fault.LinkFault.TheVariants.{Io, Selection
 use Rattle.driver_link.specs.declared.keys.TheConstants.{SELECTION_FAILURE}
 use Rattle.driver_link.specs.declared.machine.Send.{Send}
 use Rattle.driver_link.specs.declared.machine.SendBody.{SendBody}
+use Rattle.driver_link.specs.declared.machine.WriteKind.{WriteKind}
 use Rattle.driver_link.specs.declared.options.Address.{Address}
 use Rattle.driver_link.specs.declared.options.Conn.{Conn}
 use Rattle.driver_link.specs.Counting.{Counts, Listed, check_out_fault, checked_out, fault_where, is_listed, one_more, overload_labels, select_fault, selected}
@@ -210,7 +211,7 @@ module _ {A : Type 0} (trial : Trial A) (past : Option RetryState) (body : SendB
   ]
 
 -- in a gentle part no call fails that is counted
-module _ (repeats : Type 0) (told told_now : ServerRun) (gentle : IsGentlePart repeats told told_now) where
+module _ {does : WriteKind} (repeats : Type 0) (told told_now : ServerRun) (gentle : IsGentlePart does repeats told told_now) where
   -- a fault is not none
   none_some : (listed : Listed) → ◌≡◌ {A = Option Listed} None (Some listed) → ⊥
   none_some listed is = cc

@@ -4,6 +4,7 @@ use Rattle.std.specs.Prelude.{Option, None, Some, Result}
 use Rattle.driver_error.specs.declared.error.Error.{Error}
 use Rattle.driver_error.specs.Error.{labels_of}
 use Rattle.driver_link.specs.LinkState.{server_run}
+use Rattle.driver_session.specs.declared.retryability.Retryability.TheVariants as may
 use Rattle.driver_session.specs.StoreTells.{Draws, LendsAsBefore}
 use Rattle.driver_session.proofs.Drawing.{draws_staying}
 use Rattle.driver_session.proofs.Lending.{lends_staying}
@@ -21,7 +22,7 @@ use Rattle.driver_exec.proofs.ClockReadings.{proceeds_read, read_same}
 use Rattle.driver_exec.proofs.OperationCausing.{proceeds_caused}
 use Rattle.driver_exec.proofs.Resending.{proceeds_draws, proceeds_lends, proceeds_works}
 use Rattle.driver_exec.proofs.Resends.{begins_unsent}
-use Rattle.driver_exec.proofs.SendCounts.{proceeds_few}
+use Rattle.driver_exec.proofs.SendCounts.{proceeds_few, proceeds_once}
 
 module _ {A : Type 0} (spec : OperationSpec A) (batch : Batch) (which : SendKind) (before now : Moment) (count count_now : ℕ) (result : Result A Error) where
   -- one that is refused sends nothing
@@ -29,6 +30,7 @@ module _ {A : Type 0} (spec : OperationSpec A) (batch : Batch) (which : SendKind
   refused_works refuses = record {
     session = None;
     number = None;
+    unnumbered = λ own. refl;
     borrows = (ap (λ moment. moment.store) refuses.same, refl);
     sends = λ body asked. record {
       count = 0;
@@ -91,6 +93,13 @@ module _ {A : Type 0} (spec : OperationSpec A) (batch : Batch) (which : SendKind
   executes_few executes = elim executes [
     | inl refuses ↦ omega (arith, refuses.uncounted)
     | inr proceeds ↦ proceeds_few spec batch which before now count count_now result proceeds
+  ]
+
+  -- and one where nothing may be repeated
+  pub executes_once : spec.retryability before.client.options ≡ may.None → Executes spec batch which before now count count_now result → count_now ≤ count + 1
+  executes_once own executes = elim executes [
+    | inl refuses ↦ omega (arith, refuses.uncounted)
+    | inr proceeds ↦ proceeds_once spec batch which before now count count_now result own proceeds
   ]
 
   -- the clock was only read

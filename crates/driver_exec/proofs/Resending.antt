@@ -32,6 +32,7 @@ use Rattle.driver_exec.proofs.Trying.{early_counted, selected_counted}
 use Rattle.driver_exec.proofs.Resends.{none_sent}
 use Rattle.driver_exec.proofs.Borrowing.{CountFits, HoldsFrom, HoldsLast, MayGoOn, NumberFits, id_of, number_of}
 use Rattle.driver_exec.proofs.Courses.{Course, Drawn, Over, counted, course_over, drawn, one_more, starts, store_stays}
+use Rattle.driver_exec.proofs.Unnumbered.{ended_bare}
 use Rattle.driver_exec.proofs.Attempted.{CourseAt, OverAt, failed_course, goes_phase, only_link, over_at, reads_at, ready_course}
 
 module _ {A : Type 0} (trial : Trial A) (sharded : Bool) (store : StoreTells) (link : LinkState) where
@@ -316,6 +317,9 @@ module _ {A : Type 0} (spec : OperationSpec A) (batch : Batch) (which : SendKind
   proceeds_works = record {
     session = id_of executes.last.held.session;
     number = number_of executes.last.held.sent;
+    unnumbered = λ own.
+        ended_bare trial executes.sharded own (first_state before.store (besides_out before.link) before.clock count) refl came.0 executes.attempts.kept executes.attempts.mid executes.last result came.1
+        executes.attempts.ends;
     borrows = borrows trial executes.sharded before.store (besides_out before.link) executes.last.store now.store (number_of executes.last.held.sent) executes.last.held.session done.over.holds executes.comes_back;
     sends = λ body asked.
         let sent = done.over.sends body asked in

@@ -8,6 +8,7 @@ use Rattle.driver_link.specs.declared.fault.LinkError.TheVariants.{Fault}
 use Rattle.driver_link.specs.declared.options.Address.{Address}
 use Rattle.driver_link.specs.declared.options.Conn.{Conn}
 use Rattle.driver_link.specs.LinkState.{LinkState}
+use Rattle.driver_session.specs.declared.retryability.Retryability.TheVariants as may
 use Rattle.driver_session.specs.StoreTells.{StoreTells}
 use Rattle.driver_ops.specs.Operations.{Batch, OperationSpec}
 use Rattle.driver_ops.specs.SendKinds.{SendKind}
@@ -25,6 +26,7 @@ use Rattle.driver_exec.specs.inside.Executing.{Reaches}
 use Rattle.driver_exec.proofs.Executing.{one_left}
 use Rattle.driver_exec.proofs.Folding.{came_of}
 use Rattle.driver_exec.proofs.Resending.{reaches_few}
+use Rattle.driver_exec.proofs.Unnumbered.{no_failure}
 
 -- one attempt counts one send at most
 module _ {A : Type 0} (trial : Trial A) (kept : Option RetryState) (before now : AttemptState) where
@@ -97,3 +99,27 @@ proceeds_few spec batch which before now count count_now result executes =
     let came = came_of trial executes.sharded (first_state before.store (besides_out before.link) before.clock count) executes.last result executes.attempts in
     let few = ended_few trial executes.sharded before.store (besides_out before.link) before.clock count came.0 executes.attempts.kept executes.attempts.mid executes.last result came.1 executes.attempts.ends in
     omega (arith, few, executes.count_is)
+
+-- where nothing may be repeated there was no failure before the last attempt
+module _ {A : Type 0} (trial : Trial A) (sharded : Bool) (own : trial.own ≡ may.None) (store : StoreTells) (link : LinkState) (clock : ClockTells) (count : ℕ) where
+  ended_once : (failures : List AttemptFailure) (kept : Option RetryState) (mid now : AttemptState) (result : Result A Error) → Reaches trial sharded (first_state store link clock count) failures kept mid
+      → Ends trial sharded kept mid now result → now.count ≤ count + 1
+  ended_once failures kept mid now result reaches ends =
+      let so_far = reached_counted trial sharded store link clock count failures kept mid reaches in
+      let none = no_failure trial sharded own (first_state store link clock count) failures kept mid reaches in
+      elim ends [
+        | inl last ↦ let more = tried_counted trial kept mid now last.attempt last.tries in omega (arith, so_far, none, more)
+        | inr other ↦ elim other [
+          | inl limit ↦ let same : now.count ≡ mid.count = ap (λ s. s.count) limit.same in omega (arith, so_far, none, same)
+          | inr refused ↦ let more = tried_counted trial kept mid now (Failed refused.failing) refused.tries in omega (arith, so_far, none, more)
+        ]
+      ]
+
+-- such an operation counts one send at most
+pub proceeds_once : {A : Type 0} (spec : OperationSpec A) (batch : Batch) (which : SendKind) (before now : Moment) (count count_now : ℕ) (result : Result A Error)
+    → spec.retryability before.client.options ≡ may.None → Proceeds spec batch which before now count count_now result → count_now ≤ count + 1
+proceeds_once spec batch which before now count count_now result own executes =
+    let trial = trial_of spec batch which (spec.retryability before.client.options) (concern_of spec which before.client.options) in
+    let came = came_of trial executes.sharded (first_state before.store (besides_out before.link) before.clock count) executes.last result executes.attempts in
+    let once = ended_once trial executes.sharded own before.store (besides_out before.link) before.clock count came.0 executes.attempts.kept executes.attempts.mid executes.last result came.1 executes.attempts.ends in
+    omega (arith, once, executes.count_is)

@@ -3,6 +3,7 @@
 use Rattle.std.specs.Prelude.{◌≡◌, ℕ, ◌-◌, ◌^◌, ◌<◌, ◌≤◌, min, false, List, length, Option, None, Some, ◌⊎◌}
 use Rattle.driver_link.specs.declared.machine.Item.{Item}
 use Rattle.driver_link.specs.declared.machine.Item.TheVariants.{Lost, Late, ReplyLost}
+use Rattle.driver_link.specs.declared.machine.WriteKind.{WriteKind}
 use Rattle.driver_link.specs.Counting.{is_listed, one_more}
 use Rattle.driver_link.specs.Exchange.{step_at}
 use Rattle.driver_link.specs.Retried.{IsGentleItem}
@@ -27,16 +28,16 @@ IsLossy _ = ⊥
 abbrev pub IsOfPart : ServerRun → ServerRun → ℕ → Type 0
 IsOfPart before now at = (length before.server.trace ≤ at) × (at < length now.server.trace)
 
--- the part of a schedule that was taken from one moment to another is gentle, by whether a send may go out again
-pub record IsGentlePart (repeats : Type 0) (before now : ServerRun) : Type 0 where
+-- the part of a schedule that was taken from one moment to another is gentle for a write of a kind, by whether a send may go out again
+pub record IsGentlePart (does : WriteKind) (repeats : Type 0) (before now : ServerRun) : Type 0 where
   pub selects : NoneListed before.schedule.selects before.counts.selects now.counts.selects
   pub check_outs : NoneListed before.schedule.check_outs before.counts.check_outs now.counts.check_outs
   pub overloaded : NoneListed before.schedule.overloaded_check_outs before.counts.check_outs now.counts.check_outs
-  pub items : (at : ℕ) → IsOfPart before now at → IsGentleItem (step_at before.schedule at).item ⊎ (repeats × IsLossy (step_at before.schedule at).item)
+  pub items : (at : ℕ) → IsOfPart before now at → IsGentleItem does (step_at before.schedule at).item ⊎ (repeats × IsLossy (step_at before.schedule at).item)
   pub one : (a b : ℕ) → IsOfPart before now a → IsOfPart before now b → IsLossy (step_at before.schedule a).item → IsLossy (step_at before.schedule b).item → a ≡ b
 
 -- the same of a link that tells its server
-abbrev pub IsGentleTold : Type 0 → Option ServerRun → Option ServerRun → Type 0
-IsGentleTold repeats None now = ⊥
-IsGentleTold repeats (Some told) None = ⊥
-IsGentleTold repeats (Some told) (Some now) = IsGentlePart repeats told now
+abbrev pub IsGentleTold : WriteKind → Type 0 → Option ServerRun → Option ServerRun → Type 0
+IsGentleTold does repeats None now = ⊥
+IsGentleTold does repeats (Some told) None = ⊥
+IsGentleTold does repeats (Some told) (Some now) = IsGentlePart does repeats told now

@@ -7,6 +7,7 @@ use Rattle.driver_link.specs.declared.machine.SendBody.{SendBody}
 use Rattle.driver_link.specs.Counting.{KeepsServer}
 use Rattle.driver_link.specs.LinkState.{server_run}
 use Rattle.driver_link.specs.ServerRun.{IsReply, ServerRun, run_after, run_answer}
+use Rattle.driver_session.specs.declared.retryability.Retryability.TheVariants as may
 use Rattle.driver_session.specs.Session.{MayRaise, Raises, Session}
 use Rattle.driver_session.specs.StoreTells.{LendsSession, StoreTells, TakesSession}
 use Rattle.driver_ops.specs.Fields.{under}
@@ -83,11 +84,13 @@ abbrev pub EndsWithReading : {A : Type 0} → OperationSpec A → Batch → Opti
 EndsWithReading spec batch link now session number (Ok output) = ReadsLast spec batch link now session number output
 EndsWithReading spec batch link now session number (Err error) = Unit {0}
 
--- an operation: one send of what was asked for went out at most twice, and at most once where it has no number; the session
--- that it was under, if any, was borrowed from the store; and an Ok is the reading of the last reply
+-- an operation: one send of what was asked for went out at most twice, and at most once where it has no number, as it has none
+-- where nothing of the operation may be repeated; the session that it was under, if any, was borrowed from the store; and an Ok
+-- is the reading of the last reply
 pub record SendsOneCommand {A : Type 0} (spec : OperationSpec A) (batch : Batch) (before now : Moment) (result : Result A Error) : Type 0 where
   pub session : Option (List ℕ)
   pub number : Option ℤ
+  pub unnumbered : spec.retryability before.client.options ≡ may.None → number ≡ None
   pub borrows : Borrows before.store now.store session number
   pub sends : (body : SendBody) → AsksFor spec batch body → SentWithin 2 (server_run before.link) (server_run now.link) (send_of (under session number) body)
   pub ends : EndsWithReading spec batch (server_run before.link) (server_run now.link) session number result

@@ -1,7 +1,8 @@
 //! Laws of an operation, from how it is executed and from what its sends leave.
-ghost use Rattle.std.specs.Prelude.{ℕ, ◌+◌, ◌≤◌, Result};
+ghost use Rattle.std.specs.Prelude.{◌≡◌, ℕ, ◌+◌, ◌≤◌, Result};
 ghost use Rattle.driver_error.specs.declared.error.Error.{Error};
 ghost use Rattle.driver_link.specs.declared.machine.SendBody.{SendBody};
+ghost use Rattle.driver_session.specs.declared.retryability.Retryability.TheVariants.{None as Nothing};
 ghost use Rattle.driver_ops.specs.Operations.{AsksFor, Batch};
 ghost use Rattle.driver_ops.specs.SendKinds.{SendKind};
 ghost use Rattle.driver_exec.specs.Executing.{Executes};
@@ -47,6 +48,14 @@ pub fn an_operation_sends_twice_at_most<O: Operation>()
     ensures { (op : O) (batch : Batch) (which : SendKind) (before now : Moment) (count more : ℕ)
         (result : Result O.Output Error) → Executes (O.spec op) batch which before now count more result →
         more ≤ count + 2 }
+{}
+
+/// And once at most where nothing of it may be repeated, however it failed: a write of all that a filter finds,
+/// or a write of a client whose options forbid a retry.
+pub fn an_operation_that_may_not_be_repeated_sends_once<O: Operation>()
+    ensures { (op : O) (batch : Batch) (which : SendKind) (before now : Moment) (count more : ℕ)
+        (result : Result O.Output Error) → Executes (O.spec op) batch which before now count more result →
+        (O.spec op).retryability before.client.options ≡ Nothing → more ≤ count + 1 }
 {}
 
 /// It only reads its clock.

@@ -1,4 +1,4 @@
--- What the reply to a plain send of one insert says: it is an error, or it tells of the one statement, and a
+-- What the reply to a plain send of one write says: it is an error, or it tells of the one statement, and a
 -- statement that did not fail stands in the log.
 use Rattle.std.proofs.Common.{◌≡◌, ℕ, Bool, true, false, List, [], ◌∷◌, refl, sym, ap, subst, ◌∙◌, inl, inr}
 use Rattle.std.specs.Prelude.{ℤ, ◌&&◌, Option, None, Some, ◌⊎◌, slice_get, if◌then◌else◌}
@@ -11,7 +11,7 @@ use Rattle.driver_link.specs.declared.machine.Item.TheVariants.{Serve, Lost, Lat
 use Rattle.driver_link.specs.declared.machine.PlacedWrite.{PlacedWrite}
 use Rattle.driver_link.specs.declared.machine.Send.{Send}
 use Rattle.driver_link.specs.declared.machine.SendBody.TheVariants.{Write}
-use Rattle.driver_link.specs.declared.machine.SendCommand.TheVariants as command
+use Rattle.driver_link.specs.declared.machine.SendCommand.{SendCommand}
 use Rattle.driver_link.specs.declared.machine.Server.{Server}
 use Rattle.driver_link.specs.declared.machine.Statement.{Statement}
 use Rattle.driver_link.specs.declared.machine.Statement.TheVariants.{Kept, Ran, Failed}
@@ -49,48 +49,48 @@ module _ (send : Send) (plain : IsPlain send) (server : Server) (plan : Plan) wh
       ap (λ case. reply_in case plan (done_in case plan (results_of (known_of server send)) send.body) server send) (case_above send plain server above)
       ∙ ap (λ kept. reply_in outside plan (done_in outside plan kept send.body) server send) (results_here send plain server)
 
--- a send of one insert
-pub record IsOneInsert (send : Send) (write : PlacedWrite) : Type 0 where
+-- a send of one write by a command
+pub record IsOneWrite (asks : SendCommand) (send : Send) (write : PlacedWrite) : Type 0 where
   pub plain : IsPlain send
   pub ordered : Bool
-  pub body : send.body ≡ Write command.Insert ordered (write ∷ [])
+  pub body : send.body ≡ Write asks ordered (write ∷ [])
 
 -- the statement of the one write by a plan
 abbrev pub one_statement : (send : Send) → IsPlain send → Server → Plan → PlacedWrite → Statement
 one_statement send plain server plan write = statement_at plan.results plan.fail (known send plain server).kept 0 write
 
 -- the reply that tells of one statement
-abbrev pub one_reply : Plan → Server → PlacedWrite → Statement → Reply
-one_reply plan server write statement = write_reply command.Insert plan.page plan.concern server.cursors (write ∷ []) (statement ∷ [])
+abbrev pub one_reply : SendCommand → Plan → Server → PlacedWrite → Statement → Reply
+one_reply asks plan server write statement = write_reply asks plan.page plan.concern server.cursors (write ∷ []) (statement ∷ [])
 
-one_planned : (send : Send) (write : PlacedWrite) (one : IsOneInsert send write) (server : Server) (plan : Plan)
+one_planned : {asks : SendCommand} (send : Send) (write : PlacedWrite) (one : IsOneWrite asks send write) (server : Server) (plan : Plan)
     → planned send one.plain server plan ≡ one_statement send one.plain server plan write ∷ []
 unfolding planned statements
-one_planned send write one server plan =
+one_planned {asks = asks} send write one server plan =
     let kept = (known send one.plain server).kept in
     ap (λ body. statements plan.results plan.fail (is_ordered body) kept 0 (body_writes body)) one.body
     ∙ ap (λ rest. statement_at plan.results plan.fail kept 0 write ∷ rest)
-    (both_nothing (one.ordered && is_failed (statement_at plan.results plan.fail kept 0 write)))
+    (both_nothing (is_ordered (Write asks one.ordered (write ∷ [])) && is_failed (statement_at plan.results plan.fail kept 0 write)))
   where
     both_nothing : (b : Bool) → ◌≡◌ {A = List Statement} (if b then [] else []) []
     both_nothing true = refl
     both_nothing false = refl
 
--- the reply to one insert whose number is not below the greatest
-pub served_one : (send : Send) (write : PlacedWrite) (one : IsOneInsert send write) (server : Server) (plan : Plan)
+-- the reply to one write whose number is not below the greatest
+pub served_one : {asks : SendCommand} (send : Send) (write : PlacedWrite) (one : IsOneWrite asks send write) (server : Server) (plan : Plan)
     → is_below one.plain.number (finite.get server.sessions one.plain.id) ≡ false
-    → served_reply plan server send ≡ one_reply plan server write (one_statement send one.plain server plan write)
+    → served_reply plan server send ≡ one_reply asks plan server write (one_statement send one.plain server plan write)
 served_one send write one server plan above =
     reply_above send one.plain server plan above
     ∙ ap (λ done. body_reply send.body plan server.cursors done) (one_planned send write one server plan)
     ∙ ap (λ body. body_reply body plan server.cursors (one_statement send one.plain server plan write ∷ [])) one.body
 
--- the reply to one insert that is served by a plan
-pub record IsServed (send : Send) (write : PlacedWrite) (one : IsOneInsert send write) (server : Server) (plan : Plan) (found : Reply) : Type 0 where
+-- the reply to one write that is served by a plan
+pub record IsServed {asks : SendCommand} (send : Send) (write : PlacedWrite) (one : IsOneWrite asks send write) (server : Server) (plan : Plan) (found : Reply) : Type 0 where
   pub above : is_below one.plain.number (finite.get server.sessions one.plain.id) ≡ false
-  pub is : found ≡ one_reply plan server write (one_statement send one.plain server plan write)
+  pub is : found ≡ one_reply asks plan server write (one_statement send one.plain server plan write)
 
-by_plan : (send : Send) (write : PlacedWrite) (one : IsOneInsert send write) (server : Server) (plan : Plan) (found : Reply) → found ≡ served_reply plan server send
+by_plan : {asks : SendCommand} (send : Send) (write : PlacedWrite) (one : IsOneWrite asks send write) (server : Server) (plan : Plan) (found : Reply) → found ≡ served_reply plan server send
     → IsError found ⊎ IsServed send write one server plan found
 by_plan send write one server plan found is =
     elim (is_below one.plain.number (finite.get server.sessions one.plain.id))
@@ -117,8 +117,8 @@ interrupted_is_error most code labels send plain server =
       }
     ] refl
 
--- what a reply to one insert tells: an error, or that it was served by the plan of its item
-pub record TellsServed (send : Send) (write : PlacedWrite) (one : IsOneInsert send write) (server : Server) (item : Item) (found : Reply) : Type 0 where
+-- what a reply to one write tells: an error, or that it was served by the plan of its item
+pub record TellsServed {asks : SendCommand} (send : Send) (write : PlacedWrite) (one : IsOneWrite asks send write) (server : Server) (item : Item) (found : Reply) : Type 0 where
   pub plan : Plan
   pub item_is : item ≡ Serve plan.results plan.fail plan.concern plan.page
   pub served : IsServed send write one server plan found
@@ -129,7 +129,7 @@ none_is_some x is = cc
 some_is_some : {A : Type 0} (x y : A) → ◌≡◌ {A = Option A} (Some x) (Some y) → y ≡ x
 some_is_some x y is = cc
 
-pub reply_tells : (send : Send) (write : PlacedWrite) (one : IsOneInsert send write) (server : Server) (item : Item) (found : Reply) → reply server send item ≡ Some found
+pub reply_tells : {asks : SendCommand} (send : Send) (write : PlacedWrite) (one : IsOneWrite asks send write) (server : Server) (item : Item) (found : Reply) → reply server send item ≡ Some found
     → IsError found ⊎ TellsServed send write one server item found
 unfolding reply
 reply_tells send write one server (Serve results fail concern page) found is =
@@ -152,7 +152,7 @@ pub record StandsFor (send : Send) (write : PlacedWrite) (plain : IsPlain send) 
   pub result : Counted
   pub has : Has log (entry_of (Some plain.id) (Some plain.number) write result)
 
-module _ (send : Send) (write : PlacedWrite) (one : IsOneInsert send write) (server : Server) (trace : List Send) (orderly : IsOrderly trace) (sent : Has trace send)
+module _ {asks : SendCommand} (send : Send) (write : PlacedWrite) (one : IsOneWrite asks send write) (server : Server) (trace : List Send) (orderly : IsOrderly trace) (sent : Has trace send)
     (settled : IsSettled trace server) (plan : Plan) (above : is_below one.plain.number (finite.get server.sessions one.plain.id) ≡ false) where
   done : List Statement
   done = planned send one.plain server plan

@@ -1,4 +1,4 @@
--- What the reply to a send of one insert without a number says: it is an error, or it tells of the one statement,
+-- What the reply to a send of one write without a number says: it is an error, or it tells of the one statement,
 -- and a statement that did not fail stands in the log.
 use Rattle.std.proofs.Common.{◌≡◌, ℕ, Bool, true, false, List, [], ◌∷◌, refl, sym, ap, subst, ◌∙◌, inl, inr}
 use Rattle.std.specs.Prelude.{ℤ, ◌&&◌, Option, None, Some, ◌⊎◌, slice_get, if◌then◌else◌}
@@ -13,7 +13,7 @@ use Rattle.driver_link.specs.declared.machine.PlacedWrite.{PlacedWrite}
 use Rattle.driver_link.specs.declared.machine.Scheduled.{Scheduled}
 use Rattle.driver_link.specs.declared.machine.Send.{Send}
 use Rattle.driver_link.specs.declared.machine.SendBody.TheVariants.{Write}
-use Rattle.driver_link.specs.declared.machine.SendCommand.TheVariants as command
+use Rattle.driver_link.specs.declared.machine.SendCommand.{SendCommand}
 use Rattle.driver_link.specs.declared.machine.Server.{Server}
 use Rattle.driver_link.specs.declared.machine.Statement.{Statement}
 use Rattle.driver_link.specs.declared.machine.Statement.TheVariants.{Ran, Failed}
@@ -29,11 +29,11 @@ use Rattle.driver_link.proofs.Lists.{has_right, none_is_some}
 use Rattle.driver_link.proofs.Replying.{IsError, one_reply}
 use Rattle.driver_link.proofs.Unnumbered.{RunsOnly, case_free, planned_only, results_free, served_free, served_runs_only}
 
--- a send of one insert without a number
-pub record IsOneUnnumbered (send : Send) (write : PlacedWrite) : Type 0 where
+-- a send of one write by a command without a number
+pub record IsOneUnnumbered (asks : SendCommand) (send : Send) (write : PlacedWrite) : Type 0 where
   pub free : IsUnnumbered send
   pub ordered : Bool
-  pub body : send.body ≡ Write command.Insert ordered (write ∷ [])
+  pub body : send.body ≡ Write asks ordered (write ∷ [])
 
 -- the statement of the one write by a plan
 abbrev pub only_statement : Plan → PlacedWrite → Statement
@@ -57,12 +57,12 @@ ran_or_failed plan write = by_code (finite.get no_results 0) (code_at plan.fail 
     by_code None (Some code) now nothing = inl (code, refl)
     by_code None None now nothing = inr (now, refl)
 
-module _ (send : Send) (write : PlacedWrite) (one : IsOneUnnumbered send write) (server : Server) where
+module _ {asks : SendCommand} (send : Send) (write : PlacedWrite) (one : IsOneUnnumbered asks send write) (server : Server) where
   only_planned : (plan : Plan) → planned_only send one.free server plan ≡ only_statement plan write ∷ []
   unfolding planned_only statements
   only_planned plan =
       ap (λ body. statements plan.results plan.fail (is_ordered body) no_results 0 (body_writes body)) one.body
-      ∙ ap (λ rest. only_statement plan write ∷ rest) (both_nothing (one.ordered && is_failed (only_statement plan write)))
+      ∙ ap (λ rest. only_statement plan write ∷ rest) (both_nothing (is_ordered (Write asks one.ordered (write ∷ [])) && is_failed (only_statement plan write)))
     where
       both_nothing : (b : Bool) → ◌≡◌ {A = List Statement} (if b then [] else []) []
       both_nothing true = refl
@@ -75,7 +75,7 @@ module _ (send : Send) (write : PlacedWrite) (one : IsOneUnnumbered send write) 
       ∙ ap (λ kept. reply_in outside plan (done_in outside plan kept send.body) server send) (results_free send one.free server)
 
   -- the reply where it is served
-  pub served_only : (plan : Plan) → served_reply plan server send ≡ one_reply plan server write (only_statement plan write)
+  pub served_only : (plan : Plan) → served_reply plan server send ≡ one_reply asks plan server write (only_statement plan write)
   served_only plan =
       reply_free plan ∙ ap (λ done. body_reply send.body plan server.cursors done) (only_planned plan)
       ∙ ap (λ body. body_reply body plan server.cursors (only_statement plan write ∷ [])) one.body
@@ -89,13 +89,13 @@ module _ (send : Send) (write : PlacedWrite) (one : IsOneUnnumbered send write) 
   }
 
 -- what a reply to it tells: an error, or that it was served by the plan of its item
-pub record TellsServedOnly (write : PlacedWrite) (server : Server) (item : Item) (found : Reply) : Type 0 where
+pub record TellsServedOnly (asks : SendCommand) (write : PlacedWrite) (server : Server) (item : Item) (found : Reply) : Type 0 where
   pub plan : Plan
   pub item_is : item ≡ Serve plan.results plan.fail plan.concern plan.page
-  pub is : found ≡ one_reply plan server write (only_statement plan write)
+  pub is : found ≡ one_reply asks plan server write (only_statement plan write)
 
-module _ (send : Send) (write : PlacedWrite) (one : IsOneUnnumbered send write) (server : Server) where
-  pub reply_tells_only : (item : Item) (found : Reply) → reply server send item ≡ Some found → IsError found ⊎ TellsServedOnly write server item found
+module _ {asks : SendCommand} (send : Send) (write : PlacedWrite) (one : IsOneUnnumbered asks send write) (server : Server) where
+  pub reply_tells_only : (item : Item) (found : Reply) → reply server send item ≡ Some found → IsError found ⊎ TellsServedOnly asks write server item found
   unfolding reply
   reply_tells_only (Serve results fail concern page) found is = inr (record {
     plan = plan_of results fail concern page;
@@ -134,27 +134,27 @@ module _ (send : Send) (write : PlacedWrite) (one : IsOneUnnumbered send write) 
     stands_once_or_failed = elim (ran_or_failed plan write) [ inl failed ↦ inl failed | inr ran ↦ inr (stands_ran ran.0 ran.1) ]
 
 -- a reply that tells that the one statement failed
-pub record TellsFailed (write : PlacedWrite) (server : Server) (found : Reply) : Type 0 where
+pub record TellsFailed (asks : SendCommand) (write : PlacedWrite) (server : Server) (found : Reply) : Type 0 where
   pub plan : Plan
   pub code : ℤ
-  pub is : found ≡ one_reply plan server write (Failed code)
+  pub is : found ≡ one_reply asks plan server write (Failed code)
 
 -- what a told reply says of an exchange: an error, a statement that failed, or that the entry stands
-pub met_tells_only : (send : Send) (write : PlacedWrite) (one : IsOneUnnumbered send write) (server : Server) (item : Item) (found : Reply)
-    → reply server send item ≡ Some found → IsError found ⊎ (TellsFailed write server found ⊎ StandsOnce send write (met server send item).log)
+pub met_tells_only : {asks : SendCommand} (send : Send) (write : PlacedWrite) (one : IsOneUnnumbered asks send write) (server : Server) (item : Item) (found : Reply)
+    → reply server send item ≡ Some found → IsError found ⊎ (TellsFailed asks write server found ⊎ StandsOnce send write (met server send item).log)
 unfolding met
-met_tells_only send write one server item found is = elim (reply_tells_only send write one server item found is) [
+met_tells_only {asks = asks} send write one server item found is = elim (reply_tells_only send write one server item found is) [
   | inl error ↦ inl error
   | inr tells ↦
       let P : Item → Type 0 = λ i. StandsOnce send write (met server send i).log in
       elim (stands_once_or_failed send write one server tells.plan) [
-        | inl failed ↦ inr (inl (record { plan = tells.plan; code = failed.0; is = tells.is ∙ ap (one_reply tells.plan server write) failed.1 }))
+        | inl failed ↦ inr (inl (record { plan = tells.plan; code = failed.0; is = tells.is ∙ ap (one_reply asks tells.plan server write) failed.1 }))
         | inr stands ↦ inr (inr (subst P (sym tells.item_is) stands))
       ]
 ]
 
-pub told_only : (server : Server) (send : Send) (write : PlacedWrite) (one : IsOneUnnumbered send write) (step : Scheduled) (found : Reply)
+pub told_only : {asks : SendCommand} (server : Server) (send : Send) (write : PlacedWrite) (one : IsOneUnnumbered asks send write) (step : Scheduled) (found : Reply)
     → answered server send step ≡ Some found
-    → IsError found ⊎ (TellsFailed write (traced (after_picks server step.deliver) send) found ⊎ StandsOnce send write (exchanged server send step).log)
+    → IsError found ⊎ (TellsFailed asks write (traced (after_picks server step.deliver) send) found ⊎ StandsOnce send write (exchanged server send step).log)
 unfolding answered exchanged
 told_only server send write one step found is = met_tells_only send write one (traced (after_picks server step.deliver) send) step.item found is

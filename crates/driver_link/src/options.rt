@@ -61,7 +61,7 @@ pub struct Asked {
 pub struct ClientOptions {
     /// Tells clients apart: a session belongs to the client of its number.
     pub client_number: u64,
-    /// Whether writes may be sent again after a failure, which they may where this is not set.
+    /// Whether writes of one document each may be sent again after a failure, which they may where this is not set.
     pub retry_writes: Option<bool>,
     /// The read concern of operations that have none of their own.
     pub read_concern: Option<ReadConcern>,

@@ -1,4 +1,5 @@
-//! The options of writes. Each one that is not set is left to the server, or to the client where it is a concern.
+//! The options of writes. One that is not set is not sent, but for `ordered`, which is then true, and a concern,
+//! which is then the client's.
 use crate::concerns::WriteConcern;
 use crate::updates::Hint;
 use bson_lite::{Bson, Document, List, TryClone};

@@ -31,11 +31,12 @@ use Rattle.driver_link.specs.Serving.{Plan}
 use Rattle.driver_link.specs.Settled.{IsWrite}
 use Rattle.driver_link.specs.Statements.{has_failed}
 use Rattle.driver_link.proofs.Replying.{one_reply}
+use Rattle.driver_link.specs.declared.write_options.InsertManyOptions.{InsertManyOptions}
 use Rattle.driver_ops.specs.declared.target.OperationTarget.{OperationTarget}
 use Rattle.driver_ops.specs.InsertLaw.{CountsOneDocument, ExchangesInsert, IsReadExactly, concern_of}
 use Rattle.driver_ops.specs.InsertLawful.{insert_lawful}
 use Rattle.driver_ops.specs.InsertSpec.{insert_spec}
-use Rattle.driver_ops.specs.Inserts.{insert_write, int_at, is_done_reply, is_one}
+use Rattle.driver_ops.specs.Inserts.{insert_write, int_at, is_done_reply, is_one, is_ordered}
 use Rattle.driver_ops.specs.OperationLaw.{TellsOutput}
 use Rattle.driver_ops.specs.Operations.{ReadsOutput}
 use Rattle.driver_ops.specs.Served.{statements_in}
@@ -60,16 +61,16 @@ abbrev sum_in : List Statement → ℤ
 sum_in done = sum_of (λ result. result.n) (results_in done)
 
 -- the reply's count of documents is what its statement counts
-n_told : (plan : Plan) (server : Server) (write : PlacedWrite) (statement : Statement) → int_at N.now (one_reply plan server write statement) ≡ Some (sum_in (statement ∷ []))
+n_told : (plan : Plan) (server : Server) (write : PlacedWrite) (statement : Statement) → int_at N.now (one_reply command.Insert plan server write statement) ≡ Some (sum_in (statement ∷ []))
 unfolding write_reply
 n_told plan server write statement = number_of (sum_in (statement ∷ []))
 
 -- a statement that is told to be done counts one document
-done_one : (plan : Plan) (server : Server) (write : PlacedWrite) (statement : Statement) → is_done_reply (one_reply plan server write statement) ≡ true
+done_one : (plan : Plan) (server : Server) (write : PlacedWrite) (statement : Statement) → is_done_reply (one_reply command.Insert plan server write statement) ≡ true
     → sum_in (statement ∷ []) ≡ pos 1
 unfolding is_done_reply
 done_one plan server write statement done =
-    let found = one_reply plan server write statement in
+    let found = one_reply command.Insert plan server write statement in
     let one : is_one (int_at N.now found) ≡ true = second (is_one (int_at OK.now found)) (is_one (int_at N.now found)) done in
     let equal : int_eq (sum_in (statement ∷ [])) (pos 1) ≡ true = sym (ap is_one (n_told plan server write statement)) ∙ one in
     (Decides-int_eq (sum_in (statement ∷ [])) (pos 1)).0 equal
@@ -98,7 +99,7 @@ no_concern (Some concern) page cursors write (Failed code) result counts none = 
 
 -- a reply that tells of one document and has no write concern error is the one that says that one insert was done
 told_inserted : (plan : Plan) (server : Server) (write : PlacedWrite) (statement : Statement) → has_failed (statement ∷ []) ≡ false → plan.concern ≡ None
-    → sum_in (statement ∷ []) ≡ pos 1 → one_reply plan server write statement ≡ one_inserted
+    → sum_in (statement ∷ []) ≡ pos 1 → one_reply command.Insert plan server write statement ≡ one_inserted
 unfolding write_reply write_errors
 told_inserted plan server write (Failed code) unfailed none one = absurd (differ (sym unfailed))
 told_inserted plan server write (Kept result) unfailed none one =
@@ -109,16 +110,16 @@ told_inserted plan server write (Ran result) unfailed none one =
     ∙ ap (λ n. done_field ∷ field N.now (reply_number n) ∷ []) one
 
 -- an insert that is read as done counts one document
-counts_one : (target : OperationTarget) (bytes : List ℕ) (id : Bson) (server : Server) (send : Send) (step : Scheduled) (write : PlacedWrite) (found : Reply)
+counts_one : (target : OperationTarget) (bytes : List ℕ) (id : Bson) (options : InsertManyOptions) (server : Server) (send : Send) (step : Scheduled) (write : PlacedWrite) (found : Reply)
     → IsReadDone server send step write found → (came : List ℕ) → Spells found came → (output : InsertManyResult)
-    → ReadsOutput (insert_spec target bytes id) came output → CountsOneDocument server send step
-counts_one target bytes id server send step write found is came spelled output reads =
+    → ReadsOutput (insert_spec target bytes id options) came output → CountsOneDocument server send step
+counts_one target bytes id options server send step write found is came spelled output reads =
     let before = traced (after_picks server step.deliver) send in
     let alone = is.alone in
     let plan = alone.plan in
     let same = spells_one reads.response.body found came reads.done.spelled spelled in
-    let none : concern_in (one_reply plan before write alone.statement) ≡ Some None
-    = subst (λ reply. concern_in reply ≡ Some None) (same ∙ alone.is) (output_concern target bytes id came output reads) in
+    let none : concern_in (one_reply command.Insert plan before write alone.statement) ≡ Some None
+    = subst (λ reply. concern_in reply ≡ Some None) (same ∙ alone.is) (output_concern target bytes id options came output reads) in
     record {
       done = is.done;
       told = is.told;
@@ -127,18 +128,18 @@ counts_one target bytes id server send step write found is came spelled output r
       concern = ap concern_of alone.item_is ∙ no_concern plan.concern plan.page before.cursors write alone.statement is.result is.counts none;
     }
 
-module _ (target : OperationTarget) (bytes : List ℕ) (id : Bson) (server : Server) (send : Send) (step : Scheduled) (reply : List ℕ) (made : ExchangesInsert target bytes id server send step reply) where
+module _ (target : OperationTarget) (bytes : List ℕ) (id : Bson) (options : InsertManyOptions) (server : Server) (send : Send) (step : Scheduled) (reply : List ℕ) (made : ExchangesInsert target bytes id options server send step reply) where
   abbrev write : PlacedWrite
   write = insert_write (namespace_of target) made.asks.document made.asks.place
 
   one : IsInsertOf send write
-  one = record { out = ap (λ s. s.in_transaction) made.send_is; body = ap (λ s. s.body) made.send_is ∙ made.asks.is }
+  one = record { out = ap (λ s. s.in_transaction) made.send_is; ordered = is_ordered options; body = ap (λ s. s.body) made.send_is ∙ made.asks.is }
 
   -- an output that is read is told by the entry of the document
-  only_told : (output : InsertManyResult) → ReadsOutput (insert_spec target bytes id) reply output → TellsOutput (insert_spec target bytes id) server send step output
+  only_told : (output : InsertManyResult) → ReadsOutput (insert_spec target bytes id options) reply output → TellsOutput (insert_spec target bytes id options) server send step output
   only_told output reads =
-      subst (λ s. TellsOutput (insert_spec target bytes id) server s step output) (sym made.send_is)
-      ((insert_lawful target bytes id).reads_own made.statements made.places made.body made.asks (subst IsWrite (sym made.asks.is) tt) made.context server step made.found
+      subst (λ s. TellsOutput (insert_spec target bytes id options) server s step output) (sym made.send_is)
+      ((insert_lawful target bytes id options).reads_own made.statements made.places made.body made.asks (subst IsWrite (sym made.asks.is) tt) made.context server step made.found
       (ap (λ s. answered server s step) (sym made.send_is) ∙ made.answer) reply made.spelled output reads)
 
   -- where one document is counted the reply is the one that says so
@@ -154,13 +155,13 @@ module _ (target : OperationTarget) (bytes : List ℕ) (id : Bson) (server : Ser
       subst (λ document. Spells document reply) is made.spelled
 
   -- it is read as done exactly where its statement counts one document, and there is no write concern error
-  pub read_exactly : IsReadExactly target bytes id server send step reply
+  pub read_exactly : IsReadExactly target bytes id options server send step reply
   read_exactly = record {
     only = λ output reads. (
-      counts_one target bytes id server send step write made.found (read_done target bytes id server send step write made.found one made.answer reply made.spelled output reads)
+      counts_one target bytes id options server send step write made.found (read_done target bytes id options server send step write made.found one made.answer reply made.spelled output reads)
           reply made.spelled output reads,
       only_told output reads,
     );
-    done = λ counts. plain_done target bytes id reply one_inserted inserted_plain (spelled_one counts);
-    there = λ counts error reads. plain_read target bytes id reply one_inserted inserted_plain (spelled_one counts) error reads;
+    done = λ counts. plain_done target bytes id options reply one_inserted inserted_plain (spelled_one counts);
+    there = λ counts error reads. plain_read target bytes id options reply one_inserted inserted_plain (spelled_one counts) error reads;
   }

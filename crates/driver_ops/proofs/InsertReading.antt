@@ -1,5 +1,5 @@
 -- The insert's reading of replies: a reply that tells of an insert that was done is taken.
-use Rattle.std.proofs.Common.{◌≡◌, ℕ, Bool, true, false, List, [], refl, sym, ap, subst, ◌∙◌, inl, inr}
+use Rattle.std.proofs.Common.{◌≡◌, ℕ, Bool, true, false, List, [], refl, sym, subst, inl, inr}
 use Rattle.std.specs.Prelude.{pos, Option, None, Some, Ok, Err}
 use denote.Hole.Carrier.{out}
 use Rattle.bson_lite.specs.declared.bson.Bson.{Bson}
@@ -8,20 +8,21 @@ use Rattle.bson_lite.specs.Spelling.{Spells}
 use Rattle.driver_error.specs.declared.error.Error.{Error}
 use Rattle.driver_error.specs.declared.kind.ErrorKind.TheVariants as kind
 use Rattle.driver_error.specs.declared.results.InsertManyResult.{InsertManyResult}
-use Rattle.driver_error.specs.Error.{HasResponse, kind_of}
+use Rattle.driver_error.specs.Error.{kind_of}
 use Rattle.driver_link.specs.Commands.{needed, optional_value}
 use Rattle.driver_link.specs.Cursors.{Reply}
 use Rattle.driver_link.specs.Numbers.{reply_number}
 use Rattle.driver_link.specs.Retried.{one_inserted}
+use Rattle.driver_link.specs.declared.write_options.InsertManyOptions.{InsertManyOptions}
 use Rattle.driver_ops.specs.declared.insert.InsertReply.{InsertReply}
-use Rattle.driver_ops.specs.InsertAnswers.{AnswersFound, AnswersReply, insert_reply, one_id}
+use Rattle.driver_ops.specs.InsertAnswers.{AnswersFound, AnswersReply, ReadsInsert, insert_reply, one_id}
 use Rattle.driver_ops.specs.declared.target.OperationTarget.{OperationTarget}
 use Rattle.driver_ops.specs.InsertSpec.{insert_spec}
 use Rattle.driver_ops.specs.Readings.{labels_in}
-use Rattle.driver_ops.specs.Responses.{Said, SpellsError, TellsResponse, breaks, done, fails, said}
+use Rattle.driver_ops.specs.Responses.{done, said}
 use Rattle.driver_ops.specs.WriteReplies.{write_errors_in}
-use Rattle.driver_ops.specs.Operations.{ReadsAnswer, ReadsError}
-use Rattle.driver_ops.specs.lawful.InsertRead.{spells_one}
+use Rattle.driver_ops.specs.Operations.{ReadsAnswer}
+use Rattle.driver_ops.proofs.PlainReading.{may_be_done, only_memory}
 
 -- the reply that says that one insert was done says that its command was
 document_said : said one_inserted ≡ done
@@ -43,23 +44,7 @@ pub inserted_plain : IsPlainDone one_inserted
 inserted_plain = record { says = document_said; found = document_read }
 
 -- such a reply is taken, unless memory runs out
-module _ (target : OperationTarget) (document : List ℕ) (id : Bson) (bytes : List ℕ) (reply : Reply) (plain : IsPlainDone reply) (spelled : Spells reply bytes) where
-  no_said : (what : Said) (error : Error) → said reply ≡ what → SpellsError bytes what error → ⊥
-  no_said done error at spells = spells
-  no_said (fails body) error at spells = let e : fails body ≡ done = sym at ∙ plain.says in cc
-  no_said (breaks message) error at spells = let e : breaks message ≡ done = sym at ∙ plain.says in cc
-
-  no_response : (error : Error) → TellsResponse bytes error → kind_of error ≡ kind.Memory
-  no_response error tells = elim tells [
-    | inl memory ↦ memory
-    | inr other ↦ elim other [
-      | inl none ↦ absurd (none.none reply spelled)
-      | inr says ↦
-          let same = spells_one reply says.reply bytes spelled says.spelled in
-          absurd (no_said (said says.reply) error (ap said same) says.is)
-    ]
-  ]
-
+module _ (target : OperationTarget) (document : List ℕ) (id : Bson) (options : InsertManyOptions) (bytes : List ℕ) (reply : Reply) (plain : IsPlainDone reply) (spelled : Spells reply bytes) where
   no_answer : (found : Option InsertReply) (error : Error) → found ≡ Some (record { n = pos 1; errors = []; concern = None; labels = [] })
       → AnswersReply {A = InsertManyResult} found (Err error) → ⊥
   no_answer None error is answers = let e : ◌≡◌ {A = Option InsertReply} None (Some (record { n = pos 1; errors = []; concern = None; labels = [] })) = is in cc
@@ -73,27 +58,13 @@ module _ (target : OperationTarget) (document : List ℕ) (id : Bson) (bytes : L
           true_false : ◌≡◌ {A = Bool} true false → ⊥
           true_false is = cc
 
-  no_read : (error : Error) → ReadsError (insert_spec target document id) bytes error → kind_of error ≡ kind.Memory
-  no_read error read =
-      let same = spells_one reply read.response.body bytes spelled read.done.spelled in
-      elim read.reads [
-        | inl memory ↦ of_kept memory read.kept
-        | inr answers ↦ absurd (no_answer (insert_reply read.response.body) read.bare (ap insert_reply (sym same) ∙ plain.found) answers)
-      ]
-    where
-      of_kept : kind_of read.bare ≡ kind.Memory → HasResponse (Some bytes) read.bare error → kind_of error ≡ kind.Memory
-      of_kept memory kept = kept.kind ∙ memory
+  no_error : (error : Error) → ReadsInsert id reply (Err error) → kind_of error ≡ kind.Memory
+  no_error error reads = elim reads [ inl memory ↦ memory | inr answers ↦ absurd (no_answer (insert_reply reply) error plain.found answers) ]
 
-  pub plain_read : (error : Error) → ReadsAnswer (insert_spec target document id) bytes (Err error) → kind_of error ≡ kind.Memory
-  plain_read error reads = elim reads [
-    | inl response ↦ no_response error response
-    | inr other ↦ elim other [ inl read ↦ no_read error read | inr memory ↦ memory ]
-  ]
+  pub plain_read : (error : Error) → ReadsAnswer (insert_spec target document id options) bytes (Err error) → kind_of error ≡ kind.Memory
+  plain_read error reads = only_memory (insert_spec target document id options) bytes reply plain.says spelled no_error error reads
 
   -- it may be read as done
-  pub plain_done : ReadsAnswer (insert_spec target document id) bytes (Ok (one_id id))
-  plain_done = record {
-    response = record { ok = pos 1; body = reply };
-    done = record { spelled = spelled; ok = refl; is = plain.says };
-    reads = (subst (λ f. AnswersReply f (Ok (one_id id))) (sym plain.found) (refl, refl), refl);
-  }
+  pub plain_done : ReadsAnswer (insert_spec target document id options) bytes (Ok (one_id id))
+  plain_done = may_be_done (insert_spec target document id options) bytes reply plain.says spelled (one_id id)
+      (subst (λ f. AnswersReply f (Ok (one_id id))) (sym plain.found) (refl, refl), refl)

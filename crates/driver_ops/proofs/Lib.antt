@@ -3,5 +3,7 @@ pub mod Frames
 pub mod InsertLaw
 pub mod InsertReading
 pub mod Inserting
+pub mod PlainReading
 pub mod Responding
-mod Stating
+pub mod StatementLaw
+pub mod Stating

@@ -41,7 +41,7 @@ missing : (value : Bson) → None ≡ Some value → ⊥
 missing value is = cc
 
 -- what a key has in a body it has in a longer one
-stays : (key : List ℕ) (body fields : List (Pair Bson)) (value : Bson) → value_of key body ≡ Some value → value_of key (body ++ fields) ≡ Some value
+pub stays : (key : List ℕ) (body fields : List (Pair Bson)) (value : Bson) → value_of key body ≡ Some value → value_of key (body ++ fields) ≡ Some value
 stays key [] fields value is = absurd (missing value is)
 stays key (pair ∷ body) fields value is = by_test (bytes_eq pair.key key) (stays key body fields value) is
   where
@@ -52,12 +52,12 @@ stays key (pair ∷ body) fields value is = by_test (bytes_eq pair.key key) (sta
     by_test false rest is = rest is
 
 -- keys that neither of two bodies has
-lacks_join : (keys : List (List ℕ)) (xs ys : List (Pair Bson)) → LacksAll keys xs → LacksAll keys ys → LacksAll keys (xs ++ ys)
+pub lacks_join : (keys : List (List ℕ)) (xs ys : List (Pair Bson)) → LacksAll keys xs → LacksAll keys ys → LacksAll keys (xs ++ ys)
 lacks_join [] xs ys first second = tt
 lacks_join (key ∷ keys) xs ys first second = (skips key xs ys first.0 ∙ second.0, lacks_join keys xs ys first.1 second.1)
 
 -- options of commands are no fields of commands of every kind
-plain_bypass : (value : Option Bson) → IsPlain (option_field BYPASS_DOCUMENT_VALIDATION.now value)
+pub plain_bypass : (value : Option Bson) → IsPlain (option_field BYPASS_DOCUMENT_VALIDATION.now value)
 plain_bypass None = (refl, (refl, (refl, (refl, (refl, (refl, (refl, (refl, (refl, tt)))))))))
 plain_bypass (Some value) = (refl, (refl, (refl, (refl, (refl, (refl, (refl, (refl, (refl, tt)))))))))
 
@@ -65,7 +65,7 @@ plain_let : (value : Option Bson) → IsPlain (option_field LET.now value)
 plain_let None = (refl, (refl, (refl, (refl, (refl, (refl, (refl, (refl, (refl, tt)))))))))
 plain_let (Some value) = (refl, (refl, (refl, (refl, (refl, (refl, (refl, (refl, (refl, tt)))))))))
 
-plain_comment : (value : Option Bson) → IsPlain (option_field COMMENT.now value)
+pub plain_comment : (value : Option Bson) → IsPlain (option_field COMMENT.now value)
 plain_comment None = (refl, (refl, (refl, (refl, (refl, (refl, (refl, (refl, (refl, tt)))))))))
 plain_comment (Some value) = (refl, (refl, (refl, (refl, (refl, (refl, (refl, (refl, (refl, tt)))))))))
 

@@ -1,8 +1,9 @@
 -- A delete of one statement keeps the law of operations.
-use Rattle.std.proofs.Common.{◌≡◌, Bool, true, false, List, [], ◌∷◌, refl, sym, ap, subst, ◌∙◌, inl, inr}
+use Rattle.std.proofs.Common.{◌≡◌, ℕ, Bool, true, false, List, [], ◌∷◌, refl, sym, ap, subst, ◌∙◌, inl, inr}
 use Rattle.std.specs.Prelude.{Some}
 use Rattle.bson_lite.specs.declared.bson.Bson.{Bson}
 use Rattle.bson_lite.specs.declared.document.Pair.{Pair}
+use Rattle.bson_lite.specs.Spelling.{Spells}
 use Rattle.driver_error.specs.declared.results.DeleteResult.{DeleteResult}
 use Rattle.driver_link.specs.declared.keys.TheConstants.{OK}
 use Rattle.driver_link.specs.declared.machine.PlacedWrite.{PlacedWrite}
@@ -21,7 +22,7 @@ use Rattle.driver_ops.specs.CountAnswers.{deleted_by}
 use Rattle.driver_ops.specs.Deleting.{delete_statement}
 use Rattle.driver_ops.specs.Inserts.{int_at, is_one}
 use Rattle.driver_ops.specs.OperationLaw.{IsLawful}
-use Rattle.driver_ops.specs.Operations.{send_of}
+use Rattle.driver_ops.specs.Operations.{ReadsOutput, send_of}
 use Rattle.driver_ops.specs.Served.{statements_in}
 use Rattle.driver_ops.specs.StatementSpec.{statement_write, delete_spec}
 use Rattle.driver_ops.specs.Targets.{namespace_of}
@@ -35,9 +36,10 @@ differ : ◌≡◌ {A = Bool} false true → ⊥
 differ is = cc
 
 -- a delete whose reply is read as done: its one statement is told, and its counts are those that are read
-record IsTold (server : Server) (send : Send) (step : Scheduled) (write : PlacedWrite) (found : Reply) (output : DeleteResult) : Type 0 where
-  one : IsOneCounted command.Delete server send step write found
-  counts : deleted_by one.result ≡ Some output
+pub record IsTold (server : Server) (send : Send) (step : Scheduled) (write : PlacedWrite) (found : Reply) (output : DeleteResult) : Type 0 where
+  pub one : IsOneCounted command.Delete server send step write found
+  pub read : IsDeleteRead found output
+  pub counts : deleted_by one.result ≡ Some output
 
 -- by what its reply tells
 told_by : (server : Server) (send : Send) (step : Scheduled) (write : PlacedWrite) (found : Reply) (output : DeleteResult) → IsOneOf command.Delete send write
@@ -50,6 +52,7 @@ told_by server send step write found output one answer read tells =
     let here = subst (λ reply. IsDeleteRead reply output) alone.is read in
     let counted = delete_counts alone.plan before write alone.statement here.failed here.failed_is here.none in
     record {
+      read = read;
       one = record { done = tells.done; told = tells.told; alone = alone; result = counted.0; counts = counted.1 };
       counts = delete_by alone.plan before write alone.statement counted.0 output counted.1 here;
     }
@@ -65,6 +68,16 @@ told server send step write found output one answer done read =
       | inr tells ↦ told_by server send step write found output one answer read tells
     ]
 
+-- an exchange whose reply is read as done
+pub told_by_reading : (target : OperationTarget) (filter : List (Pair Bson)) (multi : Bool) (options : DeleteOptions) (server : Server) (send : Send) (step : Scheduled) (write : PlacedWrite) (found : Reply)
+    → IsOneOf command.Delete send write → answered server send step ≡ Some found → (bytes : List ℕ) → Spells found bytes → (output : DeleteResult)
+    → ReadsOutput (delete_spec target filter multi options) bytes output → IsTold server send step write found output
+told_by_reading target filter multi options server send step write found one answer bytes spelled output reads =
+    let same = spells_one reads.response.body found bytes reads.done.spelled spelled in
+    let done = subst (λ reply. is_one (int_at OK.now reply) ≡ true) same (ok_is_one reads.response.body reads.done.is) in
+    let read = subst (λ reply. IsDeleteRead reply output) same (delete_read reads.response.body output reads.reads) in
+    told server send step write found output one answer done read
+
 -- over the machine's own reply its output is told by the entry of its write
 pub delete_lawful : (target : OperationTarget) (filter : List (Pair Bson)) (multi : Bool) (options : DeleteOptions) → IsLawful (delete_spec target filter multi options)
 delete_lawful target filter multi options = record {
@@ -72,10 +85,7 @@ delete_lawful target filter multi options = record {
       let send = send_of context body in
       let write = statement_write kind.Delete (namespace_of target) (delete_statement filter multi options) asks.place in
       let one : IsOneOf command.Delete send write = record { out = refl; body = asks.is } in
-      let same = spells_one reads.response.body reply came reads.done.spelled spelled in
-      let done = subst (λ found. is_one (int_at OK.now found) ≡ true) same (ok_is_one reads.response.body reads.done.is) in
-      let read = subst (λ found. IsDeleteRead found output) same (delete_read reads.response.body output reads.reads) in
-      let is = told server send step write reply output one answer done read in
+      let is = told_by_reading target filter multi options server send step write reply one answer came spelled output reads in
       record {
         entries = entry_of context.session context.number write is.one.result ∷ [];
         stand = one_stands command.Delete server send step write reply one is.one;

@@ -19,6 +19,7 @@ use Rattle.driver_link.specs.Cursors.{Reply}
 use Rattle.driver_link.specs.Exchange.{answered}
 use Rattle.driver_link.specs.Replies.{results_in, sum_of}
 use Rattle.driver_link.specs.Statements.{has_failed}
+use Rattle.driver_link.specs.declared.write_options.InsertManyOptions.{InsertManyOptions}
 use Rattle.driver_ops.specs.declared.target.OperationTarget.{OperationTarget}
 use Rattle.driver_ops.specs.Fields.{SendContext}
 use Rattle.driver_ops.specs.InsertAnswers.{one_id}
@@ -42,11 +43,11 @@ pub record CountsOneDocument (server : Server) (send : Send) (step : Scheduled) 
   pub concern : concern_of step.item ≡ None
 
 -- one exchange of the insert of a document, outside transactions, with the machine's own reply to it in bytes
-pub record ExchangesInsert (target : OperationTarget) (bytes : List ℕ) (id : Bson) (server : Server) (send : Send) (step : Scheduled) (reply : List ℕ) : Type 0 where
+pub record ExchangesInsert (target : OperationTarget) (bytes : List ℕ) (id : Bson) (options : InsertManyOptions) (server : Server) (send : Send) (step : Scheduled) (reply : List ℕ) : Type 0 where
   pub statements : ℕ
   pub places : List Place
   pub body : SendBody
-  pub asks : AsksInsert (namespace_of target) bytes id statements places body
+  pub asks : AsksInsert (namespace_of target) bytes id options statements places body
   pub context : SendContext
   pub send_is : send ≡ send_of context body
   pub found : Reply
@@ -55,8 +56,8 @@ pub record ExchangesInsert (target : OperationTarget) (bytes : List ℕ) (id : B
 
 -- the reply is read as done only where one document was counted so, and then its entry tells the output; there it is read as
 -- done, and as nothing else unless memory runs out
-pub record IsReadExactly (target : OperationTarget) (bytes : List ℕ) (id : Bson) (server : Server) (send : Send) (step : Scheduled) (reply : List ℕ) : Type 0 where
-  pub only : (output : InsertManyResult) → ReadsAnswer (insert_spec target bytes id) reply (Ok output)
-      → CountsOneDocument server send step × TellsOutput (insert_spec target bytes id) server send step output
-  pub done : CountsOneDocument server send step → ReadsAnswer (insert_spec target bytes id) reply (Ok (one_id id))
-  pub there : CountsOneDocument server send step → (error : Error) → ReadsAnswer (insert_spec target bytes id) reply (Err error) → kind_of error ≡ Memory
+pub record IsReadExactly (target : OperationTarget) (bytes : List ℕ) (id : Bson) (options : InsertManyOptions) (server : Server) (send : Send) (step : Scheduled) (reply : List ℕ) : Type 0 where
+  pub only : (output : InsertManyResult) → ReadsAnswer (insert_spec target bytes id options) reply (Ok output)
+      → CountsOneDocument server send step × TellsOutput (insert_spec target bytes id options) server send step output
+  pub done : CountsOneDocument server send step → ReadsAnswer (insert_spec target bytes id options) reply (Ok (one_id id))
+  pub there : CountsOneDocument server send step → (error : Error) → ReadsAnswer (insert_spec target bytes id options) reply (Err error) → kind_of error ≡ Memory

@@ -12,10 +12,11 @@ use Rattle.driver_link.specs.declared.machine.Server.{Server}
 use Rattle.driver_link.specs.Cases.{body_writes}
 use Rattle.driver_link.specs.Cursors.{Reply}
 use Rattle.driver_link.specs.Statements.{entry_of}
+use Rattle.driver_link.specs.declared.write_options.InsertManyOptions.{InsertManyOptions}
 use Rattle.driver_ops.specs.declared.target.OperationTarget.{OperationTarget}
 use Rattle.driver_ops.specs.InsertAnswers.{one_id}
 use Rattle.driver_ops.specs.InsertSpec.{TellsIds, id_beside, insert_spec}
-use Rattle.driver_ops.specs.Inserts.{insert_write}
+use Rattle.driver_ops.specs.Inserts.{is_ordered, insert_write}
 use Rattle.driver_ops.specs.OperationLaw.{IsLawful}
 use Rattle.driver_ops.specs.Operations.{send_of}
 use Rattle.driver_ops.specs.Served.{RanOrKept, entries_counted, entry_counted}
@@ -41,13 +42,13 @@ one_entry_tells : (session : Option (List ℕ)) (number : Option ℤ) (write : P
 one_entry_tells session number write result id found = sym (ap (λ known. record { inserted_ids = id_beside 0 known finite.empty }) found)
 
 -- over the machine's own reply its output is told by the entry of its write
-pub insert_lawful : (target : OperationTarget) (bytes : List ℕ) (id : Bson) → IsLawful (insert_spec target bytes id)
-insert_lawful target bytes id = record {
+pub insert_lawful : (target : OperationTarget) (bytes : List ℕ) (id : Bson) (options : InsertManyOptions) → IsLawful (insert_spec target bytes id options)
+insert_lawful target bytes id options = record {
   reads_own = λ statements places body asks writes context server step reply answer came spelled output reads.
       let send = send_of context body in
       let write = insert_write (namespace_of target) asks.document asks.place in
-      let one : IsInsertOf send write = record { out = refl; body = asks.is } in
-      let is = read_done target bytes id server send step write reply one answer came spelled output reads in
+      let one : IsInsertOf send write = record { out = refl; ordered = is_ordered options; body = asks.is } in
+      let is = read_done target bytes id options server send step write reply one answer came spelled output reads in
       record {
         entries = entry_of context.session context.number write is.result ∷ [];
         stand = one_entry server send step write reply one is;

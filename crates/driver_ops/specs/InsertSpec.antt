@@ -16,6 +16,7 @@ use Rattle.driver_link.specs.declared.machine.SendBody.{SendBody}
 use Rattle.driver_link.specs.declared.machine.SendBody.TheVariants.{Write}
 use Rattle.driver_link.specs.declared.machine.SendCommand.TheVariants as command
 use Rattle.driver_link.specs.declared.options.ClientOptions.{ClientOptions}
+use Rattle.driver_link.specs.declared.write_options.InsertManyOptions.{InsertManyOptions}
 use Rattle.driver_session.specs.declared.retryability.Retryability.{Retryability}
 use Rattle.driver_ops.specs.declared.command.Command.{Command}
 use Rattle.driver_ops.specs.declared.feature.Feature.TheVariants.{Inherit, NotSupported}
@@ -24,26 +25,27 @@ use Rattle.driver_ops.specs.declared.operation.Reading.TheVariants.{Done}
 use Rattle.driver_ops.specs.declared.target.OperationTarget.{OperationTarget}
 use Rattle.driver_ops.specs.Defaults.{is_repeatable, repeated_where}
 use Rattle.driver_ops.specs.InsertAnswers.{ReadsInsert}
-use Rattle.driver_ops.specs.Inserts.{IsOneDocument, insert_command, insert_write}
+use Rattle.driver_ops.specs.Features.{feature_of}
+use Rattle.driver_ops.specs.Inserts.{IsOneDocument, insert_command, insert_write, is_ordered}
 use Rattle.driver_ops.specs.Operations.{OperationSpec, Page, never}
 use Rattle.driver_ops.specs.Targets.{namespace_of}
 
--- the command of an insert: one statement, into the namespace's collection, ordered, with one sequence of the one document
-pub record IsInsertCommand (namespace : Namespace) (bytes : List ℕ) (statements : ℕ) (made : Command) : Type 0 where
+-- the command of an insert: one statement, into the namespace's collection, with its options and one sequence of the one document
+pub record IsInsertCommand (namespace : Namespace) (bytes : List ℕ) (options : InsertManyOptions) (statements : ℕ) (made : Command) : Type 0 where
   pub one : statements ≡ 1
   pub database : made.database ≡ namespace.db
-  pub body : made.body ≡ insert_command namespace
+  pub body : made.body ≡ insert_command namespace options
   pub sequences : IsOneDocument made.sequences bytes
 
 -- the insert of the document that the bytes spell and that has this id, under the one place
-pub record AsksInsert (namespace : Namespace) (bytes : List ℕ) (id : Bson) (statements : ℕ) (places : List Place) (body : SendBody) : Type 0 where
+pub record AsksInsert (namespace : Namespace) (bytes : List ℕ) (id : Bson) (options : InsertManyOptions) (statements : ℕ) (places : List Place) (body : SendBody) : Type 0 where
   pub one : statements ≡ 1
   pub document : List (Pair Bson)
   pub place : Place
   pub spelled : Spells document bytes
   pub found : value_of id_key document ≡ Some id
   pub alone : places ≡ place ∷ []
-  pub is : body ≡ Write command.Insert true (insert_write namespace document place ∷ [])
+  pub is : body ≡ Write command.Insert (is_ordered options) (insert_write namespace document place ∷ [])
 
 -- what an insert may repeat under these options
 abbrev pub own_of_insert : ClientOptions → Retryability
@@ -70,14 +72,14 @@ abbrev pub TellsIds : List Entry → InsertManyResult → Type 0
 TellsIds entries output = output ≡ record { inserted_ids = ids_from 0 entries }
 
 -- a build is refused nothing, each send has the same command, and the reply is the whole answer
-abbrev pub insert_spec : OperationTarget → List ℕ → Bson → OperationSpec InsertManyResult
-insert_spec target bytes id = record {
+abbrev pub insert_spec : OperationTarget → List ℕ → Bson → InsertManyOptions → OperationSpec InsertManyResult
+insert_spec target bytes id options = record {
   name = name.Insert;
   target = target;
-  commands = λ which. IsInsertCommand (namespace_of target) bytes;
-  bodies = AsksInsert (namespace_of target) bytes id;
+  commands = λ which. IsInsertCommand (namespace_of target) bytes options;
+  bodies = AsksInsert (namespace_of target) bytes id options;
   refused = never;
-  write_concern = λ which. Inherit;
+  write_concern = λ which. feature_of options.write_concern;
   read_concern = NotSupported;
   selection_criteria = λ which. Inherit;
   sessions = true;

@@ -1,5 +1,5 @@
 -- The insert command that the driver builds, and the replies that tell of an insert that was done.
-use Rattle.std.specs.Prelude.{◌≡◌, ℕ, ℤ, pos, Bool, true, false, ◌&&◌, List, [], ◌∷◌, ◌++◌, Option, None, Some}
+use Rattle.std.specs.Prelude.{◌≡◌, ℕ, ℤ, pos, Bool, true, false, ◌&&◌, List, [], ◌∷◌, ◌++◌, Option, None, Some, unwrap_or}
 use Rattle.std.specs.Option.{option_and_then}
 use Rattle.std.specs.Ordering.{int_eq}
 use Rattle.bson_lite.specs.declared.bson.Bson.{Bson}
@@ -14,16 +14,27 @@ use Rattle.driver_link.specs.declared.keys.TheConstants.{INSERT, ORDERED, DOCUME
 use Rattle.driver_link.specs.declared.machine.Place.{Place}
 use Rattle.driver_link.specs.declared.machine.PlacedWrite.{PlacedWrite}
 use Rattle.driver_link.specs.declared.machine.WriteKind.TheVariants as write_kind
+use Rattle.driver_link.specs.declared.write_options.InsertManyOptions.{InsertManyOptions}
 use Rattle.driver_link.specs.Writes.{write_on}
+use Rattle.driver_ops.specs.declared.option_keys.TheConstants.{BYPASS_DOCUMENT_VALIDATION, COMMENT}
 use Rattle.driver_ops.specs.Fields.{IsSixteen, SendContext, executor_fields, field}
+use Rattle.driver_ops.specs.OptionFields.{flag_of, option_field}
+
+-- an insert stops at the first document that fails, unless its options say that it goes on
+abbrev pub is_ordered : InsertManyOptions → Bool
+is_ordered options = unwrap_or options.ordered true
 
 -- the body of the insert command, without the executor's fields
-unfoldable pub insert_command : Namespace → List (Pair Bson)
-insert_command namespace = field INSERT.now (bson.String namespace.coll) ∷ field ORDERED.now (bson.Boolean true) ∷ []
+unfoldable pub insert_command : Namespace → InsertManyOptions → List (Pair Bson)
+insert_command namespace options =
+    (((field INSERT.now (bson.String namespace.coll) ∷ [])
+    ++ option_field BYPASS_DOCUMENT_VALIDATION.now (flag_of options.bypass_document_validation))
+    ++ field ORDERED.now (bson.Boolean (is_ordered options)) ∷ [])
+    ++ option_field COMMENT.now options.comment
 
 -- the body of the insert command, with the executor's fields
-unfoldable pub insert_body : Namespace → SendContext → List (Pair Bson)
-insert_body namespace context = insert_command namespace ++ executor_fields context namespace.db
+unfoldable pub insert_body : Namespace → InsertManyOptions → SendContext → List (Pair Bson)
+insert_body namespace options context = insert_command namespace options ++ executor_fields context namespace.db
 
 -- the write that inserts a document
 abbrev pub insert_write : Namespace → List (Pair Bson) → Place → PlacedWrite
@@ -47,6 +58,6 @@ unfoldable pub is_done_reply : List (Pair Bson) → Bool
 is_done_reply document = is_one (int_at OK.now document) && is_one (int_at N.now document)
 
 -- the body of an insert into this namespace, with the executor's fields, has no spelling
-pub record BodyRefused (namespace : Namespace) (context : SendContext) (fault : EncodeFault) : Type 0 where
+pub record BodyRefused (namespace : Namespace) (options : InsertManyOptions) (context : SendContext) (fault : EncodeFault) : Type 0 where
   pub sixteen : IsSixteen context.session
-  pub is : refusal (insert_body namespace context) ≡ Some fault
+  pub is : refusal (insert_body namespace options context) ≡ Some fault

@@ -19,6 +19,7 @@ pub mod Readings
 pub mod Responses
 pub mod SendKinds
 pub mod Served
+pub mod StatementLaw
 pub mod StatementSpec
 pub mod Targets
 pub mod UpdateLawful

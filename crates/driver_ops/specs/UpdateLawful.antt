@@ -1,8 +1,9 @@
 -- An update of one statement keeps the law of operations.
-use Rattle.std.proofs.Common.{◌≡◌, Bool, true, false, List, [], ◌∷◌, refl, sym, ap, subst, ◌∙◌, inl, inr}
+use Rattle.std.proofs.Common.{◌≡◌, ℕ, Bool, true, false, List, [], ◌∷◌, refl, sym, ap, subst, ◌∙◌, inl, inr}
 use Rattle.std.specs.Prelude.{Some}
 use Rattle.bson_lite.specs.declared.bson.Bson.{Bson}
 use Rattle.bson_lite.specs.declared.document.Pair.{Pair}
+use Rattle.bson_lite.specs.Spelling.{Spells}
 use Rattle.driver_error.specs.declared.results.UpdateResult.{UpdateResult}
 use Rattle.driver_link.specs.declared.keys.TheConstants.{OK}
 use Rattle.driver_link.specs.declared.machine.PlacedWrite.{PlacedWrite}
@@ -22,7 +23,7 @@ use Rattle.driver_ops.specs.CountAnswers.{updated_by}
 use Rattle.driver_ops.specs.Updating.{update_statement}
 use Rattle.driver_ops.specs.Inserts.{int_at, is_one}
 use Rattle.driver_ops.specs.OperationLaw.{IsLawful}
-use Rattle.driver_ops.specs.Operations.{send_of}
+use Rattle.driver_ops.specs.Operations.{ReadsOutput, send_of}
 use Rattle.driver_ops.specs.Served.{statements_in}
 use Rattle.driver_ops.specs.StatementSpec.{statement_write, update_spec}
 use Rattle.driver_ops.specs.Targets.{namespace_of}
@@ -36,9 +37,10 @@ differ : ◌≡◌ {A = Bool} false true → ⊥
 differ is = cc
 
 -- an update whose reply is read as done: its one statement is told, and its counts are those that are read
-record IsTold (server : Server) (send : Send) (step : Scheduled) (write : PlacedWrite) (found : Reply) (output : UpdateResult) : Type 0 where
-  one : IsOneCounted command.Update server send step write found
-  counts : updated_by one.result ≡ Some output
+pub record IsTold (server : Server) (send : Send) (step : Scheduled) (write : PlacedWrite) (found : Reply) (output : UpdateResult) : Type 0 where
+  pub one : IsOneCounted command.Update server send step write found
+  pub read : IsUpdateRead found output
+  pub counts : updated_by one.result ≡ Some output
 
 -- by what its reply tells
 told_by : (server : Server) (send : Send) (step : Scheduled) (write : PlacedWrite) (found : Reply) (output : UpdateResult) → IsOneOf command.Update send write
@@ -51,6 +53,7 @@ told_by server send step write found output one answer read tells =
     let here = subst (λ reply. IsUpdateRead reply output) alone.is read in
     let counted = update_counts alone.plan before write alone.statement here.failed here.failed_is here.none in
     record {
+      read = read;
       one = record { done = tells.done; told = tells.told; alone = alone; result = counted.0; counts = counted.1 };
       counts = update_by alone.plan before write alone.statement counted.0 output counted.1 here;
     }
@@ -66,6 +69,16 @@ told server send step write found output one answer done read =
       | inr tells ↦ told_by server send step write found output one answer read tells
     ]
 
+-- an exchange whose reply is read as done
+pub told_by_reading : (target : OperationTarget) (filter : List (Pair Bson)) (change : UpdateOrReplace) (multi : Bool) (options : UpdateOptions) (server : Server) (send : Send) (step : Scheduled) (write : PlacedWrite) (found : Reply)
+    → IsOneOf command.Update send write → answered server send step ≡ Some found → (bytes : List ℕ) → Spells found bytes → (output : UpdateResult)
+    → ReadsOutput (update_spec target filter change multi options) bytes output → IsTold server send step write found output
+told_by_reading target filter change multi options server send step write found one answer bytes spelled output reads =
+    let same = spells_one reads.response.body found bytes reads.done.spelled spelled in
+    let done = subst (λ reply. is_one (int_at OK.now reply) ≡ true) same (ok_is_one reads.response.body reads.done.is) in
+    let read = subst (λ reply. IsUpdateRead reply output) same (update_read reads.response.body output reads.reads) in
+    told server send step write found output one answer done read
+
 -- over the machine's own reply its output is told by the entry of its write
 pub update_lawful : (target : OperationTarget) (filter : List (Pair Bson)) (change : UpdateOrReplace) (multi : Bool) (options : UpdateOptions) → IsLawful (update_spec target filter change multi options)
 update_lawful target filter change multi options = record {
@@ -73,10 +86,7 @@ update_lawful target filter change multi options = record {
       let send = send_of context body in
       let write = statement_write kind.Update (namespace_of target) (update_statement filter change multi options) asks.place in
       let one : IsOneOf command.Update send write = record { out = refl; body = asks.is } in
-      let same = spells_one reads.response.body reply came reads.done.spelled spelled in
-      let done = subst (λ found. is_one (int_at OK.now found) ≡ true) same (ok_is_one reads.response.body reads.done.is) in
-      let read = subst (λ found. IsUpdateRead found output) same (update_read reads.response.body output reads.reads) in
-      let is = told server send step write reply output one answer done read in
+      let is = told_by_reading target filter change multi options server send step write reply one answer came spelled output reads in
       record {
         entries = entry_of context.session context.number write is.one.result ∷ [];
         stand = one_stands command.Update server send step write reply one is.one;

@@ -1,5 +1,5 @@
 //! The delete: its command of one statement, and what the reply to it says.
-ghost use Rattle.std.specs.Prelude.{◌≡◌, IfOk, Some, ⊤};
+ghost use Rattle.std.specs.Prelude.{◌≡◌, ℕ, List as Listed, IfOk, Some, ⊤};
 ghost use Rattle.driver_error.specs.declared.kind.ErrorKind.TheVariants.{InvalidResponse};
 ghost use Rattle.driver_error.specs.Conversions.{IsMade};
 ghost use Rattle.driver_error.specs.LabelTexts.{no_labels};
@@ -8,7 +8,6 @@ ghost use Rattle.driver_ops.specs.DeleteLawful.{delete_lawful};
 ghost use Rattle.driver_ops.specs.Deleting.{delete_command, delete_statement, limit_of};
 ghost use Rattle.driver_ops.specs.SendKinds.{first};
 ghost use Rattle.driver_ops.specs.StatementSpec.{delete_spec};
-ghost use Rattle.driver_ops.specs.Targets.{namespace_of};
 ghost use Rattle.driver_ops.specs.declared.target.OperationTarget.TheVariants.{Collection as Within};
 ghost use Rattle.driver_ops.specs.inside.Readings.{Gives};
 
@@ -89,11 +88,16 @@ impl Operation for Delete {
     }
 
     fn build(&mut self, alloc: Global, _description: &Description) -> Result<Command> {
-        let statement = delete_statement(alloc, &self.filter, self.multi, &self.options)?;
         Ok(Command {
             name: CommandName::Delete,
             database: Text::from_str(alloc, self.target.database())?,
-            body: delete_command(alloc, &self.target, statement, &self.options)?,
+            body: delete_body(
+                alloc,
+                self.target.collection(),
+                &self.filter,
+                self.multi,
+                &self.options,
+            )?,
             sequences: List::new(alloc),
         })
     }
@@ -173,13 +177,14 @@ fn limit_of(multi: bool) -> i32
 #[tactic(auto, unfolding(crate::specs::Deleting::delete_command))]
 fn delete_command(
     alloc: Global,
-    target: &OperationTarget,
+    collection: &str,
     statement: Document,
     options: &DeleteOptions,
 ) -> std::result::Result<Document, AllocError>
-    ensures { IfOk result (λ body. body ≡ delete_command (namespace_of target.now) statement options.now) }
+    ensures { IfOk result (λ body. (database : Listed ℕ) →
+        body ≡ delete_command (record { db = database; coll = collection.now }) statement options.now) }
 {
-    let collection = Text::from_str(alloc, target.collection())?;
+    let collection = Text::from_str(alloc, collection)?;
     let mut body = Document::new(alloc);
     body.push(keys::DELETE, Bson::String(collection))?;
     body.push(keys::DELETES, one_statement(alloc, statement)?)?;
@@ -187,6 +192,22 @@ fn delete_command(
     push_document(alloc, &mut body, LET, &options.let_vars)?;
     push_value(alloc, &mut body, COMMENT, &options.comment)?;
     Ok(body)
+}
+
+/// The body of a delete's command in a collection, without the executor's fields.
+pub fn delete_body(
+    alloc: Global,
+    collection: &str,
+    filter: &Document,
+    multi: bool,
+    options: &DeleteOptions,
+) -> std::result::Result<Document, AllocError>
+    ensures { IfOk result (λ body. (database : Listed ℕ) →
+        body ≡ delete_command (record { db = database; coll = collection.now })
+        (delete_statement filter.now multi options.now) options.now) }
+{
+    let statement = delete_statement(alloc, filter, multi, options)?;
+    delete_command(alloc, collection, statement, options)
 }
 
 /// The fields of a reply: how many documents were taken out, and why the write failed, if it did.

@@ -1,5 +1,5 @@
 //! The insert of one document: its command, and what the reply to it says.
-ghost use Rattle.std.specs.Prelude.{◌≡◌, IfErr, IfOk, Some, ⊤};
+ghost use Rattle.std.specs.Prelude.{◌≡◌, ℕ, List as Listed, IfErr, IfOk, Some, ⊤};
 ghost use Rattle.driver_error.specs.declared.kind.ErrorKind.TheVariants.{InsertMany, InvalidResponse, Memory};
 ghost use Rattle.driver_error.specs.Conversions.{IsMade, IsNew};
 ghost use Rattle.driver_error.specs.Error.{kind_of};
@@ -10,7 +10,6 @@ ghost use Rattle.driver_ops.specs.inside.Readings.{Gives};
 ghost use Rattle.driver_ops.specs.InsertLawful.{insert_lawful};
 ghost use Rattle.driver_ops.specs.InsertSpec.{insert_spec};
 ghost use Rattle.driver_ops.specs.SendKinds.{first};
-ghost use Rattle.driver_ops.specs.Targets.{namespace_of};
 ghost use Rattle.driver_ops.specs.declared.target.OperationTarget.TheVariants.{Collection as Within};
 
 use crate::command::Command;
@@ -20,6 +19,8 @@ use crate::defaults::{
 };
 use crate::feature::Feature;
 use crate::operation::{Operation, Reading};
+use crate::option_fields::{push_flag, push_value};
+use crate::option_keys::{BYPASS_DOCUMENT_VALIDATION, COMMENT};
 use crate::reply_fields::{Unread, int_at, labels_at};
 use crate::response::odd_reply;
 use crate::target::{Collection, OperationTarget};
@@ -30,8 +31,8 @@ use driver_error::{
     WriteConcernError,
 };
 use driver_link::{
-    ClientOptions, CommandName, Description, ReadConcern, SelectionCriteria, Sequence,
-    WriteConcern, keys,
+    ClientOptions, CommandName, Description, InsertManyOptions, ReadConcern, SelectionCriteria,
+    Sequence, WriteConcern, keys,
 };
 use driver_session::Retryability;
 use std::alloc::{AllocError, Global};
@@ -45,19 +46,27 @@ pub struct Insert {
     target: OperationTarget,
     document: Bytes,
     id: Bson,
+    options: InsertManyOptions,
 }
 
 impl Insert {
     /// The insert of a document, which has this id, into a collection.
-    pub fn new(collection: Collection, document: Bytes, id: Bson) -> Insert
+    pub fn new(
+        collection: Collection,
+        document: Bytes,
+        id: Bson,
+        options: InsertManyOptions,
+    ) -> Insert
         ensures target { result.target ≡ Within collection }
         ensures document { result.document ≡ document }
         ensures id { result.id ≡ id }
+        ensures options { result.options ≡ options }
     {
         Insert {
             target: OperationTarget::Collection(collection),
             document,
             id,
+            options,
         }
     }
 }
@@ -65,7 +74,7 @@ impl Insert {
 impl Operation for Insert {
     type Output = InsertManyResult;
 
-    ghost spec = { λ insert. insert_spec insert.target insert.document insert.id };
+    ghost spec = { λ insert. insert_spec insert.target insert.document insert.id insert.options };
 
     ghost built = { λ insert. Some 1 };
 
@@ -86,7 +95,7 @@ impl Operation for Insert {
         Ok(Command {
             name: CommandName::Insert,
             database: Text::from_str(alloc, self.target.database())?,
-            body: insert_command(alloc, &self.target)?,
+            body: insert_body(alloc, self.target.collection(), &self.options)?,
             sequences: one_sequence(alloc, self.document.try_clone(alloc)?)?,
         })
     }
@@ -100,7 +109,7 @@ impl Operation for Insert {
     }
 
     fn write_concern(&self) -> Feature<&WriteConcern> {
-        Feature::Inherit
+        Feature::from(self.options.write_concern.as_ref())
     }
 
     fn read_concern(&self) -> Feature<&ReadConcern> {
@@ -131,21 +140,32 @@ impl Operation for Insert {
         stays_for_retry()
     }
 
-    ghost law = { λ insert. insert_lawful insert.target insert.document insert.id };
+    ghost law = { λ insert. insert_lawful insert.target insert.document insert.id insert.options };
 }
 
-/// The body of the command, field by field.
+/// The body of an insert's command into a collection, without the executor's fields.
 #[tactic(auto, unfolding(crate::specs::Inserts::insert_command))]
-fn insert_command(
+pub fn insert_body(
     alloc: Global,
-    target: &OperationTarget,
+    collection: &str,
+    options: &InsertManyOptions,
 ) -> std::result::Result<Document, AllocError>
-    ensures { IfOk result (λ body. body ≡ insert_command (namespace_of target.now)) }
+    ensures { IfOk result (λ body. (database : Listed ℕ) →
+        body ≡ insert_command (record { db = database; coll = collection.now }) options.now) }
 {
-    let collection = Text::from_str(alloc, target.collection())?;
+    let collection = Text::from_str(alloc, collection)?;
     let mut body = Document::new(alloc);
     body.push(keys::INSERT, Bson::String(collection))?;
-    body.push(keys::ORDERED, Bson::Boolean(true))?;
+    push_flag(
+        &mut body,
+        BYPASS_DOCUMENT_VALIDATION,
+        options.bypass_document_validation,
+    )?;
+    body.push(
+        keys::ORDERED,
+        Bson::Boolean(options.ordered.unwrap_or(true)),
+    )?;
+    push_value(alloc, &mut body, COMMENT, &options.comment)?;
     Ok(body)
 }
 

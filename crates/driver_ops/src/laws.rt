@@ -1,20 +1,54 @@
 //! Laws of operations over the model server, and of the constants that definitions name.
-ghost use Rattle.std.specs.Prelude.{ℕ, List};
+ghost use Rattle.std.specs.Prelude.{ℕ, Bool, List};
 ghost use Rattle.bson_lite.specs.declared.bson.Bson.{Bson};
+ghost use Rattle.bson_lite.specs.declared.document.Pair.{Pair};
 ghost use Rattle.driver_link.specs.declared.machine.Scheduled.{Scheduled};
 ghost use Rattle.driver_link.specs.declared.machine.Send.{Send};
+ghost use Rattle.driver_link.specs.declared.machine.SendCommand.TheVariants as command;
 ghost use Rattle.driver_link.specs.declared.machine.Server.{Server};
+ghost use Rattle.driver_link.specs.declared.machine.WriteKind.TheVariants as kind;
+ghost use Rattle.driver_link.specs.declared.updates.UpdateOrReplace.{UpdateOrReplace};
+ghost use Rattle.driver_link.specs.declared.write_options.DeleteOptions.{DeleteOptions};
+ghost use Rattle.driver_link.specs.declared.write_options.InsertManyOptions.{InsertManyOptions};
+ghost use Rattle.driver_link.specs.declared.write_options.UpdateOptions.{UpdateOptions};
 ghost use Rattle.driver_ops.specs.declared.target.OperationTarget.{OperationTarget};
+ghost use Rattle.driver_ops.specs.CountAnswers.{deleted_by, updated_by};
+ghost use Rattle.driver_ops.specs.Deleting.{delete_statement};
 ghost use Rattle.driver_ops.specs.InsertLaw.{ExchangesInsert, IsReadExactly};
 ghost use Rattle.driver_ops.specs.Keys.{HaveTexts};
+ghost use Rattle.driver_ops.specs.StatementLaw.{ExchangesStatement, IsReadAsCounted};
+ghost use Rattle.driver_ops.specs.StatementSpec.{delete_spec, update_spec};
+ghost use Rattle.driver_ops.specs.Targets.{namespace_of};
+ghost use Rattle.driver_ops.specs.Updating.{update_statement};
 
 /// Over the model server's own reply to its send, an insert is read as done exactly where its statement ran
 /// now or had its kept result, which counts one document, and there is no write concern error; but for want
 /// of memory.
 pub fn an_insert_is_read_exactly()
-    ensures { (target : OperationTarget) (bytes : List ℕ) (id : Bson) (server : Server) (send : Send)
-        (step : Scheduled) (reply : List ℕ) → ExchangesInsert target bytes id server send step reply →
-        IsReadExactly target bytes id server send step reply }
+    ensures { (target : OperationTarget) (bytes : List ℕ) (id : Bson) (options : InsertManyOptions) (server : Server)
+        (send : Send) (step : Scheduled) (reply : List ℕ) →
+        ExchangesInsert target bytes id options server send step reply →
+        IsReadExactly target bytes id options server send step reply }
+{}
+
+/// Over the model server's own reply to its send, an update is read as done exactly where its statement ran
+/// now or had its kept result, whose counts are not negative, and there is no write concern error; but for want
+/// of memory. The answer is these counts, with 0 as matched beside an upserted id.
+pub fn an_update_is_read_exactly()
+    ensures { (target : OperationTarget) (filter : List (Pair Bson)) (change : UpdateOrReplace) (multi : Bool)
+        (options : UpdateOptions) (server : Server) (send : Send) (step : Scheduled) (reply : List ℕ) →
+        ExchangesStatement command.Update kind.Update (namespace_of target)
+        (update_statement filter change multi options) server send step reply →
+        IsReadAsCounted (update_spec target filter change multi options) updated_by server send step reply }
+{}
+
+/// So it is of a delete.
+pub fn a_delete_is_read_exactly()
+    ensures { (target : OperationTarget) (filter : List (Pair Bson)) (multi : Bool) (options : DeleteOptions)
+        (server : Server) (send : Send) (step : Scheduled) (reply : List ℕ) →
+        ExchangesStatement command.Delete kind.Delete (namespace_of target)
+        (delete_statement filter multi options) server send step reply →
+        IsReadAsCounted (delete_spec target filter multi options) deleted_by server send step reply }
 {}
 
 /// The keys of options and replies that stand in this crate have these texts.

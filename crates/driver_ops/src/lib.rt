@@ -27,13 +27,13 @@ pub use defaults::{
     lacks_option, repeats_nothing, repeats_under_backpressure, repeats_unless_forbidden,
     stays_for_retry, takes_sessions, writes_after_cluster_time,
 };
-pub use delete::Delete;
+pub use delete::{Delete, delete_body};
 pub use feature::Feature;
-pub use insert::Insert;
+pub use insert::{Insert, insert_body};
 pub use operation::{Operation, Reading};
 pub use reply_fields::{BASE_BACKOFF, CODE_NAME};
 pub use response::{CommandResponse, read_response};
 pub use spelling::encoded;
 pub use target::{Collection, Database, OperationTarget};
-pub use update::Update;
+pub use update::{Update, update_body};
 pub use write_reply::ERROR_INFO;

@@ -1,12 +1,11 @@
 //! The update: its command of one statement, and what the reply to it says.
-ghost use Rattle.std.specs.Prelude.{◌≡◌, IfOk, Some, ⊤};
+ghost use Rattle.std.specs.Prelude.{◌≡◌, ℕ, List as Listed, IfOk, Some, ⊤};
 ghost use Rattle.driver_error.specs.declared.kind.ErrorKind.TheVariants.{InvalidResponse};
 ghost use Rattle.driver_error.specs.Conversions.{IsMade};
 ghost use Rattle.driver_error.specs.LabelTexts.{no_labels};
 ghost use Rattle.driver_ops.specs.CountAnswers.{AnswersUpdate, ReadsUpdate, odd_update_text, update_reply};
 ghost use Rattle.driver_ops.specs.SendKinds.{first};
 ghost use Rattle.driver_ops.specs.StatementSpec.{update_spec};
-ghost use Rattle.driver_ops.specs.Targets.{namespace_of};
 ghost use Rattle.driver_ops.specs.UpdateLawful.{update_lawful};
 ghost use Rattle.driver_ops.specs.Updating.{change_value, update_command, update_head, update_statement};
 ghost use Rattle.driver_ops.specs.declared.target.OperationTarget.TheVariants.{Collection as Within};
@@ -43,8 +42,7 @@ use std::alloc::{AllocError, Global};
 /// A reply tells of no update.
 const ODD_UPDATE: &str = "the reply does not tell of an update";
 
-/// An update or a replacement of one of the documents that a filter finds in a collection, or an update of all
-/// of them.
+/// An update or a replacement of one of the documents that a filter finds in a collection, or of all of them.
 #[derive(Drop)]
 pub struct Update {
     target: OperationTarget,
@@ -100,17 +98,17 @@ impl Operation for Update {
     }
 
     fn build(&mut self, alloc: Global, _description: &Description) -> Result<Command> {
-        let statement = update_statement(
-            alloc,
-            &self.filter,
-            &self.change,
-            self.multi,
-            &self.options,
-        )?;
         Ok(Command {
             name: CommandName::Update,
             database: Text::from_str(alloc, self.target.database())?,
-            body: update_command(alloc, &self.target, statement, &self.options)?,
+            body: update_body(
+                alloc,
+                self.target.collection(),
+                &self.filter,
+                &self.change,
+                self.multi,
+                &self.options,
+            )?,
             sequences: List::new(alloc),
         })
     }
@@ -225,16 +223,34 @@ fn update_head(
 #[tactic(auto, unfolding(crate::specs::Updating::update_command))]
 fn update_command(
     alloc: Global,
-    target: &OperationTarget,
+    collection: &str,
     statement: Document,
     options: &UpdateOptions,
 ) -> std::result::Result<Document, AllocError>
-    ensures { IfOk result (λ body. body ≡ update_command (namespace_of target.now) statement options.now) }
+    ensures { IfOk result (λ body. (database : Listed ℕ) →
+        body ≡ update_command (record { db = database; coll = collection.now }) statement options.now) }
 {
-    let mut body = update_head(alloc, target.collection(), options)?;
+    let mut body = update_head(alloc, collection, options)?;
     body.push(keys::UPDATES, one_statement(alloc, statement)?)?;
     body.push(keys::ORDERED, Bson::Boolean(true))?;
     Ok(body)
+}
+
+/// The body of an update's command in a collection, without the executor's fields.
+pub fn update_body(
+    alloc: Global,
+    collection: &str,
+    filter: &Document,
+    change: &UpdateOrReplace,
+    multi: bool,
+    options: &UpdateOptions,
+) -> std::result::Result<Document, AllocError>
+    ensures { IfOk result (λ body. (database : Listed ℕ) →
+        body ≡ update_command (record { db = database; coll = collection.now })
+        (update_statement filter.now change.now multi options.now) options.now) }
+{
+    let statement = update_statement(alloc, filter, change, multi, options)?;
+    update_command(alloc, collection, statement, options)
 }
 
 /// The fields of a reply: how many documents were found and how many changed, the id of the one that was put in,

@@ -39,10 +39,10 @@ use Rattle.driver_exec.proofs.Completing.Ends.{ReadsPlainly, lossy_none, none_so
 use Rattle.driver_exec.proofs.Completing.Sessions.{KnownCommand, trial, MayGo, IsReadied, IsPrepared, again_readied, is_conn, reached_at, readied_at}
 
 module _ {A : Type 0} (known : KnownCommand A) where
-  open known use {spec, body, own, told, link, Ready, ready_answers, ready_again}
+  open known use {spec, body, does, own, told, link, Ready, ready_answers, ready_again}
 
   -- the part that is gentle
-  module _ (told_now : ServerRun) (gentle : IsGentlePart (DrawsNumbers true own (setup_of link)) told told_now) where
+  module _ (told_now : ServerRun) (gentle : IsGentlePart does (DrawsNumbers true own (setup_of link)) told told_now) where
     -- one exchange of the part was lost, from a moment on
     pub record Lost (from : ServerRun) (now : AttemptState) : Type 0 where
       pub draws : DrawsNumbers true own (setup_of link)
@@ -141,7 +141,7 @@ module _ {A : Type 0} (known : KnownCommand A) where
         plain_reply : (reply_bytes : List ℕ) → TakesStep (Some before) (server_run now.link) send (Ok reply_bytes) → HasPlain reply_bytes
         plain_reply reply_bytes stepped = elim (gentle.items (length before.server.trace) (of_part stepped.0)) [
           | inl serves ↦
-              let here = ready_answers (held_id sends.numbered) sends.number before.server step ready_here (subst (λ s. IsGentleItem s.item) step_is serves) in
+              let here = ready_answers (held_id sends.numbered) sends.number before.server step ready_here (subst (λ s. IsGentleItem does s.item) step_is serves) in
               record { reply = here.reply; plain = here.plain; spells = subst (λ o. IsReply o reply_bytes) here.is stepped.1 }
           | inr loses ↦ absurd (subst (λ o. IsReply o reply_bytes) (lossy_none before.server send step (subst (λ s. IsLossy s.item) step_is loses.1)) stepped.1)
         ]
@@ -151,7 +151,7 @@ module _ {A : Type 0} (known : KnownCommand A) where
             → DrawsNumbers true own (setup_of link) × IsLossy (step_at told.schedule (length before.server.trace)).item
         lossy_item none is = elim (gentle.items (length before.server.trace) (of_part is)) [
           | inl serves ↦
-              let here = ready_answers (held_id sends.numbered) sends.number before.server step ready_here (subst (λ s. IsGentleItem s.item) step_is serves) in
+              let here = ready_answers (held_id sends.numbered) sends.number before.server step ready_here (subst (λ s. IsGentleItem does s.item) step_is serves) in
               absurd (none_some here.reply (sym none ∙ here.is))
           | inr loses ↦ loses
         ]

@@ -11,6 +11,7 @@ use Rattle.driver_link.specs.declared.machine.Scheduled.{Scheduled}
 use Rattle.driver_link.specs.declared.machine.Send.{Send}
 use Rattle.driver_link.specs.declared.machine.SendBody.{SendBody}
 use Rattle.driver_link.specs.declared.machine.Server.{Server}
+use Rattle.driver_link.specs.declared.machine.WriteKind.{WriteKind}
 use Rattle.driver_link.specs.declared.options.Address.{Address}
 use Rattle.driver_link.specs.declared.options.Conn.{Conn}
 use Rattle.driver_link.specs.declared.options.Description.{Description}
@@ -43,6 +44,8 @@ pub record KnownCommand (A : Type 0) : Type 1 where
   pub batch : Batch
   pub which : SendKind
   pub body : SendBody
+  -- the kind of its writes
+  pub does : WriteKind
   pub asked : AsksFor spec batch body
   -- what of it may be repeated by its own rules
   pub own : Retryability
@@ -58,7 +61,7 @@ pub record KnownCommand (A : Type 0) : Type 1 where
   pub Ready : Send → Server → Type 0
   -- then a gentle step answers it plainly
   pub ready_answers : (session : Option (List ℕ)) (number : Option ℤ) (server : Server) (step : Scheduled) → Ready (send_of (under session number) body) server
-      → IsGentleItem step.item → AnswersPlainly spec server (send_of (under session number) body) step
+      → IsGentleItem does step.item → AnswersPlainly spec server (send_of (under session number) body) step
   -- and after a lossy one it may go out again
   pub ready_again : (id : List ℕ) (number : ℤ) (server : Server) (step : Scheduled) → Ready (send_of (under (Some id) (Some number)) body) server → IsLossy step.item
       → Ready (send_of (under (Some id) (Some number)) body) (exchanged server (send_of (under (Some id) (Some number)) body) step)

@@ -191,13 +191,13 @@ delete_counts plan server write (Failed code) failed read none =
     absurd (errors_fail (reply_of_one command.Delete plan server write (Failed code)) (write_error 0 code) failed (delete_errors plan server write code) read none)
 
 -- a number of a reply is read as it is
-number_of : (n : ℤ) → int_of (reply_number n) ≡ Some n
+pub number_of : (n : ℤ) → int_of (reply_number n) ≡ Some n
 unfolding reply_number bson.out-Bson out
 number_of n =
     elim (int_lt (negsuc (2 ^ 31)) n && int_lt n (pos (2 ^ 31))) as (λ b. int_of (if b then bson.Int32 n else bson.Int64 n) ≡ Some n) [ true ↦ refl | false ↦ refl ]
 
 -- a number and nothing
-plus_nothing : (n : ℤ) → n +ℤ pos 0 ≡ n
+pub plus_nothing : (n : ℤ) → n +ℤ pos 0 ≡ n
 plus_nothing n = +ℤ_idr n
 
 -- the count of one result
@@ -209,7 +209,7 @@ count_read n count is = sym (ap (option_and_then natural) (number_of (n +ℤ pos
 id_read : (id : Bson) → first_id (bson.Document (field INDEX.now (reply_count 0) ∷ field DOCUMENT_ID.now id ∷ []) ∷ []) ≡ Some id
 id_read id = ap (option_and_then (value_of DOCUMENT_ID.now)) (document_is (field INDEX.now (reply_count 0) ∷ field DOCUMENT_ID.now id ∷ []))
 
-upserted_read : (concern : Option PlannedConcern) (n modified : Bson) (upserted : Option Bson)
+pub upserted_read : (concern : Option PlannedConcern) (n modified : Bson) (upserted : Option Bson)
     → upserted_in (done_field ∷ ((field N.now n ∷ field N_MODIFIED.now modified ∷ (upserted_field (upserted_at 0 upserted []) ++ errors_field [])) ++ concern_field concern)) ≡ upserted
 unfolding upserted_in
 upserted_read None n modified None = refl
@@ -218,7 +218,7 @@ upserted_read concern n modified (Some id) =
     ap (option_and_then first_id) (array_is (bson.Document (field INDEX.now (reply_count 0) ∷ field DOCUMENT_ID.now id ∷ []) ∷ [])) ∙ id_read id
 
 -- the reply to an update whose statement has a result
-abbrev reply_counted : Option PlannedConcern → Counted → Reply
+abbrev pub reply_counted : Option PlannedConcern → Counted → Reply
 reply_counted concern result =
     done_field ∷ ((field N.now (reply_number (result.n +ℤ pos 0)) ∷ field N_MODIFIED.now (reply_number (result.modified +ℤ pos 0))
     ∷ (upserted_field (upserted_at 0 result.upserted []) ++ errors_field [])) ++ concern_field concern)
@@ -243,7 +243,7 @@ update_by plan server write (Ran found) result output counts read = counted_by p
 update_by plan server write (Failed code) result output counts read = let e : ◌≡◌ {A = Option Counted} None (Some result) = counts in cc
 
 -- the reply to a delete whose statement has a result
-abbrev reply_taken : Option PlannedConcern → Counted → Reply
+abbrev pub reply_taken : Option PlannedConcern → Counted → Reply
 reply_taken concern result = done_field ∷ ((field N.now (reply_number (result.n +ℤ pos 0)) ∷ errors_field []) ++ concern_field concern)
 
 taken_by : (concern : Option PlannedConcern) (found result : Counted) (output : DeleteResult) → found ≡ result → IsDeleteRead (reply_taken concern found) output → deleted_by result ≡ Some output

@@ -16,6 +16,7 @@ use Rattle.driver_error.specs.declared.write.WriteConcernError.{WriteConcernErro
 use Rattle.driver_link.specs.declared.keys.TheConstants.{N, OK}
 use Rattle.driver_link.specs.Commands.{needed}
 use Rattle.driver_link.proofs.Lists.{none_is_some}
+use Rattle.driver_link.specs.declared.write_options.InsertManyOptions.{InsertManyOptions}
 use Rattle.driver_ops.specs.declared.insert.InsertReply.{InsertReply}
 use Rattle.driver_ops.specs.InsertAnswers.{AnswersReply, counts_one, errors_there, insert_reply}
 use Rattle.driver_ops.specs.declared.target.OperationTarget.{OperationTarget}
@@ -108,12 +109,12 @@ concern_found reply output (Some found) at answers =
     by_concern false (Some concern) unfailed = absurd (differ unfailed)
 
 -- an output is read only from a reply that tells of an insert that was done
-pub output_done : (target : OperationTarget) (document : List ℕ) (id : Bson) (bytes : List ℕ) (output : InsertManyResult)
-    (reads : ReadsOutput (insert_spec target document id) bytes output) → is_done_reply reads.response.body ≡ true
-output_done target document id bytes output reads =
+pub output_done : (target : OperationTarget) (document : List ℕ) (id : Bson) (options : InsertManyOptions) (bytes : List ℕ) (output : InsertManyResult)
+    (reads : ReadsOutput (insert_spec target document id options) bytes output) → is_done_reply reads.response.body ≡ true
+output_done target document id options bytes output reads =
     done_found reads.response.body output (insert_reply reads.response.body) refl reads.reads.0 reads.done.is
 
 -- and that has no write concern error
-pub output_concern : (target : OperationTarget) (document : List ℕ) (id : Bson) (bytes : List ℕ) (output : InsertManyResult)
-    (reads : ReadsOutput (insert_spec target document id) bytes output) → concern_in reads.response.body ≡ Some None
-output_concern target document id bytes output reads = concern_found reads.response.body output (insert_reply reads.response.body) refl reads.reads.0
+pub output_concern : (target : OperationTarget) (document : List ℕ) (id : Bson) (options : InsertManyOptions) (bytes : List ℕ) (output : InsertManyResult)
+    (reads : ReadsOutput (insert_spec target document id options) bytes output) → concern_in reads.response.body ≡ Some None
+output_concern target document id options bytes output reads = concern_found reads.response.body output (insert_reply reads.response.body) refl reads.reads.0

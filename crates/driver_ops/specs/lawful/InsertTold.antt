@@ -1,7 +1,7 @@
 -- What the machine's reply to the insert of one document tells: its one statement, and where it is read as done that statement ran
 -- now or had its kept result.
 use Rattle.std.proofs.Common.{◌≡◌, ℕ, Bool, true, false, List, [], ◌∷◌, refl, sym, ap, subst, ◌∙◌, inl, inr}
-use Rattle.std.specs.Prelude.{ℤ, Option, None, Some, if◌then◌else◌}
+use Rattle.std.specs.Prelude.{ℤ, ◌&&◌, Option, None, Some, if◌then◌else◌}
 use denote.Hole.Carrier.{out}
 use Rattle.bson_lite.specs.declared.bson.Bson.{Bson}
 use Rattle.bson_lite.specs.declared.bson.Bson as bson
@@ -27,6 +27,7 @@ use Rattle.driver_link.specs.Serving.{Plan, done_in}
 use Rattle.driver_link.specs.Settled.{IsWrite}
 use Rattle.driver_link.specs.Statements.{Results, has_failed, is_failed, statement_at, statements}
 use Rattle.driver_link.proofs.Replying.{one_reply}
+use Rattle.driver_link.specs.declared.write_options.InsertManyOptions.{InsertManyOptions}
 use Rattle.driver_ops.specs.declared.target.OperationTarget.{OperationTarget}
 use Rattle.driver_ops.specs.InsertSpec.{insert_spec}
 use Rattle.driver_ops.specs.Inserts.{is_done_reply}
@@ -41,14 +42,15 @@ unfolding is_done_reply error_reply bson.out-Bson out
 error_not_done code labels = refl
 
 -- nor does the reply to one that failed
-pub failed_not_done : (plan : Plan) (server : Server) (write : PlacedWrite) (code : ℤ) → is_done_reply (one_reply plan server write (Failed code)) ≡ false
+pub failed_not_done : (plan : Plan) (server : Server) (write : PlacedWrite) (code : ℤ) → is_done_reply (one_reply command.Insert plan server write (Failed code)) ≡ false
 unfolding is_done_reply write_reply sum_of write_errors reply_number bson.out-Bson out
 failed_not_done plan server write code = refl
 
 -- a send of the insert of one document, outside transactions
 pub record IsInsertOf (send : Send) (write : PlacedWrite) : Type 0 where
   pub out : send.in_transaction ≡ false
-  pub body : send.body ≡ Write command.Insert true (write ∷ [])
+  pub ordered : Bool
+  pub body : send.body ≡ Write command.Insert ordered (write ∷ [])
 
 -- its one statement
 one_done : (send : Send) (write : PlacedWrite) → IsInsertOf send write → (plan : Plan) (kept : Results)
@@ -56,7 +58,7 @@ one_done : (send : Send) (write : PlacedWrite) → IsInsertOf send write → (pl
 unfolding statements
 one_done send write one plan kept =
     ap (done_in outside plan kept) one.body
-    ∙ ap (λ rest. statement_at plan.results plan.fail kept 0 write ∷ rest) (both_nothing (is_failed (statement_at plan.results plan.fail kept 0 write)))
+    ∙ ap (λ rest. statement_at plan.results plan.fail kept 0 write ∷ rest) (both_nothing (one.ordered && is_failed (statement_at plan.results plan.fail kept 0 write)))
   where
     both_nothing : (b : Bool) → ◌≡◌ {A = List Statement} (if b then [] else []) []
     both_nothing true = refl
@@ -68,7 +70,7 @@ pub record IsOneTold (server : Server) (write : PlacedWrite) (item : Item) (done
   pub item_is : item ≡ Serve plan.results plan.fail plan.concern plan.page
   pub statement : Statement
   pub alone : done ≡ statement ∷ []
-  pub is : found ≡ one_reply plan server write statement
+  pub is : found ≡ one_reply command.Insert plan server write statement
 
 -- where its statements are told it is one, of which the reply tells
 pub one_told : (server : Server) (send : Send) (write : PlacedWrite) → IsInsertOf send write → (item : Item) (done : List Statement) (found : Reply)
@@ -93,7 +95,7 @@ differ : ◌≡◌ {A = Bool} false true → ⊥
 differ is = cc
 
 -- a statement that is told to be done has a result
-pub done_counts : (plan : Plan) (server : Server) (write : PlacedWrite) (statement : Statement) → is_done_reply (one_reply plan server write statement) ≡ true
+pub done_counts : (plan : Plan) (server : Server) (write : PlacedWrite) (statement : Statement) → is_done_reply (one_reply command.Insert plan server write statement) ≡ true
     → (result : Counted) × (result_of statement ≡ Some result)
 done_counts plan server write (Kept result) done = (result, refl)
 done_counts plan server write (Ran result) done = (result, refl)
@@ -135,14 +137,14 @@ read_told server send step write found one answer says tells =
     }
 
 -- an insert is read as done only in such an exchange
-pub read_done : (target : OperationTarget) (bytes : List ℕ) (id : Bson) (server : Server) (send : Send) (step : Scheduled) (write : PlacedWrite) (found : Reply)
+pub read_done : (target : OperationTarget) (bytes : List ℕ) (id : Bson) (options : InsertManyOptions) (server : Server) (send : Send) (step : Scheduled) (write : PlacedWrite) (found : Reply)
     → IsInsertOf send write → answered server send step ≡ Some found → (came : List ℕ) → Spells found came → (output : InsertManyResult)
-    → ReadsOutput (insert_spec target bytes id) came output → IsReadDone server send step write found
+    → ReadsOutput (insert_spec target bytes id options) came output → IsReadDone server send step write found
 unfolding answered
-read_done target bytes id server send step write found one answer came spelled output reads =
+read_done target bytes id options server send step write found one answer came spelled output reads =
     let before = traced (after_picks server step.deliver) send in
     let same = spells_one reads.response.body found came reads.done.spelled spelled in
-    let says = subst (λ reply. is_done_reply reply ≡ true) same (output_done target bytes id came output reads) in
+    let says = subst (λ reply. is_done_reply reply ≡ true) same (output_done target bytes id options came output reads) in
     elim (reply_of_writes before send step.item found one.out (subst IsWrite (sym one.body) tt) answer) [
       | inl error ↦ absurd (differ (sym (ap is_done_reply error.is ∙ error_not_done error.code error.labels) ∙ says))
       | inr tells ↦ read_told server send step write found one answer says tells

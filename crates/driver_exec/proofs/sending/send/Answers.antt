@@ -1,5 +1,5 @@
 -- The command is built for the connection, its frame goes out with the front of the places, and what comes of it.
-use Rattle.std.proofs.Common.{inr, refl, subst, sym, ◌∙◌}
+use Rattle.std.proofs.Common.{inr, refl, subst, sym}
 use Rattle.std.specs.Prelude.{IsSome, Ok, Err}
 use Rattle.std.specs.Option.{option_copied}
 use Rattle.driver_ops.specs.Fields.{FramesUnder, in_context}
@@ -35,14 +35,14 @@ returns-clause-sending g c = λ statements fixed.
     let held = c.draw_number-held.result.0 in
     let which = g.O.Operation.next c.args.op.now in
     let concern = concern_of (g.O.Operation.spec c.args.op.now) which c.args.options.now in
-    let concern_is = c.effective_concern-concern.ensures
-    ∙ concern_same (g.O.Operation.spec c.args.op.now) (g.O.Operation.spec c.build.new.self) c.in-Ok-build.ensures.spec which (g.O.Operation.next c.build.new.self) c.args.options.now c.in-Ok-build.ensures.next in
+    let same = concern_same (g.O.Operation.spec c.args.op.now) (g.O.Operation.spec c.build.new.self) c.in-Ok-build.ensures.spec which (g.O.Operation.next c.build.new.self) c.args.options.now c.in-Ok-build.ensures.next in
     let draws = subst (λ r. DrawsNumber c.args.held.sent c.args.turn.now.turn c.args.held held r) c.in-Ok.is c.draw_number-held.ensures in
     sends_out (g.O.Operation.spec c.args.op.now) which concern c.args.places.now statements c.args.turn.now.again link link_now c.args.turn.now.turn c.args.turn.now.conn.now
     c.args.address c.args.held held c.in-Ok.number draws c.args.sends.now c.exchange.new.sends _ _ c.in-Ok-build.command built
     (subst (λ o. IsFixed o statements) c.exchange.ensures.built fixed) _ c.in-Ok-build.ensures.spec c.in-Ok-frame_of.frame c.front-own.result.now c.exchange.result.0 c.exchange.result.1
-    (subst (λ k. FramesUnder (in_context (held_id held) c.in-Ok.number k) c.in-Ok-build.command (Ok c.in-Ok-frame_of.frame)) concern_is
-    (subst (λ s. FramesUnder (in_context s c.in-Ok.number (option_copied c.effective_concern-concern.result)) c.in-Ok-build.command (Ok c.in-Ok-frame_of.frame)) c.id.ensures c.in-Ok-frame_of.ensures))
+    (subst (λ k. FramesUnder (in_context (held_id held) c.in-Ok.number k) c.in-Ok-build.command (Ok c.in-Ok-frame_of.frame)) same
+    (subst (λ k. FramesUnder (in_context (held_id held) c.in-Ok.number k) c.in-Ok-build.command (Ok c.in-Ok-frame_of.frame)) c.effective_concern-concern.ensures
+    (subst (λ s. FramesUnder (in_context s c.in-Ok.number (option_copied c.effective_concern-concern.result)) c.in-Ok-build.command (Ok c.in-Ok-frame_of.frame)) c.id.ensures c.in-Ok-frame_of.ensures)))
     c.statements.result c.statements.ensures c.front-own.ensures
     (subst (λ h. ExchangesOnce (g.O.Operation.spec c.build.new.self) link link_now c.args.turn.now.turn c.args.turn.now.conn.now c.args.address c.in-Ok-frame_of.frame c.front-own.result.now h c.exchange.result.0 c.exchange.result.1)
     c.sent_under-held.ensures c.exchange.ensures.exchanges) c.exchange.ensures.sends
@@ -51,14 +51,14 @@ pub returns-in-Err-frame_of-clause-sending : goal.returns-in-Err-frame_of-clause
 returns-in-Err-frame_of-clause-sending g c = λ statements fixed.
     let which = g.O.Operation.next c.args.op.now in
     let concern = concern_of (g.O.Operation.spec c.args.op.now) which c.args.options.now in
-    let concern_is = c.effective_concern-concern.ensures
-    ∙ concern_same (g.O.Operation.spec c.args.op.now) (g.O.Operation.spec c.build.new.self) c.in-Ok-build.ensures.spec which (g.O.Operation.next c.build.new.self) c.args.options.now c.in-Ok-build.ensures.next in
+    let same = concern_same (g.O.Operation.spec c.args.op.now) (g.O.Operation.spec c.build.new.self) c.in-Ok-build.ensures.spec which (g.O.Operation.next c.build.new.self) c.args.options.now c.in-Ok-build.ensures.next in
     let link = besides_out (g.L.Link.tells c.args.link.now) in
     let draws = subst (λ r. DrawsNumber c.args.held.sent c.args.turn.now.turn c.args.held c.draw_number-held.result.0 r) c.in-Ok.is c.draw_number-held.ensures in
     ends_unframed (g.O.Operation.spec c.args.op.now) which concern c.args.places.now statements c.args.turn.now.again link link c.args.turn.now.turn c.args.turn.now.conn.now
     c.args.address c.args.held c.draw_number-held.result.0 c.in-Ok.number draws c.args.sends.now c.args.sends.now _ _ c.in-Ok-build.command c.in-Ok-build.ensures.builds c.in-Err-frame_of.error _
-    (subst (λ k. FramesUnder (in_context (held_id c.draw_number-held.result.0) c.in-Ok.number k) c.in-Ok-build.command (Err c.in-Err-frame_of.error)) concern_is
-    (subst (λ s. FramesUnder (in_context s c.in-Ok.number (option_copied c.effective_concern-concern.result)) c.in-Ok-build.command (Err c.in-Err-frame_of.error)) c.id.ensures c.in-Err-frame_of.ensures)) refl refl refl
+    (subst (λ k. FramesUnder (in_context (held_id c.draw_number-held.result.0) c.in-Ok.number k) c.in-Ok-build.command (Err c.in-Err-frame_of.error)) same
+    (subst (λ k. FramesUnder (in_context (held_id c.draw_number-held.result.0) c.in-Ok.number k) c.in-Ok-build.command (Err c.in-Err-frame_of.error)) c.effective_concern-concern.ensures
+    (subst (λ s. FramesUnder (in_context s c.in-Ok.number (option_copied c.effective_concern-concern.result)) c.in-Ok-build.command (Err c.in-Err-frame_of.error)) c.id.ensures c.in-Err-frame_of.ensures))) refl refl refl
 
 pub returns-clause-fixed : goal.returns-clause-fixed
 returns-clause-fixed g c = fixes_twice _ _ _ (build_fixes c.in-Ok-build.ensures.builds) (same_fixes c.exchange.ensures.built)
