@@ -9,7 +9,8 @@ pub mod Appending
 pub mod Standing
 pub mod Timing
 pub mod Causes
+pub mod Judging
 pub mod Refusals
 pub mod Ending
 pub mod Completing
-pub mod Inserting
+pub mod Writing

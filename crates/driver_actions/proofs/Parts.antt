@@ -1,10 +1,11 @@
 -- One call of a single write, from its parts.
-use Rattle.std.proofs.Common.{◌≡◌, ℕ, List, refl, ap, inl, inr}
-use Rattle.std.specs.Prelude.{IsSome, Ok, Err}
+use Rattle.std.proofs.Common.{◌≡◌, ℕ, List, refl, ap, subst, inl, inr}
+use Rattle.std.specs.Prelude.{IsSome, Some, Result, Err}
 use Rattle.bson_lite.specs.declared.bson.Bson.{Bson}
 use Rattle.bson_lite.specs.declared.document.Pair.{Pair}
 use Rattle.bson_lite.specs.declared.namespace.Namespace.{Namespace}
 use Rattle.bson_lite.specs.Fields.{value_of, id_key}
+use Rattle.bson_lite.specs.Spelling.{Spells}
 use Rattle.driver_error.specs.declared.error.Error.{Error}
 use Rattle.driver_error.specs.declared.kind.ErrorKind.TheVariants as kind
 use Rattle.driver_error.specs.declared.results.InsertManyResult.{InsertManyResult}
@@ -12,19 +13,23 @@ use Rattle.driver_error.specs.declared.results.InsertOneResult.{InsertOneResult}
 use Rattle.driver_error.specs.Error.{kind_of}
 use Rattle.driver_link.specs.Clock.{ClockTells, ReadsClock}
 use Rattle.driver_link.specs.declared.machine.Place.{Place}
-use Rattle.driver_link.specs.declared.machine.PlacedWrite.{PlacedWrite}
+use Rattle.driver_link.specs.declared.machine.SendBody.{SendBody}
 use Rattle.driver_link.specs.declared.options.ClientOptions.{ClientOptions}
+use Rattle.driver_link.specs.declared.write_options.InsertManyOptions.{InsertManyOptions}
 use Rattle.driver_session.specs.StoreTells.{MayDrawObjectId, StoreTells}
+use Rattle.driver_ops.specs.InsertSpec.{insert_spec}
+use Rattle.driver_ops.specs.Targets.{in_collection}
 use Rattle.driver_exec.specs.Moment.{Moment}
 use Rattle.driver_actions.specs.declared.call.Call.{Call}
 use Rattle.driver_actions.specs.declared.call.Outcome.{Outcome}
+use Rattle.driver_actions.specs.declared.call.SingleAnswer.{SingleAnswer}
 use Rattle.driver_actions.specs.declared.call.SingleAnswer.TheVariants.{Inserted}
 use Rattle.driver_actions.specs.CallByCall.{CallCaused, with_clock}
-use Rattle.driver_actions.specs.Calls.{IsOwn, inserted}
 use Rattle.driver_actions.specs.Causes.{HasCause}
-use Rattle.driver_actions.specs.Inputs.{TellsInput}
-use Rattle.driver_actions.specs.OwnIds.{DrawsOwn, MayDrawId}
-use Rattle.driver_actions.specs.SingleCalls.{Inserts, Made, Makes, MakesCall, Owns}
+use Rattle.driver_actions.specs.Forms.{WriteForm, asked_in, deletes, inserts, updates, written_in}
+use Rattle.driver_actions.specs.Inputs.{IsAccepted, TellsInput}
+use Rattle.driver_actions.specs.OwnIds.{DrawsOwn, MayDrawId, Owns}
+use Rattle.driver_actions.specs.SingleCalls.{Made, Makes, MakesCall, MayDrawFor, Runs, Tells}
 
 -- the store of a client alone changes where its options stay
 same_client : (before : Moment) (store : StoreTells) (options : ClientOptions) → options ≡ before.client.options
@@ -36,57 +41,61 @@ pub may_draw : (before : Moment) (document : List (Pair Bson)) (store : StoreTel
     → (IsSome (value_of id_key document) → store ≡ before.store) → MayDrawId before (record before { store = store; client = record { options = options } }) document
 may_draw before document store options is draws unused = record { draws = draws; unused = unused; rest = same_client before store options is }
 
--- a write of a caller's document, whose id was drawn from the store where it had none
-module _ (before : Moment) (store : StoreTells) (options : ClientOptions) (same : options ≡ before.client.options) (namespace : Namespace) (document : List (Pair Bson)) (place : Place)
-    (write : PlacedWrite) (bytes : List ℕ) (id : Bson) (answer : InsertOneResult) (owns : Owns before.store store namespace document place write bytes id answer) where
+-- a caller's document with its id, which was drawn from the store where it had none
+module _ (before : Moment) (store : StoreTells) (options : ClientOptions) (same : options ≡ before.client.options) (namespace : Namespace) (document : List (Pair Bson))
+    (given : InsertManyOptions) (place : Place) (bytes : List ℕ) (id : Bson) (answer : InsertOneResult) (owns : Owns before.store store document bytes id answer) where
   -- the moment after that
   abbrev mid : Moment
   mid = record before { store = store; client = record { options = options } }
 
-  -- the write that is sent is the caller's own
-  abbrev is_own : IsOwn (inserted namespace document) write.written
-  is_own = record { kind = owns.kind_is; namespace = owns.namespace_is; id = owns.document.id; twelve = owns.document.twelve; document = owns.document.document }
-
   -- its id was drawn
-  pub own_draws : DrawsOwn before mid document owns.document.id
+  own_draws : DrawsOwn before mid document owns.document.id
   own_draws = record { draws = owns.document.draws; rest = same_client before store options same }
 
-  -- a write that was inserted
-  pub made_ok : (now : Moment) (done : InsertManyResult) → Inserts mid now write (Ok done)
-      → Made before now (inserted namespace document) place (Ok (Inserted answer))
-  made_ok now done inserts = record {
-    write = write;
-    placed = owns.place_is;
-    own = is_own;
+  -- what its insert asks for
+  abbrev pub own_asked : SendBody
+  own_asked = asked_in (inserts namespace document given) place (written_in (inserts namespace owns.sent given))
+
+  -- it was made where the insert was run
+  pub insert_made : IsAccepted (inserts namespace document given) → (now : Moment) (ended : Result InsertManyResult Error) (result : Result SingleAnswer Error)
+      → Runs (insert_spec (in_collection namespace) bytes id given) own_asked place mid now ended → Tells (λ output. Inserted answer) ended result
+      → Made before now (inserts namespace document given) place result
+  insert_made accepted now ended result runs tells = record {
+    accepted = accepted;
+    sent = written_in (inserts namespace owns.sent given);
     mid = mid;
-    draws = own_draws;
-    ended = Ok done;
-    inserts = inserts;
-    tells = record { id = id; found = owns.document.found; answer_is = ap (λ a. Inserted a) owns.answer_is };
+    runs = record {
+      id = owns.document.id;
+      twelve = owns.document.twelve;
+      draws = own_draws;
+      sent_is = ap (λ d. written_in (inserts namespace d given)) owns.document.document;
+      bytes = bytes;
+      spelled = subst (λ d. Spells d bytes) owns.document.document owns.spelled;
+      value = id;
+      found = subst (λ d. value_of id_key d ≡ Some id) owns.document.document owns.document.found;
+      ended = ended;
+      runs = runs;
+      tells = subst (λ a. Tells {A = InsertManyResult} (λ output. Inserted a) ended result) owns.answer_is tells;
+    };
   }
 
-  -- a write whose insert failed
-  pub made_err : (now : Moment) (error : Error) → Inserts mid now write (Err error) → Makes before now (inserted namespace document) place (Err error)
-  made_err now error inserts = inr (record {
-    write = write;
-    placed = owns.place_is;
-    own = is_own;
-    mid = mid;
-    draws = own_draws;
-    ended = Err error;
-    inserts = inserts;
-    tells = refl;
-  })
+-- before anything is asked a write has drawn nothing
+drew_nothing : (form : WriteForm) (before : Moment) (error : Error) → MayDrawFor form before before error
+drew_nothing (inserts namespace document options) before error = inl refl
+drew_nothing (updates namespace filter change multi options) before error = refl
+drew_nothing (deletes namespace filter multi options) before error = refl
 
--- a write whose input was refused, or for whose error there was no memory
-pub unmade_input : (before : Moment) (namespace : Namespace) (document : List (Pair Bson)) (place : Place) (error : Error) → TellsInput namespace document error
-    → Makes before before (inserted namespace document) place (Err error)
-unmade_input before namespace document place error why = inl (record { draws = inl refl; why = why })
+-- a write whose input was refused, or for which there was no memory before an id was drawn
+pub unmade_input : (before : Moment) (form : WriteForm) (place : Place) (error : Error) → TellsInput form error → Makes before before form place (Err error)
+unmade_input before form place error why = inl (record { draws = drew_nothing form before error; why = why })
 
--- a write for which there was no memory
-pub unmade_memory : (before now : Moment) (namespace : Namespace) (document : List (Pair Bson)) (place : Place) (error : Error) → MayDrawId before now document
-    → kind_of error ≡ kind.Memory → Makes before now (inserted namespace document) place (Err error)
-unmade_memory before now namespace document place error draws memory = inl (record { draws = inr (memory, draws); why = inl memory })
+pub unmade_early : (before : Moment) (form : WriteForm) (place : Place) (error : Error) → kind_of error ≡ kind.Memory → Makes before before form place (Err error)
+unmade_early before form place error memory = unmade_input before form place error (inl memory)
+
+-- an insert for which there was no memory
+pub unmade_memory : (before now : Moment) (namespace : Namespace) (document : List (Pair Bson)) (options : InsertManyOptions) (place : Place) (error : Error) → MayDrawId before now document
+    → kind_of error ≡ kind.Memory → Makes before now (inserts namespace document options) place (Err error)
+unmade_memory before now namespace document options place error draws memory = inl (record { draws = inr (memory, draws); why = inl memory })
 
 -- a call between two readings of the clock
 pub call_caused : (before now : Moment) (first last : ClockTells) (call : Call) (number : ℕ) (outcome : Outcome)

@@ -3,14 +3,11 @@ use Rattle.std.proofs.Common.{◌≡◌, ℕ, ◌+◌, ◌<◌, arith, List, [],
 use Rattle.std.specs.Prelude.{Option, None, Some, Result, Ok, Err, slice_get}
 use Rattle.std.specs.Result.{result_ok}
 use Rattle.std.proofs.lemmas.List.{append-nil}
-use Rattle.bson_lite.specs.declared.bson.Bson.{Bson}
-use Rattle.bson_lite.specs.declared.document.Pair.{Pair}
-use Rattle.bson_lite.specs.declared.namespace.Namespace.{Namespace}
 use Rattle.driver_error.specs.declared.error.Error.{Error}
 use Rattle.driver_link.specs.declared.machine.Entry.{Entry}
 use Rattle.driver_link.specs.declared.machine.Send.{Send}
 use Rattle.driver_link.specs.declared.machine.Server.{Server}
-use Rattle.driver_link.specs.declared.machine.Written.{Written}
+use Rattle.driver_link.specs.declared.machine.Place.{Place}
 use Rattle.driver_link.specs.Cases.{writes_of}
 use Rattle.driver_link.specs.Exchange.{after_picks, empty_server}
 use Rattle.driver_link.specs.Once.{Once}
@@ -23,7 +20,6 @@ use Rattle.driver_session.specs.Pool.{Pool, empty_pool}
 use Rattle.driver_session.proofs.PoolTells.{same_told}
 use Rattle.driver_exec.specs.BetweenCalls.{Between, Sound}
 use Rattle.driver_exec.specs.Moment.{Moment}
-use Rattle.driver_actions.specs.Writing.{insert_asked, placed_write}
 use Rattle.driver_exec.proofs.Keeping.Leaving.{Left, left_of}
 use Rattle.driver_actions.specs.declared.call.Answer.{Answer}
 use Rattle.driver_actions.specs.declared.call.Answer.TheVariants as answer
@@ -31,17 +27,17 @@ use Rattle.driver_actions.specs.declared.call.Call.{Call}
 use Rattle.driver_actions.specs.declared.call.Call.TheVariants.{Single}
 use Rattle.driver_actions.specs.declared.call.Outcome.{Outcome}
 use Rattle.driver_actions.specs.declared.call.SingleAnswer.{SingleAnswer}
-use Rattle.driver_actions.specs.declared.call.SingleWrite.TheVariants.{InsertOne}
-use Rattle.driver_actions.specs.Calls.{IsOwn, OwnAt, inserted, write_at}
+use Rattle.driver_actions.specs.declared.call.SingleWrite.{SingleWrite}
+use Rattle.driver_actions.specs.Calls.{OwnAt, write_at, written}
+use Rattle.driver_actions.specs.Forms.{WriteForm, asked_in, form_of}
 use Rattle.driver_actions.specs.MainTheorem.{MainTheorem}
 use Rattle.driver_actions.specs.SingleEntries.{HasOwnEntry, MayWrite}
 use Rattle.driver_actions.specs.Standing.{AllBelow, AllOwn}
 use Rattle.driver_actions.specs.SingleCalls.{Made, first_place}
-use Rattle.driver_actions.proofs.OwnIds.{own_drew}
 use Rattle.driver_actions.proofs.Answering.{Answered, answered_none, answered_more, own_at}
 use Rattle.driver_actions.proofs.Logging.{mine_all}
-use Rattle.driver_actions.proofs.Inserting.Entries.{entry_told, makes_entry, may_stand, new_place, only_write}
-use Rattle.driver_actions.proofs.Inserting.Making.{inserts_sends}
+use Rattle.driver_actions.proofs.Writing.Entries.{entry_told, makes_entry, may_stand, new_place, only_write, placed_at}
+use Rattle.driver_actions.proofs.Writing.Made.{LeftBy, made_drew, made_left, made_own}
 use Rattle.driver_actions.proofs.Sending.{Sends, SendsCall, mid_pool, mid_run}
 
 -- what holds after a number of calls
@@ -51,11 +47,6 @@ pub record Ran (calls : List Call) (outcomes : List Outcome) (pool : Pool) (serv
   pub below : AllBelow (length outcomes) server.trace
   pub own : AllOwn calls server.trace
   pub answered : Answered calls outcomes server.log
-
--- the sent write is the caller's own
-own_sent : (namespace : Namespace) (document : List (Pair Bson)) (sent : Written) → IsOwn (inserted namespace document) sent
-    → IsOwn (inserted namespace document) (inserted sent.namespace sent.document)
-own_sent namespace document sent own = record { kind = refl; namespace = own.namespace; id = own.id; twelve = own.twelve; document = own.document }
 
 -- places below the calls that were made are so once one more was
 below_later : (made : ℕ) (trace : List Send) → AllBelow made trace → AllBelow (made + 1) trace
@@ -85,41 +76,48 @@ module _ (calls : List Call) (outcomes : List Outcome) (before now : Moment) (po
             (answered_none calls outcomes run.server.log [] last none ran.answered);
       })
 
-  module _ (namespace : Namespace) (document : List (Pair Bson)) (at : slice_get calls (length outcomes) ≡ Some (Single (InsertOne namespace document)))
-      (result : Result SingleAnswer Error) (sent : Made before now (inserted namespace document) (first_place (length outcomes)) result) where
+  module _ (write : SingleWrite) (at : slice_get calls (length outcomes) ≡ Some (Single write)) (result : Result SingleAnswer Error)
+      (made : Made before now (form_of write) (first_place (length outcomes)) result) where
+    abbrev form : WriteForm
+    form = form_of write
+
+    abbrev place : Place
+    place = first_place (length outcomes)
+
+    abbrev by_operation : LeftBy made.mid now (asked_in form place made.sent)
+    by_operation = made_left form made
+
     -- the told pool before the write
-    pool_here : sent.mid.store.pool ≡ Some pool
-    pool_here = mid_pool before sent.mid pool (own_drew sent.draws) pool_is
+    pool_here : made.mid.store.pool ≡ Some pool
+    pool_here = mid_pool before made.mid pool (made_drew form made) pool_is
 
     -- the told server before it
-    run_here : server_run sent.mid.link ≡ Some run
-    run_here = mid_run before sent.mid (own_drew sent.draws) ∙ run_is
+    run_here : server_run made.mid.link ≡ Some run
+    run_here = mid_run before made.mid (made_drew form made) ∙ run_is
 
     -- the write is the caller's own
-    own_here : OwnAt (write_at calls sent.write.place) (placed_write sent.write).written
-    own_here =
-        subst (λ place. OwnAt (write_at calls place) (placed_write sent.write).written) (sym sent.placed)
-        (own_at calls (length outcomes) namespace document (placed_write sent.write).written at (own_sent namespace document sent.write.written sent.own))
+    own_here : OwnAt (write_at calls place) made.sent
+    own_here = own_at calls (length outcomes) write made.sent at (made_own form made)
 
     -- it may be made
-    may_write : MayWrite pool pool_now run (first_place (length outcomes))
+    may_write : MayWrite pool pool_now run place
     may_write = record { between = ran.between; sound = ran.sound; new = new_place (length outcomes) run.server.trace ran.below; apart = apart }
 
-    -- what its insert left
-    left : Left sent.inserts.one_command.session sent.inserts.one_command.number (insert_asked sent.write) pool_now run.server run_now.server
+    -- what its operation left
+    left : Left by_operation.session by_operation.number (asked_in form place made.sent) pool_now run.server run_now.server
     left =
-        let sends = inserts_sends sent.inserts in
-        left_of sent.mid now pool pool_now run run_now pool_here pool_now_is run_here run_now_is (insert_asked sent.write)
-        (may_stand pool pool_now run (first_place (length outcomes)) sent.write sent.placed may_write)
-        sent.inserts.one_command.session sent.inserts.one_command.number sends.count sent.inserts.one_command.borrows sends.once sends.sends
+        let sends = by_operation.sends in
+        left_of made.mid now pool pool_now run run_now pool_here pool_now_is run_here run_now_is (asked_in form place made.sent)
+        (may_stand pool pool_now run form place made.sent may_write)
+        by_operation.session by_operation.number sends.count by_operation.borrows sends.once sends.sends
 
     -- all that was sent is of the calls that were made
     below_now : AllBelow (length outcomes + 1) run_now.server.trace
     below_now = λ send at found has stands. elim (left.which send has) [
       | inl earlier ↦ below_later (length outcomes) run.server.trace ran.below send at found earlier stands
       | inr same ↦
-          let only = only_write sent.write at found (ap (λ s. slice_get (writes_of s) at) same ∙ stands) in
-          let is : found.place.call ≡ length outcomes = ap (λ w. w.place.call) only.1 ∙ ap (λ place. place.call) sent.placed in omega arith
+          let only = only_write (placed_at place made.sent) at found (ap (λ s. slice_get (writes_of s) at) same ∙ stands) in
+          let is : found.place.call ≡ length outcomes = ap (λ w. w.place.call) only.1 in omega arith
     ]
 
     -- all that was sent is the caller's own
@@ -127,7 +125,7 @@ module _ (calls : List Call) (outcomes : List Outcome) (before now : Moment) (po
     own_now = λ send at found has stands. elim (left.which send has) [
       | inl earlier ↦ ran.own send at found earlier stands
       | inr same ↦
-          let only = only_write sent.write at found (ap (λ s. slice_get (writes_of s) at) same ∙ stands) in
+          let only = only_write (placed_at place made.sent) at found (ap (λ s. slice_get (writes_of s) at) same ∙ stands) in
           subst (λ w. OwnAt (write_at calls w.place) w.written) (sym only.1) own_here
     ]
 
@@ -145,7 +143,7 @@ module _ (calls : List Call) (outcomes : List Outcome) (before now : Moment) (po
 
     -- a call that answered, whose entry stands
     ran_answered : (given : SingleAnswer) → result_ok last.result ≡ Some (answer.Single given)
-        → HasOwnEntry (inserted namespace document) (first_place (length outcomes)) run_now.server.log given → Ran calls (outcomes ++ last ∷ []) pool_now run_now.server
+        → HasOwnEntry (written write) place run_now.server.log given → Ran calls (outcomes ++ last ∷ []) pool_now run_now.server
     ran_answered given is stands = record {
       between = left.between;
       sound = left.sound;
@@ -153,41 +151,37 @@ module _ (calls : List Call) (outcomes : List Outcome) (before now : Moment) (po
       own = own_now;
       answered =
           subst (λ log. Answered calls (outcomes ++ last ∷ []) log) (sym left.log)
-          (answered_more calls outcomes namespace document run.server.log left.more stands.entry stands.tells.id last at
-          (subst (λ log. Once log) left.log left.sound.settled.once) (subst (λ log. Has log stands.entry) left.log stands.has) stands.placed stands.tells.found
-          (is ∙ ap (λ a. Some (answer.Single a)) stands.tells.answer_is) ran.answered);
+          (answered_more calls outcomes write run.server.log left.more stands.entry given last at
+          (subst (λ log. Once log) left.log left.sound.settled.once) (subst (λ log. Has log stands.entry) left.log stands.has) stands.placed stands.tells is ran.answered);
     }
 
   -- a call that failed
-  ran_failed : (namespace : Namespace) (document : List (Pair Bson)) (error : Error)
-      → slice_get calls (length outcomes) ≡ Some (Single (InsertOne namespace document))
-      → Sends before now (inserted namespace document) (first_place (length outcomes)) (Err error)
+  ran_failed : (write : SingleWrite) (error : Error) → slice_get calls (length outcomes) ≡ Some (Single write)
+      → Sends before now (form_of write) (first_place (length outcomes)) (Err error)
       → result_ok last.result ≡ None → Ran calls (outcomes ++ last ∷ []) pool_now run_now.server
-  ran_failed namespace document error at sends none = elim sends [
+  ran_failed write error at sends none = elim sends [
     | inl unsent ↦
         let same_pool = same_told pool_now pool (sym pool_now_is ∙ mid_pool before now pool unsent pool_is) in
         let same = same_told run_now run (sym run_now_is ∙ mid_run before now unsent ∙ run_is) in
         ran_same none same_pool (ap (λ r. r.server) same)
-    | inr sent ↦ ran_unanswered namespace document at (Err error) sent none
+    | inr made ↦ ran_unanswered write at (Err error) made none
   ]
 
   -- a call that was done: its entry stands
-  ran_done : (namespace : Namespace) (document : List (Pair Bson)) (given : SingleAnswer)
-      → slice_get calls (length outcomes) ≡ Some (Single (InsertOne namespace document))
-      → (sent : Made before now (inserted namespace document) (first_place (length outcomes)) (Ok given))
+  ran_done : (write : SingleWrite) (given : SingleAnswer) → slice_get calls (length outcomes) ≡ Some (Single write)
+      → (made : Made before now (form_of write) (first_place (length outcomes)) (Ok given))
       → result_ok last.result ≡ Some (answer.Single given) → Ran calls (outcomes ++ last ∷ []) pool_now run_now.server
-  ran_done namespace document given at sent is =
-      ran_answered namespace document at (Ok given) sent given is
+  ran_done write given at made is =
+      ran_answered write at (Ok given) made given is
       (entry_told (first_place (length outcomes)) before.store.pool now.store.pool (server_run before.link) (server_run now.link) pool pool_now run run_now pool_is pool_now_is run_is run_now_is
-      (inserted namespace document) given (makes_entry before now (first_place (length outcomes)) namespace document (Ok given) sent)
-      (may_write namespace document at (Ok given) sent))
+      (written write) given (makes_entry before now (first_place (length outcomes)) (form_of write) (Ok given) made)
+      (may_write write at (Ok given) made))
 
   -- one call more
   pub ran_more : (call : Call) (result : Result Answer Error) → last.result ≡ result → slice_get calls (length outcomes) ≡ Some call
       → SendsCall before now call (length outcomes) result → Ran calls (outcomes ++ last ∷ []) pool_now run_now.server
-  ran_more (Single (InsertOne namespace document)) (Ok (answer.Single given)) is at sends =
-      ran_done namespace document given at sends (ap result_ok is)
-  ran_more (Single (InsertOne namespace document)) (Err error) is at sends = ran_failed namespace document error at sends (ap result_ok is)
+  ran_more (Single write) (Ok (answer.Single given)) is at sends = ran_done write given at sends (ap result_ok is)
+  ran_more (Single write) (Err error) is at sends = ran_failed write error at sends (ap result_ok is)
 
 -- before the first call
 pub ran_none : (calls : List Call) (pool : Pool) (server : Server) → pool ≡ empty_pool → server ≡ empty_server → Ran calls [] pool server

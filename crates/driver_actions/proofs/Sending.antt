@@ -1,9 +1,8 @@
 -- What one call left of store and link: nothing was sent, or its own write was.
-use Rattle.std.proofs.Common.{◌≡◌, ℕ, zero, suc, ◌+◌, ◌≤◌, arith, List, [], ◌∷◌, length, sym, ap, subst, ◌∙◌, inl, inr}
+use Rattle.std.proofs.Common.{◌≡◌, ℕ, zero, suc, ◌+◌, ◌≤◌, arith, List, [], ◌∷◌, length, refl, sym, ap, subst, ◌∙◌, inl, inr}
 use Rattle.std.specs.Prelude.{ℤ, pos, Option, None, Some, ◌⊎◌, Result, Ok, Err, slice_get}
 use Rattle.driver_error.specs.declared.error.Error.{Error}
 use Rattle.driver_link.specs.declared.machine.Place.{Place}
-use Rattle.driver_link.specs.declared.machine.PlacedWrite.{PlacedWrite}
 use Rattle.driver_link.specs.declared.machine.Send.{Send}
 use Rattle.driver_link.specs.declared.machine.Written.{Written}
 use Rattle.driver_link.specs.Cases.{writes_of}
@@ -18,7 +17,6 @@ use Rattle.driver_session.proofs.PoolTells.{same_told}
 use Rattle.driver_exec.specs.BetweenCalls.{NumbersWithin}
 use Rattle.driver_exec.specs.Moment.{Moment}
 use Rattle.driver_exec.specs.Resending.{SentTimes}
-use Rattle.driver_actions.specs.Writing.{insert_send}
 use Rattle.driver_exec.proofs.Moves.{keeps_fold, keeps_making, new_is}
 use Rattle.driver_exec.proofs.Numbering.{borrows_within, within_staying}
 use Rattle.driver_actions.specs.declared.call.Answer.{Answer}
@@ -27,23 +25,24 @@ use Rattle.driver_actions.specs.declared.call.Call.{Call}
 use Rattle.driver_actions.specs.declared.call.Call.TheVariants.{Single}
 use Rattle.driver_actions.specs.declared.call.Outcome.{Outcome}
 use Rattle.driver_actions.specs.declared.call.SingleAnswer.{SingleAnswer}
-use Rattle.driver_actions.specs.Calls.{written}
 use Rattle.driver_actions.specs.CallByCall.{CallCaused, with_clock}
+use Rattle.driver_actions.specs.Forms.{WriteForm, form_of, send_in}
 use Rattle.driver_actions.specs.MainTheorem.{HasWriteOf, IsReplayed, IsReplayedTold, KeepsMaking, KeepsMakingTold, SendsOwn}
-use Rattle.driver_actions.specs.SingleCalls.{Made, MakesCall, first_place}
-use Rattle.driver_actions.proofs.Inserting.Making.{inserts_sends}
+use Rattle.driver_actions.specs.SingleCalls.{Made, Makes, MakesCall, first_place}
+use Rattle.driver_actions.specs.SingleCompleteness.{RaisesNumbers, RaisesTold}
 use Rattle.driver_actions.proofs.Moving.{told_refl}
-use Rattle.driver_actions.proofs.OwnIds.{OnlyDrew, own_drew, unmade_drew}
+use Rattle.driver_actions.proofs.OwnIds.{OnlyDrew}
+use Rattle.driver_actions.proofs.Writing.Made.{made_drew, made_left, unmade_drew_by}
 
 -- one call of a single write: where it failed, nothing may have been sent
-abbrev pub Sends : Moment → Moment → Written → Place → Result SingleAnswer Error → Type 0
-Sends before now given place (Ok answer) = Made before now given place (Ok answer)
-Sends before now given place (Err error) = OnlyDrew before now ⊎ Made before now given place (Err error)
+abbrev pub Sends : Moment → Moment → WriteForm → Place → Result SingleAnswer Error → Type 0
+Sends before now form place (Ok answer) = Made before now form place (Ok answer)
+Sends before now form place (Err error) = OnlyDrew before now ⊎ Made before now form place (Err error)
 
 -- one call of a list
 abbrev pub SendsCall : Moment → Moment → Call → ℕ → Result Answer Error → Type 0
-SendsCall before now (Single write) call (Ok (answer.Single given)) = Made before now (written write) (first_place call) (Ok given)
-SendsCall before now (Single write) call (Err error) = Sends before now (written write) (first_place call) (Err error)
+SendsCall before now (Single write) call (Ok (answer.Single given)) = Made before now (form_of write) (first_place call) (Ok given)
+SendsCall before now (Single write) call (Err error) = Sends before now (form_of write) (first_place call) (Err error)
 
 -- a store that may have drawn an object id has its pool still
 pub pool_kept : (old now : StoreTells) → MayDrawObjectId old now → now.pool ≡ old.pool
@@ -76,17 +75,17 @@ module _ (before now : Moment) where
   pub call_sends : (call : Call) (number : ℕ) (result : Result Answer Error) → MakesCall before now call number result → SendsCall before now call number result
   call_sends (Single write) number (Ok (answer.Single given)) makes = makes
   call_sends (Single write) number (Err error) makes = elim makes [
-    | inl unmade ↦ inl (unmade_drew error unmade.draws)
+    | inl unmade ↦ inl (unmade_drew_by (form_of write) before now error unmade.draws)
     | inr made ↦ inr made
   ]
 
 -- a property that a call has where nothing was sent, and where its own write was
 pub by_call : (P : Type 0) (before now : Moment) (call : Call) (number : ℕ) (result : Result Answer Error) → SendsCall before now call number result
-    → (OnlyDrew before now → P) → ((given : Written) (single : Result SingleAnswer Error) → Made before now given (first_place number) single → P) → P
-by_call P before now (Single write) number (Ok (answer.Single given)) sends unsent sent = sent (written write) (Ok given) sends
+    → (OnlyDrew before now → P) → ((form : WriteForm) (single : Result SingleAnswer Error) → Made before now form (first_place number) single → P) → P
+by_call P before now (Single write) number (Ok (answer.Single given)) sends unsent sent = sent (form_of write) (Ok given) sends
 by_call P before now (Single write) number (Err error) sends unsent sent = elim sends [
   | inl none ↦ unsent none
-  | inr made ↦ sent (written write) (Err error) made
+  | inr made ↦ sent (form_of write) (Err error) made
 ]
 
 -- a link's making, by the sends of an operation
@@ -103,13 +102,13 @@ fold_of (Some told) (Some now) send count sent folds =
     subst (λ schedule. now.server ≡ replayed schedule empty_server now.server.trace) (sym (keeps_making told send count now sent).1) (keeps_fold told send count now sent folds)
 
 -- the sends of a call are its own
-own_of : (link link_now : Option ServerRun) (number : ℕ) (session : Option (List ℕ)) (numbered : Option ℤ) (write : PlacedWrite) (count : ℕ) → write.place ≡ first_place number
-    → SentTimes link link_now (insert_send session numbered write) count → SendsOwn number link link_now
-own_of None link_now number session numbered write count placed sent = tt
-own_of (Some told) None number session numbered write count placed sent = absurd sent
-own_of (Some told) (Some now) number session numbered write count placed sent = λ at found above is.
-    let same = new_is told (insert_send session numbered write) count now sent at found above is in
-    subst (λ s. HasWriteOf number (writes_of s)) same (inl (ap (λ place. place.call) placed))
+own_of : (link link_now : Option ServerRun) (number : ℕ) (session : Option (List ℕ)) (numbered : Option ℤ) (form : WriteForm) (sent : Written) (count : ℕ)
+    → SentTimes link link_now (send_in session numbered form (first_place number) sent) count → SendsOwn number link link_now
+own_of None link_now number session numbered form sent count times = tt
+own_of (Some told) None number session numbered form sent count times = absurd times
+own_of (Some told) (Some now) number session numbered form sent count times = λ at found above is.
+    let same = new_is told (send_in session numbered form (first_place number) sent) count now times at found above is in
+    subst (λ s. HasWriteOf number (writes_of s)) same (inl refl)
 
 -- a server that stays got no send
 own_same : (link link_now : Option ServerRun) (number : ℕ) → link_now ≡ link → SendsOwn number link link_now
@@ -131,43 +130,80 @@ module _ (before now : Moment) (call : Call) (number : ℕ) (result : Result Ans
   pub sends_draws : Draws before.store now.store
   sends_draws = by_call (Draws before.store now.store) before now call number result sends
       (λ none. may_draws before.store now.store none.draws)
-      (λ given single sent. draws_twice before.store sent.mid.store now.store (may_draws before.store sent.mid.store (own_drew sent.draws).draws) sent.inserts.drawn)
+      (λ form single made. draws_twice before.store made.mid.store now.store (may_draws before.store made.mid.store (made_drew form made).draws) (made_left form made).drawn)
 
   -- and lends what it lent before
   pub sends_lends : LendsAsBefore before.store now.store
   sends_lends = by_call (LendsAsBefore before.store now.store) before now call number result sends
       (λ none. may_lends before.store now.store none.draws)
-      (λ given single sent. lends_twice before.store sent.mid.store now.store (may_lends before.store sent.mid.store (own_drew sent.draws).draws) sent.inserts.lent)
+      (λ form single made. lends_twice before.store made.mid.store now.store (may_lends before.store made.mid.store (made_drew form made).draws) (made_left form made).lent)
 
   -- the making of the link stays
   pub sends_making : KeepsMaking before now
   sends_making = by_call (KeepsMaking before now) before now call number result sends
       (λ none. subst (KeepsMakingTold (server_run before.link)) (sym (mid_run before now none)) (told_refl (server_run before.link)))
-      (λ given single sent. subst (λ run. KeepsMakingTold run (server_run now.link)) (mid_run before sent.mid (own_drew sent.draws))
-      (making_of (server_run sent.mid.link) (server_run now.link) (insert_send sent.inserts.one_command.session sent.inserts.one_command.number sent.write) (inserts_sends sent.inserts).count (inserts_sends sent.inserts).sends))
+      (λ form single made.
+      let left = made_left form made in
+      subst (λ run. KeepsMakingTold run (server_run now.link)) (mid_run before made.mid (made_drew form made))
+      (making_of (server_run made.mid.link) (server_run now.link) (send_in left.session left.number form (first_place number) made.sent) left.sends.count left.sends.sends))
 
   -- its server stays the fold over its trace
   pub sends_replayed : IsReplayed before → IsReplayed now
   sends_replayed folds = by_call (IsReplayed now) before now call number result sends
       (λ none. subst IsReplayedTold (sym (mid_run before now none)) folds)
-      (λ given single sent.
-      fold_of (server_run sent.mid.link) (server_run now.link) (insert_send sent.inserts.one_command.session sent.inserts.one_command.number sent.write) (inserts_sends sent.inserts).count (inserts_sends sent.inserts).sends
-      (subst IsReplayedTold (sym (mid_run before sent.mid (own_drew sent.draws))) folds))
+      (λ form single made.
+      let left = made_left form made in
+      fold_of (server_run made.mid.link) (server_run now.link) (send_in left.session left.number form (first_place number) made.sent) left.sends.count left.sends.sends
+      (subst IsReplayedTold (sym (mid_run before made.mid (made_drew form made))) folds))
 
   -- all that it sent is its own
   pub sends_own : SendsOwn number (server_run before.link) (server_run now.link)
   sends_own = by_call (SendsOwn number (server_run before.link) (server_run now.link)) before now call number result sends
       (λ none. own_same (server_run before.link) (server_run now.link) number (mid_run before now none))
-      (λ given single sent. subst (λ run. SendsOwn number run (server_run now.link)) (mid_run before sent.mid (own_drew sent.draws))
-      (own_of (server_run sent.mid.link) (server_run now.link) number sent.inserts.one_command.session sent.inserts.one_command.number sent.write (inserts_sends sent.inserts).count sent.placed (inserts_sends sent.inserts).sends))
+      (λ form single made.
+      let left = made_left form made in
+      subst (λ run. SendsOwn number run (server_run now.link)) (mid_run before made.mid (made_drew form made))
+      (own_of (server_run made.mid.link) (server_run now.link) number left.session left.number form made.sent left.sends.count left.sends.sends))
 
   -- the numbers of idle sessions rise by one at most
   pub sends_within : (pool pool_now : Pool) → before.store.pool ≡ Some pool → now.store.pool ≡ Some pool_now → NumbersWithin (pos number) pool.idle
       → NumbersWithin (pos (number + 1)) pool_now.idle
   sends_within pool pool_now is now_is within = by_call (NumbersWithin (pos (number + 1)) pool_now.idle) before now call number result sends
       (λ none. within_staying number pool pool_now (same_told pool_now pool (sym now_is ∙ mid_pool before now pool none is)) within)
-      (λ given single sent. borrows_within number sent.mid.store now.store pool pool_now (mid_pool before sent.mid pool (own_drew sent.draws) is) now_is
-      sent.inserts.one_command.session sent.inserts.one_command.number sent.inserts.one_command.borrows within)
+      (λ form single made.
+      let left = made_left form made in
+      borrows_within number made.mid.store now.store pool pool_now (mid_pool before made.mid pool (made_drew form made) is) now_is left.session left.number left.borrows within)
+
+-- a single write raises the numbers of idle sessions by one at most
+module _ (before now : Moment) (form : WriteForm) (place : Place) where
+  -- where it was made
+  made_raises : (result : Result SingleAnswer Error) → Made before now form place result → RaisesNumbers before now
+  made_raises result made = of_told before.store.pool now.store.pool refl refl
+    where
+      of_told : (store store_now : Option Pool) → before.store.pool ≡ store → now.store.pool ≡ store_now → RaisesTold store store_now
+      of_told None store_now is now_is = tt
+      of_told (Some pool) None is now_is = tt
+      of_told (Some pool) (Some pool_now) is now_is = λ most within.
+          let left = made_left form made in
+          borrows_within most made.mid.store now.store pool pool_now (mid_pool before made.mid pool (made_drew form made) is) now_is left.session left.number left.borrows within
+
+  -- where it was not
+  unmade_raises : OnlyDrew before now → RaisesNumbers before now
+  unmade_raises none = of_told before.store.pool now.store.pool refl refl
+    where
+      of_told : (store store_now : Option Pool) → before.store.pool ≡ store → now.store.pool ≡ store_now → RaisesTold store store_now
+      of_told None store_now is now_is = tt
+      of_told (Some pool) None is now_is = tt
+      of_told (Some pool) (Some pool_now) is now_is = λ most within.
+          within_staying most pool pool_now (same_told pool_now pool (sym now_is ∙ mid_pool before now pool none is)) within
+
+  -- so does each
+  pub makes_raises : (result : Result SingleAnswer Error) → Makes before now form place result → RaisesNumbers before now
+  makes_raises (Ok answer) made = made_raises (Ok answer) made
+  makes_raises (Err error) makes = elim makes [
+    | inl unmade ↦ unmade_raises (unmade_drew_by form before now error unmade.draws)
+    | inr made ↦ made_raises (Err error) made
+  ]
 
 -- a call that ended with its cause left the same, since its readings of the clock change neither store nor link
 module _ (number : ℕ) (before now : Moment) (call : Call) (outcome : Outcome) (caused : CallCaused number before now call outcome) where

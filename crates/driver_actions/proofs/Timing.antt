@@ -1,21 +1,17 @@
 -- A call only reads its clock, and draws no random word.
-use Rattle.std.proofs.Common.{◌≡◌, ℕ, [], ◌∷◌, refl, sym, subst, ◌∙◌, arith}
+use Rattle.std.proofs.Common.{◌≡◌, ℕ, [], refl, sym, subst, ◌∙◌, arith}
 use Rattle.std.specs.Prelude.{Result}
 use Rattle.driver_error.specs.declared.error.Error.{Error}
-use Rattle.driver_ops.specs.InsertSpec.{insert_spec}
-use Rattle.driver_ops.specs.Operations.{batch_of}
-use Rattle.driver_ops.specs.SendKinds.{first}
-use Rattle.driver_ops.specs.Targets.{in_collection}
 use Rattle.driver_exec.specs.Moment.{Moment}
 use Rattle.driver_exec.specs.Readings.{OnlyRead}
 use Rattle.driver_exec.proofs.ClockReadings.{read_twice, reads_later}
-use Rattle.driver_exec.proofs.Refusing.{executes_read, executes_words}
 use Rattle.driver_actions.specs.declared.call.Answer.{Answer}
 use Rattle.driver_actions.specs.declared.call.Call.{Call}
 use Rattle.driver_actions.specs.declared.call.Outcome.{Outcome}
 use Rattle.driver_actions.specs.CallByCall.{CallCaused, IsTimed, with_clock}
-use Rattle.driver_actions.proofs.OwnIds.{OnlyDrew, own_drew}
+use Rattle.driver_actions.proofs.OwnIds.{OnlyDrew}
 use Rattle.driver_actions.proofs.Sending.{SendsCall, by_call, call_sends}
+use Rattle.driver_actions.proofs.Writing.Made.{made_drew, made_left}
 
 -- between two moments the clock was only read, and no random word was drawn
 pub record OnlyReads (before now : Moment) : Type 0 where
@@ -30,15 +26,10 @@ drew_reads before now drew = subst (OnlyReads before) (sym drew.rest) (record { 
 call_reads : (before now : Moment) (call : Call) (number : ℕ) (result : Result Answer Error) → SendsCall before now call number result → OnlyReads before now
 call_reads before now call number result sends = by_call (OnlyReads before now) before now call number result sends
     (λ none. drew_reads before now none)
-    (λ given single sent.
-    let drew = drew_reads before sent.mid (own_drew sent.draws) in
-    let inserts = sent.inserts in
-    let write = sent.write in
-    let read = executes_read (insert_spec (in_collection write.written.namespace) inserts.bytes inserts.id) (batch_of (write.place ∷ []) 1) first sent.mid now 0 inserts.count inserts.executed inserts.executes in
-    record {
-      read = read_twice before.clock sent.mid.clock now.clock drew.read read;
-      words = executes_words (insert_spec (in_collection write.written.namespace) inserts.bytes inserts.id) (batch_of (write.place ∷ []) 1) first sent.mid now 0 inserts.count inserts.executed inserts.executes ∙ drew.words;
-    })
+    (λ form single made.
+    let drew = drew_reads before made.mid (made_drew form made) in
+    let left = made_left form made in
+    record { read = read_twice before.clock made.mid.clock now.clock drew.read left.read; words = left.words ∙ drew.words })
 
 -- so are the times of its outcome
 pub caused_timed : (number : ℕ) (before now : Moment) (call : Call) (outcome : Outcome) → CallCaused number before now call outcome → IsTimed before now outcome

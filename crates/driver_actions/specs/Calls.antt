@@ -4,27 +4,25 @@ use Rattle.std.specs.Option.{option_and_then, option_map}
 use Rattle.bson_lite.specs.declared.bson.Bson.{Bson}
 use Rattle.bson_lite.specs.declared.bson.ObjectId.{ObjectId}
 use Rattle.bson_lite.specs.declared.document.Pair.{Pair}
-use Rattle.bson_lite.specs.declared.namespace.Namespace.{Namespace}
 use Rattle.bson_lite.specs.Fields.{value_of, id_key, with_id}
 use Rattle.driver_link.specs.declared.machine.Entry.{Entry}
 use Rattle.driver_link.specs.declared.machine.Place.{Place}
+use Rattle.driver_link.specs.declared.machine.WriteKind.{WriteKind}
 use Rattle.driver_link.specs.declared.machine.WriteKind.TheVariants as kind
 use Rattle.driver_link.specs.declared.machine.Written.{Written}
+use Rattle.driver_ops.specs.CountAnswers.{deleted_by, updated_by}
 use Rattle.driver_actions.specs.declared.call.Answer.{Answer}
 use Rattle.driver_actions.specs.declared.call.Answer.TheVariants as answer
 use Rattle.driver_actions.specs.declared.call.Call.{Call}
 use Rattle.driver_actions.specs.declared.call.Call.TheVariants.{Single}
-use Rattle.driver_actions.specs.declared.call.SingleAnswer.TheVariants.{Inserted}
+use Rattle.driver_actions.specs.declared.call.SingleAnswer.{SingleAnswer}
+use Rattle.driver_actions.specs.declared.call.SingleAnswer.TheVariants.{Deleted, Inserted, Updated}
 use Rattle.driver_actions.specs.declared.call.SingleWrite.{SingleWrite}
-use Rattle.driver_actions.specs.declared.call.SingleWrite.TheVariants.{InsertOne}
-
--- the insert of a document
-abbrev pub inserted : Namespace → List (Pair Bson) → Written
-inserted namespace document = record { kind = kind.Insert; namespace = namespace; document = document }
+use Rattle.driver_actions.specs.Forms.{form_of, written_in}
 
 -- a single write as it was given
 abbrev pub written : SingleWrite → Written
-written (InsertOne namespace document) = inserted namespace document
+written write = written_in (form_of write)
 
 -- the write of a call at an index
 abbrev pub write_in : Call → ℕ → Option Written
@@ -34,13 +32,22 @@ write_in (Single write) index = if index == 0 then Some (written write) else Non
 unfoldable pub write_at : List Call → Place → Option Written
 write_at calls place = option_and_then (λ call. write_in call place.index) (slice_get calls place.call)
 
--- a write that was sent is the one given; where an insert's document has no id, one object id of twelve bytes was put first
+-- a document that has an id as it was given, or else with one object id of twelve bytes put first
+pub record GetsId (given sent : List (Pair Bson)) : Type 0 where
+  pub id : ObjectId
+  pub twelve : length id.bytes ≡ 12
+  pub is : sent ≡ with_id id given
+
+-- what a write of a kind carries is what was given, to the last field; only an insert's document gets an id where it has none
+abbrev pub IsOwnDocument : WriteKind → List (Pair Bson) → List (Pair Bson) → Type 0
+IsOwnDocument kind.Insert given sent = GetsId given sent
+IsOwnDocument other given sent = sent ≡ given
+
+-- a write that was sent is the one given
 pub record IsOwn (given sent : Written) : Type 0 where
   pub kind : sent.kind ≡ given.kind
   pub namespace : sent.namespace ≡ given.namespace
-  pub id : ObjectId
-  pub twelve : length id.bytes ≡ 12
-  pub document : sent.document ≡ with_id id given.document
+  pub document : IsOwnDocument given.kind given.document sent.document
 
 -- a write was given at this place, and the one that was sent is that one
 abbrev pub OwnAt : Option Written → Written → Type 0
@@ -75,10 +82,17 @@ entry_at place (entry ∷ log) = if same_place entry.place place then Some entry
 abbrev pub entry_id : Entry → Option Bson
 entry_id entry = value_of id_key entry.written.document
 
+-- what the entry of a write of a kind answers
+abbrev pub answer_by : WriteKind → Entry → Option SingleAnswer
+answer_by kind.Insert entry = option_map (λ id. Inserted (record { inserted_id = id })) (entry_id entry)
+answer_by kind.Update entry = option_map (λ result. Updated result) (updated_by entry.result)
+answer_by kind.Delete entry = option_map (λ result. Deleted result) (deleted_by entry.result)
+answer_by kind.FindAndModify entry = None
+
 -- the answer of a call that the log spells
 abbrev pub result_of : Call → ℕ → List Entry → Option Answer
-result_of (Single (InsertOne namespace document)) call log =
-    option_map (λ id. answer.Single (Inserted (record { inserted_id = id }))) (option_and_then entry_id (entry_at (record { call = call; index = 0 }) log))
+result_of (Single write) call log =
+    option_map (λ given. answer.Single given) (option_and_then (answer_by (written write).kind) (entry_at (record { call = call; index = 0 }) log))
 
 -- the answer of the call at a number that the log spells
 unfoldable pub call_result : List Call → ℕ → List Entry → Option Answer

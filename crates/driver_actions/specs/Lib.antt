@@ -1,11 +1,13 @@
 pub mod CallByCall
 pub mod Calls
 pub mod Causes
+pub mod Forms
 pub mod Inputs
 pub mod MainTheorem
 pub mod OwnIds
 pub mod SingleCalls
+pub mod SingleCompleteness
 pub mod SingleEntries
 pub mod Singles
 pub mod Standing
-pub mod Writing
+pub mod inside

@@ -4,17 +4,15 @@
 use Rattle.std.specs.Prelude.{◌≡◌, ℕ, ◌≤◌, pos, ◌<ℤ◌, true, List, [], ◌∷◌, length, Option, None, Some, Result, Ok, Err, ◌⊎◌, slice_get}
 use Rattle.std.specs.Option.{option_and_then}
 use Rattle.std.specs.Result.{result_ok}
-use Rattle.bson_lite.specs.declared.bson.Bson.{Bson}
-use Rattle.bson_lite.specs.declared.document.Pair.{Pair}
-use Rattle.bson_lite.specs.declared.namespace.Namespace.{Namespace}
 use Rattle.bson_lite.specs.Spelling.{refusal}
 use Rattle.driver_error.specs.declared.error.Error.{Error}
 use Rattle.driver_error.specs.declared.kind.ErrorKind.TheVariants as kind
 use Rattle.driver_error.specs.Error.{kind_of}
-use Rattle.driver_link.specs.declared.concerns.WriteConcern.{WriteConcern}
 use Rattle.driver_link.specs.declared.machine.PlacedWrite.{PlacedWrite}
 use Rattle.driver_link.specs.declared.machine.Send.{Send}
 use Rattle.driver_link.specs.declared.machine.Server.{Server}
+use Rattle.driver_link.specs.declared.machine.WriteKind.{WriteKind}
+use Rattle.driver_link.specs.declared.options.ClientOptions.{ClientOptions}
 use Rattle.driver_link.specs.Cases.{writes_of}
 use Rattle.driver_link.specs.Exchange.{after_picks, replayed, empty_server}
 use Rattle.driver_link.specs.Once.{Once}
@@ -23,8 +21,6 @@ use Rattle.driver_link.specs.ServerRun.{IsFresh, ServerRun}
 use Rattle.driver_session.specs.Session.{last_number}
 use Rattle.driver_session.specs.StoreTells.{DrawnApart, IsNewStore}
 use Rattle.driver_ops.specs.Fields.{IsSixteen, SendContext}
-use Rattle.driver_ops.specs.InsertSpec.{own_of_insert}
-use Rattle.driver_ops.specs.Inserts.{insert_body}
 use Rattle.driver_exec.specs.Concerns.{concern_refusal}
 use Rattle.driver_exec.specs.Gentle.{IsGentleTold}
 use Rattle.driver_exec.specs.Moment.{Moment}
@@ -33,9 +29,9 @@ use Rattle.driver_actions.specs.declared.call.Answer.{Answer}
 use Rattle.driver_actions.specs.declared.call.Call.{Call}
 use Rattle.driver_actions.specs.declared.call.Outcome.{Outcome}
 use Rattle.driver_actions.specs.declared.call.Call.TheVariants.{Single}
-use Rattle.driver_actions.specs.declared.call.SingleWrite.TheVariants.{InsertOne}
 use Rattle.driver_actions.specs.Calls.{Mine, Done, call_result}
 use Rattle.driver_actions.specs.CallByCall.{CallByCall, CallCaused}
+use Rattle.driver_actions.specs.Forms.{WriteForm, body_in, concern_in, form_of, kind_in, repeats_in}
 use Rattle.driver_actions.specs.Inputs.{IsAccepted}
 
 -- the answer of the call at a number, where it is Ok
@@ -51,43 +47,47 @@ pub record MainTheorem (calls : List Call) (outcomes : List Outcome) (server : S
   pub result : (call : ℕ) (answer : Answer) → answer_at outcomes call ≡ Some answer → call_result calls call server.log ≡ Some answer
 
 -- a call ended with an answer, or with want of memory
-abbrev pub EndsWell : Result Answer Error → Type 0
+abbrev pub EndsWell : {A : Type 0} → Result A Error → Type 0
 EndsWell (Ok given) = Unit {0}
 EndsWell (Err error) = kind_of error ≡ kind.Memory
 
--- an insert is valid as the call of a number, with a write concern: its database's name has no dot, its document nests at most
--- 96 levels deep and has a spelling with any id, the concern is not refused, the command has a spelling with it under any session
--- and number or none, and fewer calls came before it than a session has numbers
-pub record IsValidInsert (call : ℕ) (concern : Option WriteConcern) (namespace : Namespace) (document : List (Pair Bson)) : Type 0 where
-  pub accepted : IsAccepted namespace document
-  pub concerned : concern_refusal concern ≡ None
-  pub command : (context : SendContext) → context.concern ≡ concern → IsSixteen context.session → refusal (insert_body namespace context) ≡ None
+-- a write is valid as the call of a number, under a client's options: its input is accepted, its write concern is not refused, its
+-- command has a spelling with that concern under any session and number or none, and fewer calls came before it than a session
+-- has numbers
+pub record IsValidWrite (call : ℕ) (options : ClientOptions) (form : WriteForm) : Type 0 where
+  pub accepted : IsAccepted form
+  pub concerned : concern_refusal (concern_in form options) ≡ None
+  pub command : (context : SendContext) → context.concern ≡ concern_in form options → IsSixteen context.session → refusal (body_in form context) ≡ None
   pub number : pos call <ℤ last_number
 
--- the call at a number of a list is valid at a moment: its write has no concern of its own, so it goes out with the client's
+-- the call at a number of a list is valid at a moment
 abbrev pub IsValid : ℕ → Moment → Call → Type 0
-IsValid call before (Single (InsertOne namespace document)) = IsValidInsert call before.client.options.write_concern namespace document
+IsValid call before (Single write) = IsValidWrite call before.client.options (form_of write)
 
 -- one of the writes is of this call
 abbrev pub HasWriteOf : ℕ → List PlacedWrite → Type 0
 HasWriteOf call [] = ⊥
 HasWriteOf call (write ∷ writes) = (write.place.call ≡ call) ⊎ HasWriteOf call writes
 
--- the sends of a call's command have numbers: the link tells that its connections take sessions and retryable writes,
--- and the client's options do not forbid them
+-- the sends of a call's command have numbers: the link tells that its connections take sessions and retryable writes, the write
+-- may be repeated, and the client's options do not forbid it
 abbrev pub MayRepeat : Moment → Call → Type 0
-MayRepeat before (Single (InsertOne namespace document)) = DrawsNumbers true (own_of_insert before.client.options) (setup_of before.link)
+MayRepeat before (Single write) = DrawsNumbers true (repeats_in (form_of write) before.client.options) (setup_of before.link)
+
+-- the kind of a call's writes
+abbrev pub kind_of_call : Call → WriteKind
+kind_of_call (Single write) = kind_in (form_of write)
 
 -- the part of a schedule that a call takes is gentle: none of its selections and check-outs fails, and each of its sends is
 -- served as usual; where its sends have numbers one of them may get no reply instead
 abbrev pub IsGentle : Moment → Moment → Call → Type 0
-IsGentle before now call = IsGentleTold (MayRepeat before call) (server_run before.link) (server_run now.link)
+IsGentle before now call = IsGentleTold (kind_of_call call) (MayRepeat before call) (server_run before.link) (server_run now.link)
 
 -- completeness of a call: a valid one whose part of the schedule is gentle ends well, whatever came before it
 abbrev pub CallCompletes : ℕ → Moment → Moment → Call → Result Answer Error → Type 0
 CallCompletes number before now call result = IsValid number before call → IsGentle before now call → EndsWell result
 
--- each send that a told server got between two moments is of this call
+-- each send that a told server got between two moments has a write of this call
 abbrev pub SendsOwn : ℕ → Option ServerRun → Option ServerRun → Type 0
 SendsOwn call None now = Unit {0}
 SendsOwn call (Some told) None = ⊥

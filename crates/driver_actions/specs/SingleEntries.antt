@@ -15,8 +15,7 @@ use Rattle.driver_session.specs.Pool.{Pool}
 use Rattle.driver_exec.specs.BetweenCalls.{Between, Sound}
 use Rattle.driver_exec.specs.Moment.{Moment}
 use Rattle.driver_actions.specs.declared.call.SingleAnswer.{SingleAnswer}
-use Rattle.driver_actions.specs.Calls.{IsOwn}
-use Rattle.driver_actions.specs.SingleCalls.{TellsId}
+use Rattle.driver_actions.specs.Calls.{IsOwn, answer_by}
 
 -- a place stands in no send of a trace
 abbrev pub IsNewPlace : List Send → Place → Type 0
@@ -50,13 +49,13 @@ KeepsSingleTold pool pool_now run run_now place = Unit {0}
 abbrev pub KeepsSingle : Moment → Moment → Place → Type 0
 KeepsSingle before now place = KeepsSingleTold before.store.pool now.store.pool (server_run before.link) (server_run now.link) place
 
--- a log has the entry of the caller's own write in its place, and the answer tells the id of its document
+-- a log has the entry of the caller's own write in its place, and that tells the answer
 pub record HasOwnEntry (given : Written) (place : Place) (log : List Entry) (answer : SingleAnswer) : Type 0 where
   pub entry : Entry
   pub has : Has log entry
   pub placed : entry.place ≡ place
   pub own : IsOwn given entry.written
-  pub tells : TellsId entry.written.document answer
+  pub tells : answer_by given.kind entry ≡ Some answer
 
 -- so it is in the log that is told after the write
 abbrev pub HasOwnEntryTold : Written → SingleAnswer → Option Pool → Option Pool → Option ServerRun → Option ServerRun → Place → Type 0

@@ -1,13 +1,49 @@
 //! Calls and what they answer, as plain data.
 use bson_lite::{Document, Namespace};
-use driver_error::{Error, InsertOneResult};
+use driver_error::{DeleteResult, Error, InsertOneResult, UpdateResult};
+use driver_link::{DeleteOptions, InsertManyOptions, UpdateModifications, UpdateOptions};
 
-/// A write of one document.
+/// A write of one statement.
 #[derive(Debug, Drop)]
 pub enum SingleWrite {
+    /// Inserts a document, with an id put first where it has none.
     InsertOne {
         namespace: Namespace,
         document: Document,
+        options: InsertManyOptions,
+    },
+    /// Changes one of the documents that the filter finds.
+    UpdateOne {
+        namespace: Namespace,
+        filter: Document,
+        update: UpdateModifications,
+        options: UpdateOptions,
+    },
+    /// Changes all documents that the filter finds.
+    UpdateMany {
+        namespace: Namespace,
+        filter: Document,
+        update: UpdateModifications,
+        options: UpdateOptions,
+    },
+    /// Puts a document in the place of one that the filter finds.
+    ReplaceOne {
+        namespace: Namespace,
+        filter: Document,
+        replacement: Document,
+        options: UpdateOptions,
+    },
+    /// Deletes one of the documents that the filter finds.
+    DeleteOne {
+        namespace: Namespace,
+        filter: Document,
+        options: DeleteOptions,
+    },
+    /// Deletes all documents that the filter finds.
+    DeleteMany {
+        namespace: Namespace,
+        filter: Document,
+        options: DeleteOptions,
     },
 }
 
@@ -15,6 +51,8 @@ pub enum SingleWrite {
 #[derive(Debug, Drop)]
 pub enum SingleAnswer {
     Inserted(InsertOneResult),
+    Updated(UpdateResult),
+    Deleted(DeleteResult),
 }
 
 /// One call of a driver's user.

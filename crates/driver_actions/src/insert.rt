@@ -1,28 +1,27 @@
 //! The insert of one document, from its caller to its answer.
-ghost use Rattle.std.specs.Prelude.{◌≡◌, ◌<◌, IfErr, IfOk, IsSome, Some};
+ghost use Rattle.std.specs.Prelude.{◌≡◌, IfErr, IfOk, IsSome};
 ghost use Rattle.bson_lite.specs.Fields.{id_key, value_of};
-ghost use Rattle.bson_lite.specs.Spelling.{Spells};
 ghost use Rattle.driver_session.specs.StoreTells.{MayDrawObjectId};
 ghost use Rattle.driver_exec.specs.Client.{options_of, store_of};
 ghost use Rattle.driver_exec.specs.Moment.{moment_of};
-ghost use Rattle.driver_actions.specs.Calls.{inserted};
 ghost use Rattle.driver_actions.specs.Causes.{TellsOwnRefusal, WriteCaused};
-ghost use Rattle.driver_actions.specs.OwnIds.{PutsId};
-ghost use Rattle.driver_actions.specs.SingleCalls.{Inserts, Makes, Owns};
-ghost use Rattle.driver_actions.specs.declared.call.SingleWrite.TheVariants.{InsertOne};
+ghost use Rattle.driver_actions.specs.Forms.{inserts};
+ghost use Rattle.driver_actions.specs.OwnIds.{Owns, PutsId};
+ghost use Rattle.driver_actions.specs.SingleCalls.{Makes};
 
 use crate::call::SingleAnswer;
-use crate::refusal::input_refusal;
+use crate::refusal::insert_refusal;
+use crate::single_operation::run_single;
 use bson_lite::{Bson, Bytes, Document, ID_KEY, Namespace, TryClone, get_or_prepend_id_field};
-use driver_error::{InsertManyResult, InsertOneResult, Result, convert_insert_many_error};
-use driver_exec::{Client, Outside, Steps, execute_operation};
-use driver_link::{Clock, Link, Place, PlacedWrite, WriteKind, Written};
+use driver_error::{InsertOneResult, Result};
+use driver_exec::{Client, Outside};
+use driver_link::{Clock, InsertManyOptions, Link, Place};
 use driver_ops::{Collection, Insert, encoded};
 use driver_session::SessionStore;
 use rand_core::Rng;
 use std::alloc::Global;
 use std::marker::Brand;
-use std::sync::ledger::{Blank, Ledger};
+use std::sync::ledger::Blank;
 
 /// Inserts one document, whose place is given.
 pub(crate) fn insert_one<S: SessionStore, L: Link, K: Clock, R: Rng>(
@@ -31,98 +30,54 @@ pub(crate) fn insert_one<S: SessionStore, L: Link, K: Clock, R: Rng>(
     outside: &mut Outside<L, K, R>,
     namespace: &Namespace,
     document: &Document,
+    options: &InsertManyOptions,
     place: Place,
 ) -> Result<SingleAnswer>
     ensures makes { Makes
         (moment_of S.tells L.tells K.tells R.stream client.old outside.old)
         (moment_of S.tells L.tells K.tells R.stream client.new outside.new)
-        (inserted namespace.now document.now) place result }
+        (inserts namespace.now document.now options.now) place result }
     ensures cause { WriteCaused
         (moment_of S.tells L.tells K.tells R.stream client.old outside.old)
         (moment_of S.tells L.tells K.tells R.stream client.new outside.new)
-        (InsertOne namespace.now document.now) result }
+        (inserts namespace.now document.now options.now) result }
     ensures options { options_of client.new ≡ options_of client.old }
     ensures call { outside.new.call ≡ outside.old.call }
 {
-    if let Some(error) = input_refusal(alloc, namespace, document) {
+    if let Some(error) = insert_refusal(alloc, namespace, document, options) {
         return Err(error);
     }
-    let own = own_write(alloc, client, namespace, document, place)?;
-    let OwnWrite {
-        write,
-        bytes,
-        id,
-        answer,
-    } = own;
-    let blank = Blank::new(1);
-    insert_counted::<S, L, K, R, Brand>(alloc, client, outside, write, bytes, id, blank)?;
-    Ok(SingleAnswer::Inserted(answer))
-}
-
-/// Inserts a write, whose document has this id and is spelled by these bytes, with a count of its sends over
-/// a ledger.
-fn insert_counted<S: SessionStore, L: Link, K: Clock, R: Rng, Q: Ledger>(
-    alloc: Global,
-    client: &mut Client<S>,
-    outside: &mut Outside<L, K, R>,
-    write: PlacedWrite,
-    bytes: Bytes,
-    id: Bson,
-    blank: Blank,
-) -> Result<InsertManyResult>
-    requires name { blank.name ≡ Q.name }
-    requires parts { blank.parts ≡ Q.parts }
-    requires some { 0 < blank.parts }
-    requires spelled { Spells write.written.document bytes }
-    requires found { value_of id_key write.written.document ≡ Some id }
-    ensures inserts { Inserts
-        (moment_of S.tells L.tells K.tells R.stream client.old outside.old)
-        (moment_of S.tells L.tells K.tells R.stream client.new outside.new)
-        write result }
-    ensures options { options_of client.new ≡ options_of client.old }
-    ensures call { outside.new.call ≡ outside.old.call }
-{
-    let PlacedWrite { place, written } = write;
-    let Written {
-        kind: _,
-        namespace,
-        document,
-    } = written;
-    drop(document);
+    let namespace = namespace.try_clone(alloc)?;
+    let options = options.try_clone(alloc)?;
+    let own = own_document(alloc, client, document)?;
+    let OwnDocument { bytes, id, answer } = own;
     let collection = Collection {
         namespace,
         write_concern: None,
     };
-    let mut insert = Insert::new(collection, bytes, id);
-    let mut sends: Steps<Q> = Steps::new(blank);
-    let result = execute_operation(alloc, client, &mut insert, &[place], outside, &mut sends);
-    drop(insert);
-    match result {
-        Ok(output) => Ok(output),
-        Err(error) => Err(convert_insert_many_error(alloc, error)),
-    }
+    let insert = Insert::new(collection, bytes, id, options);
+    let blank = Blank::new(1);
+    run_single::<Insert, S, L, K, R, Brand>(alloc, client, outside, insert, place, blank)?;
+    Ok(SingleAnswer::Inserted(answer))
 }
 
-/// A write as it is sent, the spelling of its document, the document's id, and the answer that tells it.
+/// The spelling of a document as it is sent, its id, and the answer that tells it.
 #[derive(Drop)]
-struct OwnWrite {
-    write: PlacedWrite,
+struct OwnDocument {
     bytes: Bytes,
     id: Bson,
     answer: InsertOneResult,
 }
 
-/// The write of a caller's document in its place, with an id.
-fn own_write<S: SessionStore>(
+/// A caller's document with an id.
+fn own_document<S: SessionStore>(
     alloc: Global,
     client: &mut Client<S>,
-    namespace: &Namespace,
     document: &Document,
-    place: Place,
-) -> Result<OwnWrite>
+) -> Result<OwnDocument>
     ensures refusal { IfErr result (λ error. TellsOwnRefusal document.now error) }
     ensures owns { IfOk result (λ own. Owns (S.tells (store_of client.old)) (S.tells (store_of client.new))
-        namespace.now document.now place own.write own.bytes own.id own.answer) }
+        document.now own.bytes own.id own.answer) }
     ensures draws { MayDrawObjectId (S.tells (store_of client.old)) (S.tells (store_of client.new)) }
     ensures unused { IsSome (value_of id_key document.now) →
         S.tells (store_of client.new) ≡ S.tells (store_of client.old) }
@@ -134,18 +89,7 @@ fn own_write<S: SessionStore>(
     let answer = InsertOneResult {
         inserted_id: id.try_clone(alloc)?,
     };
-    let namespace = namespace.try_clone(alloc)?;
-    let written = Written {
-        kind: WriteKind::Insert,
-        namespace,
-        document,
-    };
-    Ok(OwnWrite {
-        write: PlacedWrite { place, written },
-        bytes,
-        id,
-        answer,
-    })
+    Ok(OwnDocument { bytes, id, answer })
 }
 
 /// Puts a new id first in a document that has none, and answers a copy of the document's id.

@@ -6,12 +6,16 @@
 
 pub mod call;
 pub mod call_run;
+mod delete;
+mod faults;
 mod insert;
 pub mod laws;
 mod making;
 mod refusal;
 pub mod run;
 mod single;
+mod single_operation;
+mod update;
 
 pub use call::{Answer, Call, Outcome, SingleAnswer, SingleWrite};
 pub use call_run::CallRun;

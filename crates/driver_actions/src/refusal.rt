@@ -1,39 +1,103 @@
-//! Which inserts are refused for their input, found before anything is drawn or sent.
+//! Which writes are refused for their input, found before anything is drawn or sent.
 ghost use Rattle.std.specs.Prelude.{◌≡◌, IfOk};
 ghost use Rattle.driver_error.specs.declared.kind.ErrorKind.TheVariants.{InvalidArgument};
 ghost use Rattle.driver_error.specs.Conversions.{IsMade};
 ghost use Rattle.driver_error.specs.LabelTexts.{no_labels};
-ghost use Rattle.driver_actions.specs.Inputs.{has_dot, dotted_text, RefusesInsert, JudgesInput};
+ghost use Rattle.driver_actions.specs.Forms.{deletes, inserts, updates};
+ghost use Rattle.driver_actions.specs.Inputs.{JudgesInput, RefusesValues, change_refusal, dotted_text, has_dot, name_refusal, replacement_text, update_text};
+ghost use Rattle.driver_actions.specs.inside.Faults.{ErrorOfFault, JudgesArgument, RefusesDocument};
 
-use bson_lite::{Document, EncodeFault, ID_KEY, Namespace, Text, encoded_len, refusal_within};
+use crate::faults::{
+    LEVELS, LONGEST, comment_fault, delete_fault, first_of, length_fault, update_fault,
+};
+use bson_lite::{
+    Document, EncodeFault, ID_KEY, Namespace, Text, encoded_len, refusal_within,
+    replacement_document_check, update_document_check,
+};
 use driver_error::{Error, ErrorKind};
+use driver_link::{
+    DeleteOptions, InsertManyOptions, UpdateModifications, UpdateOptions, UpdateOrReplace,
+};
+use driver_ops::{delete_body, insert_body, update_body};
 use std::alloc::{AllocError, Global};
-
-/// The levels that a caller's document may nest. The command that carries it adds some of its own.
-const LEVELS: u32 = 96;
-
-/// The greatest length of a document in bytes.
-const LONGEST: u64 = 2_147_483_647;
 
 /// The length in bytes that an object id adds to a document.
 const ID_LENGTH: u64 = 17;
 
-/// What is wrong with the input of an insert: the name of its database, else its document.
-#[tactic(auto, using(crate::proofs::Refusals::tells_dotted, crate::proofs::Refusals::tells_document))]
-pub(crate) fn input_refusal(
+/// What is wrong with the input of an insert: the name of its database, else its document and its comment.
+#[tactic(auto, using(crate::proofs::Refusals::named_input, crate::proofs::Refusals::judged_values))]
+pub(crate) fn insert_refusal(
     alloc: Global,
     namespace: &Namespace,
     document: &Document,
+    options: &InsertManyOptions,
 ) -> Option<Error>
-    ensures { JudgesInput namespace.now document.now result }
+    ensures { JudgesInput (inserts namespace.now document.now options.now) result }
+{
+    if let Some(error) = name_refusal(alloc, namespace) {
+        return Some(error);
+    }
+    error_of(insert_fault(alloc, namespace, document, options))
+}
+
+/// What is wrong with the input of an update: the name of its database, else its change, else its values.
+#[tactic(auto, using(crate::proofs::Refusals::named_input, crate::proofs::Refusals::operator_input, crate::proofs::Refusals::judged_values))]
+pub(crate) fn update_refusal(
+    alloc: Global,
+    namespace: &Namespace,
+    filter: &Document,
+    change: &UpdateOrReplace,
+    multi: bool,
+    options: &UpdateOptions,
+) -> Option<Error>
+    ensures { JudgesInput (updates namespace.now filter.now change.now multi options.now) result }
+{
+    if let Some(error) = name_refusal(alloc, namespace) {
+        return Some(error);
+    }
+    if let Some(error) = change_refusal(alloc, change) {
+        return Some(error);
+    }
+    error_of(update_values_fault(alloc, namespace, filter, change, multi, options))
+}
+
+/// What is wrong with the input of a delete: the name of its database, else its values.
+#[tactic(auto, using(crate::proofs::Refusals::named_input, crate::proofs::Refusals::judged_values))]
+pub(crate) fn delete_refusal(
+    alloc: Global,
+    namespace: &Namespace,
+    filter: &Document,
+    multi: bool,
+    options: &DeleteOptions,
+) -> Option<Error>
+    ensures { JudgesInput (deletes namespace.now filter.now multi options.now) result }
+{
+    if let Some(error) = name_refusal(alloc, namespace) {
+        return Some(error);
+    }
+    error_of(delete_values_fault(alloc, namespace, filter, multi, options))
+}
+
+/// The error of a fault that was looked for, or of want of memory.
+fn error_of(fault: Result<Option<EncodeFault>, AllocError>) -> Option<Error>
+    ensures { ErrorOfFault fault result }
+{
+    match fault {
+        Ok(None) => None,
+        Ok(Some(fault)) => Some(Error::from_kind(ErrorKind::BsonSerialization(fault))),
+        Err(_refused) => Some(Error::from_kind(ErrorKind::Memory)),
+    }
+}
+
+/// Why a collection is refused by its database's name.
+#[tactic(auto, using(crate::proofs::Refusals::name_dotted, crate::proofs::Refusals::name_taken))]
+fn name_refusal(alloc: Global, namespace: &Namespace) -> Option<Error>
+    ensures { JudgesArgument (name_refusal namespace.now) result }
 {
     if has_dot(&namespace.db) {
         return Some(dotted(alloc, &namespace.db));
     }
-    match insert_refusal(document) {
-        None => None,
-        Some(fault) => Some(Error::from_kind(ErrorKind::BsonSerialization(fault))),
-    }
+    None
 }
 
 #[tactic(auto, unfolding(crate::specs::Inputs::has_dot))]
@@ -64,9 +128,79 @@ fn dotted_text(alloc: Global, name: &str) -> Result<Text, AllocError>
     Ok(Text::from_string(text))
 }
 
-/// Why a document is refused once it has an id, whichever id it gets. It takes no memory.
-fn insert_refusal(document: &Document) -> Option<EncodeFault>
-    ensures { RefusesInsert document.now result }
+/// Why a change is refused by its first key: an update has to begin with an operator, and a replacement must not.
+/// A pipeline is not judged so.
+#[tactic(auto, using(crate::proofs::Refusals::update_plain, crate::proofs::Refusals::replacement_operator, crate::proofs::Refusals::update_taken, crate::proofs::Refusals::replacement_taken))]
+fn change_refusal(alloc: Global, change: &UpdateOrReplace) -> Option<Error>
+    ensures { JudgesArgument (change_refusal change.now) result }
+{
+    match change {
+        UpdateOrReplace::UpdateModifications(UpdateModifications::Document(document)) => {
+            if update_document_check(document) {
+                None
+            } else {
+                Some(plain_update(alloc))
+            }
+        }
+        UpdateOrReplace::UpdateModifications(UpdateModifications::Pipeline(_)) => None,
+        UpdateOrReplace::Replacement(document) => {
+            if replacement_document_check(document) {
+                None
+            } else {
+                Some(operator_replacement(alloc))
+            }
+        }
+    }
+}
+
+/// The error of an update that does not begin with an operator.
+#[tactic(auto, unfolding(crate::specs::Inputs::update_text))]
+fn plain_update(alloc: Global) -> Error
+    ensures { IsMade (InvalidArgument update_text) no_labels result }
+{
+    refused(alloc, "update document must begin with an update operator")
+}
+
+/// The error of a replacement that begins with one.
+#[tactic(auto, unfolding(crate::specs::Inputs::replacement_text))]
+fn operator_replacement(alloc: Global) -> Error
+    ensures { IsMade (InvalidArgument replacement_text) no_labels result }
+{
+    refused(
+        alloc,
+        "replacement document must not begin with an update operator",
+    )
+}
+
+/// The error of an argument that is refused with this message.
+fn refused(alloc: Global, text: &str) -> Error
+    ensures { IsMade (InvalidArgument text.now) no_labels result }
+{
+    match Text::from_str(alloc, text) {
+        Ok(message) => Error::from_kind(ErrorKind::InvalidArgument { message }),
+        Err(_refused) => Error::from_kind(ErrorKind::Memory),
+    }
+}
+
+/// Why an insert is refused once its document has an id, whichever id it gets.
+#[tactic(auto, using(crate::proofs::Refusals::inserted_values))]
+fn insert_fault(
+    alloc: Global,
+    namespace: &Namespace,
+    document: &Document,
+    options: &InsertManyOptions,
+) -> Result<Option<EncodeFault>, AllocError>
+    ensures { IfOk result (λ fault. RefusesValues (inserts namespace.now document.now options.now) fault) }
+{
+    let fault = comment_fault(alloc, &options.comment)?;
+    let body = insert_body(alloc, namespace.coll.as_str(), options)?;
+    let fault = first_of(fault, length_fault(&body));
+    Ok(first_of(document_refusal(document), fault))
+}
+
+/// Why a document is refused by itself once it has an id, whichever id it gets. It takes no memory.
+fn document_refusal(document: &Document) -> Option<EncodeFault>
+    ensures { RefusesDocument document.now result }
 {
     let refused = refusal_within(document, LEVELS);
     if document.get(ID_KEY).is_some() {
@@ -76,4 +210,40 @@ fn insert_refusal(document: &Document) -> Option<EncodeFault>
         return Some(EncodeFault::TooLong);
     }
     refused
+}
+
+/// Why an update is refused for its values, or for the length of its command.
+#[tactic(auto, using(crate::proofs::Judging::refused_by))]
+fn update_values_fault(
+    alloc: Global,
+    namespace: &Namespace,
+    filter: &Document,
+    change: &UpdateOrReplace,
+    multi: bool,
+    options: &UpdateOptions,
+) -> Result<Option<EncodeFault>, AllocError>
+    ensures { IfOk result (λ fault.
+        RefusesValues (updates namespace.now filter.now change.now multi options.now) fault) }
+{
+    let fault = update_fault(alloc, filter, change, options)?;
+    let collection = namespace.coll.as_str();
+    let body = update_body(alloc, collection, filter, change, multi, options)?;
+    Ok(first_of(fault, length_fault(&body)))
+}
+
+/// Why a delete is refused for its values, or for the length of its command.
+#[tactic(auto, using(crate::proofs::Judging::refused_by))]
+fn delete_values_fault(
+    alloc: Global,
+    namespace: &Namespace,
+    filter: &Document,
+    multi: bool,
+    options: &DeleteOptions,
+) -> Result<Option<EncodeFault>, AllocError>
+    ensures { IfOk result (λ fault.
+        RefusesValues (deletes namespace.now filter.now multi options.now) fault) }
+{
+    let fault = delete_fault(alloc, filter, options)?;
+    let body = delete_body(alloc, namespace.coll.as_str(), filter, multi, options)?;
+    Ok(first_of(fault, length_fault(&body)))
 }

@@ -4,19 +4,24 @@ ghost use Rattle.driver_exec.specs.Client.{options_of};
 ghost use Rattle.driver_exec.specs.Moment.{moment_of};
 ghost use Rattle.driver_actions.specs.Calls.{written};
 ghost use Rattle.driver_actions.specs.Causes.{WriteCaused};
+ghost use Rattle.driver_actions.specs.Forms.{form_of};
 ghost use Rattle.driver_actions.specs.SingleCalls.{Makes, first_place};
+ghost use Rattle.driver_actions.specs.SingleCompleteness.{CompletesSingle, RaisesNumbers};
 ghost use Rattle.driver_actions.specs.SingleEntries.{KeepsSingle, OkHasEntry};
 
 use crate::call::{SingleAnswer, SingleWrite};
+use crate::delete::delete_found;
 use crate::insert::insert_one;
+use crate::update::update_found;
+use bson_lite::TryClone;
 use driver_error::Result;
 use driver_exec::{Client, Outside};
-use driver_link::{Clock, Link, Place};
+use driver_link::{Clock, Link, Place, UpdateOrReplace};
 use driver_session::SessionStore;
 use rand_core::Rng;
 use std::alloc::Global;
 
-/// Writes of one document each, which a client makes outside transactions.
+/// Writes of one statement each, which a client makes outside transactions.
 pub trait SingleWrites {
     /// Makes a single write, in the first place of the current call (`outside.call`).
     fn single<L: Link, K: Clock, R: Rng>(
@@ -28,9 +33,11 @@ pub trait SingleWrites {
 }
 
 impl<S: SessionStore> SingleWrites for Client<S> {
-    /// Makes a single write: its input is judged first, then its operation is executed (`makes`), and each
-    /// error has its cause (`cause`). Where store and link tell, and its place is new, it keeps what stands
-    /// between the operations of one client (`keeps`), and an Ok has its entry in the log (`entry`).
+    /// Makes a single write: its input is judged before anything is drawn or asked of the link, then its operation
+    /// is executed (`makes`), and each error has its cause (`cause`). Where store and link tell, and such a write
+    /// may be made there, it keeps what stands between the operations of one client (`keeps`), and an Ok has its
+    /// entry in the log (`entry`); a valid one whose part of the schedule is gentle ends well (`complete`), and the
+    /// numbers of idle sessions rise by one at most (`raises`).
     fn single<L: Link, K: Clock, R: Rng>(
         &mut self,
         alloc: Global,
@@ -40,11 +47,11 @@ impl<S: SessionStore> SingleWrites for Client<S> {
         ensures makes { Makes
             (moment_of S.tells L.tells K.tells R.stream self.old outside.old)
             (moment_of S.tells L.tells K.tells R.stream self.new outside.new)
-            (written write.now) (first_place outside.old.call) result }
+            (form_of write.now) (first_place outside.old.call) result }
         ensures cause { WriteCaused
             (moment_of S.tells L.tells K.tells R.stream self.old outside.old)
             (moment_of S.tells L.tells K.tells R.stream self.new outside.new)
-            write.now result }
+            (form_of write.now) result }
         ensures keeps { KeepsSingle
             (moment_of S.tells L.tells K.tells R.stream self.old outside.old)
             (moment_of S.tells L.tells K.tells R.stream self.new outside.new)
@@ -53,6 +60,13 @@ impl<S: SessionStore> SingleWrites for Client<S> {
             (moment_of S.tells L.tells K.tells R.stream self.old outside.old)
             (moment_of S.tells L.tells K.tells R.stream self.new outside.new)
             (written write.now) (first_place outside.old.call) result }
+        ensures complete { CompletesSingle
+            (moment_of S.tells L.tells K.tells R.stream self.old outside.old)
+            (moment_of S.tells L.tells K.tells R.stream self.new outside.new)
+            (form_of write.now) (first_place outside.old.call) result }
+        ensures raises { RaisesNumbers
+            (moment_of S.tells L.tells K.tells R.stream self.old outside.old)
+            (moment_of S.tells L.tells K.tells R.stream self.new outside.new) }
         ensures options { options_of self.new ≡ options_of self.old }
         ensures call { outside.new.call ≡ outside.old.call }
     {
@@ -60,11 +74,81 @@ impl<S: SessionStore> SingleWrites for Client<S> {
             call: outside.call,
             index: 0,
         };
-        match write {
-            SingleWrite::InsertOne {
-                namespace,
-                document,
-            } => insert_one(alloc, self, outside, namespace, document, place),
+        make_in(alloc, self, outside, write, place)
+    }
+}
+
+/// Makes a single write in a place, by its kind.
+fn make_in<S: SessionStore, L: Link, K: Clock, R: Rng>(
+    alloc: Global,
+    client: &mut Client<S>,
+    outside: &mut Outside<L, K, R>,
+    write: &SingleWrite,
+    place: Place,
+) -> Result<SingleAnswer>
+    ensures makes { Makes
+        (moment_of S.tells L.tells K.tells R.stream client.old outside.old)
+        (moment_of S.tells L.tells K.tells R.stream client.new outside.new)
+        (form_of write.now) place result }
+    ensures cause { WriteCaused
+        (moment_of S.tells L.tells K.tells R.stream client.old outside.old)
+        (moment_of S.tells L.tells K.tells R.stream client.new outside.new)
+        (form_of write.now) result }
+    ensures options { options_of client.new ≡ options_of client.old }
+    ensures call { outside.new.call ≡ outside.old.call }
+{
+    match write {
+        SingleWrite::InsertOne {
+            namespace,
+            document,
+            options,
+        } => insert_one(alloc, client, outside, namespace, document, options, place),
+        SingleWrite::UpdateOne {
+            namespace,
+            filter,
+            update,
+            options,
+        } => {
+            let change = UpdateOrReplace::UpdateModifications(update.try_clone(alloc)?);
+            update_found(
+                alloc, client, outside, namespace, filter, change, false, options, place,
+            )
         }
+        SingleWrite::UpdateMany {
+            namespace,
+            filter,
+            update,
+            options,
+        } => {
+            let change = UpdateOrReplace::UpdateModifications(update.try_clone(alloc)?);
+            update_found(
+                alloc, client, outside, namespace, filter, change, true, options, place,
+            )
+        }
+        SingleWrite::ReplaceOne {
+            namespace,
+            filter,
+            replacement,
+            options,
+        } => {
+            let change = UpdateOrReplace::Replacement(replacement.try_clone(alloc)?);
+            update_found(
+                alloc, client, outside, namespace, filter, change, false, options, place,
+            )
+        }
+        SingleWrite::DeleteOne {
+            namespace,
+            filter,
+            options,
+        } => delete_found(
+            alloc, client, outside, namespace, filter, false, options, place,
+        ),
+        SingleWrite::DeleteMany {
+            namespace,
+            filter,
+            options,
+        } => delete_found(
+            alloc, client, outside, namespace, filter, true, options, place,
+        ),
     }
 }

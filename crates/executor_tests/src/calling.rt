@@ -4,8 +4,8 @@ use driver_actions::{Answer, Call, CallRun, Outcome, SingleAnswer, SingleWrite, 
 use driver_error::{Error, ErrorKind, IoKind};
 use driver_exec::{Client, Outside};
 use driver_link::{
-    Address, Answered, ClientOptions, Conn, CountingIds, Description, Frame, Link, LinkError,
-    LinkFault, MemClock, Place, SelectionCriteria,
+    Address, Answered, ClientOptions, Conn, CountingIds, Description, Frame, InsertManyOptions,
+    Link, LinkError, LinkFault, MemClock, Place, SelectionCriteria,
 };
 use driver_session::PlainStore;
 use rand_core::SeedableRng;
@@ -142,6 +142,7 @@ fn insert(alloc: Global, document: Document) -> Result<Call, AllocError> {
         write: SingleWrite::InsertOne {
             namespace,
             document,
+            options: InsertManyOptions::default(),
         },
     })
 }
@@ -213,7 +214,7 @@ fn outcomes_one_by_one(alloc: Global) -> Result<List<Outcome>, AllocError> {
 }
 
 /// The last byte of the object id that an outcome tells.
-fn id_of(outcome: &Outcome) -> Option<u8> {
+pub(crate) fn id_of(outcome: &Outcome) -> Option<u8> {
     let Ok(Answer::Single(SingleAnswer::Inserted(done))) = &outcome.result else {
         return None;
     };

@@ -1,4 +1,4 @@
-//! One insert over a fake link, whose servers and answers a row names.
+//! A fake link, whose servers and answers a row names, and one insert over it.
 use crate::inserting::{Ended, SERVER, Seen, insert};
 use bson_lite::{Bytes, List};
 use driver_error::IoKind;
@@ -7,6 +7,10 @@ use std::alloc::{AllocError, Global};
 
 /// `{ok: 1, n: 1}`
 pub(crate) const DONE: &[u8] = b"\x14\0\0\0\x10ok\0\x01\0\0\0\x10n\0\x01\0\0\0\0";
+
+/// `{ok: 1, n: 1, nModified: 1}`
+pub(crate) const CHANGED: &[u8] =
+    b"\x23\0\0\0\x10ok\0\x01\0\0\0\x10n\0\x01\0\0\0\x10nModified\0\x01\0\0\0\0";
 
 /// A connection's server that takes sessions, and no retryable writes.
 pub(crate) const NO_REPEATS: Description = Description {

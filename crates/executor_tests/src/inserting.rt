@@ -1,9 +1,12 @@
-//! One insert of `{_id: 1}` by a new client over a link, and what a row sees of its end.
-use bson_lite::{Bson, Document, Namespace, Text};
+//! One write by a new client over a link, and what a row sees of its end. Where a row names no write, it is the
+//! insert of `{_id: 1}`.
+use bson_lite::{Bson, Document, EncodeFault, Namespace, Text};
 use driver_actions::{SingleAnswer, SingleWrite, SingleWrites};
-use driver_error::{Error, ErrorKind, IoKind, RETRYABLE_WRITE_ERROR, Result};
+use driver_error::{Error, ErrorKind, IoKind, RETRYABLE_WRITE_ERROR, Result, WriteFailure};
 use driver_exec::{Client, Outside};
-use driver_link::{ClientOptions, CountingIds, Description, Link, MemClock, WriteConcern};
+use driver_link::{
+    ClientOptions, CountingIds, Description, InsertManyOptions, Link, MemClock, WriteConcern,
+};
 use driver_session::PlainStore;
 use rand_core::SeedableRng;
 use rand_pcg::Pcg32;
@@ -24,7 +27,7 @@ pub(crate) const SERVER: Description = Description {
 const NO_NUMBERS: &str =
     "This MongoDB deployment does not support retryable writes. Please add retryWrites=false to your connection string.";
 
-/// How an insert ended.
+/// How a write ended.
 #[derive(Clone, Copy, Debug, PartialEq, Eq)]
 pub(crate) enum Ended {
     Done,
@@ -39,10 +42,22 @@ pub(crate) enum Ended {
     /// Under its write concern no server would answer what became of it.
     Unacknowledged,
     InvalidConcern,
+    /// The name of the database `a.b` has a dot.
+    Dotted,
+    /// The update begins with no operator.
+    PlainUpdate,
+    /// The replacement begins with an operator.
+    OperatorReplacement,
+    TooDeep,
+    ZeroByte,
+    /// The statement failed with this code.
+    WriteError(i32),
+    /// It ran, and its concern was not met, with this code.
+    ConcernError(i32),
     Other,
 }
 
-/// An insert's end: how it ended, how many labels its error has, whether that of a retryable write is among
+/// A write's end: how it ended, how many labels its error has, whether that of a retryable write is among
 /// them, and the wire version of its connection, where it has one.
 #[derive(Clone, Copy)]
 pub(crate) struct Seen {
@@ -53,7 +68,7 @@ pub(crate) struct Seen {
 }
 
 /// What the kind of an error tells.
-fn how_ended(error: &Error) -> Ended {
+pub(crate) fn how_ended(error: &Error) -> Ended {
     match error.kind() {
         ErrorKind::Io(found) => Ended::Io(*found),
         ErrorKind::Command(found) if found.message.as_str() == NO_NUMBERS => Ended::NoNumbers,
@@ -63,6 +78,10 @@ fn how_ended(error: &Error) -> Ended {
         ErrorKind::SessionsNotSupported => Ended::NoSessions,
         ErrorKind::InvalidResponse { .. } => Ended::InvalidResponse,
         ErrorKind::InvalidArgument { message } => how_refused(message.as_str()),
+        ErrorKind::BsonSerialization(EncodeFault::TooDeep) => Ended::TooDeep,
+        ErrorKind::BsonSerialization(EncodeFault::ZeroByte) => Ended::ZeroByte,
+        ErrorKind::Write(WriteFailure::WriteError(found)) => Ended::WriteError(found.code),
+        ErrorKind::Write(WriteFailure::WriteConcernError(found)) => Ended::ConcernError(found.code),
         _ => Ended::Other,
     }
 }
@@ -75,11 +94,20 @@ fn how_refused(message: &str) -> Ended {
     if message == "invalid write concern" {
         return Ended::InvalidConcern;
     }
+    if message == "invalid database name a.b: name cannot contain period" {
+        return Ended::Dotted;
+    }
+    if message == "update document must begin with an update operator" {
+        return Ended::PlainUpdate;
+    }
+    if message == "replacement document must not begin with an update operator" {
+        return Ended::OperatorReplacement;
+    }
     Ended::Other
 }
 
 /// How many labels an error has, or none where there is no memory.
-fn label_count(alloc: Global, error: &Error) -> Option<usize> {
+pub(crate) fn label_count(alloc: Global, error: &Error) -> Option<usize> {
     match error.labels().sorted(alloc) {
         Ok(labels) => Some(labels.len()),
         Err(_refused) => None,
@@ -101,8 +129,8 @@ fn seen_error(alloc: Global, error: Error) -> Option<Seen> {
     })
 }
 
-/// An insert's end as a row sees it, or none where there is no memory.
-fn seen_end(alloc: Global, end: Result<SingleAnswer>) -> Option<Seen> {
+/// A write's end as a row sees it, or none where there is no memory.
+pub(crate) fn seen_end(alloc: Global, end: Result<SingleAnswer>) -> Option<Seen> {
     match end {
         Ok(answer) => {
             drop(answer);
@@ -128,6 +156,7 @@ fn write(alloc: Global) -> std::result::Result<SingleWrite, AllocError> {
     Ok(SingleWrite::InsertOne {
         namespace,
         document,
+        options: InsertManyOptions::default(),
     })
 }
 
@@ -145,6 +174,19 @@ pub(crate) fn insert_under<L: Link + Drop>(
     let Ok(write) = write(alloc) else {
         return None;
     };
+    let (result, link) = answered_under(alloc, link, &write, concern);
+    drop(write);
+    let seen = seen_end(alloc, result)?;
+    Some((seen, link))
+}
+
+/// What a write by a new client with this concern answers, and the link afterwards.
+pub(crate) fn answered_under<L: Link + Drop>(
+    alloc: Global,
+    link: L,
+    write: &SingleWrite,
+    concern: Option<WriteConcern>,
+) -> (Result<SingleAnswer>, L) {
     let options = ClientOptions {
         client_number: 1,
         retry_writes: None,
@@ -158,13 +200,12 @@ pub(crate) fn insert_under<L: Link + Drop>(
         words: Pcg32::seed_from_u64(1),
         call: 0,
     };
-    let result = client.single(alloc, &write, &mut outside);
+    let result = client.single(alloc, write, &mut outside);
     let Outside {
         link,
         clock: _,
         words: _,
         call: _,
     } = outside;
-    let seen = seen_end(alloc, result)?;
-    Some((seen, link))
+    (result, link)
 }

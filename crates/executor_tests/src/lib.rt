@@ -1,6 +1,7 @@
 //! Tests of the executor and of calls over it: what one insert comes to over a model server with a schedule and
-//! over a fake link, when it is timed and its session lent, every short schedule over a few inserts, and the
-//! store and the replies with ample memory. They stand apart since a row crosses executor and server.
+//! over a fake link, when it is timed and its session lent, every short schedule over a few inserts and over one
+//! write of each kind, what each kind sends, which writes are refused, what replies tell, and the store and the
+//! replies with ample memory. They stand apart since a row crosses executor and server.
 #![tactic(auto)]
 
 #[cfg(test)]
@@ -14,7 +15,13 @@ mod frames;
 #[cfg(test)]
 mod inserting;
 #[cfg(test)]
+mod kinds;
+#[cfg(test)]
+mod meeting;
+#[cfg(test)]
 mod ports;
+#[cfg(test)]
+mod refusals;
 #[cfg(test)]
 mod replies;
 #[cfg(test)]
@@ -26,4 +33,10 @@ mod selections;
 #[cfg(test)]
 mod sessions;
 #[cfg(test)]
+mod statements;
+#[cfg(test)]
 mod timing;
+#[cfg(test)]
+mod write_replies;
+#[cfg(test)]
+mod writes;

@@ -1,28 +1,14 @@
 //! One insert over a model server, by what its schedule says.
-ghost use Rattle.std.specs.Prelude.{All, IfOk};
-ghost use Rattle.driver_link.specs.WellFormed.{IsItem, IsWellFormed};
+ghost use Rattle.std.specs.Prelude.{IfOk};
+ghost use Rattle.driver_link.specs.WellFormed.{IsWellFormed};
 
 use crate::inserting::{Ended, SERVER, Seen, insert};
-use bson_lite::{List, Text};
-use driver_error::{IoKind, NO_WRITES_PERFORMED, RETRYABLE_WRITE_ERROR};
-use driver_link::{Item, Schedule, Scheduled, Server, Setup};
+use crate::meeting::{Meets, items};
+use bson_lite::List;
+use driver_error::IoKind;
+use driver_link::{Schedule, Server, Setup};
 use model_server::ModelServer;
 use std::alloc::{AllocError, Global};
-
-/// An item of a schedule.
-#[derive(Clone, Copy)]
-enum Meets {
-    Lost,
-    ReplyLost,
-    /// One statement runs, then code 11600 with the label of a retryable write.
-    InterruptedAfterOne,
-    /// Nothing runs, then code 91 with the label of a retryable write.
-    InterruptedAtOnce,
-    /// Code 13 without labels.
-    Refused,
-    /// Code 10107 with the labels of a retryable write and of no writes performed.
-    RefusedUnwritten,
-}
 
 /// A schedule, with how the insert ends, whether its error has the label of a retryable write alone or none,
 /// and how many sends and entries there are.
@@ -115,58 +101,6 @@ const NO_SERVER: Row = Row {
     sends: 0,
     entries: 0,
 };
-
-fn labels(alloc: Global, texts: &[&str]) -> Result<List<Text>, AllocError> {
-    let mut labels = List::new(alloc);
-    for text in texts {
-        labels.push(Text::from_str(alloc, text)?)?;
-    }
-    Ok(labels)
-}
-
-fn item(alloc: Global, meets: Meets) -> Result<Item, AllocError>
-    ensures { IfOk result IsItem }
-{
-    let labels = match meets {
-        Meets::Lost | Meets::ReplyLost | Meets::Refused => List::new(alloc),
-        Meets::InterruptedAfterOne | Meets::InterruptedAtOnce => {
-            labels(alloc, &[RETRYABLE_WRITE_ERROR])?
-        }
-        Meets::RefusedUnwritten => labels(alloc, &[RETRYABLE_WRITE_ERROR, NO_WRITES_PERFORMED])?,
-    };
-    Ok(match meets {
-        Meets::Lost => Item::Lost,
-        Meets::ReplyLost => Item::ReplyLost,
-        Meets::InterruptedAfterOne => Item::Interrupted {
-            after: 1,
-            code: 11600,
-            labels,
-        },
-        Meets::InterruptedAtOnce => Item::Interrupted {
-            after: 0,
-            code: 91,
-            labels,
-        },
-        Meets::Refused => Item::Refused { code: 13, labels },
-        Meets::RefusedUnwritten => Item::Refused {
-            code: 10107,
-            labels,
-        },
-    })
-}
-
-fn items(alloc: Global, meets: &[Meets]) -> Result<List<Scheduled>, AllocError>
-    ensures { IfOk result (λ steps. All (λ step. IsItem step.item) steps) }
-{
-    let mut steps = List::new(alloc);
-    'items: for one in meets {
-        steps.push(Scheduled {
-            deliver: List::new(alloc),
-            item: item(alloc, *one)?,
-        })?;
-    }
-    Ok(steps)
-}
 
 fn numbers(alloc: Global, numbers: &[u64]) -> Result<List<u64>, AllocError> {
     let mut list = List::new(alloc);

@@ -9,8 +9,8 @@ use driver_actions::{Answer, Call, Outcome, SingleAnswer, SingleWrite, run_calls
 use driver_error::{Error, ErrorKind, IoKind, RETRYABLE_WRITE_ERROR};
 use driver_exec::{Client, Outside};
 use driver_link::{
-    ClientOptions, CountingIds, Entry, Item, MemClock, Schedule, Scheduled, Server, Setup,
-    WriteKind, Written,
+    ClientOptions, CountingIds, Entry, InsertManyOptions, Item, MemClock, Schedule, Scheduled,
+    Server, Setup, WriteKind, Written,
 };
 use driver_session::PlainStore;
 use model_server::ModelServer;
@@ -79,6 +79,7 @@ fn call(alloc: Global, number: i32) -> Result<Call, AllocError> {
         write: SingleWrite::InsertOne {
             namespace,
             document,
+            options: InsertManyOptions::default(),
         },
     })
 }
@@ -132,7 +133,7 @@ fn is_same_place(a: &Entry, b: &Entry) -> bool {
 }
 
 /// How many entries have the place of this one.
-fn times(log: &[Entry], entry: &Entry) -> u64 {
+pub(crate) fn times(log: &[Entry], entry: &Entry) -> u64 {
     let mut count: u64 = 0;
     for other in log {
         if is_same_place(other, entry) {
@@ -209,6 +210,7 @@ fn is_ended(log: &[Entry], call: u64, outcome: &Outcome) -> bool {
         Ok(Answer::Single(SingleAnswer::Inserted(result))) => {
             stands(log, call, &result.inserted_id)
         }
+        Ok(_) => false,
         Err(error) => is_reset(error),
     }
 }
@@ -251,7 +253,7 @@ fn unused(numbers: &[u64], count: u64, at: u64) -> u64 {
 }
 
 /// The order of a number of all numbers below a count.
-fn order(alloc: Global, code: u64, count: u64) -> Result<List<u64>, AllocError> {
+pub(crate) fn order(alloc: Global, code: u64, count: u64) -> Result<List<u64>, AllocError> {
     let mut order = List::new(alloc);
     let mut rest = code;
     for used in 0..count {
@@ -264,7 +266,7 @@ fn order(alloc: Global, code: u64, count: u64) -> Result<List<u64>, AllocError> 
 }
 
 /// How many orders so many numbers have, for five at most.
-fn orders(count: u64) -> Option<u64> {
+pub(crate) fn orders(count: u64) -> Option<u64> {
     match count {
         0 | 1 => Some(1),
         2 => Some(2),
@@ -287,7 +289,7 @@ fn delivers(server: &mut ModelServer, alloc: Global, pick: u64) -> bool {
 }
 
 /// Serves the waiting sends in this order.
-fn deliver(server: &mut ModelServer, alloc: Global, order: &[u64]) -> bool {
+pub(crate) fn deliver(server: &mut ModelServer, alloc: Global, order: &[u64]) -> bool {
     for pick in order {
         if !delivers(server, alloc, *pick) {
             return false;

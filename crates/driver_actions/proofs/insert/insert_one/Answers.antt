@@ -1,72 +1,103 @@
--- A write is made of its parts.
-use Rattle.std.proofs.Common.{refl}
+-- The insert is refused for its input, or its operation is run once its document has an id.
+use Rattle.std.proofs.Common.{◌∙◌, refl, ap, inl, inr}
+use Rattle.std.specs.Prelude.{Ok, Err}
 use Rattle.std.proofs.lemmas.Result.{err_from_is_err_and}
 use Rattle.driver_exec.specs.Moment.{moment_of}
-use Rattle.driver_actions.specs.declared.call.SingleAnswer.{SingleAnswer}
-use Rattle.driver_actions.proofs.Causes.{caused_err, caused_input, caused_memory, caused_ok}
-use Rattle.driver_actions.proofs.Parts.{made_err, made_ok, may_draw, own_draws, unmade_input, unmade_memory}
+use Rattle.driver_ops.specs.Targets.{in_collection}
+use Rattle.driver_actions.specs.Forms.{inserts}
+use Rattle.driver_actions.proofs.Causes.{caused_input, caused_memory, made_caused}
+use Rattle.driver_actions.proofs.Parts.{insert_made, may_draw, unmade_early, unmade_input, unmade_memory}
 use Rattle.driver_actions.proofs.Refusals.{own_memory}
+use Rattle.driver_actions.proofs.Writing.Making.{insert_has, insert_ran}
 use Rattle.driver_actions.proofs.insert.insert_one.Goals as goal
 
 pub returns-in-Some-clause-makes : goal.returns-in-Some-clause-makes
 returns-in-Some-clause-makes g c =
     let before = moment_of g.S.SessionStore.tells g.L.Link.tells g.K.Clock.tells g.R.Rng.stream c.args.client.now c.args.outside.now in
-    unmade_input before c.args.namespace.now c.args.document.now c.args.place _ c.in-Some.ensures
+    unmade_input before (inserts c.args.namespace.now c.args.document.now c.args.options.now) c.args.place _ c.in-Some.ensures
 
 pub returns-in-Some-clause-cause : goal.returns-in-Some-clause-cause
 returns-in-Some-clause-cause g c =
     let before = moment_of g.S.SessionStore.tells g.L.Link.tells g.K.Clock.tells g.R.Rng.stream c.args.client.now c.args.outside.now in
-    caused_input before c.args.namespace.now c.args.document.now _ c.in-Some.ensures
+    caused_input before (inserts c.args.namespace.now c.args.document.now c.args.options.now) _ c.in-Some.ensures
+
+pub returns-in_err-namespace-clause-makes : goal.returns-in_err-namespace-clause-makes
+returns-in_err-namespace-clause-makes g c =
+    let before = moment_of g.S.SessionStore.tells g.L.Link.tells g.K.Clock.tells g.R.Rng.stream c.args.client.now c.args.outside.now in
+    let p = err_from_is_err_and c.from_residual.result c.from_residual.ensures.1 in
+    rw p.1 (unmade_early before (inserts c.args.namespace.now c.args.document.now c.args.options.now) c.args.place p.0 p.2.kind_is)
+
+pub returns-in_err-namespace-clause-cause : goal.returns-in_err-namespace-clause-cause
+returns-in_err-namespace-clause-cause g c =
+    let before = moment_of g.S.SessionStore.tells g.L.Link.tells g.K.Clock.tells g.R.Rng.stream c.args.client.now c.args.outside.now in
+    let p = err_from_is_err_and c.from_residual.result c.from_residual.ensures.1 in
+    rw p.1 (caused_input before (inserts c.args.namespace.now c.args.document.now c.args.options.now) p.0 (inl p.2.kind_is))
+
+pub returns-in_err-options-clause-makes : goal.returns-in_err-options-clause-makes
+returns-in_err-options-clause-makes g c =
+    let before = moment_of g.S.SessionStore.tells g.L.Link.tells g.K.Clock.tells g.R.Rng.stream c.args.client.now c.args.outside.now in
+    let p = err_from_is_err_and c.from_residual-in_err-options.result c.from_residual-in_err-options.ensures.1 in
+    rw p.1 (unmade_early before (inserts c.args.namespace.now c.args.document.now c.args.options.now) c.args.place p.0 p.2.kind_is)
+
+pub returns-in_err-options-clause-cause : goal.returns-in_err-options-clause-cause
+returns-in_err-options-clause-cause g c =
+    let before = moment_of g.S.SessionStore.tells g.L.Link.tells g.K.Clock.tells g.R.Rng.stream c.args.client.now c.args.outside.now in
+    let p = err_from_is_err_and c.from_residual-in_err-options.result c.from_residual-in_err-options.ensures.1 in
+    rw p.1 (caused_input before (inserts c.args.namespace.now c.args.document.now c.args.options.now) p.0 (inl p.2.kind_is))
 
 pub returns-in_err-own-clause-makes : goal.returns-in_err-own-clause-makes
 returns-in_err-own-clause-makes g c =
     let before = moment_of g.S.SessionStore.tells g.L.Link.tells g.K.Clock.tells g.R.Rng.stream c.args.client.now c.args.outside.now in
-    let mid = moment_of g.S.SessionStore.tells g.L.Link.tells g.K.Clock.tells g.R.Rng.stream c.own_write.new.client c.args.outside.now in
-    let p = err_from_is_err_and c.from_residual.result c.from_residual.ensures.1 in
-    rw (p.1, p.2) (unmade_memory before mid c.args.namespace.now c.args.document.now c.args.place _
+    let mid = moment_of g.S.SessionStore.tells g.L.Link.tells g.K.Clock.tells g.R.Rng.stream c.own_document.new.client c.args.outside.now in
+    let p = err_from_is_err_and c.from_residual-in_err-own.result c.from_residual-in_err-own.ensures.1 in
+    rw (p.1, p.2) (unmade_memory before mid c.args.namespace.now c.args.document.now c.args.options.now c.args.place _
     (may_draw before c.args.document.now mid.store mid.client.options c.in_err-own.ensures.options c.in_err-own.ensures.draws c.in_err-own.ensures.unused)
-    (own_memory c.args.document.now _ c.in_default.ensures.spelled c.in_err-own.ensures.refusal))
+    (own_memory c.args.namespace.now c.args.document.now c.args.options.now _ c.in_default.ensures.values c.in_err-own.ensures.refusal))
 
 pub returns-in_err-own-clause-cause : goal.returns-in_err-own-clause-cause
 returns-in_err-own-clause-cause g c =
     let before = moment_of g.S.SessionStore.tells g.L.Link.tells g.K.Clock.tells g.R.Rng.stream c.args.client.now c.args.outside.now in
-    let mid = moment_of g.S.SessionStore.tells g.L.Link.tells g.K.Clock.tells g.R.Rng.stream c.own_write.new.client c.args.outside.now in
-    let p = err_from_is_err_and c.from_residual.result c.from_residual.ensures.1 in
-    rw (p.1, p.2) (caused_memory before mid refl c.args.namespace.now c.args.document.now _ c.in_default.ensures
-    (own_memory c.args.document.now _ c.in_default.ensures.spelled c.in_err-own.ensures.refusal))
+    let mid = moment_of g.S.SessionStore.tells g.L.Link.tells g.K.Clock.tells g.R.Rng.stream c.own_document.new.client c.args.outside.now in
+    let p = err_from_is_err_and c.from_residual-in_err-own.result c.from_residual-in_err-own.ensures.1 in
+    rw (p.1, p.2) (caused_memory before mid refl (inserts c.args.namespace.now c.args.document.now c.args.options.now) _ c.in_default.ensures
+    (own_memory c.args.namespace.now c.args.document.now c.args.options.now _ c.in_default.ensures.values c.in_err-own.ensures.refusal))
 
-pub returns-in_err-insert_counted-clause-makes : goal.returns-in_err-insert_counted-clause-makes
-returns-in_err-insert_counted-clause-makes g c =
-    let before = moment_of g.S.SessionStore.tells g.L.Link.tells g.K.Clock.tells g.R.Rng.stream c.args.client.now c.args.outside.now in
-    let mid = moment_of g.S.SessionStore.tells g.L.Link.tells g.K.Clock.tells g.R.Rng.stream c.own_write.new.client c.args.outside.now in
-    let now = moment_of g.S.SessionStore.tells g.L.Link.tells g.K.Clock.tells g.R.Rng.stream c.insert_counted.new.client c.insert_counted.new.outside in
-    let p = err_from_is_err_and c.from_residual-in_err-insert_counted.result c.from_residual-in_err-insert_counted.ensures.1 in
-    rw (p.1, p.2) (made_err before mid.store mid.client.options c.in_ok-own.ensures.options c.args.namespace.now c.args.document.now c.args.place c.in_ok-own.own.write c.in_ok-own.own.bytes c.in_ok-own.own.id c.in_ok-own.own.answer c.in_ok-own.ensures.owns now _ c.in_err-insert_counted.ensures.inserts)
-
-pub returns-in_err-insert_counted-clause-cause : goal.returns-in_err-insert_counted-clause-cause
-returns-in_err-insert_counted-clause-cause g c =
-    let before = moment_of g.S.SessionStore.tells g.L.Link.tells g.K.Clock.tells g.R.Rng.stream c.args.client.now c.args.outside.now in
-    let mid = moment_of g.S.SessionStore.tells g.L.Link.tells g.K.Clock.tells g.R.Rng.stream c.own_write.new.client c.args.outside.now in
-    let now = moment_of g.S.SessionStore.tells g.L.Link.tells g.K.Clock.tells g.R.Rng.stream c.insert_counted.new.client c.insert_counted.new.outside in
-    let p = err_from_is_err_and c.from_residual-in_err-insert_counted.result c.from_residual-in_err-insert_counted.ensures.1 in
+pub run_single-requires-clause-bodies : goal.run_single-requires-clause-bodies
+run_single-requires-clause-bodies g c =
     let owns = c.in_ok-own.ensures.owns in
-    rw (p.1, p.2) (caused_err before mid now c.args.namespace.now c.args.document.now owns.document.id
-    (own_draws before mid.store mid.client.options c.in_ok-own.ensures.options c.args.namespace.now c.args.document.now c.args.place c.in_ok-own.own.write c.in_ok-own.own.bytes c.in_ok-own.own.id c.in_ok-own.own.answer c.in_ok-own.ensures.owns)
-    c.in_ok-own.own.write owns.namespace_is owns.document.document c.in_default.ensures SingleAnswer _ c.in_err-insert_counted.ensures.inserts)
+    insert_has c.args.namespace.now c.args.document.now owns.sent c.args.options.now c.args.place c.in_ok-own.own.bytes c.in_ok-own.own.id owns.spelled owns.document.found (c.new-insert.ensures.target ∙ ap (λ n. in_collection n) c.in_ok-namespace.ensures.same) c.new-insert.ensures.document c.new-insert.ensures.id (c.new-insert.ensures.options ∙ c.in_ok-options.ensures.same)
+
+pub returns-in_err-run_single-clause-makes : goal.returns-in_err-run_single-clause-makes
+returns-in_err-run_single-clause-makes g c =
+    let before = moment_of g.S.SessionStore.tells g.L.Link.tells g.K.Clock.tells g.R.Rng.stream c.args.client.now c.args.outside.now in
+    let mid = moment_of g.S.SessionStore.tells g.L.Link.tells g.K.Clock.tells g.R.Rng.stream c.own_document.new.client c.args.outside.now in
+    let now = moment_of g.S.SessionStore.tells g.L.Link.tells g.K.Clock.tells g.R.Rng.stream c.run_single.new.client c.run_single.new.outside in
+    let owns = c.in_ok-own.ensures.owns in
+    let p = err_from_is_err_and c.from_residual-in_err-run_single.result c.from_residual-in_err-run_single.ensures.1 in
+    rw (p.1, p.2) (inr (insert_made before mid.store mid.client.options c.in_ok-own.ensures.options c.args.namespace.now c.args.document.now c.args.options.now c.args.place c.in_ok-own.own.bytes c.in_ok-own.own.id c.in_ok-own.own.answer owns c.in_default.ensures now (Err _) (Err _)
+    (insert_ran c.args.namespace.now c.args.document.now owns.sent c.args.options.now c.args.place c.in_ok-own.own.bytes c.in_ok-own.own.id owns.spelled owns.document.found (c.new-insert.ensures.target ∙ ap (λ n. in_collection n) c.in_ok-namespace.ensures.same) c.new-insert.ensures.document c.new-insert.ensures.id (c.new-insert.ensures.options ∙ c.in_ok-options.ensures.same) mid now (Err _) c.in_err-run_single.ensures.runs) refl))
+
+pub returns-in_err-run_single-clause-cause : goal.returns-in_err-run_single-clause-cause
+returns-in_err-run_single-clause-cause g c =
+    let before = moment_of g.S.SessionStore.tells g.L.Link.tells g.K.Clock.tells g.R.Rng.stream c.args.client.now c.args.outside.now in
+    let mid = moment_of g.S.SessionStore.tells g.L.Link.tells g.K.Clock.tells g.R.Rng.stream c.own_document.new.client c.args.outside.now in
+    let now = moment_of g.S.SessionStore.tells g.L.Link.tells g.K.Clock.tells g.R.Rng.stream c.run_single.new.client c.run_single.new.outside in
+    let owns = c.in_ok-own.ensures.owns in
+    let p = err_from_is_err_and c.from_residual-in_err-run_single.result c.from_residual-in_err-run_single.ensures.1 in
+    rw (p.1, p.2) (made_caused before now (inserts c.args.namespace.now c.args.document.now c.args.options.now) c.args.place (Err _) (insert_made before mid.store mid.client.options c.in_ok-own.ensures.options c.args.namespace.now c.args.document.now c.args.options.now c.args.place c.in_ok-own.own.bytes c.in_ok-own.own.id c.in_ok-own.own.answer owns c.in_default.ensures now (Err _) (Err _)
+    (insert_ran c.args.namespace.now c.args.document.now owns.sent c.args.options.now c.args.place c.in_ok-own.own.bytes c.in_ok-own.own.id owns.spelled owns.document.found (c.new-insert.ensures.target ∙ ap (λ n. in_collection n) c.in_ok-namespace.ensures.same) c.new-insert.ensures.document c.new-insert.ensures.id (c.new-insert.ensures.options ∙ c.in_ok-options.ensures.same) mid now (Err _) c.in_err-run_single.ensures.runs) refl))
 
 pub returns-clause-makes : goal.returns-clause-makes
 returns-clause-makes g c =
     let before = moment_of g.S.SessionStore.tells g.L.Link.tells g.K.Clock.tells g.R.Rng.stream c.args.client.now c.args.outside.now in
-    let mid = moment_of g.S.SessionStore.tells g.L.Link.tells g.K.Clock.tells g.R.Rng.stream c.own_write.new.client c.args.outside.now in
-    let now = moment_of g.S.SessionStore.tells g.L.Link.tells g.K.Clock.tells g.R.Rng.stream c.insert_counted.new.client c.insert_counted.new.outside in
-    made_ok before mid.store mid.client.options c.in_ok-own.ensures.options c.args.namespace.now c.args.document.now c.args.place c.in_ok-own.own.write c.in_ok-own.own.bytes c.in_ok-own.own.id c.in_ok-own.own.answer c.in_ok-own.ensures.owns now _ c.in_ok-insert_counted.ensures.inserts
+    let mid = moment_of g.S.SessionStore.tells g.L.Link.tells g.K.Clock.tells g.R.Rng.stream c.own_document.new.client c.args.outside.now in
+    let now = moment_of g.S.SessionStore.tells g.L.Link.tells g.K.Clock.tells g.R.Rng.stream c.run_single.new.client c.run_single.new.outside in
+    let owns = c.in_ok-own.ensures.owns in
+    insert_made before mid.store mid.client.options c.in_ok-own.ensures.options c.args.namespace.now c.args.document.now c.args.options.now c.args.place c.in_ok-own.own.bytes c.in_ok-own.own.id c.in_ok-own.own.answer owns c.in_default.ensures now (Ok _) (Ok _)
+    (insert_ran c.args.namespace.now c.args.document.now owns.sent c.args.options.now c.args.place c.in_ok-own.own.bytes c.in_ok-own.own.id owns.spelled owns.document.found (c.new-insert.ensures.target ∙ ap (λ n. in_collection n) c.in_ok-namespace.ensures.same) c.new-insert.ensures.document c.new-insert.ensures.id (c.new-insert.ensures.options ∙ c.in_ok-options.ensures.same) mid now (Ok _) c.in_ok-run_single.ensures.runs) refl
 
 pub returns-clause-cause : goal.returns-clause-cause
 returns-clause-cause g c =
     let before = moment_of g.S.SessionStore.tells g.L.Link.tells g.K.Clock.tells g.R.Rng.stream c.args.client.now c.args.outside.now in
-    let mid = moment_of g.S.SessionStore.tells g.L.Link.tells g.K.Clock.tells g.R.Rng.stream c.own_write.new.client c.args.outside.now in
-    let now = moment_of g.S.SessionStore.tells g.L.Link.tells g.K.Clock.tells g.R.Rng.stream c.insert_counted.new.client c.insert_counted.new.outside in
-    let owns = c.in_ok-own.ensures.owns in
-    caused_ok before mid now c.args.namespace.now c.args.document.now owns.document.id
-    (own_draws before mid.store mid.client.options c.in_ok-own.ensures.options c.args.namespace.now c.args.document.now c.args.place c.in_ok-own.own.write c.in_ok-own.own.bytes c.in_ok-own.own.id c.in_ok-own.own.answer c.in_ok-own.ensures.owns)
-    c.in_ok-own.own.write owns.namespace_is owns.document.document c.in_default.ensures SingleAnswer _ _ c.in_ok-insert_counted.ensures.inserts
+    let now = moment_of g.S.SessionStore.tells g.L.Link.tells g.K.Clock.tells g.R.Rng.stream c.run_single.new.client c.run_single.new.outside in
+    made_caused before now (inserts c.args.namespace.now c.args.document.now c.args.options.now) c.args.place (Ok _) (returns-clause-makes g c)

@@ -1,5 +1,5 @@
 -- The ledger of the count.
 use Rattle.driver_actions.proofs.insert.insert_one.Given as goal
 
-abbrev pub ghosts-insert_counted : goal.ghosts-insert_counted
-ghosts-insert_counted g a = record { name = a.blank.name; parts = a.blank.parts }
+abbrev pub ghosts-run_single : goal.ghosts-run_single
+ghosts-run_single g a = record { name = a.blank.name; parts = a.blank.parts }

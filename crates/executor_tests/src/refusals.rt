@@ -1,0 +1,418 @@
+//! Single writes over a link that would answer each one: what is refused for its input or for its concern, before
+//! anything is sent and without labels, and what is sent beside it.
+use crate::calling::id_of;
+use crate::faking::{ALIKE, CHANGED, DONE, Given, fake_link};
+use crate::inserting::{Ended, answered_under, how_ended, label_count, seen_end};
+use crate::writes::{Asked, Change, Flaw, KINDS, Kind, Odd, Part, usual, write_of};
+use bson_lite::List;
+use driver_actions::{Call, Outcome, run_calls};
+use driver_exec::{Client, Outside};
+use driver_link::{Acknowledgment, ClientOptions, CountingIds, FakeLink, MemClock, WriteConcern};
+use driver_session::PlainStore;
+use rand_core::SeedableRng;
+use rand_pcg::Pcg32;
+use std::alloc::{AllocError, Global};
+use std::test::Fail;
+
+/// What updates and replacements do, and how they end: an update begins with an operator and a replacement does
+/// not, by its first key alone, and the stages of a pipeline are not judged.
+const CHANGES: &[(Kind, Change, Ended)] = &[
+    (Kind::UpdateOne, Change::Operators, Ended::Done),
+    (Kind::UpdateOne, Change::Plain, Ended::PlainUpdate),
+    (Kind::UpdateOne, Change::LateOperator, Ended::PlainUpdate),
+    (Kind::UpdateOne, Change::Empty, Ended::PlainUpdate),
+    (Kind::UpdateOne, Change::Pipeline, Ended::Done),
+    (Kind::UpdateOne, Change::NoStages, Ended::Done),
+    (Kind::UpdateMany, Change::Operators, Ended::Done),
+    (Kind::UpdateMany, Change::Plain, Ended::PlainUpdate),
+    (Kind::UpdateMany, Change::LateOperator, Ended::PlainUpdate),
+    (Kind::UpdateMany, Change::Empty, Ended::PlainUpdate),
+    (Kind::UpdateMany, Change::Pipeline, Ended::Done),
+    (
+        Kind::ReplaceOne,
+        Change::Operators,
+        Ended::OperatorReplacement,
+    ),
+    (Kind::ReplaceOne, Change::Plain, Ended::Done),
+    (Kind::ReplaceOne, Change::LateOperator, Ended::Done),
+    (Kind::ReplaceOne, Change::Empty, Ended::Done),
+];
+
+/// The parts of each kind, with the change that they stand beside. Each nests at most 96 levels.
+const PARTS: &[(Kind, Change, Part)] = &[
+    (Kind::InsertOne, Change::Plain, Part::Change),
+    (Kind::InsertOne, Change::Plain, Part::Comment),
+    (Kind::UpdateOne, Change::Operators, Part::Filter),
+    (Kind::UpdateOne, Change::Operators, Part::Change),
+    (Kind::UpdateOne, Change::Pipeline, Part::Stage),
+    (Kind::UpdateOne, Change::Operators, Part::ArrayFilter),
+    (Kind::UpdateOne, Change::Operators, Part::HintKeys),
+    (Kind::UpdateOne, Change::Operators, Part::Collation),
+    (Kind::UpdateOne, Change::Operators, Part::Let),
+    (Kind::UpdateOne, Change::Operators, Part::Comment),
+    (Kind::UpdateOne, Change::Operators, Part::Sort),
+    (Kind::UpdateMany, Change::Operators, Part::Filter),
+    (Kind::UpdateMany, Change::Operators, Part::Change),
+    (Kind::UpdateMany, Change::Pipeline, Part::Stage),
+    (Kind::UpdateMany, Change::Operators, Part::ArrayFilter),
+    (Kind::ReplaceOne, Change::Plain, Part::Filter),
+    (Kind::ReplaceOne, Change::Plain, Part::Change),
+    (Kind::ReplaceOne, Change::Plain, Part::Sort),
+    (Kind::DeleteOne, Change::Plain, Part::Filter),
+    (Kind::DeleteOne, Change::Plain, Part::Collation),
+    (Kind::DeleteOne, Change::Plain, Part::HintKeys),
+    (Kind::DeleteOne, Change::Plain, Part::Let),
+    (Kind::DeleteOne, Change::Plain, Part::Comment),
+    (Kind::DeleteMany, Change::Plain, Part::Filter),
+];
+
+/// How a part ends by its flaw.
+const FLAWS: &[(Flaw, Ended)] = &[
+    (Flaw::Levels(96), Ended::Done),
+    (Flaw::Levels(97), Ended::TooDeep),
+    (Flaw::ZeroByte, Ended::ZeroByte),
+];
+
+/// What is refused first of two faults, and before a concern that nobody acknowledges: the name of the database,
+/// the change by its first key, what is too deep, what holds a zero byte.
+const FIRST: &[(Asked, Ended)] = &[
+    (
+        Asked {
+            kind: Kind::UpdateOne,
+            dotted: true,
+            change: Change::Plain,
+            odd: None,
+            also: None,
+        },
+        Ended::Dotted,
+    ),
+    (
+        Asked {
+            kind: Kind::UpdateMany,
+            dotted: false,
+            change: Change::Plain,
+            odd: Some(Odd {
+                part: Part::Filter,
+                flaw: Flaw::Levels(97),
+            }),
+            also: None,
+        },
+        Ended::PlainUpdate,
+    ),
+    (
+        Asked {
+            kind: Kind::ReplaceOne,
+            dotted: false,
+            change: Change::Operators,
+            odd: Some(Odd {
+                part: Part::Sort,
+                flaw: Flaw::ZeroByte,
+            }),
+            also: None,
+        },
+        Ended::OperatorReplacement,
+    ),
+    (
+        Asked {
+            kind: Kind::UpdateOne,
+            dotted: false,
+            change: Change::Operators,
+            odd: Some(Odd {
+                part: Part::Filter,
+                flaw: Flaw::ZeroByte,
+            }),
+            also: Some(Odd {
+                part: Part::Sort,
+                flaw: Flaw::Levels(97),
+            }),
+        },
+        Ended::TooDeep,
+    ),
+    (
+        Asked {
+            kind: Kind::DeleteOne,
+            dotted: false,
+            change: Change::Plain,
+            odd: Some(Odd {
+                part: Part::Filter,
+                flaw: Flaw::ZeroByte,
+            }),
+            also: Some(Odd {
+                part: Part::Comment,
+                flaw: Flaw::Levels(97),
+            }),
+        },
+        Ended::TooDeep,
+    ),
+    (
+        Asked {
+            kind: Kind::DeleteMany,
+            dotted: false,
+            change: Change::Plain,
+            odd: Some(Odd {
+                part: Part::Filter,
+                flaw: Flaw::ZeroByte,
+            }),
+            also: None,
+        },
+        Ended::ZeroByte,
+    ),
+];
+
+/// A concern of a write or of its client.
+#[derive(Clone, Copy)]
+enum Concern {
+    Unset,
+    /// One without a field.
+    Bare,
+    Nodes(u32),
+}
+
+/// A write's own concern, its client's, and how it ends: the own one alone counts where there is one.
+const CONCERNS: &[(Concern, Concern, Ended)] = &[
+    (Concern::Nodes(0), Concern::Nodes(1), Ended::Unacknowledged),
+    (Concern::Nodes(0), Concern::Unset, Ended::Unacknowledged),
+    (Concern::Unset, Concern::Nodes(0), Ended::Unacknowledged),
+    (Concern::Nodes(1), Concern::Nodes(0), Ended::Done),
+    (Concern::Bare, Concern::Nodes(0), Ended::Done),
+    (
+        Concern::Nodes(2_147_483_648),
+        Concern::Nodes(1),
+        Ended::InvalidConcern,
+    ),
+    (
+        Concern::Nodes(1),
+        Concern::Nodes(2_147_483_648),
+        Ended::Done,
+    ),
+];
+
+/// A concern as a write or a client has it.
+fn write_concern(concern: Concern) -> Option<WriteConcern> {
+    let w = match concern {
+        Concern::Unset => return None,
+        Concern::Bare => None,
+        Concern::Nodes(nodes) => Some(Acknowledgment::Nodes(nodes)),
+    };
+    Some(WriteConcern {
+        w,
+        w_timeout: None,
+        journal: None,
+    })
+}
+
+/// Whether a write under its own concern and its client's ends so, without labels: it is sent once where it is
+/// done, and else not at all.
+fn ends(
+    alloc: Global,
+    asked: Asked,
+    own: Concern,
+    client: Concern,
+    ended: Ended,
+) -> Result<bool, AllocError> {
+    let link = fake_link(alloc, ALIKE, &[Given::Reply(CHANGED)])?;
+    let write = write_of(alloc, asked, write_concern(own))?;
+    let (result, link) = answered_under(alloc, link, &write, write_concern(client));
+    drop(write);
+    let sent = link.frames().len();
+    drop(link);
+    let wanted = if ended == Ended::Done { 1 } else { 0 };
+    match seen_end(alloc, result) {
+        Some(seen) => Ok(seen.ended == ended && seen.labels == 0 && sent == wanted),
+        None => Ok(false),
+    }
+}
+
+/// The same without a concern.
+fn ends_without(alloc: Global, asked: Asked, ended: Ended) -> Result<bool, AllocError> {
+    ends(alloc, asked, Concern::Unset, Concern::Unset, ended)
+}
+
+/// Whether a write with a dot in its database's name is refused for it.
+fn refuses_the_name(alloc: Global, kind: Kind) -> Result<bool, AllocError> {
+    let asked = Asked {
+        dotted: true,
+        ..usual(kind)
+    };
+    ends_without(alloc, asked, Ended::Dotted)
+}
+
+/// Whether a write with this change ends so.
+fn change_ends(
+    alloc: Global,
+    kind: Kind,
+    change: Change,
+    ended: Ended,
+) -> Result<bool, AllocError> {
+    let asked = Asked {
+        change,
+        ..usual(kind)
+    };
+    ends_without(alloc, asked, ended)
+}
+
+/// Whether a write with a flaw in a part ends so.
+fn flaw_ends(
+    alloc: Global,
+    row: (Kind, Change, Part),
+    flaw: Flaw,
+    ended: Ended,
+) -> Result<bool, AllocError> {
+    let (kind, change, part) = row;
+    let asked = Asked {
+        change,
+        odd: Some(Odd { part, flaw }),
+        ..usual(kind)
+    };
+    ends_without(alloc, asked, ended)
+}
+
+/// Whether each part of the table ends so with a flaw.
+fn parts_end(alloc: Global, flaw: Flaw, ended: Ended) -> Result<bool, AllocError> {
+    for row in PARTS {
+        if !flaw_ends(alloc, *row, flaw, ended)? {
+            return Ok(false);
+        }
+    }
+    Ok(true)
+}
+
+/// Whether each kind ends so under these concerns.
+fn kinds_end(
+    alloc: Global,
+    own: Concern,
+    client: Concern,
+    ended: Ended,
+) -> Result<bool, AllocError> {
+    for kind in KINDS {
+        if !ends(alloc, usual(*kind), own, client, ended)? {
+            return Ok(false);
+        }
+    }
+    Ok(true)
+}
+
+/// An insert that nobody acknowledges, and one that asks for nothing.
+fn two_inserts(alloc: Global) -> Result<List<Call>, AllocError> {
+    let mut calls = List::with_capacity(alloc, 2)?;
+    let write = write_of(
+        alloc,
+        usual(Kind::InsertOne),
+        write_concern(Concern::Nodes(0)),
+    )?;
+    calls.push(Call::Single { write })?;
+    let write = write_of(alloc, usual(Kind::InsertOne), None)?;
+    calls.push(Call::Single { write })?;
+    Ok(calls)
+}
+
+/// Whether an outcome is the refusal of a write that nobody acknowledges, without labels.
+fn is_unacknowledged(alloc: Global, outcome: &Outcome) -> bool {
+    match &outcome.result {
+        Ok(_) => false,
+        Err(error) => {
+            how_ended(error) == Ended::Unacknowledged && label_count(alloc, error) == Some(0)
+        }
+    }
+}
+
+/// Whether the first is such a refusal, and the second an Ok with the second object id.
+fn skips_one_id(alloc: Global, outcomes: &[Outcome]) -> bool {
+    match outcomes {
+        [first, second] => is_unacknowledged(alloc, first) && id_of(second) == Some(2),
+        _ => false,
+    }
+}
+
+/// The outcomes of calls by a new client over a link, and how many frames were sent.
+fn outcomes_over(
+    alloc: Global,
+    link: FakeLink,
+    calls: &[Call],
+) -> Result<(List<Outcome>, usize), AllocError> {
+    let options = ClientOptions {
+        client_number: 1,
+        ..ClientOptions::default()
+    };
+    let mut client = Client::new(options, PlainStore::new(alloc, CountingIds::new()));
+    let mut outside = Outside {
+        link,
+        clock: MemClock::new(0, 0),
+        words: Pcg32::seed_from_u64(1),
+        call: 0,
+    };
+    let outcomes = run_calls(alloc, &mut client, &mut outside, calls)?;
+    Ok((outcomes, outside.link.frames().len()))
+}
+
+/// Whether the object id of an insert that is refused for its concern stays drawn, and the next insert alone is
+/// sent, with the next id.
+fn keeps_the_id_drawn(alloc: Global) -> Result<bool, AllocError> {
+    let link = fake_link(alloc, ALIKE, &[Given::Reply(DONE)])?;
+    let calls = two_inserts(alloc)?;
+    let (outcomes, sent) = outcomes_over(alloc, link, calls.as_slice())?;
+    drop(calls);
+    let skips = skips_one_id(alloc, outcomes.as_slice());
+    drop(outcomes);
+    Ok(skips && sent == 1)
+}
+
+#[test]
+fn a_database_with_a_dot_is_refused(rt: HostRuntime) -> Result<(), Fail> {
+    for kind in KINDS {
+        let refused = refuses_the_name(rt.alloc(), *kind)?;
+        assert!(rt; refused, "{kind:?}");
+    }
+    Ok(())
+}
+
+#[test]
+fn an_update_begins_with_an_operator_and_a_replacement_does_not(
+    rt: HostRuntime,
+) -> Result<(), Fail> {
+    for (kind, change, ended) in CHANGES {
+        let ends = change_ends(rt.alloc(), *kind, *change, *ended)?;
+        assert!(rt; ends, "{kind:?} to end {ended:?}");
+    }
+    Ok(())
+}
+
+#[test]
+fn each_part_nests_at_most_96_levels_and_holds_no_zero_byte(rt: HostRuntime) -> Result<(), Fail> {
+    for (flaw, ended) in FLAWS {
+        let end = parts_end(rt.alloc(), *flaw, *ended)?;
+        assert!(rt; end, "to end {ended:?}");
+    }
+    Ok(())
+}
+
+#[test]
+fn faults_are_found_in_their_order(rt: HostRuntime) -> Result<(), Fail> {
+    for (asked, ended) in FIRST {
+        let ends = ends(
+            rt.alloc(),
+            *asked,
+            Concern::Nodes(0),
+            Concern::Unset,
+            *ended,
+        )?;
+        assert!(rt; ends, "to end {ended:?}");
+    }
+    Ok(())
+}
+
+#[test]
+fn a_writes_own_concern_counts_before_its_clients(rt: HostRuntime) -> Result<(), Fail> {
+    for (own, client, ended) in CONCERNS {
+        let end = kinds_end(rt.alloc(), *own, *client, *ended)?;
+        assert!(rt; end, "to end {ended:?}");
+    }
+    Ok(())
+}
+
+#[test]
+fn an_id_that_was_drawn_for_a_refused_insert_stays_drawn(rt: HostRuntime) -> Result<(), Fail> {
+    let keeps = keeps_the_id_drawn(rt.alloc())?;
+    assert!(rt; keeps);
+    Ok(())
+}

@@ -1,0 +1,334 @@
+//! Updates and deletes over a fake link, by the bytes that they send: which fields their commands and statements
+//! have, in which order, with every option and with none.
+use crate::faking::{ALIKE, CHANGED, Given, fake_link};
+use crate::inserting::{Ended, answered_under, seen_end};
+use crate::writes::{Kind, namespace, number, operators, text, two, usual, write_of};
+use bson_lite::{Bson, Bytes, Document, List, Text};
+use driver_actions::SingleWrite;
+use driver_link::{
+    Acknowledgment, DeleteOptions, FakeLink, Frame, Hint, InsertManyOptions, UpdateModifications,
+    UpdateOptions, WriteConcern,
+};
+use std::alloc::{AllocError, Global};
+use std::test::Fail;
+
+/// `ordered: true`
+const ORDERED: &[u8] = b"\x08ordered\0\x01";
+
+/// `lsid: {id: UUID(..01)}`
+const SESSION: &[u8] =
+    b"\x03lsid\0\x1e\0\0\0\x05id\0\x10\0\0\0\x04\0\0\0\0\0\0\0\0\0\0\0\0\0\0\0\x01\0";
+
+/// `txnNumber: 1`, of 64 bits
+const FIRST_NUMBER: &[u8] = b"\x12txnNumber\0\x01\0\0\0\0\0\0\0";
+
+/// `$db: "shop"`, and the end of the body
+const LAST: &[u8] = b"\x02$db\0\x05\0\0\0shop\0\0";
+
+/// `q: {x: 1}`
+const FILTER: &[u8] = b"\x03q\0\x0c\0\0\0\x10x\0\x01\0\0\0\0";
+
+/// `let: {v: 5}`
+const VARIABLES: &[u8] = b"\x03let\0\x0c\0\0\0\x10v\0\x05\0\0\0\0";
+
+/// `comment: "note"`
+const NOTE: &[u8] = b"\x02comment\0\x05\0\0\0note\0";
+
+/// `collation: {locale: "en"}`
+const ENGLISH: &[u8] = b"\x03collation\0\x14\0\0\0\x02locale\0\x03\0\0\0en\0\0";
+
+/// `writeConcern: {w: 1}`
+const ONE_NODE: &[u8] = b"\x03writeConcern\0\x0c\0\0\0\x10w\0\x01\0\0\0\0";
+
+/// An `updateMany` with every option:
+/// `{update: "items", bypassDocumentValidation: true, let: {v: 5}, comment: "note",
+/// updates: [{q: {x: 1}, u: {$set: {y: 2}}, upsert: false, arrayFilters: [{e: 3}], hint: {x: 1},
+/// collation: {locale: "en"}, sort: {x: -1}, multi: true}],
+/// ordered: true, lsid: {id: UUID(..01)}, writeConcern: {w: 1}, $db: "shop"}`
+const ALL_UPDATED: &[&[u8]] = &[
+    b"\x60\x01\0\0",
+    b"\x02update\0\x06\0\0\0items\0",
+    b"\x08bypassDocumentValidation\0\x01",
+    VARIABLES,
+    NOTE,
+    b"\x04updates\0\xac\0\0\0\x030\0\xa4\0\0\0",
+    FILTER,
+    b"\x03u\0\x17\0\0\0\x03$set\0\x0c\0\0\0\x10y\0\x02\0\0\0\0\0",
+    b"\x08upsert\0\0",
+    b"\x04arrayFilters\0\x14\0\0\0\x030\0\x0c\0\0\0\x10e\0\x03\0\0\0\0\0",
+    b"\x03hint\0\x0c\0\0\0\x10x\0\x01\0\0\0\0",
+    ENGLISH,
+    b"\x03sort\0\x0c\0\0\0\x10x\0\xff\xff\xff\xff\0",
+    b"\x08multi\0\x01",
+    b"\0\0",
+    ORDERED,
+    SESSION,
+    ONE_NODE,
+    LAST,
+];
+
+/// A `deleteOne` with every option:
+/// `{delete: "items", deletes: [{q: {x: 1}, limit: 1, collation: {locale: "en"}, hint: "x_1"}],
+/// ordered: true, let: {v: 5}, comment: null, lsid: {id: UUID(..01)}, txnNumber: 1,
+/// writeConcern: {w: "majority"}, $db: "shop"}`
+const ONE_DELETED: &[&[u8]] = &[
+    b"\0\x01\0\0",
+    b"\x02delete\0\x06\0\0\0items\0",
+    b"\x04deletes\0\x54\0\0\0\x030\0\x4c\0\0\0",
+    FILTER,
+    b"\x10limit\0\x01\0\0\0",
+    ENGLISH,
+    b"\x02hint\0\x04\0\0\0x_1\0",
+    b"\0\0",
+    ORDERED,
+    VARIABLES,
+    b"\x0acomment\0",
+    SESSION,
+    FIRST_NUMBER,
+    b"\x03writeConcern\0\x15\0\0\0\x02w\0\x09\0\0\0majority\0\0",
+    LAST,
+];
+
+/// An `updateOne` with a pipeline:
+/// `{update: "items", updates: [{q: {x: 1}, u: [{$set: {y: 2}}, {$unset: "z"}]}], ordered: true,
+/// lsid: {id: UUID(..01)}, txnNumber: 1, $db: "shop"}`
+const PIPED: &[&[u8]] = &[
+    b"\xc3\0\0\0",
+    b"\x02update\0\x06\0\0\0items\0",
+    b"\x04updates\0\x54\0\0\0\x030\0\x4c\0\0\0",
+    FILTER,
+    b"\x04u\0\x35\0\0\0",
+    b"\x030\0\x17\0\0\0\x03$set\0\x0c\0\0\0\x10y\0\x02\0\0\0\0\0",
+    b"\x031\0\x13\0\0\0\x02$unset\0\x02\0\0\0z\0\0\0",
+    b"\0\0",
+    ORDERED,
+    SESSION,
+    FIRST_NUMBER,
+    LAST,
+];
+
+/// A `replaceOne` without options:
+/// `{update: "items", updates: [{q: {x: 1}, u: {y: 2}}], ordered: true, lsid: {id: UUID(..01)},
+/// txnNumber: 1, $db: "shop"}`
+const REPLACED: &[&[u8]] = &[
+    b"\x9a\0\0\0",
+    b"\x02update\0\x06\0\0\0items\0",
+    b"\x04updates\0\x2b\0\0\0\x030\0\x23\0\0\0",
+    FILTER,
+    b"\x03u\0\x0c\0\0\0\x10y\0\x02\0\0\0\0",
+    b"\0\0",
+    ORDERED,
+    SESSION,
+    FIRST_NUMBER,
+    LAST,
+];
+
+/// A `deleteMany` without options:
+/// `{delete: "items", deletes: [{q: {x: 1}, limit: 0}], ordered: true, lsid: {id: UUID(..01)}, $db: "shop"}`
+const ALL_DELETED: &[&[u8]] = &[
+    b"\x83\0\0\0",
+    b"\x02delete\0\x06\0\0\0items\0",
+    b"\x04deletes\0\x27\0\0\0\x030\0\x1f\0\0\0",
+    FILTER,
+    b"\x10limit\0\0\0\0\0",
+    b"\0\0",
+    ORDERED,
+    SESSION,
+    LAST,
+];
+
+/// An `insertOne` with every option, whose document goes out beside the body:
+/// `{insert: "items", bypassDocumentValidation: true, ordered: false, comment: "note", lsid: {id: UUID(..01)},
+/// txnNumber: 1, writeConcern: {w: 1}, $db: "shop"}`
+const INSERTED: &[&[u8]] = &[
+    b"\xad\0\0\0",
+    b"\x02insert\0\x06\0\0\0items\0",
+    b"\x08bypassDocumentValidation\0\x01",
+    b"\x08ordered\0\0",
+    NOTE,
+    SESSION,
+    FIRST_NUMBER,
+    ONE_NODE,
+    LAST,
+];
+
+/// A write whose bytes a row spells.
+#[derive(Clone, Copy, Debug)]
+enum Spelled {
+    UpdateMany,
+    DeleteOne,
+    Pipeline,
+    Replacement,
+    DeleteMany,
+    Insert,
+}
+
+/// Each write with the parts of its body, and how many sequences of documents go out beside it.
+const ROWS: &[(Spelled, &[&[u8]], usize)] = &[
+    (Spelled::UpdateMany, ALL_UPDATED, 0),
+    (Spelled::DeleteOne, ONE_DELETED, 0),
+    (Spelled::Pipeline, PIPED, 0),
+    (Spelled::Replacement, REPLACED, 0),
+    (Spelled::DeleteMany, ALL_DELETED, 0),
+    (Spelled::Insert, INSERTED, 1),
+];
+
+/// `{w: 1}`
+fn by_one_node() -> WriteConcern {
+    WriteConcern {
+        w: Some(Acknowledgment::Nodes(1)),
+        w_timeout: None,
+        journal: None,
+    }
+}
+
+/// `"note"`
+fn noted(alloc: Global) -> Result<Bson, AllocError> {
+    Ok(Bson::String(Text::from_str(alloc, "note")?))
+}
+
+/// One document as a list.
+fn one(alloc: Global, document: Document) -> Result<List<Document>, AllocError> {
+    let mut list = List::with_capacity(alloc, 1)?;
+    list.push(document)?;
+    Ok(list)
+}
+
+/// Every option of an update.
+fn all_of_update(alloc: Global) -> Result<UpdateOptions, AllocError> {
+    Ok(UpdateOptions {
+        upsert: Some(false),
+        array_filters: Some(one(alloc, number(alloc, "e", 3)?)?),
+        hint: Some(Hint::Keys(number(alloc, "x", 1)?)),
+        collation: Some(text(alloc, "locale", "en")?),
+        bypass_document_validation: Some(true),
+        let_vars: Some(number(alloc, "v", 5)?),
+        comment: Some(noted(alloc)?),
+        sort: Some(number(alloc, "x", -1)?),
+        write_concern: Some(by_one_node()),
+    })
+}
+
+/// The update of all with every option.
+fn update_of_all(alloc: Global) -> Result<SingleWrite, AllocError> {
+    Ok(SingleWrite::UpdateMany {
+        namespace: namespace(alloc, "shop")?,
+        filter: number(alloc, "x", 1)?,
+        update: UpdateModifications::Document(operators(alloc, number(alloc, "y", 2)?)?),
+        options: all_of_update(alloc)?,
+    })
+}
+
+/// Every option of a delete.
+fn all_of_delete(alloc: Global) -> Result<DeleteOptions, AllocError> {
+    Ok(DeleteOptions {
+        collation: Some(text(alloc, "locale", "en")?),
+        hint: Some(Hint::Name(Text::from_str(alloc, "x_1")?)),
+        let_vars: Some(number(alloc, "v", 5)?),
+        comment: Some(Bson::Null),
+        write_concern: Some(WriteConcern {
+            w: Some(Acknowledgment::Majority),
+            w_timeout: None,
+            journal: None,
+        }),
+    })
+}
+
+/// The delete of one with every option.
+fn delete_of_one(alloc: Global) -> Result<SingleWrite, AllocError> {
+    Ok(SingleWrite::DeleteOne {
+        namespace: namespace(alloc, "shop")?,
+        filter: number(alloc, "x", 1)?,
+        options: all_of_delete(alloc)?,
+    })
+}
+
+/// The update by a pipeline of two stages.
+fn piped_update(alloc: Global) -> Result<SingleWrite, AllocError> {
+    let set = operators(alloc, number(alloc, "y", 2)?)?;
+    let unset = text(alloc, "$unset", "z")?;
+    let stages = two(alloc, set, unset)?;
+    Ok(SingleWrite::UpdateOne {
+        namespace: namespace(alloc, "shop")?,
+        filter: number(alloc, "x", 1)?,
+        update: UpdateModifications::Pipeline(stages),
+        options: UpdateOptions::default(),
+    })
+}
+
+/// The insert with every option.
+fn insert_of_one(alloc: Global) -> Result<SingleWrite, AllocError> {
+    Ok(SingleWrite::InsertOne {
+        namespace: namespace(alloc, "shop")?,
+        document: number(alloc, "y", 2)?,
+        options: InsertManyOptions {
+            ordered: Some(false),
+            bypass_document_validation: Some(true),
+            comment: Some(noted(alloc)?),
+            write_concern: Some(by_one_node()),
+        },
+    })
+}
+
+/// The write of a row.
+fn write(alloc: Global, spelled: Spelled) -> Result<SingleWrite, AllocError> {
+    match spelled {
+        Spelled::UpdateMany => update_of_all(alloc),
+        Spelled::DeleteOne => delete_of_one(alloc),
+        Spelled::Pipeline => piped_update(alloc),
+        Spelled::Replacement => write_of(alloc, usual(Kind::ReplaceOne), None),
+        Spelled::DeleteMany => write_of(alloc, usual(Kind::DeleteMany), None),
+        Spelled::Insert => insert_of_one(alloc),
+    }
+}
+
+/// The parts of a body, joined.
+fn joined(alloc: Global, parts: &[&[u8]]) -> Result<Bytes, AllocError> {
+    let mut bytes = Bytes::new(alloc);
+    for part in parts {
+        bytes.extend_from_slice(part)?;
+    }
+    Ok(bytes)
+}
+
+/// Whether a frame goes to the database of the rows, with this body and so many sequences.
+fn is_spelled(frame: &Frame, body: &[u8], sequences: usize) -> bool {
+    frame.database() == "shop" && frame.body() == body && frame.sequence_count() == sequences
+}
+
+/// Whether a link was given one such frame.
+fn has_one_frame(link: &FakeLink, body: &[u8], sequences: usize) -> bool {
+    match link.frames() {
+        [frame] => is_spelled(frame, body, sequences),
+        _ => false,
+    }
+}
+
+/// Whether a write is done after one frame with this body and so many sequences.
+fn sends(
+    alloc: Global,
+    spelled: Spelled,
+    parts: &[&[u8]],
+    sequences: usize,
+) -> Result<bool, AllocError> {
+    let body = joined(alloc, parts)?;
+    let link = fake_link(alloc, ALIKE, &[Given::Reply(CHANGED)])?;
+    let write = write(alloc, spelled)?;
+    let (result, link) = answered_under(alloc, link, &write, None);
+    drop(write);
+    let sent = has_one_frame(&link, body.as_slice(), sequences);
+    drop(link);
+    match seen_end(alloc, result) {
+        Some(seen) => Ok(sent && seen.ended == Ended::Done),
+        None => Ok(false),
+    }
+}
+
+#[test]
+fn a_command_has_the_fields_of_its_options_in_their_order(rt: HostRuntime) -> Result<(), Fail> {
+    for (spelled, parts, sequences) in ROWS {
+        let sent = sends(rt.alloc(), *spelled, parts, *sequences)?;
+        assert!(rt; sent, "{spelled:?}");
+    }
+    Ok(())
+}

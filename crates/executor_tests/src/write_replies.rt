@@ -1,0 +1,383 @@
+//! Replies to updates, deletes and an unordered insert over a fake link: the counts and the failures that they
+//! tell, and the forms that are refused.
+use crate::faking::{ALIKE, CHANGED, DONE, Given, fake_link};
+use crate::inserting::{Ended, answered_under, how_ended};
+use crate::writes::{Kind, namespace, number, usual, write_of};
+use bson_lite::Bson;
+use driver_actions::{SingleAnswer, SingleWrite};
+use driver_error::{Error, Result, UpdateResult};
+use driver_link::{FakeLink, InsertManyOptions};
+use std::alloc::{AllocError, Global};
+use std::test::Fail;
+
+/// `{ok: 1, n: 3, nModified: 2}`
+const THREE_FOUND: &[u8] =
+    b"\x23\0\0\0\x10ok\0\x01\0\0\0\x10n\0\x03\0\0\0\x10nModified\0\x02\0\0\0\0";
+
+/// The same as numbers of 64 bits.
+const LONG_COUNTS: &[u8] =
+    b"\x2f\0\0\0\x12ok\0\x01\0\0\0\0\0\0\0\x12n\0\x03\0\0\0\0\0\0\0\x12nModified\0\x02\0\0\0\0\0\0\0\0";
+
+/// `{ok: 1.0, n: 1.0, nModified: 0.0}`
+const DOUBLES: &[u8] =
+    b"\x2f\0\0\0\x01ok\0\0\0\0\0\0\0\xf0\x3f\x01n\0\0\0\0\0\0\0\xf0\x3f\x01nModified\0\0\0\0\0\0\0\0\0\0";
+
+/// `{ok: 1, n: 3.0, nModified: 1}`
+const DOUBLE_THREE: &[u8] =
+    b"\x27\0\0\0\x10ok\0\x01\0\0\0\x01n\0\0\0\0\0\0\0\x08\x40\x10nModified\0\x01\0\0\0\0";
+
+/// `{ok: 1, n: 1, nModified: 0, upserted: [{index: 0, _id: 7}]}`
+const PUT_IN: &[u8] =
+    b"\x4e\0\0\0\x10ok\0\x01\0\0\0\x10n\0\x01\0\0\0\x10nModified\0\0\0\0\0\x04upserted\0\x21\0\0\0\x030\0\x19\0\0\0\x10index\0\0\0\0\0\x10_id\0\x07\0\0\0\0\0\0";
+
+/// `{ok: 1, n: 3, nModified: 2, upserted: []}`
+const NONE_PUT_IN: &[u8] =
+    b"\x32\0\0\0\x10ok\0\x01\0\0\0\x10n\0\x03\0\0\0\x10nModified\0\x02\0\0\0\x04upserted\0\x05\0\0\0\0\0";
+
+/// `{ok: 1, n: 3, nModified: 2, upserted: [{index: 0}]}`
+const PUT_IN_WITHOUT_ID: &[u8] =
+    b"\x45\0\0\0\x10ok\0\x01\0\0\0\x10n\0\x03\0\0\0\x10nModified\0\x02\0\0\0\x04upserted\0\x18\0\0\0\x030\0\x10\0\0\0\x10index\0\0\0\0\0\0\0\0";
+
+/// `{ok: 1, nModified: 1}`
+const UNCOUNTED: &[u8] = b"\x1c\0\0\0\x10ok\0\x01\0\0\0\x10nModified\0\x01\0\0\0\0";
+
+/// `{ok: 1, n: "3", nModified: 1}`
+const TEXT: &[u8] =
+    b"\x25\0\0\0\x10ok\0\x01\0\0\0\x02n\0\x02\0\0\x003\0\x10nModified\0\x01\0\0\0\0";
+
+/// `{ok: 1, n: null, nModified: 1}`
+const NULL: &[u8] = b"\x1f\0\0\0\x10ok\0\x01\0\0\0\x0an\0\x10nModified\0\x01\0\0\0\0";
+
+/// `{ok: 1, n: -1, nModified: 1}`
+const NEGATIVE: &[u8] =
+    b"\x23\0\0\0\x10ok\0\x01\0\0\0\x10n\0\xff\xff\xff\xff\x10nModified\0\x01\0\0\0\0";
+
+/// `{ok: 1, n: 1, nModified: -1}`
+const NEGATIVELY_CHANGED: &[u8] =
+    b"\x23\0\0\0\x10ok\0\x01\0\0\0\x10n\0\x01\0\0\0\x10nModified\0\xff\xff\xff\xff\0";
+
+/// `{ok: 1, n: 4294967296}`, of 64 bits
+const MANY: &[u8] = b"\x18\0\0\0\x10ok\0\x01\0\0\0\x12n\0\0\0\0\0\x01\0\0\0\0";
+
+/// `{ok: 1, n: 0}`
+const NONE_FOUND: &[u8] = b"\x14\0\0\0\x10ok\0\x01\0\0\0\x10n\0\0\0\0\0\0";
+
+/// `{ok: 1}`
+const BARE: &[u8] = b"\x0d\0\0\0\x10ok\0\x01\0\0\0\0";
+
+/// `{ok: 0, code: 13, errmsg: "x"}`
+const REFUSED: &[u8] = b"\x25\0\0\0\x10ok\0\0\0\0\0\x10code\0\x0d\0\0\0\x02errmsg\0\x02\0\0\0x\0\0";
+
+/// `{ok: 1, n: 0, nModified: 0, writeErrors: [{index: 0, code: 11000, errmsg: "dup"}]}`
+const DUPLICATE: &[u8] =
+    b"\x62\0\0\0\x10ok\0\x01\0\0\0\x10n\0\0\0\0\0\x10nModified\0\0\0\0\0\x04writeErrors\0\x32\0\0\0\x030\0\x2a\0\0\0\x10index\0\0\0\0\0\x10code\0\xf8\x2a\0\0\x02errmsg\0\x04\0\0\0dup\0\0\0\0";
+
+/// `{ok: 1, n: 1, nModified: 1, writeConcernError: {code: 64, errmsg: "late"}}`
+const UNMET: &[u8] =
+    b"\x56\0\0\0\x10ok\0\x01\0\0\0\x10n\0\x01\0\0\0\x10nModified\0\x01\0\0\0\x03writeConcernError\0\x20\0\0\0\x10code\0\x40\0\0\0\x02errmsg\0\x05\0\0\0late\0\0\0";
+
+/// `{ok: 1, n: 0, nModified: 0, writeErrors: [{index: 0, code: 11000, errmsg: "dup"}],
+/// writeConcernError: {code: 64, errmsg: "late"}}`
+const BOTH: &[u8] =
+    b"\x95\0\0\0\x10ok\0\x01\0\0\0\x10n\0\0\0\0\0\x10nModified\0\0\0\0\0\x04writeErrors\0\x32\0\0\0\x030\0\x2a\0\0\0\x10index\0\0\0\0\0\x10code\0\xf8\x2a\0\0\x02errmsg\0\x04\0\0\0dup\0\0\0\x03writeConcernError\0\x20\0\0\0\x10code\0\x40\0\0\0\x02errmsg\0\x05\0\0\0late\0\0\0";
+
+/// `{ok: 1, n: 0, nModified: 0, writeErrors: [{index: 0, code: 11000, errmsg: "dup"},
+/// {index: 0, code: 8, errmsg: "x"}]}`
+const TWO_ERRORS: &[u8] =
+    b"\x8d\0\0\0\x10ok\0\x01\0\0\0\x10n\0\0\0\0\0\x10nModified\0\0\0\0\0\x04writeErrors\0\x5d\0\0\0\x030\0\x2a\0\0\0\x10index\0\0\0\0\0\x10code\0\xf8\x2a\0\0\x02errmsg\0\x04\0\0\0dup\0\0\x031\0\x28\0\0\0\x10index\0\0\0\0\0\x10code\0\x08\0\0\0\x02errmsg\0\x02\0\0\0x\0\0\0\0";
+
+/// `{ok: 1, n: 1, nModified: 1, writeErrors: []}`
+const NO_ERRORS: &[u8] =
+    b"\x35\0\0\0\x10ok\0\x01\0\0\0\x10n\0\x01\0\0\0\x10nModified\0\x01\0\0\0\x04writeErrors\0\x05\0\0\0\0\0";
+
+/// `{ok: 1, n: 0, nModified: 0, writeErrors: [{index: 0, code: 11000, errmsg: "dup"}], errorLabels: ["told"]}`
+const LABELLED: &[u8] =
+    b"\x80\0\0\0\x10ok\0\x01\0\0\0\x10n\0\0\0\0\0\x10nModified\0\0\0\0\0\x04writeErrors\0\x32\0\0\0\x030\0\x2a\0\0\0\x10index\0\0\0\0\0\x10code\0\xf8\x2a\0\0\x02errmsg\0\x04\0\0\0dup\0\0\0\x04errorLabels\0\x11\0\0\0\x020\0\x05\0\0\0told\0\0\0";
+
+/// `{ok: 1, n: 1, writeErrors: [{index: 0, code: 11000, errmsg: "dup"}]}`
+const COUNTED_ERROR: &[u8] =
+    b"\x53\0\0\0\x10ok\0\x01\0\0\0\x10n\0\x01\0\0\0\x04writeErrors\0\x32\0\0\0\x030\0\x2a\0\0\0\x10index\0\0\0\0\0\x10code\0\xf8\x2a\0\0\x02errmsg\0\x04\0\0\0dup\0\0\0\0";
+
+/// `{ok: 1, n: 0, writeErrors: [{index: 1, code: 11000, errmsg: "dup"}]}`
+const STRANGE_INDEX: &[u8] =
+    b"\x53\0\0\0\x10ok\0\x01\0\0\0\x10n\0\0\0\0\0\x04writeErrors\0\x32\0\0\0\x030\0\x2a\0\0\0\x10index\0\x01\0\0\0\x10code\0\xf8\x2a\0\0\x02errmsg\0\x04\0\0\0dup\0\0\0\0";
+
+/// What a write tells of its reply.
+#[derive(Clone, Copy, PartialEq, Eq)]
+enum Told {
+    Inserted,
+    Updated {
+        matched: u64,
+        modified: u64,
+        upserted: Option<i32>,
+    },
+    Deleted(u64),
+    Failed(Ended),
+    /// The same, with the label `told`.
+    Labelled(Ended),
+    /// An id of a form that no row gives.
+    OddId,
+}
+
+/// An update that found none.
+const UPSERTED: Told = Told::Updated {
+    matched: 0,
+    modified: 0,
+    upserted: Some(7),
+};
+
+/// An update of two of the three that it found.
+const UPDATED: Told = Told::Updated {
+    matched: 3,
+    modified: 2,
+    upserted: None,
+};
+
+/// An update of the one that it found.
+const ONE_UPDATED: Told = Told::Updated {
+    matched: 1,
+    modified: 1,
+    upserted: None,
+};
+
+/// An update of none of the one that it found.
+const LEFT_ALIKE: Told = Told::Updated {
+    matched: 1,
+    modified: 0,
+    upserted: None,
+};
+
+/// Updates and deletes, the replies to them, and what they tell.
+const REPLIES: &[(Kind, &[u8], Told)] = &[
+    (Kind::UpdateMany, THREE_FOUND, UPDATED),
+    (Kind::UpdateMany, LONG_COUNTS, UPDATED),
+    (Kind::UpdateOne, DOUBLES, LEFT_ALIKE),
+    (Kind::UpdateOne, CHANGED, ONE_UPDATED),
+    (Kind::ReplaceOne, CHANGED, ONE_UPDATED),
+    (Kind::UpdateOne, PUT_IN, UPSERTED),
+    (Kind::UpdateMany, PUT_IN, UPSERTED),
+    (Kind::ReplaceOne, PUT_IN, UPSERTED),
+    (Kind::UpdateMany, NONE_PUT_IN, UPDATED),
+    (Kind::UpdateMany, PUT_IN_WITHOUT_ID, UPDATED),
+    (Kind::UpdateOne, NO_ERRORS, ONE_UPDATED),
+    (
+        Kind::UpdateOne,
+        UNCOUNTED,
+        Told::Failed(Ended::InvalidResponse),
+    ),
+    (Kind::UpdateOne, TEXT, Told::Failed(Ended::InvalidResponse)),
+    (Kind::UpdateOne, NULL, Told::Failed(Ended::InvalidResponse)),
+    (
+        Kind::UpdateMany,
+        DOUBLE_THREE,
+        Told::Failed(Ended::InvalidResponse),
+    ),
+    (
+        Kind::UpdateOne,
+        NEGATIVE,
+        Told::Failed(Ended::InvalidResponse),
+    ),
+    (Kind::UpdateOne, DONE, Told::Failed(Ended::InvalidResponse)),
+    (
+        Kind::ReplaceOne,
+        NEGATIVELY_CHANGED,
+        Told::Failed(Ended::InvalidResponse),
+    ),
+    (
+        Kind::UpdateOne,
+        DUPLICATE,
+        Told::Failed(Ended::WriteError(11000)),
+    ),
+    (
+        Kind::UpdateMany,
+        TWO_ERRORS,
+        Told::Failed(Ended::WriteError(11000)),
+    ),
+    (
+        Kind::UpdateMany,
+        UNMET,
+        Told::Failed(Ended::ConcernError(64)),
+    ),
+    (
+        Kind::UpdateOne,
+        BOTH,
+        Told::Failed(Ended::WriteError(11000)),
+    ),
+    (
+        Kind::ReplaceOne,
+        LABELLED,
+        Told::Labelled(Ended::WriteError(11000)),
+    ),
+    (Kind::UpdateOne, REFUSED, Told::Failed(Ended::Command(13))),
+    (Kind::DeleteOne, DONE, Told::Deleted(1)),
+    (Kind::DeleteOne, NONE_FOUND, Told::Deleted(0)),
+    (Kind::DeleteMany, THREE_FOUND, Told::Deleted(3)),
+    (Kind::DeleteMany, LONG_COUNTS, Told::Deleted(3)),
+    (Kind::DeleteMany, MANY, Told::Deleted(4_294_967_296)),
+    (Kind::DeleteOne, BARE, Told::Failed(Ended::InvalidResponse)),
+    (
+        Kind::DeleteOne,
+        UNCOUNTED,
+        Told::Failed(Ended::InvalidResponse),
+    ),
+    (Kind::DeleteOne, TEXT, Told::Failed(Ended::InvalidResponse)),
+    (
+        Kind::DeleteMany,
+        NEGATIVE,
+        Told::Failed(Ended::InvalidResponse),
+    ),
+    (
+        Kind::DeleteMany,
+        DOUBLE_THREE,
+        Told::Failed(Ended::InvalidResponse),
+    ),
+    (
+        Kind::DeleteOne,
+        DUPLICATE,
+        Told::Failed(Ended::WriteError(11000)),
+    ),
+    (
+        Kind::DeleteMany,
+        UNMET,
+        Told::Failed(Ended::ConcernError(64)),
+    ),
+    (
+        Kind::DeleteMany,
+        BOTH,
+        Told::Failed(Ended::WriteError(11000)),
+    ),
+    (
+        Kind::DeleteOne,
+        LABELLED,
+        Told::Labelled(Ended::WriteError(11000)),
+    ),
+    (Kind::DeleteMany, REFUSED, Told::Failed(Ended::Command(13))),
+];
+
+/// Replies to an unordered insert of one document, and what it tells: the count and the errors go together, and
+/// each error has an index of its own.
+const UNORDERED: &[(&[u8], Told)] = &[
+    (DONE, Told::Inserted),
+    (NO_ERRORS, Told::Inserted),
+    (DUPLICATE, Told::Failed(Ended::WriteError(11000))),
+    (LABELLED, Told::Labelled(Ended::WriteError(11000))),
+    (BOTH, Told::Failed(Ended::WriteError(11000))),
+    (UNMET, Told::Failed(Ended::ConcernError(64))),
+    (REFUSED, Told::Failed(Ended::Command(13))),
+    (NONE_FOUND, Told::Failed(Ended::InvalidResponse)),
+    (THREE_FOUND, Told::Failed(Ended::InvalidResponse)),
+    (BARE, Told::Failed(Ended::InvalidResponse)),
+    (COUNTED_ERROR, Told::Failed(Ended::InvalidResponse)),
+    (STRANGE_INDEX, Told::Failed(Ended::InvalidResponse)),
+    (TWO_ERRORS, Told::Failed(Ended::InvalidResponse)),
+];
+
+/// What an update tells.
+fn told_of_update(done: &UpdateResult) -> Told {
+    let upserted = match &done.upserted_id {
+        None => None,
+        Some(Bson::Int32(id)) => Some(*id),
+        Some(_) => return Told::OddId,
+    };
+    Told::Updated {
+        matched: done.matched_count,
+        modified: done.modified_count,
+        upserted,
+    }
+}
+
+/// What an answer tells.
+fn told_of_answer(answer: &SingleAnswer) -> Told {
+    match answer {
+        SingleAnswer::Inserted(_) => Told::Inserted,
+        SingleAnswer::Updated(done) => told_of_update(done),
+        SingleAnswer::Deleted(done) => Told::Deleted(done.deleted_count),
+    }
+}
+
+/// What an error tells.
+fn told_of_error(error: &Error) -> Told {
+    if error.has_own_label("told") {
+        return Told::Labelled(how_ended(error));
+    }
+    Told::Failed(how_ended(error))
+}
+
+/// What the end of a write tells.
+fn told_of_end(end: Result<SingleAnswer>) -> Told {
+    match end {
+        Ok(answer) => {
+            let told = told_of_answer(&answer);
+            drop(answer);
+            told
+        }
+        Err(error) => {
+            let told = told_of_error(&error);
+            drop(error);
+            told
+        }
+    }
+}
+
+/// What a write over a link tells after one send, or none where there were more or none.
+fn told_over(alloc: Global, link: FakeLink, write: SingleWrite) -> Option<Told> {
+    let (end, link) = answered_under(alloc, link, &write, None);
+    drop(write);
+    let sent = link.frames().len();
+    drop(link);
+    let told = told_of_end(end);
+    if sent == 1 { Some(told) } else { None }
+}
+
+/// What the usual write of a kind tells of a reply.
+fn told_of(
+    alloc: Global,
+    kind: Kind,
+    reply: &'static [u8],
+) -> std::result::Result<Option<Told>, AllocError> {
+    let link = fake_link(alloc, ALIKE, &[Given::Reply(reply)])?;
+    let write = write_of(alloc, usual(kind), None)?;
+    Ok(told_over(alloc, link, write))
+}
+
+/// The insert of a document whose failure stops no other.
+fn unordered_insert(alloc: Global) -> std::result::Result<SingleWrite, AllocError> {
+    Ok(SingleWrite::InsertOne {
+        namespace: namespace(alloc, "shop")?,
+        document: number(alloc, "y", 2)?,
+        options: InsertManyOptions {
+            ordered: Some(false),
+            ..InsertManyOptions::default()
+        },
+    })
+}
+
+/// What it tells of a reply.
+fn told_unordered(
+    alloc: Global,
+    reply: &'static [u8],
+) -> std::result::Result<Option<Told>, AllocError> {
+    let link = fake_link(alloc, ALIKE, &[Given::Reply(reply)])?;
+    let write = unordered_insert(alloc)?;
+    Ok(told_over(alloc, link, write))
+}
+
+#[test]
+fn updates_and_deletes_tell_what_their_replies_count(
+    rt: HostRuntime,
+) -> std::result::Result<(), Fail> {
+    for (kind, reply, told) in REPLIES {
+        let found = told_of(rt.alloc(), *kind, reply)?;
+        assert!(rt; found == Some(*told), "{kind:?}");
+    }
+    Ok(())
+}
+
+#[test]
+fn an_unordered_insert_reads_its_reply_too(rt: HostRuntime) -> std::result::Result<(), Fail> {
+    for (reply, told) in UNORDERED {
+        let found = told_unordered(rt.alloc(), reply)?;
+        assert!(rt; found == Some(*told));
+    }
+    Ok(())
+}

@@ -1,0 +1,398 @@
+//! Single writes as rows spell them: to `items`, of what the filter `{x: 1}` finds, with small documents where a
+//! row asks for no others.
+use bson_lite::{Bson, Document, List, Namespace, Text};
+use driver_actions::SingleWrite;
+use driver_link::{
+    DeleteOptions, Hint, InsertManyOptions, UpdateModifications, UpdateOptions, WriteConcern,
+};
+use std::alloc::{AllocError, Global};
+
+/// The six kinds of single writes.
+#[derive(Clone, Copy, Debug, PartialEq, Eq)]
+pub(crate) enum Kind {
+    InsertOne,
+    UpdateOne,
+    UpdateMany,
+    ReplaceOne,
+    DeleteOne,
+    DeleteMany,
+}
+
+/// All of them.
+pub(crate) const KINDS: &[Kind] = &[
+    Kind::InsertOne,
+    Kind::UpdateOne,
+    Kind::UpdateMany,
+    Kind::ReplaceOne,
+    Kind::DeleteOne,
+    Kind::DeleteMany,
+];
+
+/// A part of a write that is a document of the caller's, or an option that is one.
+#[derive(Clone, Copy, PartialEq, Eq)]
+pub(crate) enum Part {
+    Filter,
+    /// The update, the replacement, or the inserted document.
+    Change,
+    /// The second document of a pipeline.
+    Stage,
+    /// The second filter of arrays.
+    ArrayFilter,
+    HintKeys,
+    Collation,
+    Let,
+    Comment,
+    Sort,
+}
+
+/// What is odd about a document.
+#[derive(Clone, Copy)]
+pub(crate) enum Flaw {
+    /// It nests so many levels, itself counting one.
+    Levels(usize),
+    /// A key in a document in it holds a zero byte.
+    ZeroByte,
+}
+
+/// What an update does, or what is put in the place of a document.
+#[derive(Clone, Copy)]
+pub(crate) enum Change {
+    /// `{$set: {y: 2}}`
+    Operators,
+    /// `{y: 2}`
+    Plain,
+    /// `{y: 2, $set: 1}`
+    LateOperator,
+    Empty,
+    /// The stages `{y: 2}` and `{x: 1}`.
+    Pipeline,
+    NoStages,
+}
+
+/// A part that is odd.
+#[derive(Clone, Copy)]
+pub(crate) struct Odd {
+    pub(crate) part: Part,
+    pub(crate) flaw: Flaw,
+}
+
+/// A write that a row asks for: whether its database is `a.b` and not `shop`, and which parts of it are odd.
+#[derive(Clone, Copy)]
+pub(crate) struct Asked {
+    pub(crate) kind: Kind,
+    pub(crate) dotted: bool,
+    pub(crate) change: Change,
+    pub(crate) odd: Option<Odd>,
+    pub(crate) also: Option<Odd>,
+}
+
+/// The usual write of a kind.
+pub(crate) fn usual(kind: Kind) -> Asked {
+    let change = match kind {
+        Kind::UpdateOne | Kind::UpdateMany => Change::Operators,
+        _ => Change::Plain,
+    };
+    Asked {
+        kind,
+        dotted: false,
+        change,
+        odd: None,
+        also: None,
+    }
+}
+
+/// A document of one number.
+pub(crate) fn number(alloc: Global, key: &str, number: i32) -> Result<Document, AllocError> {
+    let mut document = Document::new(alloc);
+    document.push(key, Bson::Int32(number))?;
+    Ok(document)
+}
+
+/// A document of one text.
+pub(crate) fn text(alloc: Global, key: &str, text: &str) -> Result<Document, AllocError> {
+    let text = Text::from_str(alloc, text)?;
+    let mut document = Document::new(alloc);
+    document.push(key, Bson::String(text))?;
+    Ok(document)
+}
+
+/// A document of one document.
+fn around(alloc: Global, key: &str, inner: Document) -> Result<Document, AllocError> {
+    let mut document = Document::new(alloc);
+    document.push(key, Bson::Document(inner))?;
+    Ok(document)
+}
+
+/// The operator `$set`.
+pub(crate) fn operators(alloc: Global, set: Document) -> Result<Document, AllocError> {
+    around(alloc, "$set", set)
+}
+
+/// Two documents as a list.
+pub(crate) fn two(
+    alloc: Global,
+    first: Document,
+    second: Document,
+) -> Result<List<Document>, AllocError> {
+    let mut list = List::with_capacity(alloc, 2)?;
+    list.push(first)?;
+    list.push(second)?;
+    Ok(list)
+}
+
+/// A document that nests so many levels.
+fn nested(alloc: Global, levels: usize) -> Result<Document, AllocError> {
+    let mut document = number(alloc, "x", 1)?;
+    for _ in 1..levels {
+        document = around(alloc, "d", document)?;
+    }
+    Ok(document)
+}
+
+/// A document with this flaw.
+fn flawed(alloc: Global, flaw: Flaw) -> Result<Document, AllocError> {
+    match flaw {
+        Flaw::Levels(levels) => nested(alloc, levels),
+        Flaw::ZeroByte => around(alloc, "x", number(alloc, "a\0b", 1)?),
+    }
+}
+
+/// The flaw that this is for a part.
+fn flaw_in(odd: Option<Odd>, part: Part) -> Option<Flaw> {
+    match odd {
+        Some(odd) if odd.part == part => Some(odd.flaw),
+        _ => None,
+    }
+}
+
+/// The flaw of a part, where it has one.
+fn flaw_of(asked: Asked, part: Part) -> Option<Flaw> {
+    match flaw_in(asked.odd, part) {
+        Some(flaw) => Some(flaw),
+        None => flaw_in(asked.also, part),
+    }
+}
+
+/// The document of a part, which is `{key: value}` where it is not odd.
+fn document_at(
+    alloc: Global,
+    asked: Asked,
+    part: Part,
+    key: &str,
+    value: i32,
+) -> Result<Document, AllocError> {
+    match flaw_of(asked, part) {
+        Some(flaw) => flawed(alloc, flaw),
+        None => number(alloc, key, value),
+    }
+}
+
+/// The document of an option, which is not set where it is not odd.
+fn option_at(alloc: Global, asked: Asked, part: Part) -> Result<Option<Document>, AllocError> {
+    match flaw_of(asked, part) {
+        Some(flaw) => Ok(Some(flawed(alloc, flaw)?)),
+        None => Ok(None),
+    }
+}
+
+/// The filters of arrays, which are not set where the second is not odd.
+fn array_filters(alloc: Global, asked: Asked) -> Result<Option<List<Document>>, AllocError> {
+    match option_at(alloc, asked, Part::ArrayFilter)? {
+        Some(second) => Ok(Some(two(alloc, number(alloc, "x", 1)?, second)?)),
+        None => Ok(None),
+    }
+}
+
+/// The hint by keys, which is not set where they are not odd.
+fn hint_keys(alloc: Global, asked: Asked) -> Result<Option<Hint>, AllocError> {
+    match option_at(alloc, asked, Part::HintKeys)? {
+        Some(keys) => Ok(Some(Hint::Keys(keys))),
+        None => Ok(None),
+    }
+}
+
+/// The comment, which is not set where it is not odd.
+fn comment(alloc: Global, asked: Asked) -> Result<Option<Bson>, AllocError> {
+    match option_at(alloc, asked, Part::Comment)? {
+        Some(document) => Ok(Some(Bson::Document(document))),
+        None => Ok(None),
+    }
+}
+
+/// The collection in a database.
+pub(crate) fn namespace(alloc: Global, db: &str) -> Result<Namespace, AllocError> {
+    Ok(Namespace {
+        db: Text::from_str(alloc, db)?,
+        coll: Text::from_str(alloc, "items")?,
+    })
+}
+
+/// The database that a row asks for.
+fn database(asked: Asked) -> &'static str {
+    if asked.dotted { "a.b" } else { "shop" }
+}
+
+/// What `$set` sets: it nests one level less than what stands around it.
+fn set_by(alloc: Global, asked: Asked) -> Result<Document, AllocError> {
+    match flaw_of(asked, Part::Change) {
+        Some(Flaw::Levels(levels)) => nested(alloc, levels.saturating_sub(1)),
+        Some(Flaw::ZeroByte) => number(alloc, "a\0b", 1),
+        None => number(alloc, "y", 2),
+    }
+}
+
+/// The one document of a change.
+fn change_document(alloc: Global, asked: Asked) -> Result<Document, AllocError> {
+    match asked.change {
+        Change::Operators => operators(alloc, set_by(alloc, asked)?),
+        Change::LateOperator => {
+            let mut document = number(alloc, "y", 2)?;
+            document.push("$set", Bson::Int32(1))?;
+            Ok(document)
+        }
+        Change::Empty => Ok(Document::new(alloc)),
+        _ => document_at(alloc, asked, Part::Change, "y", 2),
+    }
+}
+
+/// What an update does.
+fn modifications(alloc: Global, asked: Asked) -> Result<UpdateModifications, AllocError> {
+    match asked.change {
+        Change::Pipeline => {
+            let first = number(alloc, "y", 2)?;
+            let second = document_at(alloc, asked, Part::Stage, "x", 1)?;
+            Ok(UpdateModifications::Pipeline(two(alloc, first, second)?))
+        }
+        Change::NoStages => Ok(UpdateModifications::Pipeline(List::new(alloc))),
+        _ => Ok(UpdateModifications::Document(change_document(alloc, asked)?)),
+    }
+}
+
+/// The options of an update.
+fn update_options(
+    alloc: Global,
+    asked: Asked,
+    own: Option<WriteConcern>,
+) -> Result<UpdateOptions, AllocError> {
+    Ok(UpdateOptions {
+        upsert: None,
+        array_filters: array_filters(alloc, asked)?,
+        hint: hint_keys(alloc, asked)?,
+        collation: option_at(alloc, asked, Part::Collation)?,
+        bypass_document_validation: None,
+        let_vars: option_at(alloc, asked, Part::Let)?,
+        comment: comment(alloc, asked)?,
+        sort: option_at(alloc, asked, Part::Sort)?,
+        write_concern: own,
+    })
+}
+
+/// An insert with a concern of its own, or none.
+fn insert(
+    alloc: Global,
+    asked: Asked,
+    own: Option<WriteConcern>,
+) -> Result<SingleWrite, AllocError> {
+    Ok(SingleWrite::InsertOne {
+        namespace: namespace(alloc, database(asked))?,
+        document: change_document(alloc, asked)?,
+        options: InsertManyOptions {
+            ordered: None,
+            bypass_document_validation: None,
+            comment: comment(alloc, asked)?,
+            write_concern: own,
+        },
+    })
+}
+
+/// An update of one or of all.
+fn update(
+    alloc: Global,
+    asked: Asked,
+    own: Option<WriteConcern>,
+) -> Result<SingleWrite, AllocError> {
+    let namespace = namespace(alloc, database(asked))?;
+    let filter = document_at(alloc, asked, Part::Filter, "x", 1)?;
+    let update = modifications(alloc, asked)?;
+    let options = update_options(alloc, asked, own)?;
+    Ok(match asked.kind {
+        Kind::UpdateMany => SingleWrite::UpdateMany {
+            namespace,
+            filter,
+            update,
+            options,
+        },
+        _ => SingleWrite::UpdateOne {
+            namespace,
+            filter,
+            update,
+            options,
+        },
+    })
+}
+
+/// A replacement.
+fn replace(
+    alloc: Global,
+    asked: Asked,
+    own: Option<WriteConcern>,
+) -> Result<SingleWrite, AllocError> {
+    Ok(SingleWrite::ReplaceOne {
+        namespace: namespace(alloc, database(asked))?,
+        filter: document_at(alloc, asked, Part::Filter, "x", 1)?,
+        replacement: change_document(alloc, asked)?,
+        options: update_options(alloc, asked, own)?,
+    })
+}
+
+/// The options of a delete.
+fn delete_options(
+    alloc: Global,
+    asked: Asked,
+    own: Option<WriteConcern>,
+) -> Result<DeleteOptions, AllocError> {
+    Ok(DeleteOptions {
+        collation: option_at(alloc, asked, Part::Collation)?,
+        hint: hint_keys(alloc, asked)?,
+        let_vars: option_at(alloc, asked, Part::Let)?,
+        comment: comment(alloc, asked)?,
+        write_concern: own,
+    })
+}
+
+/// A delete of one or of all.
+fn delete(
+    alloc: Global,
+    asked: Asked,
+    own: Option<WriteConcern>,
+) -> Result<SingleWrite, AllocError> {
+    let namespace = namespace(alloc, database(asked))?;
+    let filter = document_at(alloc, asked, Part::Filter, "x", 1)?;
+    let options = delete_options(alloc, asked, own)?;
+    Ok(match asked.kind {
+        Kind::DeleteMany => SingleWrite::DeleteMany {
+            namespace,
+            filter,
+            options,
+        },
+        _ => SingleWrite::DeleteOne {
+            namespace,
+            filter,
+            options,
+        },
+    })
+}
+
+/// The write that a row asks for, with a concern of its own, or none.
+pub(crate) fn write_of(
+    alloc: Global,
+    asked: Asked,
+    own: Option<WriteConcern>,
+) -> Result<SingleWrite, AllocError> {
+    match asked.kind {
+        Kind::InsertOne => insert(alloc, asked, own),
+        Kind::UpdateOne | Kind::UpdateMany => update(alloc, asked, own),
+        Kind::ReplaceOne => replace(alloc, asked, own),
+        Kind::DeleteOne | Kind::DeleteMany => delete(alloc, asked, own),
+    }
+}
