@@ -6,7 +6,7 @@ mod standard;
 
 use crate::standard::{Reading, Writing};
 use bson_lite::Text;
-use driver_script::{Run, top};
+use script_run::{Run, top};
 use std::alloc::AllocError;
 use std::env::Env;
 use std::io::ErrorKind;

@@ -1,6 +1,5 @@
-mod Schedules
 mod Bytes
-mod IdSets
-mod Made
-mod Pieces
+mod Planning
+mod Readings
+mod Schedules
 mod ValueLaws

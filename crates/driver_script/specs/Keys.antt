@@ -1,39 +1,67 @@
--- The texts of a script's keys and of its names of items, and how much a script may hold.
+-- The texts of a script's keys and of its names of items, calls and levels, and how many calls a script may hold.
 use Rattle.std.specs.Prelude.{◌≡◌, codes}
-use Rattle.driver_script.specs.declared.keys.TheConstants.{AFTER, ARRAY, BYTES, CALLS, CHECK_OUT, CODE, DATE, DELIVER, DOC, DOUBLE, FAULTS, INSERT_ONE, INT64, INTERRUPTED, ITEM, LABELS, LATE, LOST, NS, OID, REFUSED, REPLY_LOST, SCHEDULE, SELECT, SERVE, TS}
+use Rattle.driver_script.specs.declared.keys.TheConstants.{AFTER, ARRAY, AVAILABLE, BYTES, CALLS, CHECK_OUT, CODE, COMMENT, DATE, DELETE_MANY, DELETE_ONE, DELIVER, DOC, DOUBLE, FAIL, FAULTS, FILTER, INSERT_ONE, INT64, INTERRUPTED, ITEM, JOURNAL, LABELS, LATE, LINEARIZABLE, LOCAL, LOST, MAJORITY, MESSAGE, MODIFIED, N, NS, OID, OPTIONS, PIPELINE, READ_CONCERN, REFUSED, REPLACE_ONE, REPLY_LOST, RESULTS, RETRY_WRITES, SCHEDULE, SELECT, SERVE, SNAPSHOT, TS, UPDATE, UPDATE_MANY, UPDATE_ONE, UPSERT, UPSERTED, VALUE, W, WRITE_CONCERN, WRITE_CONCERN_ERROR, W_TIMEOUT}
 use Rattle.driver_script.specs.declared.script.TheConstants.{MOST_CALLS}
-use Rattle.driver_script.specs.declared.streams.TheConstants.{LIMIT}
 
 -- each key is its text
 pub record HaveTexts : Type 0 where
   pub after : AFTER.now ≡ codes "after"
   pub array : ARRAY.now ≡ codes "array"
+  pub available : AVAILABLE.now ≡ codes "available"
   pub bytes : BYTES.now ≡ codes "bytes"
   pub calls : CALLS.now ≡ codes "calls"
   pub check_out : CHECK_OUT.now ≡ codes "checkOut"
   pub code : CODE.now ≡ codes "code"
+  pub comment : COMMENT.now ≡ codes "comment"
   pub date : DATE.now ≡ codes "date"
+  pub delete_many : DELETE_MANY.now ≡ codes "deleteMany"
+  pub delete_one : DELETE_ONE.now ≡ codes "deleteOne"
   pub deliver : DELIVER.now ≡ codes "deliver"
   pub doc : DOC.now ≡ codes "doc"
   pub double : DOUBLE.now ≡ codes "double"
+  pub fail : FAIL.now ≡ codes "fail"
   pub faults : FAULTS.now ≡ codes "faults"
+  pub filter : FILTER.now ≡ codes "filter"
   pub insert_one : INSERT_ONE.now ≡ codes "insertOne"
   pub int64 : INT64.now ≡ codes "int64"
   pub interrupted : INTERRUPTED.now ≡ codes "interrupted"
   pub item : ITEM.now ≡ codes "item"
+  pub journal : JOURNAL.now ≡ codes "j"
   pub labels : LABELS.now ≡ codes "labels"
   pub late : LATE.now ≡ codes "late"
+  pub linearizable : LINEARIZABLE.now ≡ codes "linearizable"
+  pub local : LOCAL.now ≡ codes "local"
   pub lost : LOST.now ≡ codes "lost"
+  pub majority : MAJORITY.now ≡ codes "majority"
+  pub message : MESSAGE.now ≡ codes "message"
+  pub modified : MODIFIED.now ≡ codes "modified"
+  pub n : N.now ≡ codes "n"
   pub ns : NS.now ≡ codes "ns"
   pub oid : OID.now ≡ codes "oid"
+  pub options : OPTIONS.now ≡ codes "options"
+  pub pipeline : PIPELINE.now ≡ codes "pipeline"
+  pub read_concern : READ_CONCERN.now ≡ codes "readConcern"
   pub refused : REFUSED.now ≡ codes "refused"
+  pub replace_one : REPLACE_ONE.now ≡ codes "replaceOne"
   pub reply_lost : REPLY_LOST.now ≡ codes "replyLost"
+  pub results : RESULTS.now ≡ codes "results"
+  pub retry_writes : RETRY_WRITES.now ≡ codes "retryWrites"
   pub schedule : SCHEDULE.now ≡ codes "schedule"
   pub select : SELECT.now ≡ codes "select"
   pub serve : SERVE.now ≡ codes "serve"
+  pub snapshot : SNAPSHOT.now ≡ codes "snapshot"
   pub ts : TS.now ≡ codes "ts"
+  pub update : UPDATE.now ≡ codes "update"
+  pub update_many : UPDATE_MANY.now ≡ codes "updateMany"
+  pub update_one : UPDATE_ONE.now ≡ codes "updateOne"
+  pub upsert : UPSERT.now ≡ codes "upsert"
+  pub upserted : UPSERTED.now ≡ codes "upserted"
+  pub value : VALUE.now ≡ codes "value"
+  pub w : W.now ≡ codes "w"
+  pub write_concern : WRITE_CONCERN.now ≡ codes "writeConcern"
+  pub write_concern_error : WRITE_CONCERN_ERROR.now ≡ codes "writeConcernError"
+  pub w_timeout : W_TIMEOUT.now ≡ codes "wtimeout"
 
--- a script has so many calls at most, and so many bytes
-pub record HaveLimits : Type 0 where
-  pub calls : MOST_CALLS ≡ 10000
-  pub bytes : LIMIT ≡ 16777216
+-- a script has so many calls at most
+abbrev pub HasLimit : Type 0
+HasLimit = MOST_CALLS ≡ 10000

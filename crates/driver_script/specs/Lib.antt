@@ -1,11 +1,8 @@
-pub mod Distinct
-pub mod Ended
+pub mod Calls
 pub mod Json
 pub mod Keys
-pub mod Lines
-pub mod Report
+pub mod Options
+pub mod Plans
 pub mod Script
 pub mod Steps
-pub mod Streamed
 pub mod Values
-pub mod Words

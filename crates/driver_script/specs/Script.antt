@@ -1,26 +1,26 @@
 -- What a script is: one JSON object, with its defaults.
-use Rattle.std.specs.Prelude.{◌≡◌, ℕ, ◌<◌, ◌≤◌, true, false, if◌then◌else◌, pos, List, [], ◌∷◌, length, codes, Option, None, Some, Result, Ok, Err, unwrap_or, bytes_eq}
+use Rattle.std.specs.Prelude.{◌≡◌, ℕ, ◌<◌, ◌≤◌, true, false, if◌then◌else◌, pos, List, [], ◌∷◌, length, codes, Option, None, Some, Result, Ok, Err, unwrap_or}
 use Rattle.std.specs.Option.{option_and_then, option_map, ok_or}
 use Rattle.std.specs.Str.{is_utf8}
 use Rattle.driver_link.specs.declared.machine.Scheduled.{Scheduled}
 use Rattle.driver_link.specs.declared.machine.Setup.{Setup}
 use Rattle.driver_link.specs.declared.options.ClientOptions.{ClientOptions}
 use Rattle.driver_actions.specs.declared.call.Call.{Call}
-use Rattle.driver_actions.specs.declared.call.Call.TheVariants.{Single}
-use Rattle.driver_actions.specs.declared.call.SingleWrite.TheVariants.{InsertOne}
-use Rattle.serde_json.specs.Data.{Data, object, no_members, member}
+use Rattle.serde_json.specs.Data.{Data}
 use Rattle.serde_json.specs.Read.{read}
-use Rattle.driver_script.specs.declared.keys.TheConstants.{CALLS, DOC, FAULTS, INSERT_ONE, LATE, NS, SCHEDULE}
+use Rattle.driver_script.specs.declared.keys.TheConstants.{CALLS, FAULTS, LATE, OPTIONS, SCHEDULE}
 use Rattle.driver_script.specs.declared.schedule.Faults.{Faults}
 use Rattle.driver_script.specs.declared.script.TheConstants.{MOST_CALLS}
 use Rattle.driver_script.specs.declared.script.Script.{Script}
 use Rattle.driver_script.specs.declared.script.ScriptFault.{ScriptFault}
 use Rattle.driver_script.specs.declared.script.ScriptFault.TheVariants.{Wrong, TooManyCalls, Memory}
+use Rattle.driver_script.specs.Calls.{call_of}
 use Rattle.driver_script.specs.Json.{list_of, needed, optional, has_only}
-use Rattle.driver_script.specs.Steps.{count_of, faults_of, no_faults, schedule_with, step_of}
-use Rattle.driver_script.specs.Values.{namespace_of, document_of}
+use Rattle.driver_script.specs.Options.{client_options_of}
+use Rattle.driver_script.specs.Steps.{faults_of, no_faults, schedule_with, step_of}
+use Rattle.driver_script.specs.Values.{count_of}
 
--- the options of a script's client, which is the first
+-- the options of a script's client where it sets none; the client is the first
 abbrev pub usual_options : ClientOptions
 usual_options = record { client_number = 1; retry_writes = None; read_concern = None; write_concern = None }
 
@@ -40,40 +40,28 @@ usual_setup = record {
   timeout_ms = Some 1800000;
 }
 
--- an insert of one document, with its namespace
-unfoldable pub insert_one_of : Data → Option Call
-insert_one_of d =
-    if has_only (NS.now ∷ DOC.now ∷ []) d
-    then option_and_then (λ namespace. option_map (λ document. Single (InsertOne namespace document)) (needed document_of DOC.now d)) (needed namespace_of NS.now d)
-    else None
-
--- a call: an object whose one key names it
-unfoldable pub call_of : Data → Option Call
-call_of (object (member name d no_members)) = if bytes_eq name INSERT_ONE.now then insert_one_of d else None
-call_of d = None
-
--- a script with these calls
-abbrev pub script_with : List Call → Option (List Scheduled) → Option Faults → Option (List ℕ) → Script
-script_with calls steps faults late = record {
-  options = usual_options;
+-- a script with these options and calls
+abbrev pub script_with : Option ClientOptions → List Call → Option (List Scheduled) → Option Faults → Option (List ℕ) → Script
+script_with options calls steps faults late = record {
+  options = unwrap_or options usual_options;
   setup = usual_setup;
   calls = calls;
   schedule = schedule_with (unwrap_or steps []) (unwrap_or faults no_faults);
   late = unwrap_or late [];
 }
 
--- what a script may leave out: its schedule, the calls of the link that fail, and the waiting sends to serve
--- after the calls
-unfoldable pub script_around : List Call → Data → Option Script
-script_around calls d =
-    option_and_then (λ steps. option_and_then (λ faults. option_map (script_with calls steps faults)
+-- what a script may leave out behind its calls: its schedule, the calls of the link that fail, and the waiting sends
+-- to serve after the calls
+unfoldable pub script_around : Option ClientOptions → List Call → Data → Option Script
+script_around options calls d =
+    option_and_then (λ steps. option_and_then (λ faults. option_map (script_with options calls steps faults)
     (optional (list_of count_of) LATE.now d)) (optional faults_of FAULTS.now d)) (optional (list_of step_of) SCHEDULE.now d)
 
 -- a script: an object with its calls, and what it may leave out
 unfoldable pub script_of : Data → Option Script
 script_of d =
-    if has_only (CALLS.now ∷ SCHEDULE.now ∷ FAULTS.now ∷ LATE.now ∷ []) d
-    then option_and_then (λ calls. script_around calls d) (needed (list_of call_of) CALLS.now d)
+    if has_only (OPTIONS.now ∷ CALLS.now ∷ SCHEDULE.now ∷ FAULTS.now ∷ LATE.now ∷ []) d
+    then option_and_then (λ options. option_and_then (λ calls. script_around options calls d) (needed (list_of call_of) CALLS.now d)) (optional client_options_of OPTIONS.now d)
     else None
 
 -- the value of a text in JSON

@@ -1,41 +1,24 @@
 -- How a script writes what the server does: the steps of its schedule, and the calls of the link that fail.
-use Rattle.std.specs.Prelude.{ℕ, ◌^◌, ℤ, Bool, ◌&&◌, not, if◌then◌else◌, List, [], ◌∷◌, Option, None, Some, unwrap_or, bytes_eq}
+use Rattle.std.specs.Prelude.{ℕ, ℤ, Bool, ◌&&◌, not, if◌then◌else◌, List, [], ◌∷◌, Option, None, Some, unwrap_or, bytes_eq}
 use Rattle.std.specs.List.{list_all}
 use Rattle.std.specs.Option.{option_and_then, option_map}
-use Rattle.std.specs.Ordering.{int_eq}
-use Rattle.bson_lite.specs.Ranges.{fits}
 use Rattle.driver_link.specs.declared.machine.Item.{Item}
 use Rattle.driver_link.specs.declared.machine.Item.TheVariants.{Lost, Late, ReplyLost, Interrupted, Refused}
 use Rattle.driver_link.specs.declared.machine.Schedule.{Schedule}
 use Rattle.driver_link.specs.declared.machine.Scheduled.{Scheduled}
-use Rattle.driver_link.specs.Exchange.{reauthentication_required, usual_item}
+use Rattle.driver_link.specs.Exchange.{usual_item}
 use Rattle.driver_link.specs.Honesty.{is_overload}
-use Rattle.serde_json.specs.Data.{Data, number, string, object, no_members, member}
-use Rattle.serde_json.specs.Find.{as_i64, as_u64}
+use Rattle.serde_json.specs.Data.{Data, string, object, no_members, member}
 use Rattle.driver_script.specs.declared.keys.TheConstants.{AFTER, CHECK_OUT, CODE, DELIVER, INTERRUPTED, ITEM, LABELS, LATE, LOST, REFUSED, REPLY_LOST, SELECT, SERVE}
 use Rattle.driver_script.specs.declared.schedule.ErrorReply.{ErrorReply}
 use Rattle.driver_script.specs.declared.schedule.Faults.{Faults}
 use Rattle.driver_script.specs.Json.{has_only, list_of, needed, optional}
-use Rattle.driver_script.specs.Values.{text_of}
-
--- a code that an item may answer: the one that asks for another authentication is not built yet, and no
--- interrupted send may answer it
-unfoldable pub is_built_code : ℤ → Bool
-is_built_code code = not (int_eq code reauthentication_required)
+use Rattle.driver_script.specs.Plans.{is_built_code, serve_of}
+use Rattle.driver_script.specs.Values.{code_of, count_of, text_of}
 
 -- a label that an item may answer: labels of overload are not built yet
 unfoldable pub is_built_label : List ℕ → Bool
 is_built_label label = not (is_overload label)
-
--- a whole number of 64 bits without a sign
-unfoldable pub count_of : Data → Option ℕ
-count_of (number n) = as_u64 n
-count_of d = None
-
--- a code: a whole number of 32 bits with a sign
-unfoldable pub code_of : Data → Option ℤ
-code_of (number n) = option_and_then (λ code. if fits (2 ^ 31) code then Some code else None) (as_i64 n)
-code_of d = None
 
 -- an error reply, where its code and its labels are built
 unfoldable pub built_reply : ErrorReply → Option ErrorReply
@@ -73,7 +56,10 @@ item_named name =
 
 -- the item whose parts stand under its name
 unfoldable pub item_under : List ℕ → Data → Option Item
-item_under name d = if bytes_eq name INTERRUPTED.now then interrupted_of d else (if bytes_eq name REFUSED.now then refused_of d else None)
+item_under name d =
+    if bytes_eq name SERVE.now then serve_of d else (
+    if bytes_eq name INTERRUPTED.now then interrupted_of d else (
+    if bytes_eq name REFUSED.now then refused_of d else None))
 
 -- an item: its name, or an object whose one key is its name
 unfoldable pub item_in : Data → Option Item

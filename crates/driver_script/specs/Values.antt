@@ -60,6 +60,16 @@ unfoldable pub small_of : Data → Option ℕ
 small_of (number n) = option_and_then (λ small. if nat_lt small (2 ^ 32) then Some small else None) (as_u64 n)
 small_of d = None
 
+-- a whole number of 64 bits without a sign
+unfoldable pub count_of : Data → Option ℕ
+count_of (number n) = as_u64 n
+count_of d = None
+
+-- a code: a whole number of 32 bits with a sign
+unfoldable pub code_of : Data → Option ℤ
+code_of (number n) = option_and_then (λ code. if fits (2 ^ 31) code then Some code else None) (as_i64 n)
+code_of d = None
+
 -- a list of a time and an increment, and no more
 unfoldable pub stamp_of : Data → Option Timestamp
 stamp_of d =

@@ -1,53 +1,118 @@
-//! The keys of a script, and its names of items. The key of a call is its name in the report too.
+//! The keys of a script, and its names of items, calls and levels. The key of a call is its name in the report too.
 
-pub(crate) const AFTER: &str = "after";
+pub const AFTER: &str = "after";
 
-pub(crate) const ARRAY: &str = "array";
+pub const ARRAY: &str = "array";
 
-pub(crate) const BYTES: &str = "bytes";
+pub const AVAILABLE: &str = "available";
 
-pub(crate) const CALLS: &str = "calls";
+pub const BYTES: &str = "bytes";
 
-pub(crate) const CHECK_OUT: &str = "checkOut";
+pub const CALLS: &str = "calls";
 
-pub(crate) const CODE: &str = "code";
+pub const CHECK_OUT: &str = "checkOut";
 
-pub(crate) const DATE: &str = "date";
+pub const CODE: &str = "code";
 
-pub(crate) const DELIVER: &str = "deliver";
+pub const COMMENT: &str = "comment";
 
-pub(crate) const DOC: &str = "doc";
+pub const DATE: &str = "date";
 
-pub(crate) const DOUBLE: &str = "double";
+pub const DELETE_MANY: &str = "deleteMany";
 
-pub(crate) const FAULTS: &str = "faults";
+pub const DELETE_ONE: &str = "deleteOne";
 
-pub(crate) const INSERT_ONE: &str = "insertOne";
+pub const DELIVER: &str = "deliver";
 
-pub(crate) const INT64: &str = "int64";
+pub const DOC: &str = "doc";
 
-pub(crate) const INTERRUPTED: &str = "interrupted";
+pub const DOUBLE: &str = "double";
 
-pub(crate) const ITEM: &str = "item";
+pub const FAIL: &str = "fail";
 
-pub(crate) const LABELS: &str = "labels";
+pub const FAULTS: &str = "faults";
 
-pub(crate) const LATE: &str = "late";
+pub const FILTER: &str = "filter";
 
-pub(crate) const LOST: &str = "lost";
+pub const INSERT_ONE: &str = "insertOne";
 
-pub(crate) const NS: &str = "ns";
+pub const INT64: &str = "int64";
 
-pub(crate) const OID: &str = "oid";
+pub const INTERRUPTED: &str = "interrupted";
 
-pub(crate) const REFUSED: &str = "refused";
+pub const ITEM: &str = "item";
 
-pub(crate) const REPLY_LOST: &str = "replyLost";
+/// Whether a write is acknowledged only once it stands in the servers' journals.
+pub const JOURNAL: &str = "j";
 
-pub(crate) const SCHEDULE: &str = "schedule";
+pub const LABELS: &str = "labels";
 
-pub(crate) const SELECT: &str = "select";
+pub const LATE: &str = "late";
 
-pub(crate) const SERVE: &str = "serve";
+pub const LINEARIZABLE: &str = "linearizable";
 
-pub(crate) const TS: &str = "ts";
+pub const LOCAL: &str = "local";
+
+pub const LOST: &str = "lost";
+
+/// Most of the servers: a level of reading, and an acknowledgment of writes.
+pub const MAJORITY: &str = "majority";
+
+pub const MESSAGE: &str = "message";
+
+pub const MODIFIED: &str = "modified";
+
+/// How many documents a statement counts.
+pub const N: &str = "n";
+
+pub const NS: &str = "ns";
+
+pub const OID: &str = "oid";
+
+pub const OPTIONS: &str = "options";
+
+pub const PIPELINE: &str = "pipeline";
+
+pub const READ_CONCERN: &str = "readConcern";
+
+pub const REFUSED: &str = "refused";
+
+pub const REPLACE_ONE: &str = "replaceOne";
+
+pub const REPLY_LOST: &str = "replyLost";
+
+pub const RESULTS: &str = "results";
+
+pub const RETRY_WRITES: &str = "retryWrites";
+
+pub const SCHEDULE: &str = "schedule";
+
+pub const SELECT: &str = "select";
+
+pub const SERVE: &str = "serve";
+
+pub const SNAPSHOT: &str = "snapshot";
+
+pub const TS: &str = "ts";
+
+pub const UPDATE: &str = "update";
+
+pub const UPDATE_MANY: &str = "updateMany";
+
+pub const UPDATE_ONE: &str = "updateOne";
+
+pub const UPSERT: &str = "upsert";
+
+pub const UPSERTED: &str = "upserted";
+
+pub const VALUE: &str = "value";
+
+/// Which servers acknowledge a write.
+pub const W: &str = "w";
+
+pub const WRITE_CONCERN: &str = "writeConcern";
+
+pub const WRITE_CONCERN_ERROR: &str = "writeConcernError";
+
+/// How long a server waits for them.
+pub const W_TIMEOUT: &str = "wtimeout";

@@ -1,10 +1,10 @@
-//! Readers of the values that hold no other.
+//! Readers of numbers, and of the values that hold no other.
 ghost use Rattle.std.specs.Prelude.{◌≡◌};
 ghost use Rattle.serde_json.specs.View.{view};
 ghost use Rattle.driver_script.specs.Json.{Gives};
-ghost use Rattle.driver_script.specs.Values.{tagged_leaf, whole_of, small_of, stamp_of, sized_of, bytes_of, whole_number};
+ghost use Rattle.driver_script.specs.Values.{tagged_leaf, whole_of, small_of, count_of, code_of, stamp_of, sized_of, bytes_of, whole_number};
 
-use crate::json::Unread;
+use crate::json::{FromJson, Unread};
 use crate::keys::{BYTES, DATE, DOUBLE, INT64, OID, TS};
 use bson_lite::{Binary, Bson, Bytes, ObjectId, Timestamp};
 use hex::{FromHex, FromHexError};
@@ -61,6 +61,41 @@ fn small(value: &Value) -> Result<u32, Unread>
     match u32::try_from(number) {
         Ok(small) => Ok(small),
         Err(_) => Err(Unread::Wrong),
+    }
+}
+
+impl FromJson for u32 {
+    ghost spec = { small_of };
+
+    fn read(_alloc: Global, value: &Value) -> Result<u32, Unread> {
+        small(value)
+    }
+}
+
+impl FromJson for u64 {
+    ghost spec = { count_of };
+
+    #[tactic(auto, unfolding(crate::specs::Values::count_of))]
+    fn read(_alloc: Global, value: &Value) -> Result<u64, Unread> {
+        match value.as_u64() {
+            Some(number) => Ok(number),
+            None => Err(Unread::Wrong),
+        }
+    }
+}
+
+impl FromJson for i32 {
+    ghost spec = { code_of };
+
+    #[tactic(auto, unfolding(crate::specs::Values::code_of))]
+    fn read(_alloc: Global, value: &Value) -> Result<i32, Unread> {
+        let Some(number) = value.as_i64() else {
+            return Err(Unread::Wrong);
+        };
+        match i32::try_from(number) {
+            Ok(code) => Ok(code),
+            Err(_) => Err(Unread::Wrong),
+        }
     }
 }
 

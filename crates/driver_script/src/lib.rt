@@ -1,27 +1,18 @@
-//! A script of calls, its run against the model server, and the report of it.
+//! A script of calls: the JSON that says which calls are made, and what the model server does meanwhile.
 //!
-//! `top` and `run_script` carry the program's promise; the rest reads the script or writes the report.
+//! `read_script` is the one public call; each other function reads a part of a script.
 #![tactic(auto)]
 
-mod details;
-mod distinct;
+mod calls;
 mod json;
-mod keys;
+pub mod keys;
 pub mod laws;
 mod leaves;
-mod lines;
 mod namespaces;
-pub mod program;
-pub mod report;
-pub mod running;
+mod options;
+mod plans;
 mod schedule;
 pub mod script;
-mod status;
-mod streams;
 mod values;
-mod words;
 
-pub use program::{run_script, top};
-pub use report::report_text;
-pub use running::Run;
-pub use script::{Script, ScriptFault, read_script};
+pub use script::{MOST_CALLS, Script, ScriptFault, read_script};

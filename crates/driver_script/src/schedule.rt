@@ -4,13 +4,14 @@ ghost use Rattle.std.specs.List.{list_all};
 ghost use Rattle.serde_json.specs.View.{view};
 ghost use Rattle.driver_link.specs.Exchange.{usual_item};
 ghost use Rattle.driver_script.specs.Json.{Gives};
-ghost use Rattle.driver_script.specs.Steps.{built_reply, code_of, count_of, delivering_of, faults_of, interrupted_of, is_built_code, is_built_label, item_in, item_named, item_under, no_faults, refused_of, reply_of, schedule_with, step_of};
+ghost use Rattle.driver_script.specs.Steps.{built_reply, delivering_of, faults_of, interrupted_of, is_built_label, item_in, item_named, item_under, no_faults, refused_of, reply_of, schedule_with, step_of};
 
 use crate::json::{FromJson, Unread, is_object_of, read_needed, read_optional};
 use crate::keys::{
     AFTER, CHECK_OUT, CODE, DELIVER, INTERRUPTED, ITEM, LABELS, LATE, LOST, REFUSED, REPLY_LOST,
     SELECT, SERVE,
 };
+use crate::plans::{is_built_code, served};
 use bson_lite::{List, Text};
 use driver_error::{RETRYABLE_ERROR, SYSTEM_OVERLOADED_ERROR};
 use driver_link::{Item, Schedule, Scheduled};
@@ -29,42 +30,6 @@ pub(crate) struct ErrorReply {
 pub(crate) struct Faults {
     pub selects: List<u64>,
     pub check_outs: List<u64>,
-}
-
-impl FromJson for u64 {
-    ghost spec = { count_of };
-
-    #[tactic(auto, unfolding(crate::specs::Steps::count_of))]
-    fn read(_alloc: Global, value: &Value) -> Result<u64, Unread> {
-        match value.as_u64() {
-            Some(number) => Ok(number),
-            None => Err(Unread::Wrong),
-        }
-    }
-}
-
-impl FromJson for i32 {
-    ghost spec = { code_of };
-
-    #[tactic(auto, unfolding(crate::specs::Steps::code_of))]
-    fn read(_alloc: Global, value: &Value) -> Result<i32, Unread> {
-        let Some(number) = value.as_i64() else {
-            return Err(Unread::Wrong);
-        };
-        match i32::try_from(number) {
-            Ok(code) => Ok(code),
-            Err(_) => Err(Unread::Wrong),
-        }
-    }
-}
-
-/// Whether an item may answer this code.
-#[tactic(auto, unfolding(crate::specs::Steps::is_built_code))]
-fn is_built_code(code: i32) -> bool
-    ensures { result ≡ is_built_code code }
-{
-    // Not built yet.
-    code != 391
 }
 
 /// Whether an item may answer this label.
@@ -173,6 +138,9 @@ fn usual_item(alloc: Global) -> Item
 fn item_under(alloc: Global, name: &str, value: &Value) -> Result<Item, Unread>
     ensures { Gives result (item_under name.now (view value.now)) }
 {
+    if name == SERVE {
+        return served(alloc, value);
+    }
     if name == INTERRUPTED {
         return interrupted(alloc, value);
     }

@@ -1,22 +1,20 @@
 //! The script: one JSON object with the calls to be made and the schedule of the model server.
 ghost use Rattle.std.specs.Prelude.{◌≡◌, codes, option_and_then, IfOk};
 ghost use Rattle.driver_link.specs.WellFormed.{IsWellFormed};
-ghost use Rattle.serde_json.specs.Data.{Data};
-ghost use Rattle.serde_json.specs.View.{view};
 ghost use Rattle.driver_script.specs.Json.{Gives};
-ghost use Rattle.driver_script.specs.Script.{insert_one_of, call_of, script_of, script, value_read, usual_options, usual_setup, IsWrong, Reads};
+ghost use Rattle.driver_script.specs.Script.{script_of, script, value_read, usual_options, usual_setup, IsWrong, Reads};
 
 use crate::json::{FromJson, Unread, is_object_of, read_needed, read_optional};
-use crate::keys::{CALLS, DOC, FAULTS, INSERT_ONE, LATE, NS, SCHEDULE};
+use crate::keys::{CALLS, FAULTS, LATE, OPTIONS, SCHEDULE};
 use crate::schedule::{no_faults, schedule_with};
 use bson_lite::{List, Text};
-use driver_actions::{Call, SingleWrite};
+use driver_actions::Call;
 use driver_link::{ClientOptions, Description, Schedule, Setup};
 use serde_json::Value;
 use std::alloc::{AllocError, Global};
 
 /// The greatest number of calls of a script.
-pub(crate) const MOST_CALLS: usize = 10_000;
+pub const MOST_CALLS: usize = 10_000;
 
 /// What a script asks for.
 #[derive(Debug, Drop)]
@@ -91,15 +89,16 @@ impl FromJson for Script {
 
     #[tactic(auto, unfolding(crate::specs::Script::script_of, crate::specs::Script::script_around))]
     fn read(alloc: Global, value: &Value) -> Result<Script, Unread> {
-        if !is_object_of(value, &[CALLS, SCHEDULE, FAULTS, LATE]) {
+        if !is_object_of(value, &[OPTIONS, CALLS, SCHEDULE, FAULTS, LATE]) {
             return Err(Unread::Wrong);
         }
+        let options = read_optional(alloc, value, OPTIONS)?;
         let calls = read_needed(alloc, value, CALLS)?;
         let steps = read_optional(alloc, value, SCHEDULE)?;
         let faults = read_optional(alloc, value, FAULTS)?;
         let late = read_optional(alloc, value, LATE)?;
         Ok(Script {
-            options: options_of_scripts(),
+            options: options.unwrap_or(usual_options()),
             setup: setup_of_scripts(),
             calls,
             schedule: schedule_with(
@@ -112,7 +111,8 @@ impl FromJson for Script {
     }
 }
 
-fn options_of_scripts() -> ClientOptions
+/// The options of a script that sets none.
+fn usual_options() -> ClientOptions
     ensures { result ≡ usual_options }
 {
     ClientOptions {
@@ -139,43 +139,4 @@ fn setup_of_scripts() -> Setup
         transactions: true,
         timeout_ms: Some(1_800_000),
     }
-}
-
-impl FromJson for Call {
-    ghost spec = { call_of };
-
-    #[tactic(auto, unfolding(crate::specs::Script::call_of))]
-    fn read(alloc: Global, value: &Value) -> Result<Call, Unread> {
-        let Value::Object(members) = value else {
-            return Err(Unread::Wrong);
-        };
-        let mut entries = members.iter();
-        match (entries.next(), entries.next()) {
-            (Some((name, inner)), None) => {
-                if name.as_str() == INSERT_ONE {
-                    insert_one(alloc, inner)
-                } else {
-                    Err(Unread::Wrong)
-                }
-            }
-            _ => Err(Unread::Wrong),
-        }
-    }
-}
-
-#[tactic(auto, unfolding(crate::specs::Script::insert_one_of))]
-fn insert_one(alloc: Global, value: &Value) -> Result<Call, Unread>
-    ensures { Gives result (insert_one_of (view value.now)) }
-{
-    if !is_object_of(value, &[NS, DOC]) {
-        return Err(Unread::Wrong);
-    }
-    let namespace = read_needed(alloc, value, NS)?;
-    let document = read_needed(alloc, value, DOC)?;
-    Ok(Call::Single {
-        write: SingleWrite::InsertOne {
-            namespace,
-            document,
-        },
-    })
 }

@@ -1,10 +1,17 @@
-//! Tests of scripts from outside: statuses and reports, which schedules are read, and each fault of one insert.
+//! Tests of scripts from outside: statuses and reports, which forms are read and as what, each fault of one insert,
+//! and the rows of updates and deletes.
 //! They stand apart so that the library is proved once and not once more for its tests.
 #![tactic(auto)]
 
+#[cfg(test)]
+mod forms;
+#[cfg(test)]
+mod parts;
 #[cfg(test)]
 mod retries;
 #[cfg(test)]
 mod schedules;
 #[cfg(test)]
 mod scripts;
+#[cfg(test)]
+mod writes;

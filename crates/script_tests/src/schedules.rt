@@ -16,10 +16,26 @@ struct Row {
     labels: &'static [&'static str],
 }
 
-const STEPS: [Row; 11] = [
+const STEPS: [Row; 13] = [
     Row {
         text: "\"serve\"",
         deliver: &[],
+        name: "serve",
+        after: 0,
+        code: 0,
+        labels: &[],
+    },
+    Row {
+        text: "{\"serve\":{}}",
+        deliver: &[],
+        name: "serve",
+        after: 0,
+        code: 0,
+        labels: &[],
+    },
+    Row {
+        text: "{\"deliver\":[1],\"item\":{\"serve\":{\"fail\":[],\"results\":[]}}}",
+        deliver: &[1],
         name: "serve",
         after: 0,
         code: 0,
@@ -108,13 +124,14 @@ const STEPS: [Row; 11] = [
 ];
 
 /// Steps that are no step, or not built yet.
-const NO_STEPS: [&str; 33] = [
+const NO_STEPS: [&str; 34] = [
     "\"Serve\"",
     "\"reauthenticate\"",
     "1",
     "[]",
     "{}",
-    "{\"serve\":{}}",
+    "{\"serve\":{\"page\":1}}",
+    "{\"serve\":{},\"lost\":{}}",
     "{\"lost\":{}}",
     "{\"interrupted\":{\"code\":1,\"labels\":[]}}",
     "{\"interrupted\":{\"after\":1,\"labels\":[]}}",
@@ -141,7 +158,7 @@ const NO_STEPS: [&str; 33] = [
     "{\"deliver\":[-1],\"item\":\"serve\"}",
     "{\"deliver\":[0],\"item\":\"serve\",\"more\":1}",
     "{\"deliver\":[0],\"item\":{\"deliver\":[],\"item\":\"serve\"}}",
-    "{\"deliver\":[0],\"item\":{\"serve\":{}}}",
+    "{\"deliver\":[0],\"item\":{\"serve\":[]}}",
 ];
 
 /// Scripts whose faults or late deliveries have a wrong form, or are not built yet.
@@ -159,7 +176,7 @@ const NO_SCRIPTS: [&str; 10] = [
 ];
 
 /// The script that a text is, and none where it is refused.
-fn script_in(alloc: Global, text: &str) -> Result<Option<Script>, AllocError> {
+pub(crate) fn script_in(alloc: Global, text: &str) -> Result<Option<Script>, AllocError> {
     match read_script(alloc, text.as_bytes()) {
         Ok(script) => Ok(Some(script)),
         Err(ScriptFault::Memory) => Err(AllocError),

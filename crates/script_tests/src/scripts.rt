@@ -2,7 +2,8 @@
 use bson_lite::{Bytes, EncodeFault, List, Text, encode};
 use driver_actions::{Call, SingleWrite};
 use driver_link::{MemSink, MemSource};
-use driver_script::{Run, ScriptFault, read_script, run_script, top};
+use driver_script::{ScriptFault, read_script};
+use script_run::{Run, run_script, top};
 use serde_json::Value;
 use std::alloc::{AllocError, Global};
 use std::sync::Wait;
@@ -149,7 +150,10 @@ fn insert_of(alloc: Global, document: &str) -> Result<String, AllocError> {
 fn spelled(alloc: Global, call: &Call) -> Result<Option<Bytes>, AllocError> {
     let Call::Single {
         write: SingleWrite::InsertOne { document, .. },
-    } = call;
+    } = call
+    else {
+        return Ok(None);
+    };
     match encode(alloc, document) {
         Ok(bytes) => Ok(Some(bytes)),
         Err(EncodeFault::Memory) => Err(AllocError),

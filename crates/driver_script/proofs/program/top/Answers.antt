@@ -1,7 +1,0 @@
--- Words that are no command.
-use Rattle.std.proofs.Common.{refl}
-use Rattle.driver_script.specs.declared.status.Status.TheVariants.{Usage}
-use Rattle.driver_script.proofs.program.top.Goals as goal
-
-pub returns-in-None-clause-ends : goal.returns-in-None-clause-ends
-returns-in-None-clause-ends g c = (Usage, refl, (c.say_usage.ensures.said, refl, refl))

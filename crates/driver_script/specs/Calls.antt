@@ -1,0 +1,153 @@
+-- How a script writes its calls: each is an object whose one key names it.
+use Rattle.std.specs.Prelude.{ℕ, Bool, if◌then◌else◌, List, [], ◌∷◌, Option, None, bytes_eq}
+use Rattle.std.specs.Option.{option_and_then, option_map}
+use Rattle.bson_lite.specs.declared.bson.Bson.{Bson}
+use Rattle.bson_lite.specs.declared.document.Pair.{Pair}
+use Rattle.bson_lite.specs.declared.namespace.Namespace.{Namespace}
+use Rattle.driver_link.specs.declared.concerns.WriteConcern.{WriteConcern}
+use Rattle.driver_link.specs.declared.updates.UpdateModifications.{UpdateModifications}
+use Rattle.driver_link.specs.declared.updates.UpdateModifications.TheVariants as modifies
+use Rattle.driver_link.specs.declared.write_options.DeleteOptions.{DeleteOptions}
+use Rattle.driver_link.specs.declared.write_options.InsertManyOptions.{InsertManyOptions}
+use Rattle.driver_link.specs.declared.write_options.UpdateOptions.{UpdateOptions}
+use Rattle.driver_actions.specs.declared.call.Call.{Call}
+use Rattle.driver_actions.specs.declared.call.Call.TheVariants.{Single}
+use Rattle.driver_actions.specs.declared.call.SingleWrite.TheVariants.{DeleteMany, DeleteOne, InsertOne, ReplaceOne, UpdateMany, UpdateOne}
+use Rattle.serde_json.specs.Data.{Data, array, object, no_members, member}
+use Rattle.driver_script.specs.declared.calls.DeleteParts.{DeleteParts}
+use Rattle.driver_script.specs.declared.calls.SharedOptions.{SharedOptions}
+use Rattle.driver_script.specs.declared.calls.UpdateParts.{UpdateParts}
+use Rattle.driver_script.specs.declared.keys.TheConstants.{COMMENT, DELETE_MANY, DELETE_ONE, DOC, FILTER, INSERT_ONE, NS, PIPELINE, REPLACE_ONE, UPDATE, UPDATE_MANY, UPDATE_ONE, UPSERT, WRITE_CONCERN}
+use Rattle.driver_script.specs.Json.{has_only, list_of, needed, optional}
+use Rattle.driver_script.specs.Options.{flag_of, write_concern_of}
+use Rattle.driver_script.specs.Values.{document_of, namespace_of, value_of}
+
+-- the options that every write has: a write concern and a comment
+abbrev pub shared_with : Option WriteConcern → Option Bson → SharedOptions
+shared_with write_concern comment = record { write_concern = write_concern; comment = comment }
+
+-- the same under their keys of an object; a comment of null is one
+unfoldable pub shared_of : Data → Option SharedOptions
+shared_of d = option_and_then (λ write_concern. option_map (shared_with write_concern) (optional value_of COMMENT.now d)) (optional write_concern_of WRITE_CONCERN.now d)
+
+-- the options of an insert, of which these are set
+abbrev pub insert_options : SharedOptions → InsertManyOptions
+insert_options shared = record {
+  ordered = None;
+  bypass_document_validation = None;
+  comment = shared.comment;
+  write_concern = shared.write_concern;
+}
+
+-- an insert of one document, with its namespace
+unfoldable pub insert_one_of : Data → Option Call
+insert_one_of d =
+    if has_only (NS.now ∷ DOC.now ∷ WRITE_CONCERN.now ∷ COMMENT.now ∷ []) d
+    then option_and_then (λ namespace. option_and_then (λ document. option_map (λ shared. Single (InsertOne namespace document (insert_options shared)))
+    (shared_of d)) (needed document_of DOC.now d)) (needed namespace_of NS.now d)
+    else None
+
+-- a pipeline: an object with the list of its stages
+unfoldable pub pipeline_of : Data → Option UpdateModifications
+pipeline_of d = if has_only (PIPELINE.now ∷ []) d then option_map modifies.Pipeline (needed (list_of document_of) PIPELINE.now d) else None
+
+-- what an update does: a document of operators, or a pipeline
+unfoldable pub update_of : Data → Option UpdateModifications
+update_of (array items) = option_map modifies.Document (document_of (array items))
+update_of (object members) = pipeline_of (object members)
+update_of d = None
+
+-- the options of an update or a replacement, of which these are set
+abbrev pub update_options : Option Bool → SharedOptions → UpdateOptions
+update_options upsert shared = record {
+  upsert = upsert;
+  array_filters = None;
+  hint = None;
+  collation = None;
+  bypass_document_validation = None;
+  let_vars = None;
+  comment = shared.comment;
+  sort = None;
+  write_concern = shared.write_concern;
+}
+
+-- the same under their keys of an object
+unfoldable pub update_options_of : Data → Option UpdateOptions
+update_options_of d = option_and_then (λ upsert. option_map (update_options upsert) (shared_of d)) (optional flag_of UPSERT.now d)
+
+-- an update of these parts
+abbrev pub update_parts_with : Namespace → List (Pair Bson) → UpdateModifications → UpdateOptions → UpdateParts
+update_parts_with namespace filter update options = record { namespace = namespace; filter = filter; update = update; options = options }
+
+-- the parts of an update: an object with its namespace, its filter, what it does, and its options
+unfoldable pub update_parts_of : Data → Option UpdateParts
+update_parts_of d =
+    if has_only (NS.now ∷ FILTER.now ∷ UPDATE.now ∷ UPSERT.now ∷ WRITE_CONCERN.now ∷ COMMENT.now ∷ []) d
+    then option_and_then (λ namespace. option_and_then (λ filter. option_and_then (λ update. option_map (update_parts_with namespace filter update)
+    (update_options_of d)) (needed update_of UPDATE.now d)) (needed document_of FILTER.now d)) (needed namespace_of NS.now d)
+    else None
+
+-- an update of one document
+unfoldable pub update_one_of : Data → Option Call
+update_one_of d = option_map (λ parts. Single (UpdateOne parts.namespace parts.filter parts.update parts.options)) (update_parts_of d)
+
+-- an update of all that its filter finds
+unfoldable pub update_many_of : Data → Option Call
+update_many_of d = option_map (λ parts. Single (UpdateMany parts.namespace parts.filter parts.update parts.options)) (update_parts_of d)
+
+-- a replacement of one document: an object with its namespace, its filter, the document that is put in, and its options
+unfoldable pub replace_one_of : Data → Option Call
+replace_one_of d =
+    if has_only (NS.now ∷ FILTER.now ∷ DOC.now ∷ UPSERT.now ∷ WRITE_CONCERN.now ∷ COMMENT.now ∷ []) d
+    then option_and_then (λ namespace. option_and_then (λ filter. option_and_then (λ replacement. option_map (λ options. Single (ReplaceOne namespace filter replacement options))
+    (update_options_of d)) (needed document_of DOC.now d)) (needed document_of FILTER.now d)) (needed namespace_of NS.now d)
+    else None
+
+-- the options of a delete, of which these are set
+abbrev pub delete_options : SharedOptions → DeleteOptions
+delete_options shared = record {
+  collation = None;
+  hint = None;
+  let_vars = None;
+  comment = shared.comment;
+  write_concern = shared.write_concern;
+}
+
+-- a delete of these parts
+abbrev pub delete_parts_with : Namespace → List (Pair Bson) → SharedOptions → DeleteParts
+delete_parts_with namespace filter shared = record { namespace = namespace; filter = filter; options = delete_options shared }
+
+-- the parts of a delete: an object with its namespace, its filter and its options
+unfoldable pub delete_parts_of : Data → Option DeleteParts
+delete_parts_of d =
+    if has_only (NS.now ∷ FILTER.now ∷ WRITE_CONCERN.now ∷ COMMENT.now ∷ []) d
+    then option_and_then (λ namespace. option_and_then (λ filter. option_map (delete_parts_with namespace filter)
+    (shared_of d)) (needed document_of FILTER.now d)) (needed namespace_of NS.now d)
+    else None
+
+-- a delete of one document
+unfoldable pub delete_one_of : Data → Option Call
+delete_one_of d = option_map (λ parts. Single (DeleteOne parts.namespace parts.filter parts.options)) (delete_parts_of d)
+
+-- a delete of all that its filter finds
+unfoldable pub delete_many_of : Data → Option Call
+delete_many_of d = option_map (λ parts. Single (DeleteMany parts.namespace parts.filter parts.options)) (delete_parts_of d)
+
+-- the update or replacement whose parts stand under its name
+unfoldable pub update_under : List ℕ → Data → Option Call
+update_under name d =
+    if bytes_eq name UPDATE_ONE.now then update_one_of d else (
+    if bytes_eq name UPDATE_MANY.now then update_many_of d else (
+    if bytes_eq name REPLACE_ONE.now then replace_one_of d else None))
+
+-- the write whose parts stand under its name
+unfoldable pub write_under : List ℕ → Data → Option Call
+write_under name d =
+    if bytes_eq name INSERT_ONE.now then insert_one_of d else (
+    if bytes_eq name DELETE_ONE.now then delete_one_of d else (
+    if bytes_eq name DELETE_MANY.now then delete_many_of d else update_under name d))
+
+-- a call: an object whose one key names it
+unfoldable pub call_of : Data → Option Call
+call_of (object (member name d no_members)) = write_under name d
+call_of d = None

@@ -1,0 +1,333 @@
+//! Readers of a script's calls: each is an object whose one key names it.
+ghost use Rattle.std.specs.Prelude.{◌≡◌};
+ghost use Rattle.serde_json.specs.View.{view};
+ghost use Rattle.driver_script.specs.Calls.{call_of, delete_many_of, delete_one_of, delete_options, delete_parts_of, insert_one_of, insert_options, pipeline_of, replace_one_of, shared_of, update_many_of, update_of, update_one_of, update_options, update_options_of, update_parts_of, update_under, write_under};
+ghost use Rattle.driver_script.specs.Json.{Gives};
+
+use crate::json::{FromJson, Unread, is_object_of, read_needed, read_optional};
+use crate::keys::{
+    COMMENT, DELETE_MANY, DELETE_ONE, DOC, FILTER, INSERT_ONE, NS, PIPELINE, REPLACE_ONE, UPDATE,
+    UPDATE_MANY, UPDATE_ONE, UPSERT, WRITE_CONCERN,
+};
+use bson_lite::{Bson, Document, Namespace};
+use driver_actions::{Call, SingleWrite};
+use driver_link::{
+    DeleteOptions, InsertManyOptions, UpdateModifications, UpdateOptions, WriteConcern,
+};
+use serde_json::Value;
+use std::alloc::Global;
+
+/// The options that every write has.
+#[derive(Debug, Drop)]
+pub(crate) struct SharedOptions {
+    pub write_concern: Option<WriteConcern>,
+    pub comment: Option<Bson>,
+}
+
+/// What an update is made of, one or many.
+#[derive(Debug, Drop)]
+pub(crate) struct UpdateParts {
+    pub namespace: Namespace,
+    pub filter: Document,
+    pub update: UpdateModifications,
+    pub options: UpdateOptions,
+}
+
+/// What a delete is made of, one or many.
+#[derive(Debug, Drop)]
+pub(crate) struct DeleteParts {
+    pub namespace: Namespace,
+    pub filter: Document,
+    pub options: DeleteOptions,
+}
+
+/// The options that every write has, under their keys.
+#[tactic(auto, unfolding(crate::specs::Calls::shared_of))]
+fn read_shared(alloc: Global, value: &Value) -> Result<SharedOptions, Unread>
+    ensures { Gives result (shared_of (view value.now)) }
+{
+    let write_concern = read_optional(alloc, value, WRITE_CONCERN)?;
+    let comment = read_optional(alloc, value, COMMENT)?;
+    Ok(SharedOptions {
+        write_concern,
+        comment,
+    })
+}
+
+/// The options of an insert, of which these are set.
+fn insert_options(shared: SharedOptions) -> InsertManyOptions
+    ensures { result ≡ insert_options shared }
+{
+    InsertManyOptions {
+        ordered: None,
+        bypass_document_validation: None,
+        comment: shared.comment,
+        write_concern: shared.write_concern,
+    }
+}
+
+#[tactic(auto, unfolding(crate::specs::Calls::insert_one_of))]
+fn insert_one(alloc: Global, value: &Value) -> Result<Call, Unread>
+    ensures { Gives result (insert_one_of (view value.now)) }
+{
+    if !is_object_of(value, &[NS, DOC, WRITE_CONCERN, COMMENT]) {
+        return Err(Unread::Wrong);
+    }
+    let namespace = read_needed(alloc, value, NS)?;
+    let document = read_needed(alloc, value, DOC)?;
+    let shared = read_shared(alloc, value)?;
+    Ok(Call::Single {
+        write: SingleWrite::InsertOne {
+            namespace,
+            document,
+            options: insert_options(shared),
+        },
+    })
+}
+
+#[tactic(auto, unfolding(crate::specs::Calls::pipeline_of))]
+fn pipeline(alloc: Global, value: &Value) -> Result<UpdateModifications, Unread>
+    ensures { Gives result (pipeline_of (view value.now)) }
+{
+    if !is_object_of(value, &[PIPELINE]) {
+        return Err(Unread::Wrong);
+    }
+    let stages = read_needed(alloc, value, PIPELINE)?;
+    Ok(UpdateModifications::Pipeline(stages))
+}
+
+impl FromJson for UpdateModifications {
+    ghost spec = { update_of };
+
+    #[tactic(auto, unfolding(crate::specs::Calls::update_of))]
+    fn read(alloc: Global, value: &Value) -> Result<UpdateModifications, Unread> {
+        match value {
+            Value::Array(_) => Ok(UpdateModifications::Document(Document::read(alloc, value)?)),
+            Value::Object(_) => pipeline(alloc, value),
+            _ => Err(Unread::Wrong),
+        }
+    }
+}
+
+/// The options of an update or a replacement, of which these are set.
+fn update_options(upsert: Option<bool>, shared: SharedOptions) -> UpdateOptions
+    ensures { result ≡ update_options upsert shared }
+{
+    UpdateOptions {
+        upsert,
+        array_filters: None,
+        hint: None,
+        collation: None,
+        bypass_document_validation: None,
+        let_vars: None,
+        comment: shared.comment,
+        sort: None,
+        write_concern: shared.write_concern,
+    }
+}
+
+/// The same, under their keys.
+#[tactic(auto, unfolding(crate::specs::Calls::update_options_of))]
+fn read_update_options(alloc: Global, value: &Value) -> Result<UpdateOptions, Unread>
+    ensures { Gives result (update_options_of (view value.now)) }
+{
+    let upsert = read_optional(alloc, value, UPSERT)?;
+    let shared = read_shared(alloc, value)?;
+    Ok(update_options(upsert, shared))
+}
+
+#[tactic(auto, unfolding(crate::specs::Calls::update_parts_of))]
+fn update_parts(alloc: Global, value: &Value) -> Result<UpdateParts, Unread>
+    ensures { Gives result (update_parts_of (view value.now)) }
+{
+    if !is_object_of(value, &[NS, FILTER, UPDATE, UPSERT, WRITE_CONCERN, COMMENT]) {
+        return Err(Unread::Wrong);
+    }
+    let namespace = read_needed(alloc, value, NS)?;
+    let filter = read_needed(alloc, value, FILTER)?;
+    let update = read_needed(alloc, value, UPDATE)?;
+    let options = read_update_options(alloc, value)?;
+    Ok(UpdateParts {
+        namespace,
+        filter,
+        update,
+        options,
+    })
+}
+
+#[tactic(auto, unfolding(crate::specs::Calls::update_one_of))]
+fn update_one(alloc: Global, value: &Value) -> Result<Call, Unread>
+    ensures { Gives result (update_one_of (view value.now)) }
+{
+    let UpdateParts {
+        namespace,
+        filter,
+        update,
+        options,
+    } = update_parts(alloc, value)?;
+    Ok(Call::Single {
+        write: SingleWrite::UpdateOne {
+            namespace,
+            filter,
+            update,
+            options,
+        },
+    })
+}
+
+#[tactic(auto, unfolding(crate::specs::Calls::update_many_of))]
+fn update_many(alloc: Global, value: &Value) -> Result<Call, Unread>
+    ensures { Gives result (update_many_of (view value.now)) }
+{
+    let UpdateParts {
+        namespace,
+        filter,
+        update,
+        options,
+    } = update_parts(alloc, value)?;
+    Ok(Call::Single {
+        write: SingleWrite::UpdateMany {
+            namespace,
+            filter,
+            update,
+            options,
+        },
+    })
+}
+
+#[tactic(auto, unfolding(crate::specs::Calls::replace_one_of))]
+fn replace_one(alloc: Global, value: &Value) -> Result<Call, Unread>
+    ensures { Gives result (replace_one_of (view value.now)) }
+{
+    if !is_object_of(value, &[NS, FILTER, DOC, UPSERT, WRITE_CONCERN, COMMENT]) {
+        return Err(Unread::Wrong);
+    }
+    let namespace = read_needed(alloc, value, NS)?;
+    let filter = read_needed(alloc, value, FILTER)?;
+    let replacement = read_needed(alloc, value, DOC)?;
+    let options = read_update_options(alloc, value)?;
+    Ok(Call::Single {
+        write: SingleWrite::ReplaceOne {
+            namespace,
+            filter,
+            replacement,
+            options,
+        },
+    })
+}
+
+/// The options of a delete, of which these are set.
+fn delete_options(shared: SharedOptions) -> DeleteOptions
+    ensures { result ≡ delete_options shared }
+{
+    DeleteOptions {
+        collation: None,
+        hint: None,
+        let_vars: None,
+        comment: shared.comment,
+        write_concern: shared.write_concern,
+    }
+}
+
+#[tactic(auto, unfolding(crate::specs::Calls::delete_parts_of))]
+fn delete_parts(alloc: Global, value: &Value) -> Result<DeleteParts, Unread>
+    ensures { Gives result (delete_parts_of (view value.now)) }
+{
+    if !is_object_of(value, &[NS, FILTER, WRITE_CONCERN, COMMENT]) {
+        return Err(Unread::Wrong);
+    }
+    let namespace = read_needed(alloc, value, NS)?;
+    let filter = read_needed(alloc, value, FILTER)?;
+    let shared = read_shared(alloc, value)?;
+    Ok(DeleteParts {
+        namespace,
+        filter,
+        options: delete_options(shared),
+    })
+}
+
+#[tactic(auto, unfolding(crate::specs::Calls::delete_one_of))]
+fn delete_one(alloc: Global, value: &Value) -> Result<Call, Unread>
+    ensures { Gives result (delete_one_of (view value.now)) }
+{
+    let DeleteParts {
+        namespace,
+        filter,
+        options,
+    } = delete_parts(alloc, value)?;
+    Ok(Call::Single {
+        write: SingleWrite::DeleteOne {
+            namespace,
+            filter,
+            options,
+        },
+    })
+}
+
+#[tactic(auto, unfolding(crate::specs::Calls::delete_many_of))]
+fn delete_many(alloc: Global, value: &Value) -> Result<Call, Unread>
+    ensures { Gives result (delete_many_of (view value.now)) }
+{
+    let DeleteParts {
+        namespace,
+        filter,
+        options,
+    } = delete_parts(alloc, value)?;
+    Ok(Call::Single {
+        write: SingleWrite::DeleteMany {
+            namespace,
+            filter,
+            options,
+        },
+    })
+}
+
+/// The update or replacement whose parts stand under its name.
+#[tactic(auto, unfolding(crate::specs::Calls::update_under))]
+fn update_under(alloc: Global, name: &str, value: &Value) -> Result<Call, Unread>
+    ensures { Gives result (update_under name.now (view value.now)) }
+{
+    if name == UPDATE_ONE {
+        return update_one(alloc, value);
+    }
+    if name == UPDATE_MANY {
+        return update_many(alloc, value);
+    }
+    if name == REPLACE_ONE {
+        return replace_one(alloc, value);
+    }
+    Err(Unread::Wrong)
+}
+
+/// The write whose parts stand under its name.
+#[tactic(auto, unfolding(crate::specs::Calls::write_under))]
+fn write_under(alloc: Global, name: &str, value: &Value) -> Result<Call, Unread>
+    ensures { Gives result (write_under name.now (view value.now)) }
+{
+    if name == INSERT_ONE {
+        return insert_one(alloc, value);
+    }
+    if name == DELETE_ONE {
+        return delete_one(alloc, value);
+    }
+    if name == DELETE_MANY {
+        return delete_many(alloc, value);
+    }
+    update_under(alloc, name, value)
+}
+
+impl FromJson for Call {
+    ghost spec = { call_of };
+
+    #[tactic(auto, unfolding(crate::specs::Calls::call_of))]
+    fn read(alloc: Global, value: &Value) -> Result<Call, Unread> {
+        let Value::Object(members) = value else {
+            return Err(Unread::Wrong);
+        };
+        let mut entries = members.iter();
+        match (entries.next(), entries.next()) {
+            (Some((name, inner)), None) => write_under(alloc, name.as_str(), inner),
+            _ => Err(Unread::Wrong),
+        }
+    }
+}

@@ -1,0 +1,126 @@
+//! Readers of the options of a script's client, and of concerns.
+ghost use Rattle.std.specs.Prelude.{◌≡◌, IfOk};
+ghost use Rattle.driver_script.specs.Options.{acknowledgment_named, acknowledgment_of, client_options_of, flag_of, level_named, read_concern_of, write_concern_of};
+
+use crate::json::{FromJson, Unread, is_object_of, read_optional};
+use crate::keys::{
+    AVAILABLE, JOURNAL, LINEARIZABLE, LOCAL, MAJORITY, READ_CONCERN, RETRY_WRITES, SNAPSHOT, W,
+    W_TIMEOUT, WRITE_CONCERN,
+};
+use bson_lite::Text;
+use driver_link::{Acknowledgment, ClientOptions, ReadConcern, ReadConcernLevel, WriteConcern};
+use serde_json::Value;
+use std::alloc::{AllocError, Global};
+
+impl FromJson for bool {
+    ghost spec = { flag_of };
+
+    #[tactic(auto, unfolding(crate::specs::Options::flag_of))]
+    fn read(_alloc: Global, value: &Value) -> Result<bool, Unread> {
+        match value {
+            Value::Bool(flag) => Ok(*flag),
+            _ => Err(Unread::Wrong),
+        }
+    }
+}
+
+/// The servers that a text names to acknowledge a write.
+#[tactic(auto, unfolding(crate::specs::Options::acknowledgment_named))]
+fn acknowledgment_named(alloc: Global, name: &str) -> Result<Acknowledgment, AllocError>
+    ensures { IfOk result (λ servers. servers ≡ acknowledgment_named name.now) }
+{
+    if name == MAJORITY {
+        return Ok(Acknowledgment::Majority);
+    }
+    Ok(Acknowledgment::Custom(Text::from_str(alloc, name)?))
+}
+
+impl FromJson for Acknowledgment {
+    ghost spec = { acknowledgment_of };
+
+    #[tactic(auto, unfolding(crate::specs::Options::acknowledgment_of))]
+    fn read(alloc: Global, value: &Value) -> Result<Acknowledgment, Unread> {
+        match value {
+            Value::Number(_) => Ok(Acknowledgment::Nodes(u32::read(alloc, value)?)),
+            Value::String(name) => Ok(acknowledgment_named(alloc, name.as_str())?),
+            _ => Err(Unread::Wrong),
+        }
+    }
+}
+
+impl FromJson for WriteConcern {
+    ghost spec = { write_concern_of };
+
+    #[tactic(auto, unfolding(crate::specs::Options::write_concern_of))]
+    fn read(alloc: Global, value: &Value) -> Result<WriteConcern, Unread> {
+        if !is_object_of(value, &[W, W_TIMEOUT, JOURNAL]) {
+            return Err(Unread::Wrong);
+        }
+        let w = read_optional(alloc, value, W)?;
+        let w_timeout = read_optional(alloc, value, W_TIMEOUT)?;
+        let journal = read_optional(alloc, value, JOURNAL)?;
+        Ok(WriteConcern {
+            w,
+            w_timeout,
+            journal,
+        })
+    }
+}
+
+/// The level of a name.
+#[tactic(auto, unfolding(crate::specs::Options::level_named))]
+fn level_named(alloc: Global, name: &str) -> Result<ReadConcernLevel, AllocError>
+    ensures { IfOk result (λ level. level ≡ level_named name.now) }
+{
+    if name == LOCAL {
+        return Ok(ReadConcernLevel::Local);
+    }
+    if name == MAJORITY {
+        return Ok(ReadConcernLevel::Majority);
+    }
+    if name == LINEARIZABLE {
+        return Ok(ReadConcernLevel::Linearizable);
+    }
+    if name == AVAILABLE {
+        return Ok(ReadConcernLevel::Available);
+    }
+    if name == SNAPSHOT {
+        return Ok(ReadConcernLevel::Snapshot);
+    }
+    Ok(ReadConcernLevel::Custom(Text::from_str(alloc, name)?))
+}
+
+impl FromJson for ReadConcern {
+    ghost spec = { read_concern_of };
+
+    #[tactic(auto, unfolding(crate::specs::Options::read_concern_of))]
+    fn read(alloc: Global, value: &Value) -> Result<ReadConcern, Unread> {
+        match value {
+            Value::String(name) => {
+                let level = level_named(alloc, name.as_str())?;
+                Ok(ReadConcern { level })
+            }
+            _ => Err(Unread::Wrong),
+        }
+    }
+}
+
+impl FromJson for ClientOptions {
+    ghost spec = { client_options_of };
+
+    #[tactic(auto, unfolding(crate::specs::Options::client_options_of))]
+    fn read(alloc: Global, value: &Value) -> Result<ClientOptions, Unread> {
+        if !is_object_of(value, &[RETRY_WRITES, WRITE_CONCERN, READ_CONCERN]) {
+            return Err(Unread::Wrong);
+        }
+        let retry_writes = read_optional(alloc, value, RETRY_WRITES)?;
+        let write_concern = read_optional(alloc, value, WRITE_CONCERN)?;
+        let read_concern = read_optional(alloc, value, READ_CONCERN)?;
+        Ok(ClientOptions {
+            client_number: 1,
+            retry_writes,
+            read_concern,
+            write_concern,
+        })
+    }
+}

@@ -1,0 +1,3 @@
+mod IdSets
+mod Made
+mod Pieces

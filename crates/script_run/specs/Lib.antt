@@ -1,0 +1,6 @@
+pub mod Distinct
+pub mod Ended
+pub mod Lines
+pub mod Report
+pub mod Streamed
+pub mod Words

@@ -1,0 +1,248 @@
+//! The lines of a report, each put behind a text.
+ghost use Rattle.std.specs.Prelude.{◌≡◌, ◌++◌, map, string_bytes, OnOk};
+ghost use Rattle.driver_link.specs.Cases.{body_writes};
+ghost use Rattle.script_run.specs.Words.{listed, place_text};
+ghost use Rattle.script_run.specs.Lines.{inserted_text, count_text, counts_text, upserted_text, updated_text, deleted_text, answer_text, result_text, single_name, call_name, call_line, call_lines, write_name, command_name, send_line, send_lines, entry_line, entry_lines};
+
+use crate::words::{
+    push_error, push_number, push_place, push_places, push_session, push_value, push_value_or_none,
+};
+use bson_lite::Bson;
+use driver_actions::{Answer, Call, Outcome, SingleAnswer, SingleWrite};
+use driver_error::{DeleteResult, Error, InsertOneResult, UpdateResult};
+use driver_link::keys::{
+    ABORT_TRANSACTION, BULK_WRITE, COMMIT_TRANSACTION, DELETE, FIND_AND_MODIFY, GET_MORE, INSERT,
+    KILL_CURSORS, UPDATE,
+};
+use driver_link::{Entry, Send, SendBody, SendCommand};
+use driver_script::keys::{
+    DELETE_MANY, DELETE_ONE, INSERT_ONE, REPLACE_ONE, UPDATE_MANY, UPDATE_ONE,
+};
+use std::alloc::{AllocError, Global};
+
+#[tactic(auto, unfolding(crate::specs::Lines::inserted_text))]
+fn push_inserted(
+    alloc: Global,
+    out: &mut String,
+    inserted: &InsertOneResult,
+) -> Result<(), AllocError>
+    ensures { OnOk result (string_bytes out.new ≡ string_bytes out.old ++ inserted_text inserted.now) }
+{
+    out.push_str("ok id=")?;
+    push_value(alloc, out, &inserted.inserted_id)
+}
+
+/// A count behind its name.
+#[tactic(auto, unfolding(crate::specs::Lines::count_text))]
+fn push_count(out: &mut String, name: &str, count: u64) -> Result<(), AllocError>
+    ensures { OnOk result (string_bytes out.new ≡ string_bytes out.old ++ count_text name.now count) }
+{
+    write!(out, "{name}{count}")?;
+    Ok(())
+}
+
+/// How many documents an update found and changed.
+#[tactic(auto, unfolding(crate::specs::Lines::counts_text))]
+fn push_counts(out: &mut String, updated: &UpdateResult) -> Result<(), AllocError>
+    ensures { OnOk result (string_bytes out.new ≡ string_bytes out.old ++ counts_text updated.now) }
+{
+    push_count(out, "ok matched=", updated.matched_count)?;
+    push_count(out, " modified=", updated.modified_count)
+}
+
+/// The id of the document that it put in.
+#[tactic(auto, unfolding(crate::specs::Lines::upserted_text))]
+fn push_upserted(alloc: Global, out: &mut String, id: &Option<Bson>) -> Result<(), AllocError>
+    ensures { OnOk result (string_bytes out.new ≡ string_bytes out.old ++ upserted_text id.now) }
+{
+    out.push_str(" upserted=")?;
+    push_value_or_none(alloc, out, id)
+}
+
+#[tactic(auto, unfolding(crate::specs::Lines::updated_text))]
+fn push_updated(alloc: Global, out: &mut String, updated: &UpdateResult) -> Result<(), AllocError>
+    ensures { OnOk result (string_bytes out.new ≡ string_bytes out.old ++ updated_text updated.now) }
+{
+    push_counts(out, updated)?;
+    push_upserted(alloc, out, &updated.upserted_id)
+}
+
+#[tactic(auto, unfolding(crate::specs::Lines::deleted_text))]
+fn push_deleted(out: &mut String, deleted: &DeleteResult) -> Result<(), AllocError>
+    ensures { OnOk result (string_bytes out.new ≡ string_bytes out.old ++ deleted_text deleted.now) }
+{
+    let count = deleted.deleted_count;
+    write!(out, "ok deleted={count}")?;
+    Ok(())
+}
+
+#[tactic(auto, unfolding(crate::specs::Lines::answer_text))]
+fn push_answer(alloc: Global, out: &mut String, answer: &Answer) -> Result<(), AllocError>
+    ensures { OnOk result (string_bytes out.new ≡ string_bytes out.old ++ answer_text answer.now) }
+{
+    match answer {
+        Answer::Single(SingleAnswer::Inserted(inserted)) => push_inserted(alloc, out, inserted),
+        Answer::Single(SingleAnswer::Updated(updated)) => push_updated(alloc, out, updated),
+        Answer::Single(SingleAnswer::Deleted(deleted)) => push_deleted(out, deleted),
+    }
+}
+
+fn push_result(
+    alloc: Global,
+    out: &mut String,
+    answered: &Result<Answer, Error>,
+) -> Result<(), AllocError>
+    ensures { OnOk result (string_bytes out.new ≡ string_bytes out.old ++ result_text answered.now) }
+{
+    match answered {
+        Ok(answer) => push_answer(alloc, out, answer),
+        Err(error) => push_error(alloc, out, error),
+    }
+}
+
+#[tactic(auto, unfolding(crate::specs::Lines::call_name))]
+fn name_of_call(call: &Call) -> &'static str
+    ensures { result.now ≡ call_name call.now }
+{
+    match call {
+        Call::Single { write } => name_of_single(write),
+    }
+}
+
+#[tactic(auto, unfolding(crate::specs::Lines::single_name))]
+fn name_of_single(write: &SingleWrite) -> &'static str
+    ensures { result.now ≡ single_name write.now }
+{
+    match write {
+        SingleWrite::InsertOne { .. } => INSERT_ONE,
+        SingleWrite::UpdateOne { .. } => UPDATE_ONE,
+        SingleWrite::UpdateMany { .. } => UPDATE_MANY,
+        SingleWrite::ReplaceOne { .. } => REPLACE_ONE,
+        SingleWrite::DeleteOne { .. } => DELETE_ONE,
+        SingleWrite::DeleteMany { .. } => DELETE_MANY,
+    }
+}
+
+#[tactic(auto, unfolding(crate::specs::Lines::call_line))]
+fn push_call(
+    alloc: Global,
+    out: &mut String,
+    at: usize,
+    call: &Call,
+    outcome: &Outcome,
+) -> Result<(), AllocError>
+    ensures { OnOk result (string_bytes out.new ≡ string_bytes out.old ++ call_line at call.now outcome.now) }
+{
+    let name = name_of_call(call);
+    write!(out, "call {at} {name}: ")?;
+    push_result(alloc, out, &outcome.result)?;
+    out.push_str("\n")
+}
+
+/// The lines of calls with their outcomes.
+#[tactic(auto, unfolding(crate::specs::Lines::call_lines))]
+pub(crate) fn push_calls(
+    alloc: Global,
+    out: &mut String,
+    calls: &[Call],
+    outcomes: &[Outcome],
+) -> Result<(), AllocError>
+    ensures { OnOk result
+        (string_bytes out.new ≡ string_bytes out.old ++ call_lines 0 calls.now outcomes.now) }
+{
+    for (at, outcome) in outcomes.iter().enumerate() {
+        if at >= calls.len() {
+            return Ok(());
+        }
+        push_call(alloc, out, at, &calls[at], outcome)?;
+    }
+    Ok(())
+}
+
+#[tactic(auto, unfolding(crate::specs::Lines::command_name))]
+fn name_of_command(body: &SendBody) -> &'static str
+    ensures { result.now ≡ command_name body.now }
+{
+    match body {
+        SendBody::Write { command, .. } => name_of_writes(*command),
+        SendBody::Commit => COMMIT_TRANSACTION,
+        SendBody::Abort => ABORT_TRANSACTION,
+        SendBody::More { .. } => GET_MORE,
+        SendBody::Kill { .. } => KILL_CURSORS,
+    }
+}
+
+#[tactic(auto, unfolding(crate::specs::Lines::write_name))]
+fn name_of_writes(command: SendCommand) -> &'static str
+    ensures { result.now ≡ write_name command }
+{
+    match command {
+        SendCommand::Insert => INSERT,
+        SendCommand::Update => UPDATE,
+        SendCommand::Delete => DELETE,
+        SendCommand::FindAndModify => FIND_AND_MODIFY,
+        SendCommand::BulkWrite => BULK_WRITE,
+    }
+}
+
+fn push_placed(out: &mut String, body: &SendBody) -> Result<(), AllocError>
+    ensures { OnOk result
+        (string_bytes out.new ≡
+        string_bytes out.old ++ listed (map (λ write. place_text write.place) (body_writes body.now))) }
+{
+    match body {
+        SendBody::Write { writes, .. } => push_places(out, writes.as_slice()),
+        _ => push_places(out, &[]),
+    }
+}
+
+#[tactic(auto, unfolding(crate::specs::Lines::send_line))]
+fn push_send(out: &mut String, at: usize, send: &Send) -> Result<(), AllocError>
+    ensures { OnOk result (string_bytes out.new ≡ string_bytes out.old ++ send_line at send.now) }
+{
+    let command = name_of_command(&send.body);
+    write!(out, "send {at}: {command} session=")?;
+    push_session(out, &send.session)?;
+    out.push_str(" number=")?;
+    push_number(out, send.number)?;
+    out.push_str(" places=")?;
+    push_placed(out, &send.body)?;
+    out.push_str("\n")
+}
+
+/// The lines of sends.
+#[tactic(auto, unfolding(crate::specs::Lines::send_lines))]
+pub(crate) fn push_sends(out: &mut String, sends: &[Send]) -> Result<(), AllocError>
+    ensures { OnOk result (string_bytes out.new ≡ string_bytes out.old ++ send_lines 0 sends.now) }
+{
+    for (at, send) in sends.iter().enumerate() {
+        push_send(out, at, send)?;
+    }
+    Ok(())
+}
+
+#[tactic(auto, unfolding(crate::specs::Lines::entry_line))]
+fn push_entry(out: &mut String, at: usize, entry: &Entry) -> Result<(), AllocError>
+    ensures { OnOk result (string_bytes out.new ≡ string_bytes out.old ++ entry_line at entry.now) }
+{
+    write!(out, "entry {at}: ")?;
+    push_place(out, &entry.place)?;
+    out.push_str(" session=")?;
+    push_session(out, &entry.session)?;
+    out.push_str(" number=")?;
+    push_number(out, entry.number)?;
+    let count = entry.result.n;
+    write!(out, " n={count}\n")?;
+    Ok(())
+}
+
+/// The lines of a log.
+#[tactic(auto, unfolding(crate::specs::Lines::entry_lines))]
+pub(crate) fn push_entries(out: &mut String, entries: &[Entry]) -> Result<(), AllocError>
+    ensures { OnOk result (string_bytes out.new ≡ string_bytes out.old ++ entry_lines 0 entries.now) }
+{
+    for (at, entry) in entries.iter().enumerate() {
+        push_entry(out, at, entry)?;
+    }
+    Ok(())
+}

@@ -1,0 +1,33 @@
+//! What a run of a script leaves.
+ghost use Rattle.std.specs.Prelude.{◌≡◌, None};
+
+use bson_lite::List;
+use driver_actions::Outcome;
+use driver_exec::Client;
+use driver_link::CountingIds;
+use driver_script::Script;
+use driver_session::PlainStore;
+use model_server::ModelServer;
+
+/// The script of a run, the outcomes of its calls, its client and its server, where it has come so far.
+#[derive(Drop)]
+pub struct Run {
+    pub script: Option<Script>,
+    pub outcomes: Option<List<Outcome>>,
+    pub client: Option<Client<PlainStore<CountingIds>>>,
+    pub server: Option<ModelServer>,
+}
+
+impl Run {
+    /// A run that has not begun. It takes no memory.
+    pub fn new() -> Run
+        ensures { result ≡ record { script = None; outcomes = None; client = None; server = None } }
+    {
+        Run {
+            script: None,
+            outcomes: None,
+            client: None,
+            server: None,
+        }
+    }
+}

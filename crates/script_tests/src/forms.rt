@@ -1,0 +1,256 @@
+//! Which calls, options and served steps a script may have.
+use crate::scripts::ran;
+use std::alloc::{AllocError, Global};
+use std::test::Fail;
+
+const CALLS: [&str; 20] = [
+    "{\"insertOne\":{\"doc\":[],\"ns\":\"a.b\"}}",
+    "{\"insertOne\":{\"ns\":\"a.b\",\"doc\":[],\"writeConcern\":{},\"comment\":{\"array\":[null]}}}",
+    "{\"updateOne\":{\"ns\":\"a.b\",\"filter\":[],\"update\":[]}}",
+    "{\"updateOne\":{\"ns\":\"a.b\",\"filter\":[],\"update\":[],\"upsert\":true,\"writeConcern\":{\"w\":1},\"comment\":null}}",
+    "{\"updateOne\":{\"ns\":\"a.b\",\"filter\":[],\"update\":{\"pipeline\":[]},\"upsert\":false}}",
+    "{\"updateMany\":{\"ns\":\"a.b\",\"filter\":[],\"update\":{\"pipeline\":[[],[[\"$unset\",\"x\"]]]},\"upsert\":true}}",
+    "{\"replaceOne\":{\"ns\":\"a.b\",\"filter\":[],\"doc\":[]}}",
+    "{\"replaceOne\":{\"ns\":\"a.b\",\"filter\":[],\"doc\":[],\"upsert\":true,\"comment\":1,\"writeConcern\":{}}}",
+    "{\"deleteOne\":{\"ns\":[\"a\",\"b\"],\"filter\":[]}}",
+    "{\"deleteOne\":{\"ns\":\"a.b\",\"filter\":[],\"comment\":null,\"writeConcern\":{}}}",
+    "{\"deleteMany\":{\"ns\":\"a.b\",\"filter\":[[\"x\",{\"oid\":\"000000000000000000000001\"}]]}}",
+    "{\"deleteMany\":{\"ns\":\"a.b\",\"filter\":[],\"writeConcern\":{\"w\":0,\"wtimeout\":0,\"j\":false}}}",
+    "{\"deleteOne\":{\"ns\":\"a.b\",\"filter\":[],\"writeConcern\":{\"w\":4294967295}}}",
+    "{\"deleteOne\":{\"ns\":\"a.b\",\"filter\":[],\"writeConcern\":{\"w\":\"majority\"}}}",
+    "{\"deleteOne\":{\"ns\":\"a.b\",\"filter\":[],\"writeConcern\":{\"w\":\"\"}}}",
+    "{\"deleteOne\":{\"ns\":\"a.b\",\"filter\":[],\"writeConcern\":{\"w\":\"3\"}}}",
+    "{\"deleteOne\":{\"ns\":\"a.b\",\"filter\":[],\"writeConcern\":{\"wtimeout\":4294967295}}}",
+    "{\"deleteOne\":{\"ns\":\"a.b\",\"filter\":[],\"writeConcern\":{\"j\":true}}}",
+    "{\"deleteOne\":{\"ns\":\"a.b\",\"filter\":[],\"comment\":false}}",
+    "{\"deleteOne\":{\"ns\":\"a.b\",\"filter\":[],\"comment\":{\"doc\":[]}}}",
+];
+
+const NO_CALLS: [&str; 55] = [
+    "{}",
+    "[]",
+    "\"deleteOne\"",
+    "{\"DeleteOne\":{\"ns\":\"a.b\",\"filter\":[]}}",
+    "{\"findOneAndDelete\":{\"ns\":\"a.b\",\"filter\":[]}}",
+    "{\"insertMany\":{\"ns\":\"a.b\",\"docs\":[[]]}}",
+    "{\"deleteOne\":{\"ns\":\"a.b\",\"filter\":[]},\"deleteMany\":{\"ns\":\"a.b\",\"filter\":[]}}",
+    "{\"deleteOne\":[]}",
+    "{\"deleteOne\":{}}",
+    "{\"deleteOne\":{\"ns\":\"a.b\"}}",
+    "{\"deleteOne\":{\"filter\":[]}}",
+    "{\"deleteOne\":{\"ns\":\"a.b\",\"filter\":{}}}",
+    "{\"deleteOne\":{\"ns\":\"a.b\",\"filter\":null}}",
+    "{\"deleteOne\":{\"ns\":\"a.b\",\"filter\":[],\"upsert\":true}}",
+    "{\"deleteOne\":{\"ns\":\"a.b\",\"filter\":[],\"session\":1}}",
+    "{\"deleteOne\":{\"ns\":\"a.b\",\"filter\":[],\"hint\":\"x\"}}",
+    "{\"deleteMany\":{\"ns\":\"a.b\"}}",
+    "{\"deleteMany\":{\"ns\":\"a.b\",\"filter\":[],\"upsert\":false}}",
+    "{\"deleteMany\":{\"ns\":\"a.b\",\"filter\":[],\"update\":[]}}",
+    "{\"insertOne\":{\"ns\":\"a.b\"}}",
+    "{\"insertOne\":{\"doc\":[]}}",
+    "{\"insertOne\":{\"ns\":\"a.b\",\"doc\":[],\"upsert\":true}}",
+    "{\"insertOne\":{\"ns\":\"a.b\",\"doc\":[],\"filter\":[]}}",
+    "{\"insertOne\":{\"ns\":\"a.b\",\"doc\":[],\"ordered\":true}}",
+    "{\"updateOne\":{\"ns\":\"a.b\",\"filter\":[]}}",
+    "{\"updateOne\":{\"ns\":\"a.b\",\"update\":[]}}",
+    "{\"updateOne\":{\"filter\":[],\"update\":[]}}",
+    "{\"updateOne\":{\"ns\":\"a.b\",\"filter\":[],\"doc\":[]}}",
+    "{\"updateOne\":{\"ns\":\"a.b\",\"filter\":[],\"update\":null}}",
+    "{\"updateOne\":{\"ns\":\"a.b\",\"filter\":[],\"update\":{}}}",
+    "{\"updateOne\":{\"ns\":\"a.b\",\"filter\":[],\"update\":{\"pipeline\":{}}}}",
+    "{\"updateOne\":{\"ns\":\"a.b\",\"filter\":[],\"update\":{\"pipeline\":[{}]}}}",
+    "{\"updateOne\":{\"ns\":\"a.b\",\"filter\":[],\"update\":{\"pipeline\":[],\"more\":1}}}",
+    "{\"updateOne\":{\"ns\":\"a.b\",\"filter\":[],\"update\":{\"doc\":[]}}}",
+    "{\"updateOne\":{\"ns\":\"a.b\",\"filter\":[],\"update\":[],\"upsert\":null}}",
+    "{\"updateOne\":{\"ns\":\"a.b\",\"filter\":[],\"update\":[],\"upsert\":1}}",
+    "{\"updateMany\":{\"ns\":\"a.b\",\"filter\":[],\"update\":[],\"doc\":[]}}",
+    "{\"updateMany\":{\"ns\":\"a.b\",\"filter\":[],\"update\":[],\"multi\":true}}",
+    "{\"updateMany\":{\"ns\":\"ab\",\"filter\":[],\"update\":[]}}",
+    "{\"replaceOne\":{\"ns\":\"a.b\",\"filter\":[]}}",
+    "{\"replaceOne\":{\"ns\":\"a.b\",\"filter\":[],\"update\":[]}}",
+    "{\"replaceOne\":{\"ns\":\"a.b\",\"filter\":[],\"doc\":{\"pipeline\":[]}}}",
+    "{\"replaceOne\":{\"ns\":\"a.b\",\"filter\":[],\"doc\":[],\"upsert\":\"true\"}}",
+    "{\"deleteOne\":{\"ns\":\"a.b\",\"filter\":[],\"comment\":[]}}",
+    "{\"deleteOne\":{\"ns\":\"a.b\",\"filter\":[],\"comment\":1.5}}",
+    "{\"deleteOne\":{\"ns\":\"a.b\",\"filter\":[],\"writeConcern\":null}}",
+    "{\"deleteOne\":{\"ns\":\"a.b\",\"filter\":[],\"writeConcern\":1}}",
+    "{\"deleteOne\":{\"ns\":\"a.b\",\"filter\":[],\"writeConcern\":{\"w\":-1}}}",
+    "{\"deleteOne\":{\"ns\":\"a.b\",\"filter\":[],\"writeConcern\":{\"w\":4294967296}}}",
+    "{\"deleteOne\":{\"ns\":\"a.b\",\"filter\":[],\"writeConcern\":{\"w\":1.0}}}",
+    "{\"deleteOne\":{\"ns\":\"a.b\",\"filter\":[],\"writeConcern\":{\"w\":null}}}",
+    "{\"deleteOne\":{\"ns\":\"a.b\",\"filter\":[],\"writeConcern\":{\"wtimeout\":4294967296}}}",
+    "{\"deleteOne\":{\"ns\":\"a.b\",\"filter\":[],\"writeConcern\":{\"wtimeout\":\"1\"}}}",
+    "{\"deleteOne\":{\"ns\":\"a.b\",\"filter\":[],\"writeConcern\":{\"j\":1}}}",
+    "{\"deleteOne\":{\"ns\":\"a.b\",\"filter\":[],\"writeConcern\":{\"journal\":true}}}",
+];
+
+const OPTIONS: [&str; 9] = [
+    "{}",
+    "{\"retryWrites\":true}",
+    "{\"retryWrites\":false}",
+    "{\"writeConcern\":{}}",
+    "{\"writeConcern\":{\"w\":\"majority\",\"j\":true,\"wtimeout\":1}}",
+    "{\"readConcern\":\"majority\"}",
+    "{\"readConcern\":\"snapshot\"}",
+    "{\"readConcern\":\"any\"}",
+    "{\"readConcern\":\"local\",\"writeConcern\":{\"w\":1},\"retryWrites\":true}",
+];
+
+const NO_OPTIONS: [&str; 12] = [
+    "null",
+    "[]",
+    "\"retryWrites\"",
+    "{\"retryWrites\":null}",
+    "{\"retryWrites\":1}",
+    "{\"writeConcern\":\"majority\"}",
+    "{\"writeConcern\":{\"w\":true}}",
+    "{\"readConcern\":{\"level\":\"local\"}}",
+    "{\"readConcern\":null}",
+    "{\"readPreference\":\"primary\"}",
+    "{\"RetryWrites\":true}",
+    "{\"clientNumber\":1}",
+];
+
+const SERVED: [&str; 14] = [
+    "{}",
+    "{\"results\":[]}",
+    "{\"results\":[{}]}",
+    "{\"results\":[{\"n\":0},{\"modified\":0}]}",
+    "{\"results\":[{\"n\":4294967295,\"modified\":4294967295}]}",
+    "{\"results\":[{\"upserted\":null}]}",
+    "{\"results\":[{\"upserted\":{\"doc\":[[\"a\",{\"array\":[1]}]]},\"value\":[]}]}",
+    "{\"results\":[{\"value\":[[\"a\",\"b\\u0000\"]]}]}",
+    "{\"fail\":[]}",
+    "{\"fail\":[[0,11000],[0,1],[18446744073709551615,-2147483648]]}",
+    "{\"fail\":[[7,2147483647]]}",
+    "{\"writeConcernError\":{\"code\":64,\"message\":\"\"}}",
+    "{\"writeConcernError\":{\"message\":\"x\",\"code\":390}}",
+    "{\"fail\":[[0,392]],\"results\":[{\"n\":1}],\"writeConcernError\":{\"code\":1,\"message\":\"x\"}}",
+];
+
+const NOT_SERVED: [&str; 41] = [
+    "null",
+    "[]",
+    "\"serve\"",
+    "{\"page\":1}",
+    "{\"results\":null}",
+    "{\"results\":{}}",
+    "{\"results\":[1]}",
+    "{\"results\":[[]]}",
+    "{\"results\":[{\"more\":1}]}",
+    "{\"results\":[{\"n\":-1}]}",
+    "{\"results\":[{\"n\":4294967296}]}",
+    "{\"results\":[{\"n\":1.0}]}",
+    "{\"results\":[{\"n\":null}]}",
+    "{\"results\":[{\"modified\":-1}]}",
+    "{\"results\":[{\"modified\":4294967296}]}",
+    "{\"results\":[{\"modified\":\"1\"}]}",
+    "{\"results\":[{\"upserted\":[]}]}",
+    "{\"results\":[{\"upserted\":1.5}]}",
+    "{\"results\":[{\"upserted\":{\"doc\":[[\"a\\u0000\",1]]}}]}",
+    "{\"results\":[{\"upserted\":{\"array\":[{\"doc\":[[\"\\u0000\",1]]}]}}]}",
+    "{\"results\":[{\"value\":null}]}",
+    "{\"results\":[{\"value\":{}}]}",
+    "{\"results\":[{\"value\":{\"doc\":[]}}]}",
+    "{\"results\":[{\"value\":[[\"a\\u0000b\",1]]}]}",
+    "{\"results\":[{},{\"value\":[[\"a\",{\"doc\":[[\"\\u0000\",1]]}]]}]}",
+    "{\"fail\":null}",
+    "{\"fail\":[0,1]}",
+    "{\"fail\":[[]]}",
+    "{\"fail\":[[0]]}",
+    "{\"fail\":[[0,1,2]]}",
+    "{\"fail\":[[-1,1]]}",
+    "{\"fail\":[[0,2147483648]]}",
+    "{\"fail\":[[0,\"1\"]]}",
+    "{\"fail\":[[0,1],[1,391]]}",
+    "{\"fail\":[{\"at\":0,\"code\":1}]}",
+    "{\"writeConcernError\":null}",
+    "{\"writeConcernError\":{\"code\":64}}",
+    "{\"writeConcernError\":{\"message\":\"x\"}}",
+    "{\"writeConcernError\":{\"code\":64,\"message\":\"x\",\"more\":1}}",
+    "{\"writeConcernError\":{\"code\":64,\"message\":1}}",
+    "{\"writeConcernError\":{\"code\":391,\"message\":\"x\"}}",
+];
+
+/// What stands around a form in its script.
+struct Around {
+    before: &'static str,
+    behind: &'static str,
+}
+
+/// Whether the script of a form has the status. One that is not read is refused as a whole.
+fn has_status(alloc: Global, form: &str, around: &Around, status: u8) -> Result<bool, AllocError> {
+    let mut script = String::new(alloc);
+    script.push_str(around.before)?;
+    script.push_str(form)?;
+    script.push_str(around.behind)?;
+    let (found, text) = ran(alloc, script.as_str(), None, 1000)?;
+    let refused = text.as_slice() == "script refused at $\n".as_bytes();
+    Ok(found == status && refused == (status == 3))
+}
+
+fn have_status(
+    alloc: Global,
+    forms: &[&str],
+    around: &Around,
+    status: u8,
+) -> Result<bool, AllocError> {
+    for form in forms {
+        if !has_status(alloc, form, around, status)? {
+            return Ok(false);
+        }
+    }
+    Ok(true)
+}
+
+/// A script of one call, of options alone, and of one served step.
+const AROUND_CALL: Around = Around {
+    before: "{\"calls\":[",
+    behind: "]}",
+};
+
+const AROUND_OPTIONS: Around = Around {
+    before: "{\"calls\":[],\"options\":",
+    behind: "}",
+};
+
+const AROUND_SERVED: Around = Around {
+    before: "{\"calls\":[],\"schedule\":[{\"serve\":",
+    behind: "}]}",
+};
+
+#[test]
+fn calls_are_read(rt: HostRuntime) -> Result<(), Fail> {
+    assert!(rt; have_status(rt.alloc(), &CALLS, &AROUND_CALL, 0)?);
+    Ok(())
+}
+
+#[test]
+fn other_calls_are_refused(rt: HostRuntime) -> Result<(), Fail> {
+    assert!(rt; have_status(rt.alloc(), &NO_CALLS, &AROUND_CALL, 3)?);
+    Ok(())
+}
+
+#[test]
+fn options_are_read(rt: HostRuntime) -> Result<(), Fail> {
+    assert!(rt; have_status(rt.alloc(), &OPTIONS, &AROUND_OPTIONS, 0)?);
+    Ok(())
+}
+
+#[test]
+fn other_options_are_refused(rt: HostRuntime) -> Result<(), Fail> {
+    assert!(rt; have_status(rt.alloc(), &NO_OPTIONS, &AROUND_OPTIONS, 3)?);
+    Ok(())
+}
+
+#[test]
+fn served_steps_are_read(rt: HostRuntime) -> Result<(), Fail> {
+    assert!(rt; have_status(rt.alloc(), &SERVED, &AROUND_SERVED, 0)?);
+    Ok(())
+}
+
+#[test]
+fn other_served_steps_are_refused(rt: HostRuntime) -> Result<(), Fail> {
+    assert!(rt; have_status(rt.alloc(), &NOT_SERVED, &AROUND_SERVED, 3)?);
+    Ok(())
+}

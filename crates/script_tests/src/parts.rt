@@ -1,0 +1,256 @@
+//! What is read of the options of a client, and of the parts of a call.
+use crate::schedules::script_in;
+use bson_lite::{Bson, Document, Namespace};
+use driver_actions::{Call, SingleWrite};
+use driver_link::{
+    Acknowledgment, ClientOptions, DeleteOptions, ReadConcern, ReadConcernLevel,
+    UpdateModifications, UpdateOptions, WriteConcern,
+};
+use std::alloc::{AllocError, Global};
+use std::test::Fail;
+
+/// A call as a script writes it.
+const CALLS: [&str; 6] = [
+    "{\"insertOne\":{\"ns\":\"shop.items.old\",\"doc\":[[\"d\",1]],\"writeConcern\":{\"w\":11},\"comment\":12}}",
+    "{\"updateOne\":{\"ns\":\"shop.items.old\",\"filter\":[[\"f\",2]],\"update\":[[\"$set\",3]],\"upsert\":true,\"writeConcern\":{\"w\":11},\"comment\":12}}",
+    "{\"updateMany\":{\"ns\":\"shop.items.old\",\"filter\":[[\"f\",2]],\"update\":{\"pipeline\":[[[\"$set\",3]],[]]},\"upsert\":false,\"writeConcern\":{\"w\":11},\"comment\":12}}",
+    "{\"replaceOne\":{\"ns\":\"shop.items.old\",\"filter\":[[\"f\",2]],\"doc\":[[\"d\",1]],\"writeConcern\":{\"w\":11},\"comment\":12}}",
+    "{\"deleteOne\":{\"ns\":[\"shop\",\"items.old\"],\"filter\":[[\"f\",2]],\"writeConcern\":{\"w\":11},\"comment\":12}}",
+    "{\"deleteMany\":{\"ns\":\"shop.items.old\",\"filter\":[[\"f\",2]],\"writeConcern\":{\"w\":11},\"comment\":12}}",
+];
+
+/// The levels of read concerns that are known.
+const LEVELS: [&str; 5] = ["local", "majority", "linearizable", "available", "snapshot"];
+
+/// Whether a document has this one field.
+fn has_one(document: &Document, key: &str, value: i32) -> bool {
+    match document.get(key) {
+        Some(Bson::Int32(number)) => *number == value && document.len() == 1,
+        _ => false,
+    }
+}
+
+fn is_namespace(namespace: &Namespace) -> bool {
+    namespace.db.as_str() == "shop" && namespace.coll.as_str() == "items.old"
+}
+
+/// Whether a write concern asks for so many servers, and for nothing else.
+fn asks_for(concern: &Option<WriteConcern>, servers: u32) -> bool {
+    match concern {
+        Some(concern) => {
+            is_number(&concern.w, servers)
+                && concern.w_timeout.is_none()
+                && concern.journal.is_none()
+        }
+        None => false,
+    }
+}
+
+fn is_number(w: &Option<Acknowledgment>, servers: u32) -> bool {
+    matches!(w, Some(Acknowledgment::Nodes(count)) if *count == servers)
+}
+
+/// Whether the two options are read that each write may have.
+fn are_shared(concern: &Option<WriteConcern>, comment: &Option<Bson>) -> bool {
+    asks_for(concern, 11) && matches!(comment, Some(Bson::Int32(12)))
+}
+
+/// Whether an update has its two shared options, this `upsert`, and no other option.
+fn are_update_options(options: &UpdateOptions, upsert: Option<bool>) -> bool {
+    are_shared(&options.write_concern, &options.comment)
+        && options.upsert == upsert
+        && options.array_filters.is_none()
+        && options.hint.is_none()
+        && options.collation.is_none()
+        && options.bypass_document_validation.is_none()
+        && options.let_vars.is_none()
+        && options.sort.is_none()
+}
+
+/// Whether a delete has its two shared options, and no other.
+fn are_delete_options(options: &DeleteOptions) -> bool {
+    are_shared(&options.write_concern, &options.comment)
+        && options.collation.is_none()
+        && options.hint.is_none()
+        && options.let_vars.is_none()
+}
+
+/// Whether an update is one document of operators.
+fn is_document(update: &UpdateModifications) -> bool {
+    match update {
+        UpdateModifications::Document(document) => has_one(document, "$set", 3),
+        UpdateModifications::Pipeline(_) => false,
+    }
+}
+
+/// Whether an update is a pipeline of two stages.
+fn is_pipeline(update: &UpdateModifications) -> bool {
+    match update {
+        UpdateModifications::Document(_) => false,
+        UpdateModifications::Pipeline(stages) => match stages.as_slice() {
+            [first, second] => has_one(first, "$set", 3) && second.is_empty(),
+            _ => false,
+        },
+    }
+}
+
+/// Which of the calls a write is, with all its parts as they were written.
+fn is_call(write: &SingleWrite, number: usize) -> bool {
+    match write {
+        SingleWrite::InsertOne {
+            namespace,
+            document,
+            options,
+        } => {
+            number == 0
+                && is_namespace(namespace)
+                && has_one(document, "d", 1)
+                && are_shared(&options.write_concern, &options.comment)
+                && options.ordered.is_none()
+                && options.bypass_document_validation.is_none()
+        }
+        SingleWrite::UpdateOne {
+            namespace,
+            filter,
+            update,
+            options,
+        } => {
+            number == 1
+                && is_namespace(namespace)
+                && has_one(filter, "f", 2)
+                && is_document(update)
+                && are_update_options(options, Some(true))
+        }
+        SingleWrite::UpdateMany {
+            namespace,
+            filter,
+            update,
+            options,
+        } => {
+            number == 2
+                && is_namespace(namespace)
+                && has_one(filter, "f", 2)
+                && is_pipeline(update)
+                && are_update_options(options, Some(false))
+        }
+        SingleWrite::ReplaceOne {
+            namespace,
+            filter,
+            replacement,
+            options,
+        } => {
+            number == 3
+                && is_namespace(namespace)
+                && has_one(filter, "f", 2)
+                && has_one(replacement, "d", 1)
+                && are_update_options(options, None)
+        }
+        SingleWrite::DeleteOne {
+            namespace,
+            filter,
+            options,
+        } => {
+            number == 4
+                && is_namespace(namespace)
+                && has_one(filter, "f", 2)
+                && are_delete_options(options)
+        }
+        SingleWrite::DeleteMany {
+            namespace,
+            filter,
+            options,
+        } => {
+            number == 5
+                && is_namespace(namespace)
+                && has_one(filter, "f", 2)
+                && are_delete_options(options)
+        }
+    }
+}
+
+/// Whether this call, which has this number, is read with all its parts.
+fn is_read(alloc: Global, call: &str, number: usize) -> Result<bool, AllocError> {
+    let mut text = String::new(alloc);
+    text.push_str("{\"calls\":[")?;
+    text.push_str(call)?;
+    text.push_str("]}")?;
+    match script_in(alloc, text.as_str())? {
+        Some(script) => match script.calls.as_slice() {
+            [Call::Single { write }] => Ok(is_call(write, number)),
+            _ => Ok(false),
+        },
+        None => Ok(false),
+    }
+}
+
+fn is_level(concern: &ReadConcern, name: &str) -> bool {
+    match &concern.level {
+        ReadConcernLevel::Local => name == "local",
+        ReadConcernLevel::Majority => name == "majority",
+        ReadConcernLevel::Linearizable => name == "linearizable",
+        ReadConcernLevel::Available => name == "available",
+        ReadConcernLevel::Snapshot => name == "snapshot",
+        ReadConcernLevel::Custom(text) => name == "own" && text.as_str() == "own",
+    }
+}
+
+/// Whether a client's options are those of the test, with this level of read concern.
+fn are_options(options: &ClientOptions, level: &str) -> bool {
+    let concern = match &options.write_concern {
+        Some(concern) => {
+            is_number(&concern.w, 7)
+                && concern.w_timeout == Some(8)
+                && concern.journal == Some(true)
+        }
+        None => false,
+    };
+    let read = match &options.read_concern {
+        Some(concern) => is_level(concern, level),
+        None => false,
+    };
+    concern && read && options.retry_writes == Some(false) && options.client_number == 1
+}
+
+/// Whether the options of a client are read with this level of read concern.
+fn is_level_read(alloc: Global, level: &str) -> Result<bool, AllocError> {
+    let mut text = String::new(alloc);
+    text.push_str("{\"calls\":[],\"options\":{\"readConcern\":\"")?;
+    text.push_str(level)?;
+    text.push_str(
+        "\",\"writeConcern\":{\"j\":true,\"wtimeout\":8,\"w\":7},\"retryWrites\":false}}",
+    )?;
+    match script_in(alloc, text.as_str())? {
+        Some(script) => Ok(are_options(&script.options, level)),
+        None => Ok(false),
+    }
+}
+
+fn all_levels_are_read(alloc: Global) -> Result<bool, AllocError> {
+    for level in LEVELS.iter() {
+        if !is_level_read(alloc, level)? {
+            return Ok(false);
+        }
+    }
+    is_level_read(alloc, "own")
+}
+
+fn all_calls_are_read(alloc: Global) -> Result<bool, AllocError> {
+    for (number, call) in CALLS.iter().enumerate() {
+        if !is_read(alloc, call, number)? {
+            return Ok(false);
+        }
+    }
+    Ok(true)
+}
+
+#[test]
+fn the_parts_of_each_call_are_read(rt: HostRuntime) -> Result<(), Fail> {
+    assert!(rt; all_calls_are_read(rt.alloc())?);
+    Ok(())
+}
+
+#[test]
+fn the_options_of_a_client_are_read(rt: HostRuntime) -> Result<(), Fail> {
+    assert!(rt; all_levels_are_read(rt.alloc())?);
+    Ok(())
+}
