@@ -1,10 +1,11 @@
 #!/usr/bin/env python3
-"""Times the program on scripts of 1,000, 3,000 and 10,000 calls of insertOne.
+"""Times the program on scripts of 1,000, 3,000 and 10,000 calls: inserts, and a mix of the six single writes.
 
 Builds `driver_cli` as the merge gate does, by `rt run` (LLVM, the default level of optimization), runs it
 several times on each script, and prints the median of the wall times and of the processor times, the latter
 over that of the smallest script, the peak memory, and, where valgrind is installed, the instructions of one run,
-in millions and over those of the smallest script. A second table is of schedules that lose every fifth exchange.
+in millions and over those of the smallest script. A second table is of schedules that lose every fifth exchange, a
+third of the mix, and a last one of scripts of one kind each, by the instructions of a call over those of an insert.
 
 Usage: python3 bench/program.py [RUNS]      (Linux: it reads /proc)
 """
@@ -26,14 +27,26 @@ COUNTS = (1_000, 3_000, 10_000)
 LOST_EVERY = 5
 
 
-def script(calls, lost_every):
-    """A script of so many inserts, which loses each exchange of that place, or none where it is None."""
-    asked = {
-        "calls": [
-            {"insertOne": {"ns": "shop.items", "doc": [["x", at], ["name", f"item {at}"]]}}
-            for at in range(calls)
-        ]
-    }
+KINDS = ("insertOne", "updateOne", "updateMany", "replaceOne", "deleteOne", "deleteMany")
+
+
+def call(kind, at):
+    """A call of this kind: a document of two fields, a filter of one field, an update of one `$set`."""
+    document = [["x", at], ["name", f"item {at}"]]
+    if kind == "insertOne":
+        return {kind: {"ns": "shop.items", "doc": document}}
+    asked = {"ns": "shop.items", "filter": [["x", at]]}
+    if kind == "replaceOne":
+        asked["doc"] = document
+    if kind in ("updateOne", "updateMany"):
+        asked["update"] = [["$set", {"doc": [["y", at]]}]]
+    return {kind: asked}
+
+
+def script(calls, lost_every, kinds):
+    """A script of so many calls, of these kinds in turn, which loses each exchange of that place, or none where it is
+    None."""
+    asked = {"calls": [call(kinds[at % len(kinds)], at) for at in range(calls)]}
     if lost_every is not None:
         sends = calls + calls // (lost_every - 1)
         asked["schedule"] = [
@@ -99,7 +112,7 @@ def counted(count, smallest):
     return f"{count / 1e6:>8.1f} {count / smallest:>6.2f}"
 
 
-def table(title, folder, runs, lost_every=None):
+def table(title, folder, runs, lost_every=None, kinds=KINDS[:1]):
     print(f"{title}: median of {runs} runs")
     print(
         f"{'calls':>7} {'bytes':>8} {'wall ms':>8} {'cpu ms':>8} {'ratio':>6} {'MiB':>6} {'M instr':>8} {'ratio':>6}"
@@ -109,7 +122,7 @@ def table(title, folder, runs, lost_every=None):
     for calls in COUNTS:
         path = os.path.join(folder, f"{calls}.json")
         with open(path, "w", encoding="utf-8") as out:
-            out.write(script(calls, lost_every))
+            out.write(script(calls, lost_every, kinds))
         timed(path)
         measured = [timed(path) for _ in range(runs)]
         wall = statistics.median(wall for wall, _, _ in measured)
@@ -125,12 +138,39 @@ def table(title, folder, runs, lost_every=None):
     print()
 
 
+def of_one_kind(kind, folder):
+    """The instructions of one call of a kind: of 10,000 calls over those of 1,000."""
+    counts = []
+    for calls in (COUNTS[0], COUNTS[-1]):
+        path = os.path.join(folder, f"{kind}{calls}.json")
+        with open(path, "w", encoding="utf-8") as out:
+            out.write(script(calls, None, (kind,)))
+        counts.append(instructions(path))
+    if None in counts:
+        return None
+    return (counts[1] - counts[0]) / (COUNTS[-1] - COUNTS[0])
+
+
+def kinds_table(folder):
+    print("a call of each kind, each exchange served")
+    print(f"{'call':>10} {'instr':>8} {'ratio':>6}")
+    insert = None
+    for kind in KINDS:
+        count = of_one_kind(kind, folder)
+        insert = insert or count
+        row = f"{'-':>8} {'-':>6}" if count is None else f"{count:>8.0f} {count / insert:>6.2f}"
+        print(f"{kind:>10} {row}")
+    print()
+
+
 def main():
     runs = int(sys.argv[1]) if len(sys.argv) > 1 else 9
     build()
     with tempfile.TemporaryDirectory() as folder:
         table("each exchange served", folder, runs)
         table(f"every {LOST_EVERY}th exchange lost", folder, runs, LOST_EVERY)
+        table("the six kinds in turn, each exchange served", folder, runs, None, KINDS)
+        kinds_table(folder)
 
 
 if __name__ == "__main__":
