@@ -1,0 +1,266 @@
+//! The examples: each script of the folder `examples` with the text that is printed on it.
+//! `scripts/check_examples.py` compares these constants with the files there.
+use crate::scripts::ran;
+use std::alloc::{AllocError, Global};
+use std::test::Fail;
+
+/// A script and its report.
+struct Row {
+    script: &'static str,
+    report: &'static str,
+}
+
+const LOST_REPLY: &str = r#"{
+  "calls": [
+    {"insertOne": {"ns": "shop.orders", "doc": [["item", "tea"], ["count", 2]]}},
+    {"updateOne": {"ns": "shop.stock", "filter": [["item", "tea"]], "update": [["$inc", {"doc": [["count", -2]]}]]}},
+    {"insertOne": {"ns": "shop.parcels", "doc": [["item", "tea"], ["count", 2]]}}
+  ],
+  "schedule": [
+    "serve",
+    "replyLost"
+  ]
+}
+"#;
+
+const REPORT_OF_LOST_REPLY: &str = "call 0 insertOne: ok id=000000000000000000000001
+call 1 updateOne: ok matched=1 modified=1 upserted=-
+call 2 insertOne: ok id=000000000000000000000002
+send 0: insert session=1 number=1 places=0.0
+send 1: update session=1 number=2 places=1.0
+send 2: update session=1 number=2 places=1.0
+send 3: insert session=2 number=1 places=2.0
+entry 0: 0.0 session=1 number=1 n=1
+entry 1: 1.0 session=1 number=2 n=1
+entry 2: 2.0 session=2 number=1 n=1
+ids: distinct
+waiting: 0
+totals: calls=3 ok=3 sends=4 entries=3
+";
+
+const LATE_ARRIVAL: &str = r#"{
+  "calls": [
+    {"updateOne": {"ns": "bank.accounts", "filter": [["owner", "ada"]], "update": [["$inc", {"doc": [["cents", -2500]]}]]}},
+    {"updateOne": {"ns": "bank.accounts", "filter": [["owner", "ben"]], "update": [["$inc", {"doc": [["cents", 2500]]}]]}}
+  ],
+  "schedule": [
+    "late",
+    "serve",
+    "late",
+    "lost"
+  ],
+  "late": [0, 1]
+}
+"#;
+
+const REPORT_OF_LATE_ARRIVAL: &str = "call 0 updateOne: ok matched=1 modified=1 upserted=-
+call 1 updateOne: err Io ConnectionReset labels=RetryableWriteError source=-
+send 0: update session=1 number=1 places=0.0
+send 1: update session=1 number=1 places=0.0
+send 2: update session=2 number=1 places=1.0
+send 3: update session=2 number=1 places=1.0
+entry 0: 0.0 session=1 number=1 n=1
+entry 1: 1.0 session=2 number=1 n=1
+ids: distinct
+waiting: 0
+totals: calls=2 ok=1 sends=4 entries=2
+";
+
+const TWO_FAILURES: &str = r#"{
+  "calls": [
+    {"insertOne": {"ns": "shop.orders", "doc": [["item", "salt"], ["count", 1]]}},
+    {"insertOne": {"ns": "shop.orders", "doc": [["item", "rice"], ["count", 3]]}}
+  ],
+  "schedule": [
+    "lost",
+    {"refused": {"code": 10107, "labels": ["NoWritesPerformed", "RetryableWriteError"]}},
+    "replyLost",
+    {"refused": {"code": 10107, "labels": ["RetryableWriteError"]}}
+  ]
+}
+"#;
+
+const REPORT_OF_TWO_FAILURES: &str =
+    "call 0 insertOne: err Io ConnectionReset labels=RetryableWriteError source=-
+call 1 insertOne: err Command 10107 labels=RetryableWriteError source=-
+send 0: insert session=1 number=1 places=0.0
+send 1: insert session=1 number=1 places=0.0
+send 2: insert session=2 number=1 places=1.0
+send 3: insert session=2 number=1 places=1.0
+entry 0: 1.0 session=2 number=1 n=1
+ids: distinct
+waiting: 0
+totals: calls=2 ok=0 sends=4 entries=1
+";
+
+const REFUSED_WRITE: &str = r#"{
+  "calls": [
+    {"insertOne": {"ns": "shop.orders", "doc": [["_id", 1001], ["item", "tea"]]}},
+    {"insertOne": {"ns": "shop.orders", "doc": [["_id", 1001], ["item", "salt"]]}},
+    {"deleteOne": {"ns": "shop.audit", "filter": [["order", 1001]]}}
+  ],
+  "schedule": [
+    "serve",
+    {"serve": {"fail": [[0, 11000]]}},
+    {"refused": {"code": 13, "labels": []}}
+  ]
+}
+"#;
+
+const REPORT_OF_REFUSED_WRITE: &str = "call 0 insertOne: ok id=1001
+call 1 insertOne: err Write WriteError 11000 labels=- source=-
+call 2 deleteOne: err Command 13 labels=- source=-
+send 0: insert session=1 number=1 places=0.0
+send 1: insert session=1 number=2 places=1.0
+send 2: delete session=1 number=3 places=2.0
+entry 0: 0.0 session=1 number=1 n=1
+ids: distinct
+waiting: 0
+totals: calls=3 ok=1 sends=3 entries=1
+";
+
+const REFUSED_INPUT: &str = r#"{
+  "calls": [
+    {"updateOne": {"ns": "shop.stock", "filter": [["item", "tea"]], "update": [["count", 5]]}},
+    {"replaceOne": {"ns": "shop.stock", "filter": [["item", "tea"]], "doc": [["$set", {"doc": [["count", 5]]}]]}},
+    {"updateOne": {"ns": "shop.stock", "filter": [["item", "tea"]], "update": [["$set", {"doc": [["count", 5]]}]]}}
+  ]
+}
+"#;
+
+const REPORT_OF_REFUSED_INPUT: &str =
+    "call 0 updateOne: err InvalidArgument update document must begin with an update operator labels=- source=-
+call 1 replaceOne: err InvalidArgument replacement document must not begin with an update operator labels=- source=-
+call 2 updateOne: ok matched=1 modified=1 upserted=-
+send 0: update session=1 number=1 places=2.0
+entry 0: 2.0 session=1 number=1 n=1
+ids: distinct
+waiting: 0
+totals: calls=3 ok=1 sends=1 entries=1
+";
+
+const UPSERT: &str = r#"{
+  "calls": [
+    {"updateOne": {"ns": "shop.carts", "filter": [["owner", "ada"]], "update": [["$inc", {"doc": [["items", 1]]}]], "upsert": true}},
+    {"updateOne": {"ns": "shop.carts", "filter": [["owner", "ada"]], "update": [["$inc", {"doc": [["items", 1]]}]], "upsert": true}}
+  ],
+  "schedule": [
+    {"serve": {"results": [{"n": 1, "modified": 0, "upserted": {"oid": "665f1c0de4b0a1b2c3d4e5f6"}}]}},
+    "serve"
+  ]
+}
+"#;
+
+const REPORT_OF_UPSERT: &str =
+    "call 0 updateOne: ok matched=0 modified=0 upserted=665f1c0de4b0a1b2c3d4e5f6
+call 1 updateOne: ok matched=1 modified=1 upserted=-
+send 0: update session=1 number=1 places=0.0
+send 1: update session=1 number=2 places=1.0
+entry 0: 0.0 session=1 number=1 n=1
+entry 1: 1.0 session=1 number=2 n=1
+ids: distinct
+waiting: 0
+totals: calls=2 ok=2 sends=2 entries=2
+";
+
+const MULTI_UPDATE: &str = r#"{
+  "calls": [
+    {"updateMany": {"ns": "shop.items", "filter": [["kind", "bread"]], "update": [["$inc", {"doc": [["price", 5]]}]]}},
+    {"updateMany": {"ns": "shop.items", "filter": [["kind", "tea"]], "update": [["$inc", {"doc": [["price", 5]]}]]}}
+  ],
+  "schedule": [
+    "lost",
+    "replyLost"
+  ]
+}
+"#;
+
+const REPORT_OF_MULTI_UPDATE: &str = "call 0 updateMany: err Io ConnectionReset labels=- source=-
+call 1 updateMany: err Io ConnectionReset labels=- source=-
+send 0: update session=1 number=- places=0.0
+send 1: update session=2 number=- places=1.0
+entry 0: 1.0 session=2 number=- n=1
+ids: distinct
+waiting: 0
+totals: calls=2 ok=0 sends=2 entries=1
+";
+
+const WRITE_CONCERN_ERROR: &str = r#"{
+  "calls": [
+    {"insertOne": {"ns": "bank.payments", "doc": [["cents", 2500]], "writeConcern": {"w": "majority", "wtimeout": 500}}},
+    {"updateOne": {"ns": "bank.accounts", "filter": [["owner", "ada"]], "update": [["$inc", {"doc": [["cents", -2500]]}]]}}
+  ],
+  "schedule": [
+    {"serve": {"writeConcernError": {"code": 64, "message": "waiting for replication timed out"}}},
+    "serve"
+  ]
+}
+"#;
+
+const REPORT_OF_WRITE_CONCERN_ERROR: &str =
+    "call 0 insertOne: err Write WriteConcernError 64 labels=- source=-
+call 1 updateOne: ok matched=1 modified=1 upserted=-
+send 0: insert session=1 number=1 places=0.0
+send 1: update session=1 number=2 places=1.0
+entry 0: 0.0 session=1 number=1 n=1
+entry 1: 1.0 session=1 number=2 n=1
+ids: distinct
+waiting: 0
+totals: calls=2 ok=1 sends=2 entries=2
+";
+
+const EXAMPLES: [Row; 8] = [
+    Row {
+        script: LOST_REPLY,
+        report: REPORT_OF_LOST_REPLY,
+    },
+    Row {
+        script: LATE_ARRIVAL,
+        report: REPORT_OF_LATE_ARRIVAL,
+    },
+    Row {
+        script: TWO_FAILURES,
+        report: REPORT_OF_TWO_FAILURES,
+    },
+    Row {
+        script: REFUSED_WRITE,
+        report: REPORT_OF_REFUSED_WRITE,
+    },
+    Row {
+        script: REFUSED_INPUT,
+        report: REPORT_OF_REFUSED_INPUT,
+    },
+    Row {
+        script: UPSERT,
+        report: REPORT_OF_UPSERT,
+    },
+    Row {
+        script: MULTI_UPDATE,
+        report: REPORT_OF_MULTI_UPDATE,
+    },
+    Row {
+        script: WRITE_CONCERN_ERROR,
+        report: REPORT_OF_WRITE_CONCERN_ERROR,
+    },
+];
+
+/// Whether the script of a row is reported as the row says.
+fn is_reported(alloc: Global, row: &Row) -> Result<bool, AllocError> {
+    let (status, text) = ran(alloc, row.script, None, 1000)?;
+    Ok(status == 0 && text.as_slice() == row.report.as_bytes())
+}
+
+fn are_reported(alloc: Global, rows: &[Row]) -> Result<bool, AllocError> {
+    for row in rows {
+        if !is_reported(alloc, row)? {
+            return Ok(false);
+        }
+    }
+    Ok(true)
+}
+
+#[test]
+fn examples_are_reported_as_their_texts_say(rt: HostRuntime) -> Result<(), Fail> {
+    assert!(rt; are_reported(rt.alloc(), &EXAMPLES)?);
+    Ok(())
+}
