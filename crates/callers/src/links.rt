@@ -1,0 +1,18 @@
+//! A caller of `driver_link`: a server that takes writes, selected over any link.
+ghost use Rattle.std.specs.Prelude.{◌≡◌};
+ghost use Rattle.driver_link.specs.Faults.{HasLinkCause};
+ghost use Rattle.driver_link.specs.LinkState.{GainsAnswer};
+
+use driver_link::{Address, Link, LinkError, ReadPreference, SelectionCriteria};
+use std::alloc::Global;
+
+/// The address of a server that takes writes. A fault comes only where the link's count of faults rose,
+/// an address is told among those that were selected, and no connection is checked out for it.
+pub fn primary<L: Link>(alloc: Global, link: &mut L) -> Result<Address, LinkError>
+    ensures cause { HasLinkCause (L.tells link.old).faults (L.tells link.new).faults result }
+    ensures told { GainsAnswer (L.tells link.old).addresses (L.tells link.new).addresses result }
+    ensures out { (L.tells link.new).out ≡ (L.tells link.old).out }
+{
+    let criteria = SelectionCriteria::ReadPreference(ReadPreference::Primary);
+    link.select(alloc, Some(&criteria), &[])
+}
