@@ -12,6 +12,7 @@ pub mod Exchange
 pub mod Failures
 pub mod FakeLink
 pub mod Faults
+pub mod FindOptions
 pub mod Framed
 pub mod Honesty
 pub mod Ids

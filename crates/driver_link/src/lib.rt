@@ -10,6 +10,7 @@ mod copy;
 pub mod counting_ids;
 pub mod fake_link;
 pub mod fault;
+mod find_options;
 pub mod frame;
 pub mod ids;
 pub mod keys;
@@ -19,6 +20,7 @@ pub mod machine;
 pub mod mem_clock;
 pub mod mem_stream;
 pub mod options;
+mod shared_options;
 pub mod stream;
 mod updates;
 mod write_options;
@@ -30,6 +32,10 @@ pub use concerns::{Acknowledgment, ReadConcern, ReadConcernLevel, WriteConcern};
 pub use counting_ids::{CountingIds, counting_ids_differ};
 pub use fake_link::{FakeLink, FakeStep, NotedConn};
 pub use fault::{Answered, LinkCall, LinkError, LinkFault};
+pub use find_options::{
+    FindAndModifyOptions, FindOneAndDeleteOptions, FindOneAndReplaceOptions,
+    FindOneAndUpdateOptions, ReturnDocument,
+};
 pub use frame::{Documents, Frame, Sequence};
 pub use ids::{IdKind, IdSource};
 pub use link::Link;
@@ -44,5 +50,5 @@ pub use options::{
     Address, Asked, ClientOptions, Conn, Description, ReadPreference, SelectionCriteria,
 };
 pub use stream::{Failed, Sink, Source};
-pub use updates::{Hint, UpdateModifications, UpdateOrReplace};
+pub use updates::{Hint, Modification, UpdateModifications, UpdateOrReplace};
 pub use write_options::{DeleteOptions, InsertManyOptions, UpdateOptions};

@@ -94,3 +94,21 @@ impl From<UpdateModifications> for UpdateOrReplace {
         UpdateOrReplace::UpdateModifications(modifications)
     }
 }
+
+/// What a findAndModify does to the document that it finds.
+#[derive(Debug, Drop)]
+pub enum Modification {
+    /// Takes it out.
+    Delete,
+    /// Changes it, or puts a whole document in its place.
+    Update(UpdateOrReplace),
+}
+
+impl TryClone for Modification {
+    fn try_clone(&self, alloc: Global) -> Result<Modification, AllocError> {
+        Ok(match self {
+            Modification::Delete => Modification::Delete,
+            Modification::Update(change) => Modification::Update(change.try_clone(alloc)?),
+        })
+    }
+}

@@ -1,6 +1,7 @@
 //! The options of writes. One that is not set is not sent, but for `ordered`, which is then true, and a concern,
 //! which is then the client's.
 use crate::concerns::WriteConcern;
+use crate::shared_options::{Beside, Finding, copy_beside, copy_finding};
 use crate::updates::Hint;
 use bson_lite::{Bson, Document, List, TryClone};
 use std::alloc::{AllocError, Global};
@@ -51,16 +52,29 @@ pub struct UpdateOptions {
 
 impl TryClone for UpdateOptions {
     fn try_clone(&self, alloc: Global) -> Result<UpdateOptions, AllocError> {
+        let array_filters = self.array_filters.try_clone(alloc)?;
+        let finding = copy_finding(alloc, &self.sort, &self.collation, &self.hint)?;
+        let beside = copy_beside(alloc, &self.let_vars, &self.comment, &self.write_concern)?;
+        let Finding {
+            sort,
+            collation,
+            hint,
+        } = finding;
+        let Beside {
+            let_vars,
+            comment,
+            write_concern,
+        } = beside;
         Ok(UpdateOptions {
             upsert: self.upsert,
-            array_filters: self.array_filters.try_clone(alloc)?,
-            hint: self.hint.try_clone(alloc)?,
-            collation: self.collation.try_clone(alloc)?,
+            array_filters,
+            hint,
+            collation,
             bypass_document_validation: self.bypass_document_validation,
-            let_vars: self.let_vars.try_clone(alloc)?,
-            comment: self.comment.try_clone(alloc)?,
-            sort: self.sort.try_clone(alloc)?,
-            write_concern: self.write_concern.try_clone(alloc)?,
+            let_vars,
+            comment,
+            sort,
+            write_concern,
         })
     }
 }
@@ -80,12 +94,20 @@ pub struct DeleteOptions {
 
 impl TryClone for DeleteOptions {
     fn try_clone(&self, alloc: Global) -> Result<DeleteOptions, AllocError> {
+        let collation = self.collation.try_clone(alloc)?;
+        let hint = self.hint.try_clone(alloc)?;
+        let beside = copy_beside(alloc, &self.let_vars, &self.comment, &self.write_concern)?;
+        let Beside {
+            let_vars,
+            comment,
+            write_concern,
+        } = beside;
         Ok(DeleteOptions {
-            collation: self.collation.try_clone(alloc)?,
-            hint: self.hint.try_clone(alloc)?,
-            let_vars: self.let_vars.try_clone(alloc)?,
-            comment: self.comment.try_clone(alloc)?,
-            write_concern: self.write_concern.try_clone(alloc)?,
+            collation,
+            hint,
+            let_vars,
+            comment,
+            write_concern,
         })
     }
 }

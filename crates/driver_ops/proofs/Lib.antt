@@ -1,4 +1,6 @@
 pub mod Entries
+pub mod FindLaw
+pub mod Finding
 pub mod Frames
 pub mod InsertLaw
 pub mod InsertReading

@@ -80,14 +80,14 @@ counted_natural (negsuc count) within = absurd (below count within)
     below count within = omega (arith, ints)
 
 -- nothing failed
-abbrev unfailed : FailedWrite
+abbrev pub unfailed : FailedWrite
 unfailed = record { failure = None; labels = [] }
 
 -- a write concern error that is told is a failure
 abbrev failed_of : Option WriteConcernError → List (List ℕ) → FailedWrite
 failed_of concern labels = record { failure = first_failure (Some []) concern; labels = labels }
 
-concern_is_failure : (found : Option WriteConcernError) (failed : FailedWrite)
+pub concern_is_failure : (found : Option WriteConcernError) (failed : FailedWrite)
     → option_and_then (λ concern. option_map (λ labels. failed_of concern labels) (Some [])) (option_map (λ error. Some error) found) ≡ Some failed → failed.failure ≡ None → ⊥
 concern_is_failure None failed read none = none_is_some failed read
 concern_is_failure (Some error) failed read none = none_is_some _ (sym none ∙ sym (ap (λ r. r.failure) (some_is_some _ failed read)))
@@ -260,7 +260,7 @@ module _ (asks : SendCommand) (server : Server) (send : Send) (step : Scheduled)
       (told.plan.page, (before.cursors, (told.statement, (alone, told.is ∙ ap (λ concern. write_reply asks told.plan.page concern before.cursors (write ∷ []) (told.statement ∷ [])) none))))
 
 -- the one statement of an exchange that is told counts so
-counts_one : (asks : SendCommand) (server : Server) (send : Send) (step : Scheduled) (write : PlacedWrite) (found : Reply) (one : IsOneCounted asks server send step write found)
+pub counts_one : (asks : SendCommand) (server : Server) (send : Send) (step : Scheduled) (write : PlacedWrite) (found : Reply) (one : IsOneCounted asks server send step write found)
     → one.alone.plan.concern ≡ None → CountsStatement server send step one.result
 counts_one asks server send step write found one none = record {
   done = one.done;

@@ -27,7 +27,7 @@ use Rattle.driver_ops.specs.declared.command.Command.{Command}
 use Rattle.driver_ops.specs.declared.option_keys.TheConstants.{BYPASS_DOCUMENT_VALIDATION, COMMENT, LET}
 use Rattle.driver_ops.specs.declared.target.OperationTarget.{OperationTarget}
 use Rattle.driver_ops.specs.Deleting.{delete_command, delete_statement}
-use Rattle.driver_ops.specs.Fields.{IsPlain, LacksAll, field}
+use Rattle.driver_ops.specs.Fields.{AreCommon, IsPlain, LacksAll, field}
 use Rattle.driver_ops.specs.OptionFields.{document_in, flag_of, option_field}
 use Rattle.driver_ops.specs.Operations.{CommandAsks, IsBuilt}
 use Rattle.driver_ops.specs.SendKinds.{SendKind}
@@ -171,16 +171,17 @@ delete_plain namespace statement options =
 
 -- a command of one statement asks for its write
 module _ (does : SendCommand) (change : WriteKind) (namespace : Namespace) (statement body : List (Pair Bson))
-    (asks_one : (fields : List (Pair Bson)) (place : Place) → asks namespace.db (body ++ fields) [] (place ∷ []) ≡ Some (Write does true (statement_write change namespace statement place ∷ [])))
+    (asks_one : (fields : List (Pair Bson)) → AreCommon fields → (place : Place)
+    → asks namespace.db (body ++ fields) [] (place ∷ []) ≡ Some (Write does true (statement_write change namespace statement place ∷ [])))
     (made : Command) (is : IsStatementCommand namespace body 1 made) where
-  asks_for : (places : List Place) (asked : SendBody) → AsksStatement does change namespace statement 1 places asked → CommandAsks made (take 1 places) asked
+  pub asks_for : (places : List Place) (asked : SendBody) → AsksStatement does change namespace statement 1 places asked → CommandAsks made (take 1 places) asked
   asks_for places asked told = record {
     sequences = [];
     spelled = subst (SpellSequences []) (sym is.sequences) tt;
-    asks = λ fields common. rw (is.database, is.body, told.alone, told.is) (asks_one fields told.place);
+    asks = λ fields common. rw (is.database, is.body, told.alone, told.is) (asks_one fields common told.place);
   }
 
-  within : (places : List Place) (asked : SendBody) → AsksStatement does change namespace statement 1 places asked → 1 ≤ length places
+  pub within : (places : List Place) (asked : SendBody) → AsksStatement does change namespace statement 1 places asked → 1 ≤ length places
   within places asked told = subst (λ found. 1 ≤ length found) (sym told.alone) (omega arith)
 
 -- such a command is an update's
@@ -196,8 +197,8 @@ built_update target filter change multi options made which is_name is =
       name = is_name;
       is = is;
       plain = subst IsPlain (sym is.body) (update_plain namespace statement options);
-      asks = asks_for command.Update kind.Update namespace statement body (asks_update namespace statement options) made is;
-      within = within command.Update kind.Update namespace statement body (asks_update namespace statement options) made is;
+      asks = asks_for command.Update kind.Update namespace statement body (λ fields common. asks_update namespace statement options fields) made is;
+      within = within command.Update kind.Update namespace statement body (λ fields common. asks_update namespace statement options fields) made is;
     }
 
 -- and such a one is a delete's
@@ -213,6 +214,6 @@ built_delete target filter multi options made which is_name is =
       name = is_name;
       is = is;
       plain = subst IsPlain (sym is.body) (delete_plain namespace statement options);
-      asks = asks_for command.Delete kind.Delete namespace statement body (asks_delete namespace statement options) made is;
-      within = within command.Delete kind.Delete namespace statement body (asks_delete namespace statement options) made is;
+      asks = asks_for command.Delete kind.Delete namespace statement body (λ fields common. asks_delete namespace statement options fields) made is;
+      within = within command.Delete kind.Delete namespace statement body (λ fields common. asks_delete namespace statement options fields) made is;
     }

@@ -1,6 +1,6 @@
 -- The texts of those keys that are constants of this crate.
 use Rattle.std.specs.Prelude.{◌≡◌, codes}
-use Rattle.driver_ops.specs.declared.option_keys.TheConstants.{ARRAY_FILTERS, BYPASS_DOCUMENT_VALIDATION, CHANGE, COLLATION, COMMENT, HINT, JOURNAL, LET, LIMIT, MAJORITY, MULTI, QUERY, SORT, UPSERT, W, W_TIMEOUT}
+use Rattle.driver_ops.specs.declared.option_keys.TheConstants.{ARRAY_FILTERS, BYPASS_DOCUMENT_VALIDATION, CHANGE, COLLATION, COMMENT, FIELDS, FIND_QUERY, HINT, JOURNAL, LET, LIMIT, MAJORITY, MAX_TIME, MULTI, NEW, QUERY, REMOVE, SORT, UPSERT, W, W_TIMEOUT}
 use Rattle.driver_ops.specs.declared.reply_fields.TheConstants.{BASE_BACKOFF, CODE_NAME}
 use Rattle.driver_ops.specs.declared.write_reply.TheConstants.{ERROR_INFO}
 
@@ -14,13 +14,18 @@ pub record HaveTexts : Type 0 where
   pub change : CHANGE.now ≡ codes "u"
   pub collation : COLLATION.now ≡ codes "collation"
   pub comment : COMMENT.now ≡ codes "comment"
+  pub fields : FIELDS.now ≡ codes "fields"
+  pub find_query : FIND_QUERY.now ≡ codes "query"
   pub hint : HINT.now ≡ codes "hint"
   pub journal : JOURNAL.now ≡ codes "j"
   pub let_vars : LET.now ≡ codes "let"
   pub limit : LIMIT.now ≡ codes "limit"
   pub majority : MAJORITY.now ≡ codes "majority"
+  pub max_time : MAX_TIME.now ≡ codes "maxTimeMS"
   pub multi : MULTI.now ≡ codes "multi"
+  pub new : NEW.now ≡ codes "new"
   pub query : QUERY.now ≡ codes "q"
+  pub remove : REMOVE.now ≡ codes "remove"
   pub sort : SORT.now ≡ codes "sort"
   pub upsert : UPSERT.now ≡ codes "upsert"
   pub w : W.now ≡ codes "w"

@@ -6,6 +6,9 @@ pub mod Deleting
 pub mod Encoding
 pub mod Features
 pub mod Fields
+pub mod FindLawful
+pub mod FindingAndModifying
+pub mod FoundAnswers
 pub mod InsertAnswers
 pub mod InsertLaw
 pub mod InsertLawful

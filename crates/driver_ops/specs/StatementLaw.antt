@@ -1,4 +1,4 @@
--- Where an update and a delete of one statement are read as done, over the model server's own reply to their send.
+-- Where an update, a delete and a findAndModify of one statement are read as done, over the model server's own reply to their send.
 use Rattle.std.specs.Prelude.{◌≡◌, ℕ, false, List, [], ◌∷◌, Option, None, Some, Ok, Err}
 use Rattle.bson_lite.specs.declared.bson.Bson.{Bson}
 use Rattle.bson_lite.specs.declared.document.Pair.{Pair}

@@ -1,11 +1,12 @@
--- What a command with one statement tells as an operation: an update, a delete.
-use Rattle.std.specs.Prelude.{◌≡◌, ℕ, Bool, true, false, List, [], ◌∷◌}
+-- What a command with one statement tells as an operation: an update, a delete, and a findAndModify, whose body is its statement.
+use Rattle.std.specs.Prelude.{◌≡◌, ℕ, Bool, true, false, List, [], ◌∷◌, Option}
 use Rattle.bson_lite.specs.declared.bson.Bson.{Bson}
 use Rattle.bson_lite.specs.declared.document.Pair.{Pair}
 use Rattle.bson_lite.specs.declared.namespace.Namespace.{Namespace}
 use Rattle.driver_error.specs.declared.results.DeleteResult.{DeleteResult}
 use Rattle.driver_error.specs.declared.results.UpdateResult.{UpdateResult}
 use Rattle.driver_link.specs.declared.command.CommandName.TheVariants as name
+use Rattle.driver_link.specs.declared.find_options.FindAndModifyOptions.{FindAndModifyOptions}
 use Rattle.driver_link.specs.declared.machine.Place.{Place}
 use Rattle.driver_link.specs.declared.machine.PlacedWrite.{PlacedWrite}
 use Rattle.driver_link.specs.declared.machine.SendBody.{SendBody}
@@ -15,6 +16,7 @@ use Rattle.driver_link.specs.declared.machine.SendCommand.TheVariants as command
 use Rattle.driver_link.specs.declared.machine.WriteKind.{WriteKind}
 use Rattle.driver_link.specs.declared.machine.WriteKind.TheVariants as kind
 use Rattle.driver_link.specs.declared.options.ClientOptions.{ClientOptions}
+use Rattle.driver_link.specs.declared.updates.Modification.{Modification}
 use Rattle.driver_link.specs.declared.updates.UpdateOrReplace.{UpdateOrReplace}
 use Rattle.driver_link.specs.declared.write_options.DeleteOptions.{DeleteOptions}
 use Rattle.driver_link.specs.declared.write_options.UpdateOptions.{UpdateOptions}
@@ -27,6 +29,8 @@ use Rattle.driver_ops.specs.declared.target.OperationTarget.{OperationTarget}
 use Rattle.driver_ops.specs.CountAnswers.{ReadsDelete, ReadsUpdate, TellsDelete, TellsUpdate}
 use Rattle.driver_ops.specs.Deleting.{delete_command, delete_statement}
 use Rattle.driver_ops.specs.Features.{feature_of}
+use Rattle.driver_ops.specs.FindingAndModifying.{find_command}
+use Rattle.driver_ops.specs.FoundAnswers.{ReadsFind, TellsFound}
 use Rattle.driver_ops.specs.InsertSpec.{ReadsAlone}
 use Rattle.driver_ops.specs.Operations.{OperationSpec, never}
 use Rattle.driver_ops.specs.Defaults.{is_repeatable, repeated_where}
@@ -96,4 +100,23 @@ delete_spec target filter multi options = record {
   after_cluster_time = true;
   reads = ReadsAlone ReadsDelete;
   output = TellsDelete;
+}
+
+-- and a findAndModify this
+abbrev pub find_spec : OperationTarget → List (Pair Bson) → Modification → FindAndModifyOptions → OperationSpec (Option (List (Pair Bson)))
+find_spec target filter modification options = record {
+  name = name.FindAndModify;
+  target = target;
+  commands = λ which. IsStatementCommand (namespace_of target) (find_command (namespace_of target) filter modification options);
+  bodies = AsksStatement command.FindAndModify kind.FindAndModify (namespace_of target) (find_command (namespace_of target) filter modification options);
+  refused = never;
+  write_concern = λ which. feature_of options.write_concern;
+  read_concern = NotSupported;
+  selection_criteria = λ which. Inherit;
+  sessions = true;
+  retryability = own_of_statement false;
+  backpressure = under_backpressure;
+  after_cluster_time = true;
+  reads = ReadsAlone ReadsFind;
+  output = TellsFound;
 }

@@ -49,7 +49,11 @@ fn acknowledgment_value(alloc: Global, w: &Acknowledgment) -> Result<Bson, Alloc
 }
 
 /// Appends a number where it is set.
-fn push_number(document: &mut Document, key: &str, number: Option<u32>) -> Result<(), AllocError>
+pub(crate) fn push_number(
+    document: &mut Document,
+    key: &str,
+    number: Option<u32>,
+) -> Result<(), AllocError>
     ensures { OnOk result (document.new ≡ document.old ++ option_field key.now (number_of number)) }
 {
     match number {

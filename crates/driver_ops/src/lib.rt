@@ -8,6 +8,7 @@ mod defaults;
 mod delete;
 mod failed_write;
 mod feature;
+mod find_and_modify;
 mod insert;
 pub mod laws;
 mod operation;
@@ -29,6 +30,7 @@ pub use defaults::{
 };
 pub use delete::{Delete, delete_body};
 pub use feature::Feature;
+pub use find_and_modify::{FindAndModify, find_and_modify_body};
 pub use insert::{Insert, insert_body};
 pub use operation::{Operation, Reading};
 pub use reply_fields::{BASE_BACKOFF, CODE_NAME};

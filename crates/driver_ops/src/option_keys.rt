@@ -8,6 +8,12 @@ pub const COLLATION: &str = "collation";
 
 pub const COMMENT: &str = "comment";
 
+/// Which fields of the document are answered.
+pub const FIELDS: &str = "fields";
+
+/// The filter of a findAndModify.
+pub const FIND_QUERY: &str = "query";
+
 pub const HINT: &str = "hint";
 
 /// Whether a write is acknowledged only once it stands in the servers' journals.
@@ -21,11 +27,20 @@ pub const LIMIT: &str = "limit";
 /// The acknowledgment by most of the servers that hold data.
 pub const MAJORITY: &str = "majority";
 
+/// How many milliseconds a server may take for a command.
+pub const MAX_TIME: &str = "maxTimeMS";
+
 /// Whether an update changes all of the documents found.
 pub const MULTI: &str = "multi";
 
+/// Whether a findAndModify answers the document after the change.
+pub const NEW: &str = "new";
+
 /// The filter of a statement.
 pub const QUERY: &str = "q";
+
+/// That a findAndModify takes the document out.
+pub const REMOVE: &str = "remove";
 
 pub const SORT: &str = "sort";
 

@@ -183,7 +183,10 @@ fn update_statement(
 }
 
 /// What an update does, as a value.
-fn change_value(alloc: Global, change: &UpdateOrReplace) -> std::result::Result<Bson, AllocError>
+pub(crate) fn change_value(
+    alloc: Global,
+    change: &UpdateOrReplace,
+) -> std::result::Result<Bson, AllocError>
     ensures { IfOk result (λ value. value ≡ change_value change.now) }
 {
     match change {

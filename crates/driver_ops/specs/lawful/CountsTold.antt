@@ -137,7 +137,7 @@ unfolding optional_value indexed_errors_of
 array_read value = ap (λ found. option_map (λ errors. Some errors) (option_and_then indexed_errors found)) (array_is (value ∷ []))
 
 -- a reply that tells of a write error is read as one of a write that failed
-errors_fail : (reply : Reply) (value : Bson) (failed : FailedWrite) → value_of WRITE_ERRORS.now reply ≡ Some (bson.Array (value ∷ [])) → failed_write_in reply ≡ Some failed
+pub errors_fail : (reply : Reply) (value : Bson) (failed : FailedWrite) → value_of WRITE_ERRORS.now reply ≡ Some (bson.Array (value ∷ [])) → failed_write_in reply ≡ Some failed
     → failed.failure ≡ None → ⊥
 unfolding failed_write_in write_errors_in
 errors_fail reply value failed at read none =
