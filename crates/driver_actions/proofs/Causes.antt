@@ -8,7 +8,7 @@ use Rattle.driver_error.specs.Error.{kind_of}
 use Rattle.driver_link.specs.declared.machine.Place.{Place}
 use Rattle.driver_link.specs.declared.machine.SendBody.{SendBody}
 use Rattle.driver_ops.specs.Operations.{OperationSpec}
-use Rattle.driver_ops.specs.StatementSpec.{delete_spec, update_spec}
+use Rattle.driver_ops.specs.StatementSpec.{delete_spec, find_spec, update_spec}
 use Rattle.driver_ops.specs.Targets.{in_collection}
 use Rattle.driver_exec.specs.Causes.{end_of, outline_of}
 use Rattle.driver_exec.specs.Moment.{Moment}
@@ -19,7 +19,7 @@ use Rattle.driver_actions.specs.declared.call.Call.TheVariants.{Single}
 use Rattle.driver_actions.specs.declared.call.SingleAnswer.{SingleAnswer}
 use Rattle.driver_actions.specs.declared.call.SingleWrite.{SingleWrite}
 use Rattle.driver_actions.specs.Causes.{BecomesEnd, EndsAsCaused, EndsEarly, HasCause, OperationCaused, RefusesFirst, WriteCaused}
-use Rattle.driver_actions.specs.Forms.{WriteForm, deletes, form_of, inserts, updates}
+use Rattle.driver_actions.specs.Forms.{WriteForm, deletes, finds, form_of, inserts, updates}
 use Rattle.driver_actions.specs.Inputs.{IsAccepted, TellsInput}
 use Rattle.driver_actions.specs.SingleCalls.{Made, Runs, Tells}
 use Rattle.driver_actions.specs.Singles.{BecomesSingle}
@@ -77,6 +77,9 @@ operation_caused before now (updates namespace filter change multi options) plac
 operation_caused before now (deletes namespace filter multi options) place result made =
     let run = made.runs in
     subst (λ moment. EndsAsCaused (delete_spec (in_collection namespace) filter multi options) moment now result) run.same (runs_caused _ run.ended result run.runs run.tells)
+operation_caused before now (finds namespace filter modification options) place result made =
+    let run = made.runs in
+    subst (λ moment. EndsAsCaused (find_spec (in_collection namespace) filter modification options) moment now result) run.same (runs_caused _ run.ended result run.runs run.tells)
 
 -- so did the write
 pub made_caused : (before now : Moment) (form : WriteForm) (place : Place) (result : Result SingleAnswer Error) → Made before now form place result → WriteCaused before now form result
@@ -118,6 +121,7 @@ module _ {A B : Type 0} (given : Result A Error) (result : Result B Error) (same
   }
   operation_same before now (updates namespace filter change multi options) caused = ends_same (update_spec (in_collection namespace) filter change multi options) before now caused
   operation_same before now (deletes namespace filter multi options) caused = ends_same (delete_spec (in_collection namespace) filter multi options) before now caused
+  operation_same before now (finds namespace filter modification options) caused = ends_same (find_spec (in_collection namespace) filter modification options) before now caused
 
 -- an early end as well
 early_same : {A B : Type 0} (before now : Moment) (form : WriteForm) (given : Result A Error) (result : Result B Error) → SameEnd given result → EndsEarly before now form given

@@ -30,9 +30,10 @@ use Rattle.driver_ops.specs.Fields.{SendContext, executor_fields}
 use Rattle.driver_ops.specs.InsertSpec.{insert_spec}
 use Rattle.driver_ops.specs.Operations.{HasNoSpelling, OperationSpec, ReadsAnswer, Refuses}
 use Rattle.driver_ops.specs.SendKinds.{SendKind, first}
-use Rattle.driver_ops.specs.StatementSpec.{delete_spec, update_spec}
+use Rattle.driver_ops.specs.StatementSpec.{delete_spec, find_spec, update_spec}
 use Rattle.driver_ops.specs.Operations.{batch_of}
 use Rattle.driver_ops.specs.Targets.{in_collection}
+use Rattle.driver_ops.proofs.FindLaw.{find_plain}
 use Rattle.driver_ops.proofs.InsertReading.{inserted_plain, plain_read}
 use Rattle.driver_ops.proofs.StatementLaw.{delete_plain, update_plain}
 use Rattle.driver_exec.specs.Attempting.{besides_out}
@@ -50,10 +51,10 @@ use Rattle.driver_actions.specs.declared.call.Call.{Call}
 use Rattle.driver_actions.specs.declared.call.Call.TheVariants.{Single}
 use Rattle.driver_actions.specs.declared.call.Outcome.{Outcome}
 use Rattle.driver_actions.specs.declared.call.SingleAnswer.{SingleAnswer}
-use Rattle.driver_actions.specs.declared.call.SingleAnswer.TheVariants.{Deleted, Inserted, Updated}
+use Rattle.driver_actions.specs.declared.call.SingleAnswer.TheVariants.{Deleted, Found, Inserted, Updated}
 use Rattle.driver_actions.specs.declared.call.SingleWrite.{SingleWrite}
 use Rattle.driver_actions.specs.CallByCall.{CallCaused, with_clock}
-use Rattle.driver_actions.specs.Forms.{WriteForm, asked_in, body_in, command_body, command_in, concern_in, deletes, form_of, inserts, kind_in, namespace_in, repeats_in, send_in, updates}
+use Rattle.driver_actions.specs.Forms.{WriteForm, asked_in, body_in, command_body, command_in, concern_in, deletes, finds, form_of, inserts, kind_in, namespace_in, repeats_in, send_in, updates}
 use Rattle.driver_actions.specs.Inputs.{IsAccepted, TellsInput}
 use Rattle.driver_actions.specs.MainTheorem.{CallCompletes, CallEnds, EndsWell, IsValidWrite}
 use Rattle.driver_actions.specs.SingleCompleteness.{CompletesSingle, MayCompleteTold}
@@ -238,6 +239,14 @@ made_well made place before now (deletes namespace filter multi options) valid p
     (λ description error refuses. refuses.refused) (λ which statements command is. (is.database, is.body))
     (λ found tells bytes spelled error reads. delete_plain (in_collection namespace) filter multi options (placed_at place write.sent) found tells bytes spelled error reads)
     run.ended run.runs (λ output. Deleted output) error run.tells
+made_well made place before now (finds namespace filter modification options) valid pool told told_now ready pool_is link_is now_is apart gentle error write =
+    let form = finds namespace filter modification options in
+    let run = write.runs in
+    ends_well made place before now form valid pool told told_now ready pool_is link_is now_is apart gentle write.mid (made_drew form write) write.sent
+    (find_spec (in_collection namespace) filter modification options) refl refl (feature_else options.write_concern namespace write.mid.client.options.write_concern)
+    (λ description error refuses. refuses.refused) (λ which statements command is. (is.database, is.body))
+    (λ found tells bytes spelled error reads. find_plain (in_collection namespace) filter modification options (placed_at place write.sent) found tells bytes spelled error reads)
+    run.ended run.runs (λ output. Found output) error run.tells
 
 -- each end of a write is well
 single_well : (made : ℕ) (place : Place) (before now : Moment) (form : WriteForm) (valid : IsValidWrite made before.client.options form) (pool : Pool) (told told_now : ServerRun)

@@ -26,7 +26,7 @@ use Rattle.driver_actions.specs.declared.call.SingleAnswer.{SingleAnswer}
 use Rattle.driver_actions.specs.declared.call.SingleAnswer.TheVariants.{Inserted}
 use Rattle.driver_actions.specs.CallByCall.{CallCaused, with_clock}
 use Rattle.driver_actions.specs.Causes.{HasCause}
-use Rattle.driver_actions.specs.Forms.{WriteForm, asked_in, deletes, inserts, updates, written_in}
+use Rattle.driver_actions.specs.Forms.{WriteForm, asked_in, deletes, finds, inserts, updates, written_in}
 use Rattle.driver_actions.specs.Inputs.{IsAccepted, TellsInput}
 use Rattle.driver_actions.specs.OwnIds.{DrawsOwn, MayDrawId, Owns}
 use Rattle.driver_actions.specs.SingleCalls.{Made, Makes, MakesCall, MayDrawFor, Runs, Tells}
@@ -84,6 +84,7 @@ drew_nothing : (form : WriteForm) (before : Moment) (error : Error) → MayDrawF
 drew_nothing (inserts namespace document options) before error = inl refl
 drew_nothing (updates namespace filter change multi options) before error = refl
 drew_nothing (deletes namespace filter multi options) before error = refl
+drew_nothing (finds namespace filter modification options) before error = refl
 
 -- a write whose input was refused, or for which there was no memory before an id was drawn
 pub unmade_input : (before : Moment) (form : WriteForm) (place : Place) (error : Error) → TellsInput form error → Makes before before form place (Err error)

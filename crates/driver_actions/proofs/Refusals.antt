@@ -24,7 +24,7 @@ use Rattle.driver_link.specs.declared.write_options.InsertManyOptions.{InsertMan
 use Rattle.driver_exec.specs.Causes.{ErrorOutline, outline_of}
 use Rattle.driver_exec.specs.Moment.{Moment}
 use Rattle.driver_actions.specs.Causes.{RefusesFirst, TellsOwnRefusal}
-use Rattle.driver_actions.specs.Forms.{WriteForm, command_body, deletes, inserts, namespace_in, updates}
+use Rattle.driver_actions.specs.Forms.{WriteForm, command_body, deletes, finds, inserts, namespace_in, updates}
 use Rattle.driver_actions.specs.Inputs.{InputRefused, IsAccepted, JudgesInput, RefusesValues, TellsInput, argument_refusal, change_refusal, dotted_text, else_text, has_dot, is_long, name_refusal, operator_refusal, replacement_text, update_text, value_list}
 use Rattle.driver_actions.specs.inside.Faults.{ErrorOfFault, IsArgumentError, RefusesDocument, first_of, length_fault, values_fault}
 use Rattle.driver_actions.proofs.Judging.{document_first, document_taken}
@@ -251,6 +251,7 @@ unfolding some_id
 one_refusal (inserts namespace document options) first second one other = sym (one some_id refl) ∙ other some_id refl
 one_refusal (updates namespace filter change multi options) first second one other = sym one ∙ other
 one_refusal (deletes namespace filter multi options) first second one other = sym one ∙ other
+one_refusal (finds namespace filter modification options) first second one other = sym one ∙ other
 
 -- an input has one error
 one_input : (form : WriteForm) (first second : ErrorKind) → InputRefused form first → InputRefused form second → first ≡ second

@@ -11,12 +11,13 @@ use Rattle.driver_link.specs.declared.machine.WriteKind.{WriteKind}
 use Rattle.driver_link.specs.declared.machine.WriteKind.TheVariants as kind
 use Rattle.driver_link.specs.declared.machine.Written.{Written}
 use Rattle.driver_ops.specs.CountAnswers.{deleted_by, updated_by}
+use Rattle.driver_ops.specs.FoundAnswers.{found_by}
 use Rattle.driver_actions.specs.declared.call.Answer.{Answer}
 use Rattle.driver_actions.specs.declared.call.Answer.TheVariants as answer
 use Rattle.driver_actions.specs.declared.call.Call.{Call}
 use Rattle.driver_actions.specs.declared.call.Call.TheVariants.{Single}
 use Rattle.driver_actions.specs.declared.call.SingleAnswer.{SingleAnswer}
-use Rattle.driver_actions.specs.declared.call.SingleAnswer.TheVariants.{Deleted, Inserted, Updated}
+use Rattle.driver_actions.specs.declared.call.SingleAnswer.TheVariants.{Deleted, Found, Inserted, Updated}
 use Rattle.driver_actions.specs.declared.call.SingleWrite.{SingleWrite}
 use Rattle.driver_actions.specs.Forms.{form_of, written_in}
 
@@ -87,7 +88,7 @@ abbrev pub answer_by : WriteKind → Entry → Option SingleAnswer
 answer_by kind.Insert entry = option_map (λ id. Inserted (record { inserted_id = id })) (entry_id entry)
 answer_by kind.Update entry = option_map (λ result. Updated result) (updated_by entry.result)
 answer_by kind.Delete entry = option_map (λ result. Deleted result) (deleted_by entry.result)
-answer_by kind.FindAndModify entry = None
+answer_by kind.FindAndModify entry = option_map (λ found. Found found) (found_by entry.result)
 
 -- the answer of a call that the log spells
 abbrev pub result_of : Call → ℕ → List Entry → Option Answer

@@ -16,14 +16,14 @@ use Rattle.driver_ops.specs.Encoding.{IsUnspelled}
 use Rattle.driver_ops.specs.InsertSpec.{insert_spec}
 use Rattle.driver_ops.specs.Operations.{OperationSpec}
 use Rattle.driver_ops.specs.SendKinds.{first}
-use Rattle.driver_ops.specs.StatementSpec.{delete_spec, update_spec}
+use Rattle.driver_ops.specs.StatementSpec.{delete_spec, find_spec, update_spec}
 use Rattle.driver_ops.specs.Targets.{in_collection}
 use Rattle.driver_exec.specs.Causes.{ErrorOutline, end_of}
 use Rattle.driver_exec.specs.Moment.{Moment}
 use Rattle.driver_exec.specs.OperationCauses.{Caused}
 use Rattle.driver_actions.specs.declared.call.Call.{Call}
 use Rattle.driver_actions.specs.declared.call.Call.TheVariants.{Single}
-use Rattle.driver_actions.specs.Forms.{WriteForm, deletes, form_of, inserts, updates}
+use Rattle.driver_actions.specs.Forms.{WriteForm, deletes, finds, form_of, inserts, updates}
 use Rattle.driver_actions.specs.Inputs.{InputRefused, TellsInput}
 use Rattle.driver_actions.specs.OwnIds.{DrawsOwn}
 
@@ -83,6 +83,7 @@ OperationCaused before now (inserts namespace document options) result = InsertC
 OperationCaused before now (updates namespace filter change multi options) result =
     EndsAsCaused (update_spec (in_collection namespace) filter change multi options) before now result
 OperationCaused before now (deletes namespace filter multi options) result = EndsAsCaused (delete_spec (in_collection namespace) filter multi options) before now result
+OperationCaused before now (finds namespace filter modification options) result = EndsAsCaused (find_spec (in_collection namespace) filter modification options) before now result
 
 -- a single write ended with its cause, and input that is refused was refused before anything was drawn or asked
 pub record WriteCaused {A : Type 0} (before now : Moment) (form : WriteForm) (result : Result A Error) : Type 0 where

@@ -14,13 +14,16 @@ use Rattle.driver_error.specs.declared.error.Error.{Error}
 use Rattle.driver_error.specs.declared.kind.ErrorKind.TheVariants as kind
 use Rattle.driver_error.specs.Error.{ErrorKind, IsAlone, kind_of}
 use Rattle.driver_error.specs.LabelTexts.{no_labels}
+use Rattle.driver_link.specs.declared.find_options.FindAndModifyOptions.{FindAndModifyOptions}
+use Rattle.driver_link.specs.declared.updates.Modification.{Modification}
+use Rattle.driver_link.specs.declared.updates.Modification.TheVariants.{Delete, Update}
 use Rattle.driver_link.specs.declared.updates.UpdateModifications.TheVariants.{Document, Pipeline}
 use Rattle.driver_link.specs.declared.updates.UpdateOrReplace.{UpdateOrReplace}
 use Rattle.driver_link.specs.declared.updates.UpdateOrReplace.TheVariants.{Replacement, UpdateModifications}
 use Rattle.driver_link.specs.declared.write_options.DeleteOptions.{DeleteOptions}
 use Rattle.driver_link.specs.declared.write_options.UpdateOptions.{UpdateOptions}
 use Rattle.driver_ops.specs.OptionFields.{document_in, hint_of}
-use Rattle.driver_actions.specs.Forms.{WriteForm, command_body, deletes, inserts, namespace_in, updates}
+use Rattle.driver_actions.specs.Forms.{WriteForm, command_body, deletes, finds, inserts, namespace_in, updates}
 
 -- a name has a dot
 unfoldable pub has_dot : List ℕ → Bool
@@ -44,11 +47,17 @@ change_refusal (UpdateModifications (Document document)) = if begins_with_operat
 change_refusal (UpdateModifications (Pipeline stages)) = None
 change_refusal (Replacement document) = if begins_with_operator document then Some replacement_text else None
 
+-- the same of what a findAndModify does; where it takes the document out there is nothing to judge
+abbrev pub modification_refusal : Modification → Option (List ℕ)
+modification_refusal Delete = None
+modification_refusal (Update change) = change_refusal change
+
 -- the same of a write
 abbrev pub operator_refusal : WriteForm → Option (List ℕ)
 operator_refusal (inserts namespace document options) = None
 operator_refusal (updates namespace filter change multi options) = change_refusal change
 operator_refusal (deletes namespace filter multi options) = None
+operator_refusal (finds namespace filter modification options) = modification_refusal modification
 
 -- why a collection is refused by its database's name, or none where it is not
 abbrev pub name_refusal : Namespace → Option (List ℕ)
@@ -83,22 +92,34 @@ change_values (UpdateModifications (Document document)) = bson.Document document
 change_values (UpdateModifications (Pipeline stages)) = document_values stages
 change_values (Replacement document) = bson.Document document ∷ []
 
+-- and of what a findAndModify does
+abbrev pub modification_values : Modification → List Bson
+modification_values Delete = []
+modification_values (Update change) = change_values change
+
 -- the values of the options of an update
 abbrev pub update_values : UpdateOptions → List Bson
 update_values options =
     option_values options.array_filters ++ (value_list (hint_of options.hint) ++ (value_list (document_in options.collation)
     ++ (value_list (document_in options.let_vars) ++ (value_list options.comment ++ value_list (document_in options.sort)))))
 
--- and of a delete
+-- of a delete
 abbrev pub delete_values : DeleteOptions → List Bson
 delete_values options =
     value_list (document_in options.collation) ++ (value_list (hint_of options.hint) ++ (value_list (document_in options.let_vars) ++ value_list options.comment))
+
+-- and of a findAndModify
+abbrev pub find_values : FindAndModifyOptions → List Bson
+find_values options =
+    value_list (document_in options.sort) ++ (option_values options.array_filters ++ (value_list (document_in options.projection)
+    ++ (value_list (document_in options.collation) ++ (value_list (hint_of options.hint) ++ (value_list (document_in options.let_vars) ++ value_list options.comment)))))
 
 -- the documents, filters and option values of a write, each by itself
 abbrev pub values_in : WriteForm → List Bson
 values_in (inserts namespace document options) = bson.Document document ∷ value_list options.comment
 values_in (updates namespace filter change multi options) = bson.Document filter ∷ change_values change ++ update_values options
 values_in (deletes namespace filter multi options) = bson.Document filter ∷ delete_values options
+values_in (finds namespace filter modification options) = bson.Document filter ∷ modification_values modification ++ find_values options
 
 -- a value nests deeper than a caller's may: the command that carries it adds some levels of its own
 abbrev pub is_deep : Bson → Bool
@@ -123,6 +144,8 @@ RefusesValues (updates namespace filter change multi options) why =
     values_refusal (values_in (updates namespace filter change multi options)) (is_long (command_body (updates namespace filter change multi options))) ≡ why
 RefusesValues (deletes namespace filter multi options) why =
     values_refusal (values_in (deletes namespace filter multi options)) (is_long (command_body (deletes namespace filter multi options))) ≡ why
+RefusesValues (finds namespace filter modification options) why =
+    values_refusal (values_in (finds namespace filter modification options)) (is_long (command_body (finds namespace filter modification options))) ≡ why
 
 -- the input of a write is refused with this kind of error: as an argument, else for its values
 abbrev pub InputRefused : WriteForm → ErrorKind → Type 0

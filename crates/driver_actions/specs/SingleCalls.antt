@@ -16,7 +16,7 @@ use Rattle.driver_session.specs.StoreTells.{Draws, LendsAsBefore}
 use Rattle.driver_ops.specs.InsertSpec.{insert_spec}
 use Rattle.driver_ops.specs.Operations.{AsksFor, OperationSpec, batch_of}
 use Rattle.driver_ops.specs.SendKinds.{first}
-use Rattle.driver_ops.specs.StatementSpec.{delete_spec, update_spec}
+use Rattle.driver_ops.specs.StatementSpec.{delete_spec, find_spec, update_spec}
 use Rattle.driver_ops.specs.Targets.{in_collection}
 use Rattle.driver_exec.specs.Causes.{end_of}
 use Rattle.driver_exec.specs.Executing.{Executes}
@@ -29,8 +29,8 @@ use Rattle.driver_actions.specs.declared.call.Answer.TheVariants as answer
 use Rattle.driver_actions.specs.declared.call.Call.{Call}
 use Rattle.driver_actions.specs.declared.call.Call.TheVariants.{Single}
 use Rattle.driver_actions.specs.declared.call.SingleAnswer.{SingleAnswer}
-use Rattle.driver_actions.specs.declared.call.SingleAnswer.TheVariants.{Deleted, Inserted, Updated}
-use Rattle.driver_actions.specs.Forms.{WriteForm, asked_in, deletes, form_of, inserts, updates, written_in}
+use Rattle.driver_actions.specs.declared.call.SingleAnswer.TheVariants.{Deleted, Found, Inserted, Updated}
+use Rattle.driver_actions.specs.Forms.{WriteForm, asked_in, deletes, finds, form_of, inserts, updates, written_in}
 use Rattle.driver_actions.specs.Inputs.{IsAccepted, TellsInput}
 use Rattle.driver_actions.specs.OwnIds.{DrawsOwn, MayDrawBy}
 use Rattle.driver_actions.specs.Singles.{BecomesSingle}
@@ -86,6 +86,8 @@ RunsForm (updates namespace filter change multi options) before mid now place se
     RunsGiven (update_spec (in_collection namespace) filter change multi options) (λ output. Updated output) (updates namespace filter change multi options) before mid now place sent result
 RunsForm (deletes namespace filter multi options) before mid now place sent result =
     RunsGiven (delete_spec (in_collection namespace) filter multi options) (λ output. Deleted output) (deletes namespace filter multi options) before mid now place sent result
+RunsForm (finds namespace filter modification options) before mid now place sent result =
+    RunsGiven (find_spec (in_collection namespace) filter modification options) (λ output. Found output) (finds namespace filter modification options) before mid now place sent result
 
 -- a call's own write, whose input is accepted, was made, or its operation failed, once the id of its document was drawn, if it is
 -- an insert of one without
@@ -100,6 +102,7 @@ abbrev pub MayDrawFor : WriteForm → Moment → Moment → Error → Type 0
 MayDrawFor (inserts namespace document options) before now error = MayDrawBy before now document error
 MayDrawFor (updates namespace filter change multi options) before now error = now ≡ before
 MayDrawFor (deletes namespace filter multi options) before now error = now ≡ before
+MayDrawFor (finds namespace filter modification options) before now error = now ≡ before
 
 -- nothing was asked or sent: the input is refused, or there was no memory, and then an id may have been drawn
 pub record Unmade (before now : Moment) (form : WriteForm) (error : Error) : Type 0 where

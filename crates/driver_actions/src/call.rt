@@ -1,7 +1,10 @@
 //! Calls and what they answer, as plain data.
 use bson_lite::{Document, Namespace};
 use driver_error::{DeleteResult, Error, InsertOneResult, UpdateResult};
-use driver_link::{DeleteOptions, InsertManyOptions, UpdateModifications, UpdateOptions};
+use driver_link::{
+    DeleteOptions, FindOneAndDeleteOptions, FindOneAndReplaceOptions, FindOneAndUpdateOptions,
+    InsertManyOptions, UpdateModifications, UpdateOptions,
+};
 
 /// A write of one statement.
 #[derive(Debug, Drop)]
@@ -45,6 +48,26 @@ pub enum SingleWrite {
         filter: Document,
         options: DeleteOptions,
     },
+    /// Takes out one of the documents that the filter finds, and answers it.
+    FindOneAndDelete {
+        namespace: Namespace,
+        filter: Document,
+        options: FindOneAndDeleteOptions,
+    },
+    /// Changes one of the documents that the filter finds, and answers it.
+    FindOneAndUpdate {
+        namespace: Namespace,
+        filter: Document,
+        update: UpdateModifications,
+        options: FindOneAndUpdateOptions,
+    },
+    /// Puts a document in the place of one that the filter finds, and answers that one.
+    FindOneAndReplace {
+        namespace: Namespace,
+        filter: Document,
+        replacement: Document,
+        options: FindOneAndReplaceOptions,
+    },
 }
 
 /// What a single write answers.
@@ -53,6 +76,8 @@ pub enum SingleAnswer {
     Inserted(InsertOneResult),
     Updated(UpdateResult),
     Deleted(DeleteResult),
+    /// The document that was found, where one was.
+    Found(Option<Document>),
 }
 
 /// One call of a driver's user.

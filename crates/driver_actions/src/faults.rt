@@ -2,11 +2,14 @@
 ghost use Rattle.std.specs.Prelude.{◌≡◌, ◌∷◌, ◌++◌, IfOk};
 ghost use Rattle.bson_lite.specs.declared.bson.Bson as bson;
 ghost use Rattle.driver_ops.specs.OptionFields.{document_in, hint_of};
-ghost use Rattle.driver_actions.specs.Inputs.{change_values, delete_values, document_values, option_values, update_values, value_list};
+ghost use Rattle.driver_actions.specs.Inputs.{change_values, delete_values, document_values, find_values, modification_values, option_values, update_values, value_list};
 ghost use Rattle.driver_actions.specs.inside.Faults.{before_length, before_zero, first_of, length_fault, value_fault, values_fault};
 
 use bson_lite::{Bson, Document, EncodeFault, List, TryClone, encoded_len, refusal_within};
-use driver_link::{DeleteOptions, Hint, UpdateModifications, UpdateOptions, UpdateOrReplace};
+use driver_link::{
+    DeleteOptions, FindAndModifyOptions, Hint, Modification, UpdateModifications, UpdateOptions,
+    UpdateOrReplace,
+};
 use std::alloc::{AllocError, Global};
 
 /// The levels that a caller's document may nest. The command that carries it adds some of its own.
@@ -156,6 +159,16 @@ fn change_fault(change: &UpdateOrReplace) -> Option<EncodeFault>
     }
 }
 
+/// The first fault of what a findAndModify does.
+fn modification_fault(modification: &Modification) -> Option<EncodeFault>
+    ensures { result ≡ values_fault (modification_values modification.now) }
+{
+    match modification {
+        Modification::Delete => None,
+        Modification::Update(change) => change_fault(change),
+    }
+}
+
 /// The first fault of the options of an update.
 #[tactic(auto, using(crate::proofs::Judging::joined))]
 fn update_options_fault(
@@ -186,6 +199,23 @@ fn delete_options_fault(
     Ok(first_of(option_document_fault(&options.collation), fault))
 }
 
+/// The first fault of the options of a findAndModify.
+#[tactic(auto, using(crate::proofs::Judging::joined))]
+fn find_options_fault(
+    alloc: Global,
+    options: &FindAndModifyOptions,
+) -> Result<Option<EncodeFault>, AllocError>
+    ensures { IfOk result (λ fault. fault ≡ values_fault (find_values options.now)) }
+{
+    let fault = comment_fault(alloc, &options.comment)?;
+    let fault = first_of(option_document_fault(&options.let_vars), fault);
+    let fault = first_of(hint_fault(&options.hint), fault);
+    let fault = first_of(option_document_fault(&options.collation), fault);
+    let fault = first_of(option_document_fault(&options.projection), fault);
+    let fault = first_of(option_documents_fault(&options.array_filters), fault);
+    Ok(first_of(option_document_fault(&options.sort), fault))
+}
+
 /// The first fault of an update's filter, change and options.
 #[tactic(auto, using(crate::proofs::Judging::joined))]
 pub(crate) fn update_fault(
@@ -214,4 +244,22 @@ pub(crate) fn delete_fault(
         document_fault(filter),
         delete_options_fault(alloc, options)?,
     ))
+}
+
+/// The first fault of a findAndModify's filter, of what it does, and of its options.
+#[tactic(auto, using(crate::proofs::Judging::joined))]
+pub(crate) fn find_fault(
+    alloc: Global,
+    filter: &Document,
+    modification: &Modification,
+    options: &FindAndModifyOptions,
+) -> Result<Option<EncodeFault>, AllocError>
+    ensures { IfOk result (λ fault. fault ≡ values_fault
+        (bson.Document filter.now ∷ modification_values modification.now ++ find_values options.now)) }
+{
+    let fault = first_of(
+        modification_fault(modification),
+        find_options_fault(alloc, options)?,
+    );
+    Ok(first_of(document_fault(filter), fault))
 }

@@ -8,6 +8,7 @@ pub mod call;
 pub mod call_run;
 mod delete;
 mod faults;
+mod find;
 mod insert;
 pub mod laws;
 mod making;

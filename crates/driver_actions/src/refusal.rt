@@ -3,12 +3,12 @@ ghost use Rattle.std.specs.Prelude.{◌≡◌, IfOk};
 ghost use Rattle.driver_error.specs.declared.kind.ErrorKind.TheVariants.{InvalidArgument};
 ghost use Rattle.driver_error.specs.Conversions.{IsMade};
 ghost use Rattle.driver_error.specs.LabelTexts.{no_labels};
-ghost use Rattle.driver_actions.specs.Forms.{deletes, inserts, updates};
-ghost use Rattle.driver_actions.specs.Inputs.{JudgesInput, RefusesValues, change_refusal, dotted_text, has_dot, name_refusal, replacement_text, update_text};
+ghost use Rattle.driver_actions.specs.Forms.{deletes, finds, inserts, updates};
+ghost use Rattle.driver_actions.specs.Inputs.{JudgesInput, RefusesValues, change_refusal, dotted_text, has_dot, modification_refusal, name_refusal, replacement_text, update_text};
 ghost use Rattle.driver_actions.specs.inside.Faults.{ErrorOfFault, JudgesArgument, RefusesDocument};
 
 use crate::faults::{
-    LEVELS, LONGEST, comment_fault, delete_fault, first_of, length_fault, update_fault,
+    LEVELS, LONGEST, comment_fault, delete_fault, find_fault, first_of, length_fault, update_fault,
 };
 use bson_lite::{
     Document, EncodeFault, ID_KEY, Namespace, Text, encoded_len, refusal_within,
@@ -16,9 +16,10 @@ use bson_lite::{
 };
 use driver_error::{Error, ErrorKind};
 use driver_link::{
-    DeleteOptions, InsertManyOptions, UpdateModifications, UpdateOptions, UpdateOrReplace,
+    DeleteOptions, FindAndModifyOptions, InsertManyOptions, Modification, UpdateModifications,
+    UpdateOptions, UpdateOrReplace,
 };
-use driver_ops::{delete_body, insert_body, update_body};
+use driver_ops::{delete_body, find_and_modify_body, insert_body, update_body};
 use std::alloc::{AllocError, Global};
 
 /// The length in bytes that an object id adds to a document.
@@ -76,6 +77,26 @@ pub(crate) fn delete_refusal(
         return Some(error);
     }
     error_of(delete_values_fault(alloc, namespace, filter, multi, options))
+}
+
+/// What is wrong with the input of a findAndModify: the name of its database, else its change, else its values.
+#[tactic(auto, using(crate::proofs::Refusals::named_input, crate::proofs::Refusals::operator_input, crate::proofs::Refusals::judged_values))]
+pub(crate) fn find_refusal(
+    alloc: Global,
+    namespace: &Namespace,
+    filter: &Document,
+    modification: &Modification,
+    options: &FindAndModifyOptions,
+) -> Option<Error>
+    ensures { JudgesInput (finds namespace.now filter.now modification.now options.now) result }
+{
+    if let Some(error) = name_refusal(alloc, namespace) {
+        return Some(error);
+    }
+    if let Some(error) = modification_refusal(alloc, modification) {
+        return Some(error);
+    }
+    error_of(find_values_fault(alloc, namespace, filter, modification, options))
 }
 
 /// The error of a fault that was looked for, or of want of memory.
@@ -150,6 +171,16 @@ fn change_refusal(alloc: Global, change: &UpdateOrReplace) -> Option<Error>
                 Some(operator_replacement(alloc))
             }
         }
+    }
+}
+
+/// Why what a findAndModify does is refused by its first key: a change as that of an update is, and a delete never.
+fn modification_refusal(alloc: Global, modification: &Modification) -> Option<Error>
+    ensures { JudgesArgument (modification_refusal modification.now) result }
+{
+    match modification {
+        Modification::Delete => None,
+        Modification::Update(change) => change_refusal(alloc, change),
     }
 }
 
@@ -245,5 +276,23 @@ fn delete_values_fault(
 {
     let fault = delete_fault(alloc, filter, options)?;
     let body = delete_body(alloc, namespace.coll.as_str(), filter, multi, options)?;
+    Ok(first_of(fault, length_fault(&body)))
+}
+
+/// Why a findAndModify is refused for its values, or for the length of its command.
+#[tactic(auto, using(crate::proofs::Judging::refused_by))]
+fn find_values_fault(
+    alloc: Global,
+    namespace: &Namespace,
+    filter: &Document,
+    modification: &Modification,
+    options: &FindAndModifyOptions,
+) -> Result<Option<EncodeFault>, AllocError>
+    ensures { IfOk result (λ fault.
+        RefusesValues (finds namespace.now filter.now modification.now options.now) fault) }
+{
+    let fault = find_fault(alloc, filter, modification, options)?;
+    let collection = namespace.coll.as_str();
+    let body = find_and_modify_body(alloc, collection, filter, modification, options)?;
     Ok(first_of(fault, length_fault(&body)))
 }

@@ -11,6 +11,7 @@ ghost use Rattle.driver_actions.specs.SingleEntries.{KeepsSingle, OkHasEntry};
 
 use crate::call::{SingleAnswer, SingleWrite};
 use crate::delete::delete_found;
+use crate::find::{find_one_and_delete, find_one_and_replace, find_one_and_update};
 use crate::insert::insert_one;
 use crate::update::update_found;
 use bson_lite::TryClone;
@@ -149,6 +150,34 @@ fn make_in<S: SessionStore, L: Link, K: Clock, R: Rng>(
             options,
         } => delete_found(
             alloc, client, outside, namespace, filter, true, options, place,
+        ),
+        SingleWrite::FindOneAndDelete {
+            namespace,
+            filter,
+            options,
+        } => find_one_and_delete(alloc, client, outside, namespace, filter, options, place),
+        SingleWrite::FindOneAndUpdate {
+            namespace,
+            filter,
+            update,
+            options,
+        } => find_one_and_update(
+            alloc, client, outside, namespace, filter, update, options, place,
+        ),
+        SingleWrite::FindOneAndReplace {
+            namespace,
+            filter,
+            replacement,
+            options,
+        } => find_one_and_replace(
+            alloc,
+            client,
+            outside,
+            namespace,
+            filter,
+            replacement,
+            options,
+            place,
         ),
     }
 }

@@ -191,7 +191,7 @@ fn seen_under(alloc: Global, concern: Concern) -> Result<Option<(Seen, FakeLink)
 }
 
 /// Whether bytes end so.
-fn has_end(bytes: &[u8], end: &[u8]) -> bool {
+pub(crate) fn has_end(bytes: &[u8], end: &[u8]) -> bool {
     if bytes.len() < end.len() {
         return false;
     }

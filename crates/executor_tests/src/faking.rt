@@ -12,6 +12,10 @@ pub(crate) const DONE: &[u8] = b"\x14\0\0\0\x10ok\0\x01\0\0\0\x10n\0\x01\0\0\0\0
 pub(crate) const CHANGED: &[u8] =
     b"\x23\0\0\0\x10ok\0\x01\0\0\0\x10n\0\x01\0\0\0\x10nModified\0\x01\0\0\0\0";
 
+/// `{ok: 1, n: 1, nModified: 1, value: null}`, which says of a write of any kind that it was done
+pub(crate) const ANY_DONE: &[u8] =
+    b"\x2a\0\0\0\x10ok\0\x01\0\0\0\x10n\0\x01\0\0\0\x10nModified\0\x01\0\0\0\x0avalue\0\0";
+
 /// A connection's server that takes sessions, and no retryable writes.
 pub(crate) const NO_REPEATS: Description = Description {
     max_wire_version: Some(25),

@@ -1,6 +1,6 @@
 //! One write of each kind under every schedule of three items, with every order of late deliveries, by a client
 //! that may send again and by one that may not: no place stands twice, every entry is the caller's own, each Ok has
-//! the entry that tells its counts, and a send without a number goes out once at most. Behind its items a schedule
+//! the entry that tells its answer, and a send without a number goes out once at most. Behind its items a schedule
 //! serves, so the shorter schedules are among these; and two that differ only in items that no send meets are one
 //! run.
 ghost use Rattle.std.specs.Prelude.{IfOk};
@@ -10,7 +10,7 @@ use crate::inserting::SERVER;
 use crate::meeting::{Meets, items};
 use crate::schedules::{deliver, order, orders, times};
 use crate::writes::{KINDS, Kind, number, operators, usual, write_of};
-use bson_lite::{Bson, Document, List};
+use bson_lite::{Bson, Document, List, Text};
 use driver_actions::{Answer, Call, Outcome, SingleAnswer, run_calls};
 use driver_error::{DeleteResult, Error, ErrorKind, IoKind, RETRYABLE_WRITE_ERROR, UpdateResult};
 use driver_exec::{Client, Outside};
@@ -133,7 +133,24 @@ fn delete_statement(alloc: Global, limit: i32) -> Result<Document, AllocError> {
     Ok(statement)
 }
 
-/// What a server is given of a kind: its statement, or the caller's document, which has no id yet.
+/// The body of a findAndModify: `{findAndModify: "items", query: {x: 1}, update: CHANGE}`, or `remove: true` where
+/// there is no change.
+fn find_body(alloc: Global, change: Option<Document>) -> Result<Document, AllocError> {
+    let mut body = Document::new(alloc);
+    body.push(
+        "findAndModify",
+        Bson::String(Text::from_str(alloc, "items")?),
+    )?;
+    body.push("query", Bson::Document(number(alloc, "x", 1)?))?;
+    match change {
+        Some(change) => body.push("update", Bson::Document(change))?,
+        None => body.push("remove", Bson::Boolean(true))?,
+    }
+    Ok(body)
+}
+
+/// What a server is given of a kind: its statement, the body of a findAndModify, or the caller's document, which has
+/// no id yet.
 fn given(alloc: Global, kind: Kind) -> Result<Document, AllocError> {
     let set = number(alloc, "y", 2)?;
     match kind {
@@ -143,6 +160,9 @@ fn given(alloc: Global, kind: Kind) -> Result<Document, AllocError> {
         Kind::ReplaceOne => update_statement(alloc, set, false),
         Kind::DeleteOne => delete_statement(alloc, 1),
         Kind::DeleteMany => delete_statement(alloc, 0),
+        Kind::FindOneAndDelete => find_body(alloc, None),
+        Kind::FindOneAndUpdate => find_body(alloc, Some(operators(alloc, set)?)),
+        Kind::FindOneAndReplace => find_body(alloc, Some(set)),
     }
 }
 
@@ -154,6 +174,14 @@ fn is_update(kind: Kind) -> bool {
 /// Whether a kind is sent as a delete.
 fn is_delete(kind: Kind) -> bool {
     matches!(kind, Kind::DeleteOne | Kind::DeleteMany)
+}
+
+/// Whether a kind is sent as a findAndModify.
+fn is_find(kind: Kind) -> bool {
+    matches!(
+        kind,
+        Kind::FindOneAndDelete | Kind::FindOneAndUpdate | Kind::FindOneAndReplace
+    )
 }
 
 /// Whether a document is `{y: 2}` with one id of an object put first.
@@ -175,7 +203,7 @@ fn is_given(written: &Written, kind: Kind, given: &Document) -> bool {
         WriteKind::Insert => kind == Kind::InsertOne && is_with_id(&written.document),
         WriteKind::Update => is_update(kind) && written.document == *given,
         WriteKind::Delete => is_delete(kind) && written.document == *given,
-        WriteKind::FindAndModify => false,
+        WriteKind::FindAndModify => is_find(kind) && written.document == *given,
     }
 }
 
@@ -216,6 +244,15 @@ fn tells_delete(counted: &Counted, done: &DeleteResult) -> bool {
     is_count(counted.n, done.deleted_count)
 }
 
+/// Whether an answer to a findAndModify is the document of a result, or none where that has none.
+fn tells_found(counted: &Counted, found: &Option<Document>) -> bool {
+    match (&counted.value, found) {
+        (Some(value), Some(found)) => *value == *found,
+        (None, None) => true,
+        _ => false,
+    }
+}
+
 /// Whether an entry tells an answer of the kind.
 fn tells(entry: &Entry, kind: Kind, answer: &SingleAnswer) -> bool {
     match answer {
@@ -223,6 +260,7 @@ fn tells(entry: &Entry, kind: Kind, answer: &SingleAnswer) -> bool {
             && entry.written.document.get("_id") == Some(&done.inserted_id),
         SingleAnswer::Updated(done) => is_update(kind) && tells_update(&entry.result, done),
         SingleAnswer::Deleted(done) => is_delete(kind) && tells_delete(&entry.result, done),
+        SingleAnswer::Found(found) => is_find(kind) && tells_found(&entry.result, found),
     }
 }
 

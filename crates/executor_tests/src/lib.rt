@@ -7,9 +7,17 @@
 #[cfg(test)]
 mod calling;
 #[cfg(test)]
+mod collections;
+#[cfg(test)]
 mod concerns;
 #[cfg(test)]
 mod faking;
+#[cfg(test)]
+mod find_commands;
+#[cfg(test)]
+mod find_replies;
+#[cfg(test)]
+mod finds;
 #[cfg(test)]
 mod frames;
 #[cfg(test)]

@@ -1,7 +1,7 @@
 //! Single writes over a link that would answer each one: what is refused for its input or for its concern, before
 //! anything is sent and without labels, and what is sent beside it.
 use crate::calling::id_of;
-use crate::faking::{ALIKE, CHANGED, DONE, Given, fake_link};
+use crate::faking::{ALIKE, ANY_DONE, DONE, Given, fake_link};
 use crate::inserting::{Ended, answered_under, how_ended, label_count, seen_end};
 use crate::writes::{Asked, Change, Flaw, KINDS, Kind, Odd, Part, usual, write_of};
 use bson_lite::List;
@@ -36,6 +36,24 @@ const CHANGES: &[(Kind, Change, Ended)] = &[
     (Kind::ReplaceOne, Change::Plain, Ended::Done),
     (Kind::ReplaceOne, Change::LateOperator, Ended::Done),
     (Kind::ReplaceOne, Change::Empty, Ended::Done),
+    (Kind::FindOneAndUpdate, Change::Operators, Ended::Done),
+    (Kind::FindOneAndUpdate, Change::Plain, Ended::PlainUpdate),
+    (
+        Kind::FindOneAndUpdate,
+        Change::LateOperator,
+        Ended::PlainUpdate,
+    ),
+    (Kind::FindOneAndUpdate, Change::Empty, Ended::PlainUpdate),
+    (Kind::FindOneAndUpdate, Change::Pipeline, Ended::Done),
+    (Kind::FindOneAndUpdate, Change::NoStages, Ended::Done),
+    (
+        Kind::FindOneAndReplace,
+        Change::Operators,
+        Ended::OperatorReplacement,
+    ),
+    (Kind::FindOneAndReplace, Change::Plain, Ended::Done),
+    (Kind::FindOneAndReplace, Change::LateOperator, Ended::Done),
+    (Kind::FindOneAndReplace, Change::Empty, Ended::Done),
 ];
 
 /// The parts of each kind, with the change that they stand beside. Each nests at most 96 levels.
@@ -64,6 +82,31 @@ const PARTS: &[(Kind, Change, Part)] = &[
     (Kind::DeleteOne, Change::Plain, Part::Let),
     (Kind::DeleteOne, Change::Plain, Part::Comment),
     (Kind::DeleteMany, Change::Plain, Part::Filter),
+    (Kind::FindOneAndDelete, Change::Plain, Part::Filter),
+    (Kind::FindOneAndDelete, Change::Plain, Part::Sort),
+    (Kind::FindOneAndDelete, Change::Plain, Part::Projection),
+    (Kind::FindOneAndDelete, Change::Plain, Part::HintKeys),
+    (Kind::FindOneAndDelete, Change::Plain, Part::Collation),
+    (Kind::FindOneAndDelete, Change::Plain, Part::Let),
+    (Kind::FindOneAndDelete, Change::Plain, Part::Comment),
+    (Kind::FindOneAndUpdate, Change::Operators, Part::Filter),
+    (Kind::FindOneAndUpdate, Change::Operators, Part::Change),
+    (Kind::FindOneAndUpdate, Change::Pipeline, Part::Stage),
+    (Kind::FindOneAndUpdate, Change::Operators, Part::ArrayFilter),
+    (Kind::FindOneAndUpdate, Change::Operators, Part::HintKeys),
+    (Kind::FindOneAndUpdate, Change::Operators, Part::Collation),
+    (Kind::FindOneAndUpdate, Change::Operators, Part::Let),
+    (Kind::FindOneAndUpdate, Change::Operators, Part::Comment),
+    (Kind::FindOneAndUpdate, Change::Operators, Part::Sort),
+    (Kind::FindOneAndUpdate, Change::Operators, Part::Projection),
+    (Kind::FindOneAndReplace, Change::Plain, Part::Filter),
+    (Kind::FindOneAndReplace, Change::Plain, Part::Change),
+    (Kind::FindOneAndReplace, Change::Plain, Part::Let),
+    (Kind::FindOneAndReplace, Change::Plain, Part::Projection),
+    (Kind::FindOneAndReplace, Change::Plain, Part::HintKeys),
+    (Kind::FindOneAndReplace, Change::Plain, Part::Collation),
+    (Kind::FindOneAndReplace, Change::Plain, Part::Comment),
+    (Kind::FindOneAndReplace, Change::Plain, Part::Sort),
 ];
 
 /// How a part ends by its flaw.
@@ -157,11 +200,50 @@ const FIRST: &[(Asked, Ended)] = &[
         },
         Ended::ZeroByte,
     ),
+    (
+        Asked {
+            kind: Kind::FindOneAndUpdate,
+            dotted: true,
+            change: Change::Plain,
+            odd: None,
+            also: None,
+        },
+        Ended::Dotted,
+    ),
+    (
+        Asked {
+            kind: Kind::FindOneAndReplace,
+            dotted: false,
+            change: Change::Operators,
+            odd: Some(Odd {
+                part: Part::Projection,
+                flaw: Flaw::Levels(97),
+            }),
+            also: None,
+        },
+        Ended::OperatorReplacement,
+    ),
+    (
+        Asked {
+            kind: Kind::FindOneAndDelete,
+            dotted: false,
+            change: Change::Plain,
+            odd: Some(Odd {
+                part: Part::Filter,
+                flaw: Flaw::ZeroByte,
+            }),
+            also: Some(Odd {
+                part: Part::Projection,
+                flaw: Flaw::Levels(97),
+            }),
+        },
+        Ended::TooDeep,
+    ),
 ];
 
 /// A concern of a write or of its client.
 #[derive(Clone, Copy)]
-enum Concern {
+pub(crate) enum Concern {
     Unset,
     /// One without a field.
     Bare,
@@ -188,7 +270,7 @@ const CONCERNS: &[(Concern, Concern, Ended)] = &[
 ];
 
 /// A concern as a write or a client has it.
-fn write_concern(concern: Concern) -> Option<WriteConcern> {
+pub(crate) fn write_concern(concern: Concern) -> Option<WriteConcern> {
     let w = match concern {
         Concern::Unset => return None,
         Concern::Bare => None,
@@ -210,7 +292,7 @@ fn ends(
     client: Concern,
     ended: Ended,
 ) -> Result<bool, AllocError> {
-    let link = fake_link(alloc, ALIKE, &[Given::Reply(CHANGED)])?;
+    let link = fake_link(alloc, ALIKE, &[Given::Reply(ANY_DONE)])?;
     let write = write_of(alloc, asked, write_concern(own))?;
     let (result, link) = answered_under(alloc, link, &write, write_concern(client));
     drop(write);

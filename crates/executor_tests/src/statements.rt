@@ -1,6 +1,6 @@
 //! Updates and deletes over a fake link, by the bytes that they send: which fields their commands and statements
 //! have, in which order, with every option and with none.
-use crate::faking::{ALIKE, CHANGED, Given, fake_link};
+use crate::faking::{ALIKE, ANY_DONE, Given, fake_link};
 use crate::inserting::{Ended, answered_under, seen_end};
 use crate::writes::{Kind, namespace, number, operators, text, two, usual, write_of};
 use bson_lite::{Bson, Bytes, Document, List, Text};
@@ -16,29 +16,29 @@ use std::test::Fail;
 const ORDERED: &[u8] = b"\x08ordered\0\x01";
 
 /// `lsid: {id: UUID(..01)}`
-const SESSION: &[u8] =
+pub(crate) const SESSION: &[u8] =
     b"\x03lsid\0\x1e\0\0\0\x05id\0\x10\0\0\0\x04\0\0\0\0\0\0\0\0\0\0\0\0\0\0\0\x01\0";
 
 /// `txnNumber: 1`, of 64 bits
-const FIRST_NUMBER: &[u8] = b"\x12txnNumber\0\x01\0\0\0\0\0\0\0";
+pub(crate) const FIRST_NUMBER: &[u8] = b"\x12txnNumber\0\x01\0\0\0\0\0\0\0";
 
 /// `$db: "shop"`, and the end of the body
-const LAST: &[u8] = b"\x02$db\0\x05\0\0\0shop\0\0";
+pub(crate) const LAST: &[u8] = b"\x02$db\0\x05\0\0\0shop\0\0";
 
 /// `q: {x: 1}`
 const FILTER: &[u8] = b"\x03q\0\x0c\0\0\0\x10x\0\x01\0\0\0\0";
 
 /// `let: {v: 5}`
-const VARIABLES: &[u8] = b"\x03let\0\x0c\0\0\0\x10v\0\x05\0\0\0\0";
+pub(crate) const VARIABLES: &[u8] = b"\x03let\0\x0c\0\0\0\x10v\0\x05\0\0\0\0";
 
 /// `comment: "note"`
-const NOTE: &[u8] = b"\x02comment\0\x05\0\0\0note\0";
+pub(crate) const NOTE: &[u8] = b"\x02comment\0\x05\0\0\0note\0";
 
 /// `collation: {locale: "en"}`
-const ENGLISH: &[u8] = b"\x03collation\0\x14\0\0\0\x02locale\0\x03\0\0\0en\0\0";
+pub(crate) const ENGLISH: &[u8] = b"\x03collation\0\x14\0\0\0\x02locale\0\x03\0\0\0en\0\0";
 
 /// `writeConcern: {w: 1}`
-const ONE_NODE: &[u8] = b"\x03writeConcern\0\x0c\0\0\0\x10w\0\x01\0\0\0\0";
+pub(crate) const ONE_NODE: &[u8] = b"\x03writeConcern\0\x0c\0\0\0\x10w\0\x01\0\0\0\0";
 
 /// An `updateMany` with every option:
 /// `{update: "items", bypassDocumentValidation: true, let: {v: 5}, comment: "note",
@@ -174,7 +174,7 @@ const ROWS: &[(Spelled, &[&[u8]], usize)] = &[
 ];
 
 /// `{w: 1}`
-fn by_one_node() -> WriteConcern {
+pub(crate) fn by_one_node() -> WriteConcern {
     WriteConcern {
         w: Some(Acknowledgment::Nodes(1)),
         w_timeout: None,
@@ -183,12 +183,12 @@ fn by_one_node() -> WriteConcern {
 }
 
 /// `"note"`
-fn noted(alloc: Global) -> Result<Bson, AllocError> {
+pub(crate) fn noted(alloc: Global) -> Result<Bson, AllocError> {
     Ok(Bson::String(Text::from_str(alloc, "note")?))
 }
 
 /// One document as a list.
-fn one(alloc: Global, document: Document) -> Result<List<Document>, AllocError> {
+pub(crate) fn one(alloc: Global, document: Document) -> Result<List<Document>, AllocError> {
     let mut list = List::with_capacity(alloc, 1)?;
     list.push(document)?;
     Ok(list)
@@ -283,7 +283,7 @@ fn write(alloc: Global, spelled: Spelled) -> Result<SingleWrite, AllocError> {
 }
 
 /// The parts of a body, joined.
-fn joined(alloc: Global, parts: &[&[u8]]) -> Result<Bytes, AllocError> {
+pub(crate) fn joined(alloc: Global, parts: &[&[u8]]) -> Result<Bytes, AllocError> {
     let mut bytes = Bytes::new(alloc);
     for part in parts {
         bytes.extend_from_slice(part)?;
@@ -305,15 +305,14 @@ fn has_one_frame(link: &FakeLink, body: &[u8], sequences: usize) -> bool {
 }
 
 /// Whether a write is done after one frame with this body and so many sequences.
-fn sends(
+pub(crate) fn sends(
     alloc: Global,
-    spelled: Spelled,
+    write: SingleWrite,
     parts: &[&[u8]],
     sequences: usize,
 ) -> Result<bool, AllocError> {
     let body = joined(alloc, parts)?;
-    let link = fake_link(alloc, ALIKE, &[Given::Reply(CHANGED)])?;
-    let write = write(alloc, spelled)?;
+    let link = fake_link(alloc, ALIKE, &[Given::Reply(ANY_DONE)])?;
     let (result, link) = answered_under(alloc, link, &write, None);
     drop(write);
     let sent = has_one_frame(&link, body.as_slice(), sequences);
@@ -324,10 +323,21 @@ fn sends(
     }
 }
 
+/// Whether the write of a row is.
+fn row_sends(
+    alloc: Global,
+    spelled: Spelled,
+    parts: &[&[u8]],
+    sequences: usize,
+) -> Result<bool, AllocError> {
+    let write = write(alloc, spelled)?;
+    sends(alloc, write, parts, sequences)
+}
+
 #[test]
 fn a_command_has_the_fields_of_its_options_in_their_order(rt: HostRuntime) -> Result<(), Fail> {
     for (spelled, parts, sequences) in ROWS {
-        let sent = sends(rt.alloc(), *spelled, parts, *sequences)?;
+        let sent = row_sends(rt.alloc(), *spelled, parts, *sequences)?;
         assert!(rt; sent, "{spelled:?}");
     }
     Ok(())

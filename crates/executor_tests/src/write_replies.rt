@@ -3,7 +3,7 @@
 use crate::faking::{ALIKE, CHANGED, DONE, Given, fake_link};
 use crate::inserting::{Ended, answered_under, how_ended};
 use crate::writes::{Kind, namespace, number, usual, write_of};
-use bson_lite::Bson;
+use bson_lite::{Bson, Document};
 use driver_actions::{SingleAnswer, SingleWrite};
 use driver_error::{Error, Result, UpdateResult};
 use driver_link::{FakeLink, InsertManyOptions};
@@ -63,10 +63,11 @@ const MANY: &[u8] = b"\x18\0\0\0\x10ok\0\x01\0\0\0\x12n\0\0\0\0\0\x01\0\0\0\0";
 const NONE_FOUND: &[u8] = b"\x14\0\0\0\x10ok\0\x01\0\0\0\x10n\0\0\0\0\0\0";
 
 /// `{ok: 1}`
-const BARE: &[u8] = b"\x0d\0\0\0\x10ok\0\x01\0\0\0\0";
+pub(crate) const BARE: &[u8] = b"\x0d\0\0\0\x10ok\0\x01\0\0\0\0";
 
 /// `{ok: 0, code: 13, errmsg: "x"}`
-const REFUSED: &[u8] = b"\x25\0\0\0\x10ok\0\0\0\0\0\x10code\0\x0d\0\0\0\x02errmsg\0\x02\0\0\0x\0\0";
+pub(crate) const REFUSED: &[u8] =
+    b"\x25\0\0\0\x10ok\0\0\0\0\0\x10code\0\x0d\0\0\0\x02errmsg\0\x02\0\0\0x\0\0";
 
 /// `{ok: 1, n: 0, nModified: 0, writeErrors: [{index: 0, code: 11000, errmsg: "dup"}]}`
 const DUPLICATE: &[u8] =
@@ -102,9 +103,20 @@ const COUNTED_ERROR: &[u8] =
 const STRANGE_INDEX: &[u8] =
     b"\x53\0\0\0\x10ok\0\x01\0\0\0\x10n\0\0\0\0\0\x04writeErrors\0\x32\0\0\0\x030\0\x2a\0\0\0\x10index\0\x01\0\0\0\x10code\0\xf8\x2a\0\0\x02errmsg\0\x04\0\0\0dup\0\0\0\0";
 
+/// What a document that was found tells.
+#[derive(Clone, Copy, PartialEq, Eq)]
+pub(crate) enum FoundDocument {
+    None,
+    Empty,
+    /// It is `{a: NUMBER}`.
+    Number(i32),
+    /// It has a form that no row gives.
+    Odd,
+}
+
 /// What a write tells of its reply.
 #[derive(Clone, Copy, PartialEq, Eq)]
-enum Told {
+pub(crate) enum Told {
     Inserted,
     Updated {
         matched: u64,
@@ -112,6 +124,7 @@ enum Told {
         upserted: Option<i32>,
     },
     Deleted(u64),
+    Found(FoundDocument),
     Failed(Ended),
     /// The same, with the label `told`.
     Labelled(Ended),
@@ -286,12 +299,28 @@ fn told_of_update(done: &UpdateResult) -> Told {
     }
 }
 
+/// What a document that was found tells, or that none was.
+fn told_of_found(found: &Option<Document>) -> FoundDocument {
+    let Some(document) = found else {
+        return FoundDocument::None;
+    };
+    match document.pairs() {
+        [] => FoundDocument::Empty,
+        [pair] if pair.key.as_str() == "a" => match &pair.value {
+            Bson::Int32(number) => FoundDocument::Number(*number),
+            _ => FoundDocument::Odd,
+        },
+        _ => FoundDocument::Odd,
+    }
+}
+
 /// What an answer tells.
 fn told_of_answer(answer: &SingleAnswer) -> Told {
     match answer {
         SingleAnswer::Inserted(_) => Told::Inserted,
         SingleAnswer::Updated(done) => told_of_update(done),
         SingleAnswer::Deleted(done) => Told::Deleted(done.deleted_count),
+        SingleAnswer::Found(found) => Told::Found(told_of_found(found)),
     }
 }
 
@@ -330,7 +359,7 @@ fn told_over(alloc: Global, link: FakeLink, write: SingleWrite) -> Option<Told> 
 }
 
 /// What the usual write of a kind tells of a reply.
-fn told_of(
+pub(crate) fn told_of(
     alloc: Global,
     kind: Kind,
     reply: &'static [u8],

@@ -1,5 +1,6 @@
 //! Single writes as rows spell them: to `items`, of what the filter `{x: 1}` finds, with small documents where a
 //! row asks for no others.
+use crate::finds::{find_and_delete, find_and_replace, find_and_update};
 use bson_lite::{Bson, Document, List, Namespace, Text};
 use driver_actions::SingleWrite;
 use driver_link::{
@@ -7,7 +8,7 @@ use driver_link::{
 };
 use std::alloc::{AllocError, Global};
 
-/// The six kinds of single writes.
+/// The nine kinds of single writes.
 #[derive(Clone, Copy, Debug, PartialEq, Eq)]
 pub(crate) enum Kind {
     InsertOne,
@@ -16,6 +17,9 @@ pub(crate) enum Kind {
     ReplaceOne,
     DeleteOne,
     DeleteMany,
+    FindOneAndDelete,
+    FindOneAndUpdate,
+    FindOneAndReplace,
 }
 
 /// All of them.
@@ -26,6 +30,9 @@ pub(crate) const KINDS: &[Kind] = &[
     Kind::ReplaceOne,
     Kind::DeleteOne,
     Kind::DeleteMany,
+    Kind::FindOneAndDelete,
+    Kind::FindOneAndUpdate,
+    Kind::FindOneAndReplace,
 ];
 
 /// A part of a write that is a document of the caller's, or an option that is one.
@@ -43,6 +50,7 @@ pub(crate) enum Part {
     Let,
     Comment,
     Sort,
+    Projection,
 }
 
 /// What is odd about a document.
@@ -89,7 +97,7 @@ pub(crate) struct Asked {
 /// The usual write of a kind.
 pub(crate) fn usual(kind: Kind) -> Asked {
     let change = match kind {
-        Kind::UpdateOne | Kind::UpdateMany => Change::Operators,
+        Kind::UpdateOne | Kind::UpdateMany | Kind::FindOneAndUpdate => Change::Operators,
         _ => Change::Plain,
     };
     Asked {
@@ -174,7 +182,7 @@ fn flaw_of(asked: Asked, part: Part) -> Option<Flaw> {
 }
 
 /// The document of a part, which is `{key: value}` where it is not odd.
-fn document_at(
+pub(crate) fn document_at(
     alloc: Global,
     asked: Asked,
     part: Part,
@@ -188,7 +196,11 @@ fn document_at(
 }
 
 /// The document of an option, which is not set where it is not odd.
-fn option_at(alloc: Global, asked: Asked, part: Part) -> Result<Option<Document>, AllocError> {
+pub(crate) fn option_at(
+    alloc: Global,
+    asked: Asked,
+    part: Part,
+) -> Result<Option<Document>, AllocError> {
     match flaw_of(asked, part) {
         Some(flaw) => Ok(Some(flawed(alloc, flaw)?)),
         None => Ok(None),
@@ -196,7 +208,10 @@ fn option_at(alloc: Global, asked: Asked, part: Part) -> Result<Option<Document>
 }
 
 /// The filters of arrays, which are not set where the second is not odd.
-fn array_filters(alloc: Global, asked: Asked) -> Result<Option<List<Document>>, AllocError> {
+pub(crate) fn array_filters(
+    alloc: Global,
+    asked: Asked,
+) -> Result<Option<List<Document>>, AllocError> {
     match option_at(alloc, asked, Part::ArrayFilter)? {
         Some(second) => Ok(Some(two(alloc, number(alloc, "x", 1)?, second)?)),
         None => Ok(None),
@@ -204,7 +219,7 @@ fn array_filters(alloc: Global, asked: Asked) -> Result<Option<List<Document>>, 
 }
 
 /// The hint by keys, which is not set where they are not odd.
-fn hint_keys(alloc: Global, asked: Asked) -> Result<Option<Hint>, AllocError> {
+pub(crate) fn hint_keys(alloc: Global, asked: Asked) -> Result<Option<Hint>, AllocError> {
     match option_at(alloc, asked, Part::HintKeys)? {
         Some(keys) => Ok(Some(Hint::Keys(keys))),
         None => Ok(None),
@@ -212,7 +227,7 @@ fn hint_keys(alloc: Global, asked: Asked) -> Result<Option<Hint>, AllocError> {
 }
 
 /// The comment, which is not set where it is not odd.
-fn comment(alloc: Global, asked: Asked) -> Result<Option<Bson>, AllocError> {
+pub(crate) fn comment(alloc: Global, asked: Asked) -> Result<Option<Bson>, AllocError> {
     match option_at(alloc, asked, Part::Comment)? {
         Some(document) => Ok(Some(Bson::Document(document))),
         None => Ok(None),
@@ -228,7 +243,7 @@ pub(crate) fn namespace(alloc: Global, db: &str) -> Result<Namespace, AllocError
 }
 
 /// The database that a row asks for.
-fn database(asked: Asked) -> &'static str {
+pub(crate) fn database(asked: Asked) -> &'static str {
     if asked.dotted { "a.b" } else { "shop" }
 }
 
@@ -242,7 +257,7 @@ fn set_by(alloc: Global, asked: Asked) -> Result<Document, AllocError> {
 }
 
 /// The one document of a change.
-fn change_document(alloc: Global, asked: Asked) -> Result<Document, AllocError> {
+pub(crate) fn change_document(alloc: Global, asked: Asked) -> Result<Document, AllocError> {
     match asked.change {
         Change::Operators => operators(alloc, set_by(alloc, asked)?),
         Change::LateOperator => {
@@ -256,7 +271,10 @@ fn change_document(alloc: Global, asked: Asked) -> Result<Document, AllocError> 
 }
 
 /// What an update does.
-fn modifications(alloc: Global, asked: Asked) -> Result<UpdateModifications, AllocError> {
+pub(crate) fn modifications(
+    alloc: Global,
+    asked: Asked,
+) -> Result<UpdateModifications, AllocError> {
     match asked.change {
         Change::Pipeline => {
             let first = number(alloc, "y", 2)?;
@@ -394,5 +412,8 @@ pub(crate) fn write_of(
         Kind::UpdateOne | Kind::UpdateMany => update(alloc, asked, own),
         Kind::ReplaceOne => replace(alloc, asked, own),
         Kind::DeleteOne | Kind::DeleteMany => delete(alloc, asked, own),
+        Kind::FindOneAndDelete => find_and_delete(alloc, asked, own),
+        Kind::FindOneAndUpdate => find_and_update(alloc, asked, own),
+        Kind::FindOneAndReplace => find_and_replace(alloc, asked, own),
     }
 }

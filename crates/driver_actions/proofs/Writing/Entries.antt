@@ -18,15 +18,15 @@ use Rattle.driver_session.specs.Pool.{Pool}
 use Rattle.driver_ops.specs.InsertSpec.{insert_spec}
 use Rattle.driver_ops.specs.Operations.{OperationSpec}
 use Rattle.driver_ops.specs.Served.{AreEntries}
-use Rattle.driver_ops.specs.StatementSpec.{delete_spec, update_spec}
+use Rattle.driver_ops.specs.StatementSpec.{delete_spec, find_spec, update_spec}
 use Rattle.driver_ops.specs.Targets.{in_collection}
 use Rattle.driver_exec.specs.BetweenCalls.{MaySendPlaces}
 use Rattle.driver_exec.specs.Keeping.{AreWritten, HasEntries, KeepsTold, OkHasEntries, StandsAfter, StandsBefore}
 use Rattle.driver_exec.specs.Moment.{Moment}
 use Rattle.driver_actions.specs.declared.call.SingleAnswer.{SingleAnswer}
-use Rattle.driver_actions.specs.declared.call.SingleAnswer.TheVariants.{Deleted, Inserted, Updated}
+use Rattle.driver_actions.specs.declared.call.SingleAnswer.TheVariants.{Deleted, Found, Inserted, Updated}
 use Rattle.driver_actions.specs.Calls.{IsOwn, answer_by}
-use Rattle.driver_actions.specs.Forms.{WriteForm, asked_in, deletes, inserts, kind_in, updates, written_in}
+use Rattle.driver_actions.specs.Forms.{WriteForm, asked_in, deletes, finds, inserts, kind_in, updates, written_in}
 use Rattle.driver_actions.specs.SingleCalls.{Made, Makes, Runs, Tells, first_place}
 use Rattle.driver_actions.specs.SingleEntries.{HasOwnEntry, HasOwnEntryTold, HasWritten, IsNewPlace, KeepsSingle, KeepsSingleTold, MayWrite, OkHasEntry}
 use Rattle.driver_actions.specs.Singles.{BecomesSingle}
@@ -181,6 +181,10 @@ module _ (before now : Moment) (place : Place) where
       let run = made.runs in
       runs_entry (delete_spec (in_collection namespace) filter multi options) (deletes namespace filter multi options) (λ output. Deleted output) made.mid now place made.sent
       (made_own (deletes namespace filter multi options) made) answer (λ entry output is tells. ap (option_map (λ result. Deleted result)) tells) run.ended run.runs run.tells
+  mid_entry (finds namespace filter modification options) answer made =
+      let run = made.runs in
+      runs_entry (find_spec (in_collection namespace) filter modification options) (finds namespace filter modification options) (λ output. Found output) made.mid now place made.sent
+      (made_own (finds namespace filter modification options) made) answer (λ entry output is tells. ap (option_map (λ found. Found found)) tells) run.ended run.runs run.tells
 
   -- the same of each end
   pub makes_entry : (form : WriteForm) (result : Result SingleAnswer Error) → Makes before now form place result → OkHasEntry before now (written_in form) place result

@@ -16,7 +16,7 @@ use Rattle.driver_exec.specs.Resending.{Borrows, SentWithin}
 use Rattle.driver_exec.proofs.Refusing.{executes_read, executes_words}
 use Rattle.driver_actions.specs.declared.call.SingleAnswer.{SingleAnswer}
 use Rattle.driver_actions.specs.Calls.{IsOwn}
-use Rattle.driver_actions.specs.Forms.{WriteForm, asked_in, deletes, inserts, updates, written_in}
+use Rattle.driver_actions.specs.Forms.{WriteForm, asked_in, deletes, finds, inserts, updates, written_in}
 use Rattle.driver_actions.specs.SingleCalls.{Made, MayDrawFor, Runs}
 use Rattle.driver_actions.proofs.OwnIds.{OnlyDrew, own_drew, unmade_drew}
 
@@ -57,12 +57,14 @@ module _ {before now : Moment} {place : Place} {result : Result SingleAnswer Err
   made_drew (inserts namespace document options) made = own_drew made.runs.draws
   made_drew (updates namespace filter change multi options) made = same_drew made.runs.same
   made_drew (deletes namespace filter multi options) made = same_drew made.runs.same
+  made_drew (finds namespace filter modification options) made = same_drew made.runs.same
 
   -- what its operation left
   pub made_left : (form : WriteForm) (made : Made before now form place result) → LeftBy made.mid now (asked_in form place made.sent)
   made_left (inserts namespace document options) made = runs_left made.runs.runs
   made_left (updates namespace filter change multi options) made = runs_left made.runs.runs
   made_left (deletes namespace filter multi options) made = runs_left made.runs.runs
+  made_left (finds namespace filter modification options) made = runs_left made.runs.runs
 
   -- the write that is sent is the caller's own
   pub made_own : (form : WriteForm) (made : Made before now form place result) → IsOwn (written_in form) made.sent
@@ -73,9 +75,12 @@ module _ {before now : Moment} {place : Place} {result : Result SingleAnswer Err
       subst (IsOwn (written_in (updates namespace filter change multi options))) (sym made.runs.sent_is) (record { kind = refl; namespace = refl; document = refl })
   made_own (deletes namespace filter multi options) made =
       subst (IsOwn (written_in (deletes namespace filter multi options))) (sym made.runs.sent_is) (record { kind = refl; namespace = refl; document = refl })
+  made_own (finds namespace filter modification options) made =
+      subst (IsOwn (written_in (finds namespace filter modification options))) (sym made.runs.sent_is) (record { kind = refl; namespace = refl; document = refl })
 
 -- a write that was not made drew an id at most
 pub unmade_drew_by : (form : WriteForm) (before now : Moment) (error : Error) → MayDrawFor form before now error → OnlyDrew before now
 unmade_drew_by (inserts namespace document options) before now error draws = unmade_drew error draws
 unmade_drew_by (updates namespace filter change multi options) before now error same = same_drew same
 unmade_drew_by (deletes namespace filter multi options) before now error same = same_drew same
+unmade_drew_by (finds namespace filter modification options) before now error same = same_drew same

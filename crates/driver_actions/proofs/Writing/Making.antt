@@ -10,8 +10,10 @@ use Rattle.driver_error.specs.declared.error.Error.{Error}
 use Rattle.driver_error.specs.declared.results.DeleteResult.{DeleteResult}
 use Rattle.driver_error.specs.declared.results.InsertManyResult.{InsertManyResult}
 use Rattle.driver_error.specs.declared.results.UpdateResult.{UpdateResult}
+use Rattle.driver_link.specs.declared.find_options.FindAndModifyOptions.{FindAndModifyOptions}
 use Rattle.driver_link.specs.declared.machine.Place.{Place}
 use Rattle.driver_link.specs.declared.machine.SendBody.{SendBody}
+use Rattle.driver_link.specs.declared.updates.Modification.{Modification}
 use Rattle.driver_link.specs.declared.updates.UpdateOrReplace.{UpdateOrReplace}
 use Rattle.driver_link.specs.declared.write_options.DeleteOptions.{DeleteOptions}
 use Rattle.driver_link.specs.declared.write_options.InsertManyOptions.{InsertManyOptions}
@@ -20,7 +22,7 @@ use Rattle.driver_ops.specs.declared.target.OperationTarget.{OperationTarget}
 use Rattle.driver_ops.specs.InsertSpec.{AsksInsert, insert_spec}
 use Rattle.driver_ops.specs.Operations.{AsksFor, HasBodies, IsFixed, OperationSpec, StaysFixed, batch_of}
 use Rattle.driver_ops.specs.SendKinds.{SendKind, first}
-use Rattle.driver_ops.specs.StatementSpec.{delete_spec, update_spec}
+use Rattle.driver_ops.specs.StatementSpec.{delete_spec, find_spec, update_spec}
 use Rattle.driver_ops.specs.Targets.{in_collection}
 use Rattle.driver_exec.specs.Causes.{end_of}
 use Rattle.driver_exec.specs.Executing.{Executes}
@@ -30,8 +32,8 @@ use Rattle.driver_exec.specs.OperationCauses.{Caused}
 use Rattle.driver_exec.specs.Resending.{SendsOneCommand}
 use Rattle.driver_exec.proofs.Refusing.{executes_draws, executes_few, executes_lends}
 use Rattle.driver_actions.specs.declared.call.SingleAnswer.{SingleAnswer}
-use Rattle.driver_actions.specs.declared.call.SingleAnswer.TheVariants.{Deleted, Updated}
-use Rattle.driver_actions.specs.Forms.{asked_in, deletes, inserts, updates, written_in}
+use Rattle.driver_actions.specs.declared.call.SingleAnswer.TheVariants.{Deleted, Found, Updated}
+use Rattle.driver_actions.specs.Forms.{asked_in, deletes, finds, inserts, updates, written_in}
 use Rattle.driver_actions.specs.Inputs.{IsAccepted}
 use Rattle.driver_actions.specs.SingleCalls.{Made, Runs, Tells}
 use Rattle.driver_actions.specs.Singles.{BecomesSingle}
@@ -80,11 +82,18 @@ of_update {made = made} {held = held} {filter = filter} {kept = kept} {change = 
     subst (λ t. P t filter change multi options) is_target (subst (λ f. P made f change multi options) is_filter (subst (λ c. P made held c multi options) is_change
     (subst (λ m. P made held kept m options) is_multi (subst (P made held kept all) is_options holds))))
 
--- and of a delete
+-- of a delete
 pub of_delete : {made target : OperationTarget} {held filter : List (Pair Bson)} {all multi : Bool} {had options : DeleteOptions}
     (P : OperationTarget → List (Pair Bson) → Bool → DeleteOptions → Type 0) → made ≡ target → held ≡ filter → all ≡ multi → had ≡ options → P made held all had → P target filter multi options
 of_delete {made = made} {held = held} {filter = filter} {all = all} {multi = multi} {options = options} P is_target is_filter is_multi is_options holds =
     subst (λ t. P t filter multi options) is_target (subst (λ f. P made f multi options) is_filter (subst (λ m. P made held m options) is_multi (subst (P made held all) is_options holds)))
+
+-- and of a findAndModify
+pub of_find : {made target : OperationTarget} {held filter : List (Pair Bson)} {kept modification : Modification} {had options : FindAndModifyOptions}
+    (P : OperationTarget → List (Pair Bson) → Modification → FindAndModifyOptions → Type 0) → made ≡ target → held ≡ filter → kept ≡ modification → had ≡ options
+    → P made held kept had → P target filter modification options
+of_find {made = made} {held = held} {filter = filter} {kept = kept} {modification = modification} {options = options} P is_target is_filter is_modification is_options holds =
+    subst (λ t. P t filter modification options) is_target (subst (λ f. P made f modification options) is_filter (subst (λ m. P made held m options) is_modification (subst (P made held kept) is_options holds)))
 
 -- the insert of a document with its id asks for the write of it
 module _ (namespace : Namespace) (document sent : List (Pair Bson)) (options : InsertManyOptions) (place : Place) (bytes : List ℕ) (id : Bson) (spelled : Spells sent bytes)
@@ -140,7 +149,7 @@ module _ (namespace : Namespace) (filter : List (Pair Bson)) (change : UpdateOrR
     update_ran before now ended runs =
         of_update (λ t f c m o. (asked : SendBody) → AsksFor (update_spec t f c m o) (batch_of (place ∷ []) 1) asked → Runs (update_spec t f c m o) asked place before now ended) is_target is_filter is_change is_multi is_options runs update_asked update_asks
 
--- and a delete
+-- a delete
 module _ (namespace : Namespace) (filter : List (Pair Bson)) (multi : Bool) (options : DeleteOptions) (place : Place) where
   abbrev delete_asked : SendBody
   delete_asked = asked_in (deletes namespace filter multi options) place (written_in (deletes namespace filter multi options))
@@ -168,3 +177,32 @@ module _ (namespace : Namespace) (filter : List (Pair Bson)) (multi : Bool) (opt
         → Runs (delete_spec (in_collection namespace) filter multi options) delete_asked place before now ended
     delete_ran before now ended runs =
         of_delete (λ t f m o. (asked : SendBody) → AsksFor (delete_spec t f m o) (batch_of (place ∷ []) 1) asked → Runs (delete_spec t f m o) asked place before now ended) is_target is_filter is_multi is_options runs delete_asked delete_asks
+
+-- and a findAndModify that of its body
+module _ (namespace : Namespace) (filter : List (Pair Bson)) (modification : Modification) (options : FindAndModifyOptions) (place : Place) where
+  abbrev find_asked : SendBody
+  find_asked = asked_in (finds namespace filter modification options) place (written_in (finds namespace filter modification options))
+
+  pub find_asks : AsksFor (find_spec (in_collection namespace) filter modification options) (batch_of (place ∷ []) 1) find_asked
+  find_asks = record { one = refl; place = place; alone = refl; is = refl }
+
+  pub find_bodies : HasBodies (find_spec (in_collection namespace) filter modification options) (place ∷ [])
+  find_bodies = λ which statements command is.
+      (find_asked, subst (λ n. AsksFor (find_spec (in_collection namespace) filter modification options) (batch_of (place ∷ []) n) find_asked) (sym is.one) find_asks)
+
+  pub find_made : IsAccepted (finds namespace filter modification options) → (before now : Moment) (ended : Result (Option (List (Pair Bson))) Error) (result : Result SingleAnswer Error)
+      → Runs (find_spec (in_collection namespace) filter modification options) find_asked place before now ended → Tells (λ output. Found output) ended result
+      → Made before now (finds namespace filter modification options) place result
+  find_made accepted before now ended result runs tells =
+      record { accepted = accepted; sent = written_in (finds namespace filter modification options); mid = before; runs = record { same = refl; sent_is = refl; ended = ended; runs = runs; tells = tells } }
+
+  -- the same of one that was made of these parts
+  module _ {made : OperationTarget} {held : List (Pair Bson)} {kept : Modification} {had : FindAndModifyOptions} (is_target : made ≡ in_collection namespace) (is_filter : held ≡ filter) (is_modification : kept ≡ modification) (is_options : had ≡ options) where
+    pub find_has : HasBodies (find_spec made held kept had) (place ∷ [])
+    find_has = of_find (λ t f m o. HasBodies (find_spec t f m o) (place ∷ [])) (sym is_target) (sym is_filter) (sym is_modification) (sym is_options) find_bodies
+
+    pub find_ran : (before now : Moment) (ended : Result (Option (List (Pair Bson))) Error)
+        → ((asked : SendBody) → AsksFor (find_spec made held kept had) (batch_of (place ∷ []) 1) asked → Runs (find_spec made held kept had) asked place before now ended)
+        → Runs (find_spec (in_collection namespace) filter modification options) find_asked place before now ended
+    find_ran before now ended runs =
+        of_find (λ t f m o. (asked : SendBody) → AsksFor (find_spec t f m o) (batch_of (place ∷ []) 1) asked → Runs (find_spec t f m o) asked place before now ended) is_target is_filter is_modification is_options runs find_asked find_asks

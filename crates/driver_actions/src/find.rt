@@ -1,0 +1,205 @@
+//! The writes that answer the document which their filter finds, from their caller to their answer.
+ghost use Rattle.std.specs.Prelude.{◌≡◌, IfOk};
+ghost use Rattle.driver_link.specs.FindOptions.{options_of_delete, options_of_replace, options_of_update};
+ghost use Rattle.driver_link.specs.declared.updates.Modification.TheVariants.{Delete, Update};
+ghost use Rattle.driver_link.specs.declared.updates.UpdateOrReplace.TheVariants.{Replacement, UpdateModifications as Modifies};
+ghost use Rattle.driver_ops.specs.Targets.{in_collection};
+ghost use Rattle.driver_ops.specs.declared.target.OperationTarget.TheVariants.{Collection as Within};
+ghost use Rattle.driver_exec.specs.Client.{options_of};
+ghost use Rattle.driver_exec.specs.Moment.{moment_of};
+ghost use Rattle.driver_actions.specs.Causes.{WriteCaused};
+ghost use Rattle.driver_actions.specs.Forms.{finds};
+ghost use Rattle.driver_actions.specs.SingleCalls.{Makes};
+
+use crate::call::SingleAnswer;
+use crate::refusal::find_refusal;
+use crate::single_operation::run_single;
+use bson_lite::{Document, Namespace, TryClone};
+use driver_error::{Error, Result};
+use driver_exec::{Client, Outside};
+use driver_link::{
+    Clock, FindAndModifyOptions, FindOneAndDeleteOptions, FindOneAndReplaceOptions,
+    FindOneAndUpdateOptions, Link, Modification, Place, UpdateModifications, UpdateOrReplace,
+};
+use driver_ops::{Collection, FindAndModify};
+use driver_session::SessionStore;
+use rand_core::Rng;
+use std::alloc::{AllocError, Global};
+use std::marker::Brand;
+use std::sync::ledger::Blank;
+
+/// Takes out one of the documents that a filter finds, in a place that is given, and answers it.
+pub(crate) fn find_one_and_delete<S: SessionStore, L: Link, K: Clock, R: Rng>(
+    alloc: Global,
+    client: &mut Client<S>,
+    outside: &mut Outside<L, K, R>,
+    namespace: &Namespace,
+    filter: &Document,
+    options: &FindOneAndDeleteOptions,
+    place: Place,
+) -> Result<SingleAnswer>
+    ensures makes { Makes
+        (moment_of S.tells L.tells K.tells R.stream client.old outside.old)
+        (moment_of S.tells L.tells K.tells R.stream client.new outside.new)
+        (finds namespace.now filter.now Delete (options_of_delete options.now)) place result }
+    ensures cause { WriteCaused
+        (moment_of S.tells L.tells K.tells R.stream client.old outside.old)
+        (moment_of S.tells L.tells K.tells R.stream client.new outside.new)
+        (finds namespace.now filter.now Delete (options_of_delete options.now)) result }
+    ensures options { options_of client.new ≡ options_of client.old }
+    ensures call { outside.new.call ≡ outside.old.call }
+{
+    let given = options.try_clone(alloc)?;
+    let options = FindAndModifyOptions::from(given);
+    let modification = Modification::Delete;
+    find_and_modify(
+        alloc,
+        client,
+        outside,
+        namespace,
+        filter,
+        modification,
+        options,
+        place,
+    )
+}
+
+/// Updates one of the documents that a filter finds, in a place that is given, and answers it.
+pub(crate) fn find_one_and_update<S: SessionStore, L: Link, K: Clock, R: Rng>(
+    alloc: Global,
+    client: &mut Client<S>,
+    outside: &mut Outside<L, K, R>,
+    namespace: &Namespace,
+    filter: &Document,
+    update: &UpdateModifications,
+    options: &FindOneAndUpdateOptions,
+    place: Place,
+) -> Result<SingleAnswer>
+    ensures makes { Makes
+        (moment_of S.tells L.tells K.tells R.stream client.old outside.old)
+        (moment_of S.tells L.tells K.tells R.stream client.new outside.new)
+        (finds namespace.now filter.now
+        (Update (Modifies update.now)) (options_of_update options.now)) place result }
+    ensures cause { WriteCaused
+        (moment_of S.tells L.tells K.tells R.stream client.old outside.old)
+        (moment_of S.tells L.tells K.tells R.stream client.new outside.new)
+        (finds namespace.now filter.now
+        (Update (Modifies update.now)) (options_of_update options.now)) result }
+    ensures options { options_of client.new ≡ options_of client.old }
+    ensures call { outside.new.call ≡ outside.old.call }
+{
+    let update = update.try_clone(alloc)?;
+    let given = options.try_clone(alloc)?;
+    let options = FindAndModifyOptions::from(given);
+    let modification = Modification::Update(UpdateOrReplace::UpdateModifications(update));
+    find_and_modify(
+        alloc,
+        client,
+        outside,
+        namespace,
+        filter,
+        modification,
+        options,
+        place,
+    )
+}
+
+/// Puts a document in the place of one that a filter finds, in a place that is given, and answers that one.
+pub(crate) fn find_one_and_replace<S: SessionStore, L: Link, K: Clock, R: Rng>(
+    alloc: Global,
+    client: &mut Client<S>,
+    outside: &mut Outside<L, K, R>,
+    namespace: &Namespace,
+    filter: &Document,
+    replacement: &Document,
+    options: &FindOneAndReplaceOptions,
+    place: Place,
+) -> Result<SingleAnswer>
+    ensures makes { Makes
+        (moment_of S.tells L.tells K.tells R.stream client.old outside.old)
+        (moment_of S.tells L.tells K.tells R.stream client.new outside.new)
+        (finds namespace.now filter.now
+        (Update (Replacement replacement.now)) (options_of_replace options.now)) place result }
+    ensures cause { WriteCaused
+        (moment_of S.tells L.tells K.tells R.stream client.old outside.old)
+        (moment_of S.tells L.tells K.tells R.stream client.new outside.new)
+        (finds namespace.now filter.now
+        (Update (Replacement replacement.now)) (options_of_replace options.now)) result }
+    ensures options { options_of client.new ≡ options_of client.old }
+    ensures call { outside.new.call ≡ outside.old.call }
+{
+    let replacement = replacement.try_clone(alloc)?;
+    let given = options.try_clone(alloc)?;
+    let options = FindAndModifyOptions::from(given);
+    let modification = Modification::Update(UpdateOrReplace::Replacement(replacement));
+    find_and_modify(
+        alloc,
+        client,
+        outside,
+        namespace,
+        filter,
+        modification,
+        options,
+        place,
+    )
+}
+
+/// Does what is asked to one of the documents that a filter finds, in a place that is given, and answers it.
+fn find_and_modify<S: SessionStore, L: Link, K: Clock, R: Rng>(
+    alloc: Global,
+    client: &mut Client<S>,
+    outside: &mut Outside<L, K, R>,
+    namespace: &Namespace,
+    filter: &Document,
+    modification: Modification,
+    options: FindAndModifyOptions,
+    place: Place,
+) -> Result<SingleAnswer>
+    ensures makes { Makes
+        (moment_of S.tells L.tells K.tells R.stream client.old outside.old)
+        (moment_of S.tells L.tells K.tells R.stream client.new outside.new)
+        (finds namespace.now filter.now modification options) place result }
+    ensures cause { WriteCaused
+        (moment_of S.tells L.tells K.tells R.stream client.old outside.old)
+        (moment_of S.tells L.tells K.tells R.stream client.new outside.new)
+        (finds namespace.now filter.now modification options) result }
+    ensures options { options_of client.new ≡ options_of client.old }
+    ensures call { outside.new.call ≡ outside.old.call }
+{
+    if let Some(error) = find_refusal(alloc, namespace, filter, &modification, &options) {
+        drop(modification);
+        drop(options);
+        return Err(error);
+    }
+    let (collection, filter) = match target_of(alloc, namespace, filter) {
+        Ok(target) => target,
+        Err(refused) => {
+            drop(modification);
+            drop(options);
+            return Err(Error::from(refused));
+        }
+    };
+    let find = FindAndModify::new(collection, filter, modification, options);
+    let blank = Blank::new(1);
+    let output = run_single::<FindAndModify, S, L, K, R, Brand>(
+        alloc, client, outside, find, place, blank,
+    )?;
+    Ok(SingleAnswer::Found(output))
+}
+
+/// Copies of the collection, which has no concern of its own, and of the filter.
+fn target_of(
+    alloc: Global,
+    namespace: &Namespace,
+    filter: &Document,
+) -> std::result::Result<(Collection, Document), AllocError>
+    ensures { IfOk result (λ target. (Within target.0 ≡ in_collection namespace.now)
+        × (target.1 ≡ filter.now)) }
+{
+    let collection = Collection {
+        namespace: namespace.try_clone(alloc)?,
+        write_concern: None,
+    };
+    let filter = filter.try_clone(alloc)?;
+    Ok((collection, filter))
+}

@@ -1,0 +1,5 @@
+-- The ledger of the count.
+use Rattle.executor_tests.proofs.collections.ended_under.Given as goal
+
+abbrev pub ghosts-executed : goal.ghosts-executed
+ghosts-executed a = record { name = a.blank.name; parts = a.blank.parts }
