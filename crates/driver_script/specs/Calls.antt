@@ -5,6 +5,9 @@ use Rattle.bson_lite.specs.declared.bson.Bson.{Bson}
 use Rattle.bson_lite.specs.declared.document.Pair.{Pair}
 use Rattle.bson_lite.specs.declared.namespace.Namespace.{Namespace}
 use Rattle.driver_link.specs.declared.concerns.WriteConcern.{WriteConcern}
+use Rattle.driver_link.specs.declared.find_options.FindOneAndDeleteOptions.{FindOneAndDeleteOptions}
+use Rattle.driver_link.specs.declared.find_options.FindOneAndReplaceOptions.{FindOneAndReplaceOptions}
+use Rattle.driver_link.specs.declared.find_options.FindOneAndUpdateOptions.{FindOneAndUpdateOptions}
 use Rattle.driver_link.specs.declared.updates.UpdateModifications.{UpdateModifications}
 use Rattle.driver_link.specs.declared.updates.UpdateModifications.TheVariants as modifies
 use Rattle.driver_link.specs.declared.write_options.DeleteOptions.{DeleteOptions}
@@ -12,12 +15,12 @@ use Rattle.driver_link.specs.declared.write_options.InsertManyOptions.{InsertMan
 use Rattle.driver_link.specs.declared.write_options.UpdateOptions.{UpdateOptions}
 use Rattle.driver_actions.specs.declared.call.Call.{Call}
 use Rattle.driver_actions.specs.declared.call.Call.TheVariants.{Single}
-use Rattle.driver_actions.specs.declared.call.SingleWrite.TheVariants.{DeleteMany, DeleteOne, InsertOne, ReplaceOne, UpdateMany, UpdateOne}
+use Rattle.driver_actions.specs.declared.call.SingleWrite.TheVariants.{DeleteMany, DeleteOne, FindOneAndDelete, FindOneAndReplace, FindOneAndUpdate, InsertOne, ReplaceOne, UpdateMany, UpdateOne}
 use Rattle.serde_json.specs.Data.{Data, array, object, no_members, member}
 use Rattle.driver_script.specs.declared.calls.DeleteParts.{DeleteParts}
 use Rattle.driver_script.specs.declared.calls.SharedOptions.{SharedOptions}
 use Rattle.driver_script.specs.declared.calls.UpdateParts.{UpdateParts}
-use Rattle.driver_script.specs.declared.keys.TheConstants.{COMMENT, DELETE_MANY, DELETE_ONE, DOC, FILTER, INSERT_ONE, NS, PIPELINE, REPLACE_ONE, UPDATE, UPDATE_MANY, UPDATE_ONE, UPSERT, WRITE_CONCERN}
+use Rattle.driver_script.specs.declared.keys.TheConstants.{COMMENT, DELETE_MANY, DELETE_ONE, DOC, FILTER, FIND_ONE_AND_DELETE, FIND_ONE_AND_REPLACE, FIND_ONE_AND_UPDATE, INSERT_ONE, NS, PIPELINE, REPLACE_ONE, UPDATE, UPDATE_MANY, UPDATE_ONE, UPSERT, WRITE_CONCERN}
 use Rattle.driver_script.specs.Json.{has_only, list_of, needed, optional}
 use Rattle.driver_script.specs.Options.{flag_of, write_concern_of}
 use Rattle.driver_script.specs.Values.{document_of, namespace_of, value_of}
@@ -115,7 +118,7 @@ delete_options shared = record {
 
 -- a delete of these parts
 abbrev pub delete_parts_with : Namespace → List (Pair Bson) → SharedOptions → DeleteParts
-delete_parts_with namespace filter shared = record { namespace = namespace; filter = filter; options = delete_options shared }
+delete_parts_with namespace filter shared = record { namespace = namespace; filter = filter; shared = shared }
 
 -- the parts of a delete: an object with its namespace, its filter and its options
 unfoldable pub delete_parts_of : Data → Option DeleteParts
@@ -127,18 +130,91 @@ delete_parts_of d =
 
 -- a delete of one document
 unfoldable pub delete_one_of : Data → Option Call
-delete_one_of d = option_map (λ parts. Single (DeleteOne parts.namespace parts.filter parts.options)) (delete_parts_of d)
+delete_one_of d = option_map (λ parts. Single (DeleteOne parts.namespace parts.filter (delete_options parts.shared))) (delete_parts_of d)
 
 -- a delete of all that its filter finds
 unfoldable pub delete_many_of : Data → Option Call
-delete_many_of d = option_map (λ parts. Single (DeleteMany parts.namespace parts.filter parts.options)) (delete_parts_of d)
+delete_many_of d = option_map (λ parts. Single (DeleteMany parts.namespace parts.filter (delete_options parts.shared))) (delete_parts_of d)
 
--- the update or replacement whose parts stand under its name
+-- the options of a delete that answers its document, of which these are set
+abbrev pub find_delete_options : SharedOptions → FindOneAndDeleteOptions
+find_delete_options shared = record {
+  sort = None;
+  max_time = None;
+  projection = None;
+  collation = None;
+  hint = None;
+  let_vars = None;
+  comment = shared.comment;
+  write_concern = shared.write_concern;
+}
+
+-- a delete that answers its document
+unfoldable pub find_one_and_delete_of : Data → Option Call
+find_one_and_delete_of d = option_map (λ parts. Single (FindOneAndDelete parts.namespace parts.filter (find_delete_options parts.shared))) (delete_parts_of d)
+
+-- the options of an update that answers its document, of which these are set
+abbrev pub find_update_options : SharedOptions → FindOneAndUpdateOptions
+find_update_options shared = record {
+  sort = None;
+  return_document = None;
+  upsert = None;
+  bypass_document_validation = None;
+  array_filters = None;
+  max_time = None;
+  projection = None;
+  collation = None;
+  hint = None;
+  let_vars = None;
+  comment = shared.comment;
+  write_concern = shared.write_concern;
+}
+
+-- an update that answers its document: an object with its namespace, its filter, what it does, and its options
+unfoldable pub find_one_and_update_of : Data → Option Call
+find_one_and_update_of d =
+    if has_only (NS.now ∷ FILTER.now ∷ UPDATE.now ∷ WRITE_CONCERN.now ∷ COMMENT.now ∷ []) d
+    then option_and_then (λ namespace. option_and_then (λ filter. option_and_then (λ update. option_map (λ shared. Single (FindOneAndUpdate namespace filter update (find_update_options shared)))
+    (shared_of d)) (needed update_of UPDATE.now d)) (needed document_of FILTER.now d)) (needed namespace_of NS.now d)
+    else None
+
+-- the options of a replacement that answers the document before it, of which these are set
+abbrev pub find_replace_options : SharedOptions → FindOneAndReplaceOptions
+find_replace_options shared = record {
+  sort = None;
+  return_document = None;
+  upsert = None;
+  bypass_document_validation = None;
+  max_time = None;
+  projection = None;
+  collation = None;
+  hint = None;
+  let_vars = None;
+  comment = shared.comment;
+  write_concern = shared.write_concern;
+}
+
+-- a replacement that answers a document: an object with its namespace, its filter, the document that is put in, and its options
+unfoldable pub find_one_and_replace_of : Data → Option Call
+find_one_and_replace_of d =
+    if has_only (NS.now ∷ FILTER.now ∷ DOC.now ∷ WRITE_CONCERN.now ∷ COMMENT.now ∷ []) d
+    then option_and_then (λ namespace. option_and_then (λ filter. option_and_then (λ replacement. option_map (λ shared. Single (FindOneAndReplace namespace filter replacement (find_replace_options shared)))
+    (shared_of d)) (needed document_of DOC.now d)) (needed document_of FILTER.now d)) (needed namespace_of NS.now d)
+    else None
+
+-- the write that answers a document, whose parts stand under its name
+unfoldable pub find_under : List ℕ → Data → Option Call
+find_under name d =
+    if bytes_eq name FIND_ONE_AND_DELETE.now then find_one_and_delete_of d else (
+    if bytes_eq name FIND_ONE_AND_UPDATE.now then find_one_and_update_of d else (
+    if bytes_eq name FIND_ONE_AND_REPLACE.now then find_one_and_replace_of d else None))
+
+-- the update or replacement whose parts stand under its name, or a write that answers a document
 unfoldable pub update_under : List ℕ → Data → Option Call
 update_under name d =
     if bytes_eq name UPDATE_ONE.now then update_one_of d else (
     if bytes_eq name UPDATE_MANY.now then update_many_of d else (
-    if bytes_eq name REPLACE_ONE.now then replace_one_of d else None))
+    if bytes_eq name REPLACE_ONE.now then replace_one_of d else find_under name d))
 
 -- the write whose parts stand under its name
 unfoldable pub write_under : List ℕ → Data → Option Call

@@ -1,6 +1,6 @@
 -- The texts of a script's keys and of its names of items, calls and levels, and how many calls a script may hold.
 use Rattle.std.specs.Prelude.{◌≡◌, codes}
-use Rattle.driver_script.specs.declared.keys.TheConstants.{AFTER, ARRAY, AVAILABLE, BYTES, CALLS, CHECK_OUT, CODE, COMMENT, DATE, DELETE_MANY, DELETE_ONE, DELIVER, DOC, DOUBLE, FAIL, FAULTS, FILTER, INSERT_ONE, INT64, INTERRUPTED, ITEM, JOURNAL, LABELS, LATE, LINEARIZABLE, LOCAL, LOST, MAJORITY, MESSAGE, MODIFIED, N, NS, OID, OPTIONS, PIPELINE, READ_CONCERN, REFUSED, REPLACE_ONE, REPLY_LOST, RESULTS, RETRY_WRITES, SCHEDULE, SELECT, SERVE, SNAPSHOT, TS, UPDATE, UPDATE_MANY, UPDATE_ONE, UPSERT, UPSERTED, VALUE, W, WRITE_CONCERN, WRITE_CONCERN_ERROR, W_TIMEOUT}
+use Rattle.driver_script.specs.declared.keys.TheConstants.{AFTER, ARRAY, AVAILABLE, BYTES, CALLS, CHECK_OUT, CODE, COMMENT, DATE, DELETE_MANY, DELETE_ONE, DELIVER, DOC, DOUBLE, FAIL, FAULTS, FILTER, FIND_ONE_AND_DELETE, FIND_ONE_AND_REPLACE, FIND_ONE_AND_UPDATE, INSERT_ONE, INT64, INTERRUPTED, ITEM, JOURNAL, LABELS, LATE, LINEARIZABLE, LOCAL, LOST, MAJORITY, MESSAGE, MODIFIED, N, NS, OID, OPTIONS, PIPELINE, READ_CONCERN, REFUSED, REPLACE_ONE, REPLY_LOST, RESULTS, RETRY_WRITES, SCHEDULE, SELECT, SERVE, SNAPSHOT, TS, UPDATE, UPDATE_MANY, UPDATE_ONE, UPSERT, UPSERTED, VALUE, W, WRITE_CONCERN, WRITE_CONCERN_ERROR, W_TIMEOUT}
 use Rattle.driver_script.specs.declared.script.TheConstants.{MOST_CALLS}
 
 -- each key is its text
@@ -22,6 +22,9 @@ pub record HaveTexts : Type 0 where
   pub fail : FAIL.now ≡ codes "fail"
   pub faults : FAULTS.now ≡ codes "faults"
   pub filter : FILTER.now ≡ codes "filter"
+  pub find_one_and_delete : FIND_ONE_AND_DELETE.now ≡ codes "findOneAndDelete"
+  pub find_one_and_replace : FIND_ONE_AND_REPLACE.now ≡ codes "findOneAndReplace"
+  pub find_one_and_update : FIND_ONE_AND_UPDATE.now ≡ codes "findOneAndUpdate"
   pub insert_one : INSERT_ONE.now ≡ codes "insertOne"
   pub int64 : INT64.now ≡ codes "int64"
   pub interrupted : INTERRUPTED.now ≡ codes "interrupted"

@@ -1,31 +1,33 @@
 //! Readers of a script's calls: each is an object whose one key names it.
 ghost use Rattle.std.specs.Prelude.{◌≡◌};
 ghost use Rattle.serde_json.specs.View.{view};
-ghost use Rattle.driver_script.specs.Calls.{call_of, delete_many_of, delete_one_of, delete_options, delete_parts_of, insert_one_of, insert_options, pipeline_of, replace_one_of, shared_of, update_many_of, update_of, update_one_of, update_options, update_options_of, update_parts_of, update_under, write_under};
+ghost use Rattle.driver_script.specs.Calls.{call_of, delete_many_of, delete_one_of, delete_options, delete_parts_of, find_delete_options, find_one_and_delete_of, find_one_and_replace_of, find_one_and_update_of, find_replace_options, find_under, find_update_options, insert_one_of, insert_options, pipeline_of, replace_one_of, shared_of, update_many_of, update_of, update_one_of, update_options, update_options_of, update_parts_of, update_under, write_under};
 ghost use Rattle.driver_script.specs.Json.{Gives};
 
 use crate::json::{FromJson, Unread, is_object_of, read_needed, read_optional};
 use crate::keys::{
-    COMMENT, DELETE_MANY, DELETE_ONE, DOC, FILTER, INSERT_ONE, NS, PIPELINE, REPLACE_ONE, UPDATE,
-    UPDATE_MANY, UPDATE_ONE, UPSERT, WRITE_CONCERN,
+    COMMENT, DELETE_MANY, DELETE_ONE, DOC, FILTER, FIND_ONE_AND_DELETE, FIND_ONE_AND_REPLACE,
+    FIND_ONE_AND_UPDATE, INSERT_ONE, NS, PIPELINE, REPLACE_ONE, UPDATE, UPDATE_MANY, UPDATE_ONE,
+    UPSERT, WRITE_CONCERN,
 };
 use bson_lite::{Bson, Document, Namespace};
 use driver_actions::{Call, SingleWrite};
 use driver_link::{
-    DeleteOptions, InsertManyOptions, UpdateModifications, UpdateOptions, WriteConcern,
+    DeleteOptions, FindOneAndDeleteOptions, FindOneAndReplaceOptions, FindOneAndUpdateOptions,
+    InsertManyOptions, UpdateModifications, UpdateOptions, WriteConcern,
 };
 use serde_json::Value;
 use std::alloc::Global;
 
 /// The options that every write has.
-#[derive(Debug, Drop)]
+#[derive(Drop)]
 pub(crate) struct SharedOptions {
     pub write_concern: Option<WriteConcern>,
     pub comment: Option<Bson>,
 }
 
 /// What an update is made of, one or many.
-#[derive(Debug, Drop)]
+#[derive(Drop)]
 pub(crate) struct UpdateParts {
     pub namespace: Namespace,
     pub filter: Document,
@@ -33,12 +35,12 @@ pub(crate) struct UpdateParts {
     pub options: UpdateOptions,
 }
 
-/// What a delete is made of, one or many.
-#[derive(Debug, Drop)]
+/// What a delete is made of: of one, of many, or of one that it answers.
+#[derive(Drop)]
 pub(crate) struct DeleteParts {
     pub namespace: Namespace,
     pub filter: Document,
-    pub options: DeleteOptions,
+    pub shared: SharedOptions,
 }
 
 /// The options that every write has, under their keys.
@@ -242,7 +244,7 @@ fn delete_parts(alloc: Global, value: &Value) -> Result<DeleteParts, Unread>
     Ok(DeleteParts {
         namespace,
         filter,
-        options: delete_options(shared),
+        shared,
     })
 }
 
@@ -253,13 +255,13 @@ fn delete_one(alloc: Global, value: &Value) -> Result<Call, Unread>
     let DeleteParts {
         namespace,
         filter,
-        options,
+        shared,
     } = delete_parts(alloc, value)?;
     Ok(Call::Single {
         write: SingleWrite::DeleteOne {
             namespace,
             filter,
-            options,
+            options: delete_options(shared),
         },
     })
 }
@@ -271,18 +273,150 @@ fn delete_many(alloc: Global, value: &Value) -> Result<Call, Unread>
     let DeleteParts {
         namespace,
         filter,
-        options,
+        shared,
     } = delete_parts(alloc, value)?;
     Ok(Call::Single {
         write: SingleWrite::DeleteMany {
             namespace,
             filter,
-            options,
+            options: delete_options(shared),
         },
     })
 }
 
-/// The update or replacement whose parts stand under its name.
+/// The options of a delete that answers its document, of which these are set.
+fn find_delete_options(shared: SharedOptions) -> FindOneAndDeleteOptions
+    ensures { result ≡ find_delete_options shared }
+{
+    FindOneAndDeleteOptions {
+        sort: None,
+        max_time: None,
+        projection: None,
+        collation: None,
+        hint: None,
+        let_vars: None,
+        comment: shared.comment,
+        write_concern: shared.write_concern,
+    }
+}
+
+#[tactic(auto, unfolding(crate::specs::Calls::find_one_and_delete_of))]
+fn find_one_and_delete(alloc: Global, value: &Value) -> Result<Call, Unread>
+    ensures { Gives result (find_one_and_delete_of (view value.now)) }
+{
+    let DeleteParts {
+        namespace,
+        filter,
+        shared,
+    } = delete_parts(alloc, value)?;
+    Ok(Call::Single {
+        write: SingleWrite::FindOneAndDelete {
+            namespace,
+            filter,
+            options: find_delete_options(shared),
+        },
+    })
+}
+
+/// The options of an update that answers its document, of which these are set.
+fn find_update_options(shared: SharedOptions) -> FindOneAndUpdateOptions
+    ensures { result ≡ find_update_options shared }
+{
+    FindOneAndUpdateOptions {
+        sort: None,
+        return_document: None,
+        upsert: None,
+        bypass_document_validation: None,
+        array_filters: None,
+        max_time: None,
+        projection: None,
+        collation: None,
+        hint: None,
+        let_vars: None,
+        comment: shared.comment,
+        write_concern: shared.write_concern,
+    }
+}
+
+#[tactic(auto, unfolding(crate::specs::Calls::find_one_and_update_of))]
+fn find_one_and_update(alloc: Global, value: &Value) -> Result<Call, Unread>
+    ensures { Gives result (find_one_and_update_of (view value.now)) }
+{
+    if !is_object_of(value, &[NS, FILTER, UPDATE, WRITE_CONCERN, COMMENT]) {
+        return Err(Unread::Wrong);
+    }
+    let namespace = read_needed(alloc, value, NS)?;
+    let filter = read_needed(alloc, value, FILTER)?;
+    let update = read_needed(alloc, value, UPDATE)?;
+    let shared = read_shared(alloc, value)?;
+    Ok(Call::Single {
+        write: SingleWrite::FindOneAndUpdate {
+            namespace,
+            filter,
+            update,
+            options: find_update_options(shared),
+        },
+    })
+}
+
+/// The options of a replacement that answers the document before it, of which these are set.
+fn find_replace_options(shared: SharedOptions) -> FindOneAndReplaceOptions
+    ensures { result ≡ find_replace_options shared }
+{
+    FindOneAndReplaceOptions {
+        sort: None,
+        return_document: None,
+        upsert: None,
+        bypass_document_validation: None,
+        max_time: None,
+        projection: None,
+        collation: None,
+        hint: None,
+        let_vars: None,
+        comment: shared.comment,
+        write_concern: shared.write_concern,
+    }
+}
+
+#[tactic(auto, unfolding(crate::specs::Calls::find_one_and_replace_of))]
+fn find_one_and_replace(alloc: Global, value: &Value) -> Result<Call, Unread>
+    ensures { Gives result (find_one_and_replace_of (view value.now)) }
+{
+    if !is_object_of(value, &[NS, FILTER, DOC, WRITE_CONCERN, COMMENT]) {
+        return Err(Unread::Wrong);
+    }
+    let namespace = read_needed(alloc, value, NS)?;
+    let filter = read_needed(alloc, value, FILTER)?;
+    let replacement = read_needed(alloc, value, DOC)?;
+    let shared = read_shared(alloc, value)?;
+    Ok(Call::Single {
+        write: SingleWrite::FindOneAndReplace {
+            namespace,
+            filter,
+            replacement,
+            options: find_replace_options(shared),
+        },
+    })
+}
+
+/// The write that answers a document, whose parts stand under its name.
+#[tactic(auto, unfolding(crate::specs::Calls::find_under))]
+fn find_under(alloc: Global, name: &str, value: &Value) -> Result<Call, Unread>
+    ensures { Gives result (find_under name.now (view value.now)) }
+{
+    if name == FIND_ONE_AND_DELETE {
+        return find_one_and_delete(alloc, value);
+    }
+    if name == FIND_ONE_AND_UPDATE {
+        return find_one_and_update(alloc, value);
+    }
+    if name == FIND_ONE_AND_REPLACE {
+        return find_one_and_replace(alloc, value);
+    }
+    Err(Unread::Wrong)
+}
+
+/// The update or replacement whose parts stand under its name, or a write that answers a document.
 #[tactic(auto, unfolding(crate::specs::Calls::update_under))]
 fn update_under(alloc: Global, name: &str, value: &Value) -> Result<Call, Unread>
     ensures { Gives result (update_under name.now (view value.now)) }
@@ -296,7 +430,7 @@ fn update_under(alloc: Global, name: &str, value: &Value) -> Result<Call, Unread
     if name == REPLACE_ONE {
         return replace_one(alloc, value);
     }
-    Err(Unread::Wrong)
+    find_under(alloc, name, value)
 }
 
 /// The write whose parts stand under its name.

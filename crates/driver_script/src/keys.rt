@@ -34,6 +34,12 @@ pub const FAULTS: &str = "faults";
 
 pub const FILTER: &str = "filter";
 
+pub const FIND_ONE_AND_DELETE: &str = "findOneAndDelete";
+
+pub const FIND_ONE_AND_REPLACE: &str = "findOneAndReplace";
+
+pub const FIND_ONE_AND_UPDATE: &str = "findOneAndUpdate";
+
 pub const INSERT_ONE: &str = "insertOne";
 
 pub const INT64: &str = "int64";

@@ -19,14 +19,14 @@ use serde_json::Value;
 use std::alloc::Global;
 
 /// What an item answers: an error with these labels.
-#[derive(Debug, Drop)]
+#[derive(Drop)]
 pub(crate) struct ErrorReply {
     pub code: i32,
     pub labels: List<Text>,
 }
 
 /// The calls of the link that fail, by their numbers from 0.
-#[derive(Debug, Drop)]
+#[derive(Drop)]
 pub(crate) struct Faults {
     pub selects: List<u64>,
     pub check_outs: List<u64>,

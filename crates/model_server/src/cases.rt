@@ -14,7 +14,7 @@ use driver_link::{
 use std::alloc::Global;
 
 /// Which case a send meets, without the entries that its transaction has gathered.
-#[derive(Clone, Copy, Debug, PartialEq, Eq)]
+#[derive(Clone, Copy, PartialEq, Eq)]
 pub enum Case {
     TooOld,
     Outside,

@@ -19,7 +19,7 @@ use std::alloc::{AllocError, Global};
 use std::mem;
 
 /// What a send does to its session, once its number is taken.
-#[derive(Debug, Drop)]
+#[derive(Drop)]
 pub enum SessionStep {
     /// Nothing.
     Stays,
@@ -47,7 +47,7 @@ pub enum SessionStep {
 }
 
 /// What a send does to the sessions and the log.
-#[derive(Debug, Drop)]
+#[derive(Drop)]
 pub enum Effect {
     /// Nothing.
     Nothing,
@@ -67,7 +67,7 @@ pub enum Effect {
 }
 
 /// What a send does to the cursors.
-#[derive(Debug, Drop)]
+#[derive(Drop)]
 pub enum CursorChange {
     Nothing,
     Opens { left: List<Document> },
@@ -75,7 +75,7 @@ pub enum CursorChange {
 }
 
 /// What a change takes the place of.
-#[derive(Debug, Drop)]
+#[derive(Drop)]
 pub struct Displaced {
     /// What was known of a session that begins anew.
     pub session: Option<KnownSession>,
@@ -193,7 +193,7 @@ fn put_effect(
 }
 
 /// How a session takes a number.
-#[derive(Clone, Copy, Debug, PartialEq, Eq)]
+#[derive(Clone, Copy, PartialEq, Eq)]
 struct Taking {
     number: i64,
     in_transaction: bool,

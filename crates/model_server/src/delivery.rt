@@ -15,7 +15,7 @@ use driver_link::{Send, Server};
 use std::alloc::{AllocError, Global};
 
 /// A send that was served late: where it waited, and what undoes its serving.
-#[derive(Debug, Drop)]
+#[derive(Drop)]
 pub struct Late {
     pub at: usize,
     pub send: Send,
@@ -24,7 +24,7 @@ pub struct Late {
 }
 
 /// What undoes the serving of a send.
-#[derive(Debug, Drop)]
+#[derive(Drop)]
 pub struct Undoing {
     pub past: Past,
     pub displaced: Displaced,

@@ -88,7 +88,7 @@ pub(crate) fn unnumbered_effect(
 }
 
 /// What serving a send comes to, made in full.
-#[derive(Debug, Drop)]
+#[derive(Drop)]
 pub(crate) struct Prepared {
     pub reply: Document,
     pub effect: Effect,

@@ -11,7 +11,7 @@ use driver_link::{Send, Server};
 use std::alloc::{AllocError, Global};
 
 /// What an answer is judged by.
-#[derive(Clone, Copy, Debug, PartialEq, Eq)]
+#[derive(Clone, Copy, PartialEq, Eq)]
 pub struct Judgement {
     /// Whether a statement ran in this step.
     pub ran_now: bool,

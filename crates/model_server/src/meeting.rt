@@ -20,7 +20,7 @@ use driver_link::{
 use std::alloc::{AllocError, Global};
 
 /// What a send comes to by its item.
-#[derive(Debug, Drop)]
+#[derive(Drop)]
 pub(crate) enum Meeting {
     /// It has its effect, and is answered; without a reply the connection is reset.
     Comes {

@@ -18,7 +18,7 @@ use driver_link::{ById, Counted, Entry, KnownSession, Server, ServerTransaction}
 use std::alloc::{AllocError, Global};
 
 /// What a transaction was before a step.
-#[derive(Debug, Drop)]
+#[derive(Drop)]
 pub enum PastTransaction {
     /// As it is after it.
     Same,
@@ -29,7 +29,7 @@ pub enum PastTransaction {
 }
 
 /// What was known of a session before a step under its number. Without kept results they are the same.
-#[derive(Debug, Drop)]
+#[derive(Drop)]
 pub struct PastStep {
     pub ran: bool,
     pub kept: Option<ByIndex<Counted>>,
@@ -37,7 +37,7 @@ pub struct PastStep {
 }
 
 /// What the sessions were before an effect.
-#[derive(Debug, Drop)]
+#[derive(Drop)]
 pub enum PastSessions {
     /// As they are after it.
     Same,
@@ -49,7 +49,7 @@ pub enum PastSessions {
 
 /// What a server was before a change: its sessions, how many entries and cursors there were, and the place
 /// of a cursor that it closes.
-#[derive(Debug, Drop)]
+#[derive(Drop)]
 pub struct Past {
     pub sessions: PastSessions,
     pub entries: usize,

@@ -2,6 +2,7 @@
 use Rattle.std.specs.Prelude.{ℕ, ◌+◌, List, [], ◌∷◌, ◌++◌, map, codes, decimal, Option, Result, Ok, Err}
 use Rattle.std.specs.Fmt.{signed_decimal}
 use Rattle.bson_lite.specs.declared.bson.Bson.{Bson}
+use Rattle.bson_lite.specs.declared.document.Pair.{Pair}
 use Rattle.driver_error.specs.declared.error.Error.{Error}
 use Rattle.driver_error.specs.declared.results.DeleteResult.{DeleteResult}
 use Rattle.driver_error.specs.declared.results.InsertOneResult.{InsertOneResult}
@@ -14,15 +15,16 @@ use Rattle.driver_link.specs.declared.machine.SendBody.TheVariants.{Write, Commi
 use Rattle.driver_link.specs.declared.machine.SendCommand.{SendCommand}
 use Rattle.driver_link.specs.declared.machine.SendCommand.TheVariants as command
 use Rattle.driver_link.specs.Cases.{writes_of}
+use Rattle.driver_ops.specs.OptionFields.{document_in}
 use Rattle.driver_actions.specs.declared.call.Answer.{Answer}
 use Rattle.driver_actions.specs.declared.call.Answer.TheVariants as answer
 use Rattle.driver_actions.specs.declared.call.Call.{Call}
 use Rattle.driver_actions.specs.declared.call.Call.TheVariants as call
 use Rattle.driver_actions.specs.declared.call.Outcome.{Outcome}
-use Rattle.driver_actions.specs.declared.call.SingleAnswer.TheVariants.{Deleted, Inserted, Updated}
+use Rattle.driver_actions.specs.declared.call.SingleAnswer.TheVariants.{Deleted, Found, Inserted, Updated}
 use Rattle.driver_actions.specs.declared.call.SingleWrite.{SingleWrite}
-use Rattle.driver_actions.specs.declared.call.SingleWrite.TheVariants.{DeleteMany, DeleteOne, InsertOne, ReplaceOne, UpdateMany, UpdateOne}
-use Rattle.driver_script.specs.declared.keys.TheConstants.{DELETE_MANY, DELETE_ONE, INSERT_ONE, REPLACE_ONE, UPDATE_MANY, UPDATE_ONE}
+use Rattle.driver_actions.specs.declared.call.SingleWrite.TheVariants.{DeleteMany, DeleteOne, FindOneAndDelete, FindOneAndReplace, FindOneAndUpdate, InsertOne, ReplaceOne, UpdateMany, UpdateOne}
+use Rattle.driver_script.specs.declared.keys.TheConstants.{DELETE_MANY, DELETE_ONE, FIND_ONE_AND_DELETE, FIND_ONE_AND_REPLACE, FIND_ONE_AND_UPDATE, INSERT_ONE, REPLACE_ONE, UPDATE_MANY, UPDATE_ONE}
 use Rattle.script_run.specs.Words.{session_text, number_text, listed, place_text, value_text, value_text_or_none, error_text}
 
 -- the end of a line
@@ -53,11 +55,16 @@ updated_text updated = counts_text updated ++ upserted_text updated.upserted_id
 unfoldable pub deleted_text : DeleteResult → List ℕ
 deleted_text deleted = codes "ok deleted=" ++ decimal deleted.deleted_count
 
+-- what a write that answers a document found: the document as a value, or `-`
+unfoldable pub found_text : Option (List (Pair Bson)) → List ℕ
+found_text found = codes "ok found=" ++ value_text_or_none (document_in found)
+
 -- what a call answered
 unfoldable pub answer_text : Answer → List ℕ
 answer_text (answer.Single (Inserted inserted)) = inserted_text inserted
 answer_text (answer.Single (Updated updated)) = updated_text updated
 answer_text (answer.Single (Deleted deleted)) = deleted_text deleted
+answer_text (answer.Single (Found found)) = found_text found
 
 -- how a call ended
 abbrev pub result_text : Result Answer Error → List ℕ
@@ -72,6 +79,9 @@ single_name (UpdateMany namespace filter update options) = UPDATE_MANY.now
 single_name (ReplaceOne namespace filter replacement options) = REPLACE_ONE.now
 single_name (DeleteOne namespace filter options) = DELETE_ONE.now
 single_name (DeleteMany namespace filter options) = DELETE_MANY.now
+single_name (FindOneAndDelete namespace filter options) = FIND_ONE_AND_DELETE.now
+single_name (FindOneAndUpdate namespace filter update options) = FIND_ONE_AND_UPDATE.now
+single_name (FindOneAndReplace namespace filter replacement options) = FIND_ONE_AND_REPLACE.now
 
 -- the key of a call in a script
 unfoldable pub call_name : Call → List ℕ

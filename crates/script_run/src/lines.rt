@@ -1,13 +1,14 @@
 //! The lines of a report, each put behind a text.
-ghost use Rattle.std.specs.Prelude.{◌≡◌, ◌++◌, map, string_bytes, OnOk};
+ghost use Rattle.std.specs.Prelude.{◌≡◌, ◌++◌, map, string_bytes, IfOk, OnOk};
 ghost use Rattle.driver_link.specs.Cases.{body_writes};
+ghost use Rattle.driver_ops.specs.OptionFields.{document_in};
 ghost use Rattle.script_run.specs.Words.{listed, place_text};
-ghost use Rattle.script_run.specs.Lines.{inserted_text, count_text, counts_text, upserted_text, updated_text, deleted_text, answer_text, result_text, single_name, call_name, call_line, call_lines, write_name, command_name, send_line, send_lines, entry_line, entry_lines};
+ghost use Rattle.script_run.specs.Lines.{inserted_text, count_text, counts_text, upserted_text, updated_text, deleted_text, found_text, answer_text, result_text, single_name, call_name, call_line, call_lines, write_name, command_name, send_line, send_lines, entry_line, entry_lines};
 
 use crate::words::{
     push_error, push_number, push_place, push_places, push_session, push_value, push_value_or_none,
 };
-use bson_lite::Bson;
+use bson_lite::{Bson, Document, TryClone};
 use driver_actions::{Answer, Call, Outcome, SingleAnswer, SingleWrite};
 use driver_error::{DeleteResult, Error, InsertOneResult, UpdateResult};
 use driver_link::keys::{
@@ -16,7 +17,8 @@ use driver_link::keys::{
 };
 use driver_link::{Entry, Send, SendBody, SendCommand};
 use driver_script::keys::{
-    DELETE_MANY, DELETE_ONE, INSERT_ONE, REPLACE_ONE, UPDATE_MANY, UPDATE_ONE,
+    DELETE_MANY, DELETE_ONE, FIND_ONE_AND_DELETE, FIND_ONE_AND_REPLACE, FIND_ONE_AND_UPDATE,
+    INSERT_ONE, REPLACE_ONE, UPDATE_MANY, UPDATE_ONE,
 };
 use std::alloc::{AllocError, Global};
 
@@ -76,6 +78,25 @@ fn push_deleted(out: &mut String, deleted: &DeleteResult) -> Result<(), AllocErr
     Ok(())
 }
 
+/// A copy of a document as a value, where there is one.
+fn document_in(alloc: Global, found: &Option<Document>) -> Result<Option<Bson>, AllocError>
+    ensures { IfOk result (λ value. value ≡ document_in found.now) }
+{
+    match found {
+        None => Ok(None),
+        Some(document) => Ok(Some(Bson::Document(document.try_clone(alloc)?))),
+    }
+}
+
+#[tactic(auto, unfolding(crate::specs::Lines::found_text))]
+fn push_found(alloc: Global, out: &mut String, found: &Option<Document>) -> Result<(), AllocError>
+    ensures { OnOk result (string_bytes out.new ≡ string_bytes out.old ++ found_text found.now) }
+{
+    out.push_str("ok found=")?;
+    let value = document_in(alloc, found)?;
+    push_value_or_none(alloc, out, &value)
+}
+
 #[tactic(auto, unfolding(crate::specs::Lines::answer_text))]
 fn push_answer(alloc: Global, out: &mut String, answer: &Answer) -> Result<(), AllocError>
     ensures { OnOk result (string_bytes out.new ≡ string_bytes out.old ++ answer_text answer.now) }
@@ -84,6 +105,7 @@ fn push_answer(alloc: Global, out: &mut String, answer: &Answer) -> Result<(), A
         Answer::Single(SingleAnswer::Inserted(inserted)) => push_inserted(alloc, out, inserted),
         Answer::Single(SingleAnswer::Updated(updated)) => push_updated(alloc, out, updated),
         Answer::Single(SingleAnswer::Deleted(deleted)) => push_deleted(out, deleted),
+        Answer::Single(SingleAnswer::Found(found)) => push_found(alloc, out, found),
     }
 }
 
@@ -120,6 +142,9 @@ fn name_of_single(write: &SingleWrite) -> &'static str
         SingleWrite::ReplaceOne { .. } => REPLACE_ONE,
         SingleWrite::DeleteOne { .. } => DELETE_ONE,
         SingleWrite::DeleteMany { .. } => DELETE_MANY,
+        SingleWrite::FindOneAndDelete { .. } => FIND_ONE_AND_DELETE,
+        SingleWrite::FindOneAndUpdate { .. } => FIND_ONE_AND_UPDATE,
+        SingleWrite::FindOneAndReplace { .. } => FIND_ONE_AND_REPLACE,
     }
 }
 

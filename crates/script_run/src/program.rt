@@ -28,7 +28,7 @@ use std::thread::Threads;
 const SEED: u64 = 1;
 
 /// What the words of the program ask for.
-#[derive(Clone, Copy, Debug, PartialEq, Eq)]
+#[derive(Clone, Copy, PartialEq, Eq)]
 pub(crate) enum Command {
     /// To run a script.
     Run,

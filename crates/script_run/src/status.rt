@@ -1,7 +1,7 @@
 //! How a run of the program ends.
 
 /// The statuses of the program, with their numbers.
-#[derive(Clone, Copy, Debug, PartialEq, Eq)]
+#[derive(Clone, Copy, PartialEq, Eq)]
 pub(crate) enum Status {
     /// The command ran and its text was written.
     Done = 0,

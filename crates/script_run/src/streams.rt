@@ -12,7 +12,7 @@ use std::alloc::{AllocError, Global};
 pub(crate) const LIMIT: usize = 16_777_216;
 
 /// Why an input was not read to its end.
-#[derive(Clone, Copy, Debug, PartialEq, Eq)]
+#[derive(Clone, Copy, PartialEq, Eq)]
 pub(crate) enum ReadFault {
     Failed,
     /// It holds more than the limit.

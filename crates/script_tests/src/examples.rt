@@ -209,7 +209,37 @@ waiting: 0
 totals: calls=2 ok=1 sends=2 entries=2
 ";
 
-const EXAMPLES: [Row; 8] = [
+const CLAIMED_JOB: &str = r#"{
+  "calls": [
+    {"findOneAndUpdate": {"ns": "jobs.queue", "filter": [["worker", null]], "update": [["$set", {"doc": [["worker", "ada"]]}]]}},
+    {"findOneAndUpdate": {"ns": "jobs.queue", "filter": [["worker", null]], "update": [["$set", {"doc": [["worker", "ben"]]}]]}},
+    {"updateOne": {"ns": "jobs.queue", "filter": [["_id", 7]], "update": [["$set", {"doc": [["done", true]]}]]}}
+  ],
+  "schedule": [
+    "lost",
+    {"serve": {"results": [{"value": [["_id", 7]]}]}},
+    {"serve": {"results": [{"n": 0, "modified": 0}]}}
+  ]
+}
+"#;
+
+const REPORT_OF_CLAIMED_JOB: &str =
+    "call 0 findOneAndUpdate: ok found=bson:160000000376000e000000105f696400070000000000
+call 1 findOneAndUpdate: ok found=-
+call 2 updateOne: ok matched=1 modified=1 upserted=-
+send 0: findAndModify session=1 number=1 places=0.0
+send 1: findAndModify session=1 number=1 places=0.0
+send 2: findAndModify session=2 number=1 places=1.0
+send 3: update session=2 number=2 places=2.0
+entry 0: 0.0 session=1 number=1 n=1
+entry 1: 1.0 session=2 number=1 n=0
+entry 2: 2.0 session=2 number=2 n=1
+ids: distinct
+waiting: 0
+totals: calls=3 ok=3 sends=4 entries=3
+";
+
+const EXAMPLES: [Row; 9] = [
     Row {
         script: LOST_REPLY,
         report: REPORT_OF_LOST_REPLY,
@@ -241,6 +271,10 @@ const EXAMPLES: [Row; 8] = [
     Row {
         script: WRITE_CONCERN_ERROR,
         report: REPORT_OF_WRITE_CONCERN_ERROR,
+    },
+    Row {
+        script: CLAIMED_JOB,
+        report: REPORT_OF_CLAIMED_JOB,
     },
 ];
 

@@ -3,7 +3,7 @@ use crate::scripts::ran;
 use std::alloc::{AllocError, Global};
 use std::test::Fail;
 
-const CALLS: [&str; 20] = [
+const CALLS: [&str; 28] = [
     "{\"insertOne\":{\"doc\":[],\"ns\":\"a.b\"}}",
     "{\"insertOne\":{\"ns\":\"a.b\",\"doc\":[],\"writeConcern\":{},\"comment\":{\"array\":[null]}}}",
     "{\"updateOne\":{\"ns\":\"a.b\",\"filter\":[],\"update\":[]}}",
@@ -24,14 +24,43 @@ const CALLS: [&str; 20] = [
     "{\"deleteOne\":{\"ns\":\"a.b\",\"filter\":[],\"writeConcern\":{\"j\":true}}}",
     "{\"deleteOne\":{\"ns\":\"a.b\",\"filter\":[],\"comment\":false}}",
     "{\"deleteOne\":{\"ns\":\"a.b\",\"filter\":[],\"comment\":{\"doc\":[]}}}",
+    "{\"findOneAndDelete\":{\"ns\":\"a.b\",\"filter\":[]}}",
+    "{\"findOneAndDelete\":{\"comment\":null,\"writeConcern\":{},\"filter\":[],\"ns\":[\"a\",\"b\"]}}",
+    "{\"findOneAndUpdate\":{\"ns\":\"a.b\",\"filter\":[],\"update\":[]}}",
+    "{\"findOneAndUpdate\":{\"ns\":\"a.b\",\"filter\":[],\"update\":{\"pipeline\":[[]]},\"writeConcern\":{\"w\":1}}}",
+    "{\"findOneAndUpdate\":{\"ns\":\"a.b\",\"filter\":[],\"update\":[[\"$set\",1]],\"comment\":\"x\"}}",
+    "{\"findOneAndReplace\":{\"ns\":\"a.b\",\"filter\":[],\"doc\":[]}}",
+    "{\"findOneAndReplace\":{\"ns\":\"a.b\",\"filter\":[],\"doc\":[[\"x\",1]],\"comment\":{\"array\":[]}}}",
+    "{\"findOneAndReplace\":{\"ns\":\"a.b\",\"filter\":[],\"doc\":[],\"writeConcern\":{\"w\":\"majority\",\"wtimeout\":1,\"j\":true}}}",
 ];
 
-const NO_CALLS: [&str; 55] = [
+const NO_CALLS: [&str; 76] = [
     "{}",
     "[]",
     "\"deleteOne\"",
     "{\"DeleteOne\":{\"ns\":\"a.b\",\"filter\":[]}}",
-    "{\"findOneAndDelete\":{\"ns\":\"a.b\",\"filter\":[]}}",
+    "{\"findAndModify\":{\"ns\":\"a.b\",\"filter\":[]}}",
+    "{\"findOneAndDelete\":{\"ns\":\"a.b\"}}",
+    "{\"findOneAndDelete\":{\"filter\":[]}}",
+    "{\"findOneAndDelete\":{\"ns\":\"a.b\",\"filter\":[],\"upsert\":true}}",
+    "{\"findOneAndDelete\":{\"ns\":\"a.b\",\"filter\":[],\"update\":[]}}",
+    "{\"findOneAndDelete\":{\"ns\":\"a.b\",\"filter\":[],\"sort\":[]}}",
+    "{\"findOneAndUpdate\":{\"ns\":\"a.b\",\"filter\":[]}}",
+    "{\"findOneAndUpdate\":{\"ns\":\"a.b\",\"update\":[]}}",
+    "{\"findOneAndUpdate\":{\"filter\":[],\"update\":[]}}",
+    "{\"findOneAndUpdate\":{\"ns\":\"a.b\",\"filter\":[],\"update\":[],\"writeConcern\":1}}",
+    "{\"findOneAndUpdate\":{\"ns\":\"a.b\",\"filter\":[],\"update\":[],\"upsert\":true}}",
+    "{\"findOneAndUpdate\":{\"ns\":\"a.b\",\"filter\":[],\"update\":[],\"returnDocument\":\"after\"}}",
+    "{\"findOneAndUpdate\":{\"ns\":\"a.b\",\"filter\":[],\"doc\":[]}}",
+    "{\"findOneAndUpdate\":{\"ns\":\"a.b\",\"filter\":[],\"update\":{}}}",
+    "{\"findOneAndReplace\":{\"ns\":\"a.b\",\"filter\":[]}}",
+    "{\"findOneAndReplace\":{\"ns\":\"a.b\",\"doc\":[]}}",
+    "{\"findOneAndReplace\":{\"filter\":[],\"doc\":[]}}",
+    "{\"findOneAndReplace\":{\"ns\":\"a.b\",\"filter\":[],\"doc\":[],\"comment\":[]}}",
+    "{\"findOneAndReplace\":{\"ns\":\"a.b\",\"filter\":[],\"update\":[]}}",
+    "{\"findOneAndReplace\":{\"ns\":\"a.b\",\"filter\":[],\"doc\":[],\"upsert\":false}}",
+    "{\"findOneAndReplace\":{\"ns\":\"a.b\",\"filter\":[],\"doc\":{\"pipeline\":[]}}}",
+    "{\"findOneAndReplace\":{\"ns\":\"ab\",\"filter\":[],\"doc\":[]}}",
     "{\"insertMany\":{\"ns\":\"a.b\",\"docs\":[[]]}}",
     "{\"deleteOne\":{\"ns\":\"a.b\",\"filter\":[]},\"deleteMany\":{\"ns\":\"a.b\",\"filter\":[]}}",
     "{\"deleteOne\":[]}",

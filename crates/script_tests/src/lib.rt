@@ -1,10 +1,12 @@
 //! Tests of scripts from outside: statuses and reports, which forms are read and as what, each fault of one insert,
-//! the rows of updates and deletes, and the examples.
+//! the rows of updates, deletes and findAndModify, and the examples.
 //! They stand apart so that the library is proved once and not once more for its tests.
 #![tactic(auto)]
 
 #[cfg(test)]
 mod examples;
+#[cfg(test)]
+mod finds;
 #[cfg(test)]
 mod forms;
 #[cfg(test)]

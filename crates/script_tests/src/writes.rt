@@ -4,10 +4,10 @@ use std::alloc::{AllocError, Global};
 use std::test::Fail;
 
 /// A script's calls, what it says behind them, and its report.
-struct Row {
-    calls: &'static str,
-    behind: &'static str,
-    report: &'static str,
+pub(crate) struct Row {
+    pub(crate) calls: &'static str,
+    pub(crate) behind: &'static str,
+    pub(crate) report: &'static str,
 }
 
 const UPDATE_ONE: &str =
@@ -425,7 +425,7 @@ fn is_reported(alloc: Global, row: &Row) -> Result<bool, AllocError> {
     Ok(status == 0 && text.as_slice() == row.report.as_bytes())
 }
 
-fn are_reported(alloc: Global, rows: &[Row]) -> Result<bool, AllocError> {
+pub(crate) fn are_reported(alloc: Global, rows: &[Row]) -> Result<bool, AllocError> {
     for row in rows {
         if !is_reported(alloc, row)? {
             return Ok(false);
