@@ -10,13 +10,16 @@ use std::alloc::{AllocError, Global};
 use std::test::Fail;
 
 /// A call as a script writes it.
-const CALLS: [&str; 6] = [
+const CALLS: [&str; 9] = [
     "{\"insertOne\":{\"ns\":\"shop.items.old\",\"doc\":[[\"d\",1]],\"writeConcern\":{\"w\":11},\"comment\":12}}",
     "{\"updateOne\":{\"ns\":\"shop.items.old\",\"filter\":[[\"f\",2]],\"update\":[[\"$set\",3]],\"upsert\":true,\"writeConcern\":{\"w\":11},\"comment\":12}}",
     "{\"updateMany\":{\"ns\":\"shop.items.old\",\"filter\":[[\"f\",2]],\"update\":{\"pipeline\":[[[\"$set\",3]],[]]},\"upsert\":false,\"writeConcern\":{\"w\":11},\"comment\":12}}",
     "{\"replaceOne\":{\"ns\":\"shop.items.old\",\"filter\":[[\"f\",2]],\"doc\":[[\"d\",1]],\"writeConcern\":{\"w\":11},\"comment\":12}}",
     "{\"deleteOne\":{\"ns\":[\"shop\",\"items.old\"],\"filter\":[[\"f\",2]],\"writeConcern\":{\"w\":11},\"comment\":12}}",
     "{\"deleteMany\":{\"ns\":\"shop.items.old\",\"filter\":[[\"f\",2]],\"writeConcern\":{\"w\":11},\"comment\":12}}",
+    "{\"findOneAndDelete\":{\"ns\":\"shop.items.old\",\"filter\":[[\"f\",2]],\"writeConcern\":{\"w\":11},\"comment\":12}}",
+    "{\"findOneAndUpdate\":{\"ns\":\"shop.items.old\",\"filter\":[[\"f\",2]],\"update\":[[\"$set\",3]],\"writeConcern\":{\"w\":11},\"comment\":12}}",
+    "{\"findOneAndReplace\":{\"ns\":\"shop.items.old\",\"filter\":[[\"f\",2]],\"doc\":[[\"d\",1]],\"writeConcern\":{\"w\":11},\"comment\":12}}",
 ];
 
 /// The levels of read concerns that are known.
@@ -164,6 +167,46 @@ fn is_call(write: &SingleWrite, number: usize) -> bool {
                 && is_namespace(namespace)
                 && has_one(filter, "f", 2)
                 && are_delete_options(options)
+        }
+        SingleWrite::FindOneAndDelete {
+            namespace,
+            filter,
+            options,
+        } => {
+            number == 6
+                && is_namespace(namespace)
+                && has_one(filter, "f", 2)
+                && are_shared(&options.write_concern, &options.comment)
+                && options.sort.is_none()
+                && options.hint.is_none()
+        }
+        SingleWrite::FindOneAndUpdate {
+            namespace,
+            filter,
+            update,
+            options,
+        } => {
+            number == 7
+                && is_namespace(namespace)
+                && has_one(filter, "f", 2)
+                && is_document(update)
+                && are_shared(&options.write_concern, &options.comment)
+                && options.upsert.is_none()
+                && options.return_document.is_none()
+        }
+        SingleWrite::FindOneAndReplace {
+            namespace,
+            filter,
+            replacement,
+            options,
+        } => {
+            number == 8
+                && is_namespace(namespace)
+                && has_one(filter, "f", 2)
+                && has_one(replacement, "d", 1)
+                && are_shared(&options.write_concern, &options.comment)
+                && options.upsert.is_none()
+                && options.return_document.is_none()
         }
     }
 }
