@@ -190,12 +190,22 @@ fn outcomes_over(
     run_calls(alloc, &mut client, &mut outside, &calls)
 }
 
+/// Two inserts of `{x: 1}`.
+fn two_inserts(alloc: Global) -> Result<List<Call>, AllocError> {
+    let mut calls = List::with_capacity(alloc, 2)?;
+    calls.push(small_insert(alloc)?)?;
+    calls.push(small_insert(alloc)?)?;
+    Ok(calls)
+}
+
 /// The outcomes of two inserts that are made as one list.
 fn outcomes_at_once(alloc: Global) -> Result<List<Outcome>, AllocError> {
-    let calls = [small_insert(alloc)?, small_insert(alloc)?];
     let mut outside = new_outside(alloc, DONE)?;
     let mut client = new_client(alloc);
-    run_calls(alloc, &mut client, &mut outside, &calls)
+    let calls = two_inserts(alloc)?;
+    let outcomes = run_calls(alloc, &mut client, &mut outside, calls.as_slice());
+    drop(calls);
+    outcomes
 }
 
 /// The outcomes of the same inserts, the second of which comes into the list once the first was made.
