@@ -1,7 +1,7 @@
 //! How many elements bytes hold, told by their lengths alone: so much room is made before they are read.
 ghost use Rattle.std.specs.Prelude.{◌+◌, ◌≤◌, length, IfSome};
 
-use crate::parts::zero_of;
+use crate::parts::zero_place;
 
 /// How many elements begin in the bytes, up to one whose length can't be told.
 pub(crate) fn elements_in(bytes: &[u8]) -> usize
@@ -22,7 +22,7 @@ fn past_element(bytes: &[u8]) -> Option<&[u8]>
     ensures { IfSome result (λ rest. length rest.now + 1 ≤ length bytes.now) }
 {
     let (kind, rest) = bytes.split_first()?;
-    let place = zero_of(rest)?;
+    let place = zero_place(rest)?;
     let (_, rest) = rest.split_at(place);
     let (_, rest) = rest.split_first()?;
     let count = value_len(*kind, rest)?;

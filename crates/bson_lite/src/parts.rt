@@ -13,9 +13,10 @@ use std::alloc::Global;
 /// The greatest length that the format can state.
 pub(crate) const LIMIT: u32 = 2_147_483_647;
 
+/// The first bytes, so many.
 #[inline(always)]
 #[tactic(auto, unfolding(crate::specs::Parts::some_at))]
-fn some_of(at: usize, count: usize, bytes: &[u8]) -> Result<(&[u8], &[u8]), DecodeFault>
+fn bytes_of(at: usize, count: usize, bytes: &[u8]) -> Result<(&[u8], &[u8]), DecodeFault>
     ensures gives { Gives (λ x. (x.0.now, x.1.now)) result (or_at at (some_at count bytes.now)) }
     ensures parts { IfOk result (λ x. length x.0.now + length x.1.now ≡ length bytes.now) }
 {
@@ -26,6 +27,7 @@ fn some_of(at: usize, count: usize, bytes: &[u8]) -> Result<(&[u8], &[u8]), Deco
     Ok((part, rest))
 }
 
+/// The first byte.
 #[inline(always)]
 #[tactic(auto, unfolding(crate::specs::Parts::byte_at))]
 pub(crate) fn byte_of(at: usize, bytes: &[u8]) -> Result<(u8, &[u8]), DecodeFault>
@@ -38,9 +40,10 @@ pub(crate) fn byte_of(at: usize, bytes: &[u8]) -> Result<(u8, &[u8]), DecodeFaul
     }
 }
 
+/// A number of 32 bits, its low byte first.
 #[inline(always)]
 #[tactic(auto, unfolding(crate::specs::Parts::number_at, crate::specs::Parts::number_of, crate::specs::Parts::some_at))]
-fn four_of(at: usize, bytes: &[u8]) -> Result<(u32, &[u8]), DecodeFault>
+fn u32_of(at: usize, bytes: &[u8]) -> Result<(u32, &[u8]), DecodeFault>
     ensures gives { Gives (λ x. (x.0, x.1.now)) result (or_at at (number_at w32 bytes.now)) }
     ensures shorter { IfOk result (λ x. length x.1.now + 4 ≤ length bytes.now) }
 {
@@ -50,9 +53,10 @@ fn four_of(at: usize, bytes: &[u8]) -> Result<(u32, &[u8]), DecodeFault>
     }
 }
 
+/// A number of 64 bits, its low byte first.
 #[inline(always)]
 #[tactic(auto, unfolding(crate::specs::Parts::number_at, crate::specs::Parts::number_of, crate::specs::Parts::some_at))]
-fn eight_of(at: usize, bytes: &[u8]) -> Result<(u64, &[u8]), DecodeFault>
+fn u64_of(at: usize, bytes: &[u8]) -> Result<(u64, &[u8]), DecodeFault>
     ensures gives { Gives (λ x. (x.0, x.1.now)) result (or_at at (number_at w64 bytes.now)) }
     ensures shorter { IfOk result (λ x. length x.1.now + 8 ≤ length bytes.now) }
 {
@@ -62,7 +66,8 @@ fn eight_of(at: usize, bytes: &[u8]) -> Result<(u64, &[u8]), DecodeFault>
     }
 }
 
-fn str_of(at: usize, bytes: &[u8]) -> Result<&str, DecodeFault>
+/// Bytes as text, where they are UTF-8.
+fn utf8_of(at: usize, bytes: &[u8]) -> Result<&str, DecodeFault>
     ensures { Gives (λ x. x.now) result (or_at at (utf8_of bytes.now)) }
 {
     match str::from_utf8(bytes) {
@@ -71,62 +76,67 @@ fn str_of(at: usize, bytes: &[u8]) -> Result<&str, DecodeFault>
     }
 }
 
+/// Where the first zero byte stands.
 #[inline(always)]
-pub(crate) fn zero_of(bytes: &[u8]) -> Option<usize>
+pub(crate) fn zero_place(bytes: &[u8]) -> Option<usize>
     ensures { result ≡ position (λ byte. byte == 0) bytes.now }
 {
     bytes.iter().position(|byte| *byte == 0)
 }
 
+/// A text that a zero byte ends, as keys are.
 #[inline(always)]
 #[tactic(auto, unfolding(crate::specs::Parts::zero_ended))]
 pub(crate) fn zero_ended_of(at: usize, bytes: &[u8]) -> Result<(&str, &[u8]), DecodeFault>
     ensures gives { Gives (λ x. (x.0.now, x.1.now)) result (or_at at (zero_ended bytes.now)) }
     ensures shorter { IfOk result (λ x. length x.1.now + 1 ≤ length bytes.now) }
 {
-    let Some(place) = zero_of(bytes) else {
+    let Some(place) = zero_place(bytes) else {
         return Err(DecodeFault::At { offset: at });
     };
     let (text, rest) = bytes.split_at(place);
     let (_, rest) = rest.split_at(1);
-    let text = str_of(at, text)?;
+    let text = utf8_of(at, text)?;
     Ok((text, rest))
 }
 
+/// A text with its length before it and a zero byte behind it.
 #[inline(always)]
 #[tactic(auto, unfolding(crate::specs::Parts::text_at))]
 fn text_of(alloc: Global, at: usize, bytes: &[u8]) -> Result<(Text, &[u8]), DecodeFault>
     ensures gives { Gives (λ x. (x.0, x.1.now)) result (or_at at (text_at bytes.now)) }
     ensures shorter { IfOk result (λ x. length x.1.now ≤ length bytes.now) }
 {
-    let (count, rest) = four_of(at, bytes)?;
+    let (count, rest) = u32_of(at, bytes)?;
     if count == 0 || count > LIMIT {
         return Err(DecodeFault::At { offset: at });
     }
-    let (part, rest) = some_of(at, count as usize - 1, rest)?;
+    let (part, rest) = bytes_of(at, count as usize - 1, rest)?;
     let (last, rest) = byte_of(at, rest)?;
     if last != 0 {
         return Err(DecodeFault::At { offset: at });
     }
-    let text = str_of(at, part)?;
+    let text = utf8_of(at, part)?;
     Ok((Text::from_str(alloc, text)?, rest))
 }
 
+/// Bytes with their length and their subtype before them.
 #[tactic(auto, unfolding(crate::specs::Parts::binary_at))]
 fn binary_of(alloc: Global, at: usize, bytes: &[u8]) -> Result<(Binary, &[u8]), DecodeFault>
     ensures gives { Gives (λ x. (x.0, x.1.now)) result (or_at at (binary_at bytes.now)) }
     ensures shorter { IfOk result (λ x. length x.1.now ≤ length bytes.now) }
 {
-    let (count, rest) = four_of(at, bytes)?;
+    let (count, rest) = u32_of(at, bytes)?;
     if count > LIMIT {
         return Err(DecodeFault::At { offset: at });
     }
     let (subtype, rest) = byte_of(at, rest)?;
-    let (part, rest) = some_of(at, count as usize, rest)?;
+    let (part, rest) = bytes_of(at, count as usize, rest)?;
     let bytes = Bytes::from_slice(alloc, part)?;
     Ok((Binary { subtype, bytes }, rest))
 }
 
+/// A regular expression: its pattern and its options.
 #[tactic(auto, unfolding(crate::specs::Parts::regex_at))]
 fn regex_of(alloc: Global, at: usize, bytes: &[u8]) -> Result<(Regex, &[u8]), DecodeFault>
     ensures gives { Gives (λ x. (x.0, x.1.now)) result (or_at at (regex_at bytes.now)) }
@@ -139,16 +149,18 @@ fn regex_of(alloc: Global, at: usize, bytes: &[u8]) -> Result<(Regex, &[u8]), De
     Ok((Regex { pattern, options }, rest))
 }
 
+/// A timestamp: its increment, then its time.
 #[tactic(auto, unfolding(crate::specs::Parts::stamp_at))]
 fn stamp_of(at: usize, bytes: &[u8]) -> Result<(Timestamp, &[u8]), DecodeFault>
     ensures gives { Gives (λ x. (x.0, x.1.now)) result (or_at at (stamp_at bytes.now)) }
     ensures shorter { IfOk result (λ x. length x.1.now ≤ length bytes.now) }
 {
-    let (increment, rest) = four_of(at, bytes)?;
-    let (time, rest) = four_of(at, rest)?;
+    let (increment, rest) = u32_of(at, bytes)?;
+    let (time, rest) = u32_of(at, rest)?;
     Ok((Timestamp { time, increment }, rest))
 }
 
+/// A boolean, of which two bytes are one.
 #[tactic(auto, unfolding(crate::specs::Parts::flag_at))]
 fn flag_of(at: usize, bytes: &[u8]) -> Result<(bool, &[u8]), DecodeFault>
     ensures gives { Gives (λ x. (x.0, x.1.now)) result (or_at at (flag_at bytes.now)) }
@@ -162,6 +174,7 @@ fn flag_of(at: usize, bytes: &[u8]) -> Result<(bool, &[u8]), DecodeFault>
     }
 }
 
+/// An object id.
 #[inline(always)]
 fn id_of(at: usize, bytes: &[u8]) -> Result<(ObjectId, &[u8]), DecodeFault>
     ensures gives { Gives (λ x. (x.0.bytes, x.1.now)) result (or_at at (some_at 12 bytes.now)) }
@@ -171,6 +184,7 @@ fn id_of(at: usize, bytes: &[u8]) -> Result<(ObjectId, &[u8]), DecodeFault>
     Ok((ObjectId { bytes }, rest))
 }
 
+/// The first bytes, as many as an array holds.
 #[inline(always)]
 #[tactic(auto, unfolding(crate::specs::Parts::some_at))]
 fn chunk_of<const N: usize>(at: usize, bytes: &[u8]) -> Result<([u8; N], &[u8]), DecodeFault>
@@ -183,6 +197,7 @@ fn chunk_of<const N: usize>(at: usize, bytes: &[u8]) -> Result<([u8; N], &[u8]),
     }
 }
 
+/// The byte of a type that is known.
 #[tactic(auto, unfolding(crate::specs::Parts::type_at))]
 pub(crate) fn type_of(at: usize, bytes: &[u8]) -> Result<(u8, &[u8]), DecodeFault>
     ensures gives { Gives (λ x. (x.0, x.1.now)) result (or_at at (type_at bytes.now)) }
@@ -195,6 +210,7 @@ pub(crate) fn type_of(at: usize, bytes: &[u8]) -> Result<(u8, &[u8]), DecodeFaul
     }
 }
 
+/// The key of an array's value, which is its place in decimal.
 #[tactic(auto, unfolding(crate::specs::Parts::place_at))]
 pub(crate) fn place_of(at: usize, place: usize, bytes: &[u8]) -> Result<&[u8], DecodeFault>
     ensures gives { Gives (λ x. x.now) result (or_at at (place_at place bytes.now)) }
@@ -208,21 +224,23 @@ pub(crate) fn place_of(at: usize, place: usize, bytes: &[u8]) -> Result<&[u8], D
     Ok(rest)
 }
 
+/// A document in its frame: the bytes of its pairs, and its last byte.
 #[tactic(auto, unfolding(crate::specs::Parts::frame_at))]
 pub(crate) fn frame_of(at: usize, bytes: &[u8]) -> Result<(&[u8], u8, &[u8]), DecodeFault>
     ensures gives { Gives (λ x. (record { elements = x.0.now; last = x.1 }, x.2.now)) result
         (or_at at (frame_at bytes.now)) }
     ensures shorter { IfOk result (λ x. length x.0.now + length x.2.now + 5 ≤ length bytes.now) }
 {
-    let (count, rest) = four_of(at, bytes)?;
+    let (count, rest) = u32_of(at, bytes)?;
     if count < 5 || count > LIMIT {
         return Err(DecodeFault::At { offset: at });
     }
-    let (part, rest) = some_of(at, count as usize - 5, rest)?;
+    let (part, rest) = bytes_of(at, count as usize - 5, rest)?;
     let (last, rest) = byte_of(at, rest)?;
     Ok((part, last, rest))
 }
 
+/// A value of a type that holds no others.
 #[inline(always)]
 #[tactic(auto, unfolding(crate::specs::Parts::leaf_at))]
 pub(crate) fn leaf_of(
@@ -257,17 +275,23 @@ pub(crate) fn leaf_of(
             Ok((Bson::Boolean(flag), rest))
         }
         9 => {
-            let (millis, rest) = eight_of(at, bytes)?;
+            let (millis, rest) = u64_of(at, bytes)?;
             Ok((Bson::DateTime(millis.cast_signed()), rest))
         }
         10 => Ok((Bson::Null, bytes)),
-        _ => more_of(alloc, at, kind, bytes),
+        _ => later_leaf_of(alloc, at, kind, bytes),
     }
 }
 
+/// The same of the types with the greater numbers.
 #[inline(always)]
 #[tactic(auto, unfolding(crate::specs::Parts::more_at))]
-fn more_of(alloc: Global, at: usize, kind: u8, bytes: &[u8]) -> Result<(Bson, &[u8]), DecodeFault>
+fn later_leaf_of(
+    alloc: Global,
+    at: usize,
+    kind: u8,
+    bytes: &[u8],
+) -> Result<(Bson, &[u8]), DecodeFault>
     ensures gives { Gives (λ x. (x.0, x.1.now)) result (or_at at (more_at kind bytes.now)) }
     ensures shorter { IfOk result (λ x. length x.1.now ≤ length bytes.now) }
 {
@@ -285,7 +309,7 @@ fn more_of(alloc: Global, at: usize, kind: u8, bytes: &[u8]) -> Result<(Bson, &[
             Ok((Bson::Symbol(symbol), rest))
         }
         16 => {
-            let (number, rest) = four_of(at, bytes)?;
+            let (number, rest) = u32_of(at, bytes)?;
             Ok((Bson::Int32(number.cast_signed()), rest))
         }
         17 => {
@@ -293,7 +317,7 @@ fn more_of(alloc: Global, at: usize, kind: u8, bytes: &[u8]) -> Result<(Bson, &[
             Ok((Bson::Timestamp(stamp), rest))
         }
         18 => {
-            let (number, rest) = eight_of(at, bytes)?;
+            let (number, rest) = u64_of(at, bytes)?;
             Ok((Bson::Int64(number.cast_signed()), rest))
         }
         19 => {

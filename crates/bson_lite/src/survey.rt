@@ -145,8 +145,8 @@ fn survey_value(value: &Bson, levels: u32, met: &mut Met) -> u64
         Bson::Binary(binary) => (binary.bytes.len() as u64).saturating_add(5),
         Bson::ObjectId(id) => id_len(id),
         Bson::Boolean(_) => 1,
-        Bson::DateTime(number) | Bson::Int64(number) => long_len(*number),
-        Bson::Int32(number) => int_len(*number),
+        Bson::DateTime(number) | Bson::Int64(number) => int64_len(*number),
+        Bson::Int32(number) => int32_len(*number),
         Bson::Timestamp(stamp) => stamp_len(*stamp),
         Bson::Decimal128(decimal) => decimal_len(decimal),
         Bson::Undefined | Bson::Null | Bson::MinKey | Bson::MaxKey => 0,
@@ -253,23 +253,23 @@ fn id_len(id: &ObjectId) -> u64
     id.bytes.len() as u64
 }
 
-/// A number of 64 bits, which is in its range as it is read.
-fn long_len(number: i64) -> u64
+/// The length of a number of 64 bits, which is looked at for its range alone.
+fn int64_len(number: i64) -> u64
     ensures length { result ≡ 8 }
     ensures in_range { fits 0x8000_0000_0000_0000 number ≡ true }
 {
     8
 }
 
-/// A number of 32 bits.
-fn int_len(number: i32) -> u64
+/// The length of a number of 32 bits, looked at for its range.
+fn int32_len(number: i32) -> u64
     ensures length { result ≡ 4 }
     ensures in_range { fits 0x8000_0000 number ≡ true }
 {
     4
 }
 
-/// Two numbers of 32 bits.
+/// The length of two numbers of 32 bits, looked at for their ranges.
 fn stamp_len(stamp: Timestamp) -> u64
     ensures length { result ≡ 8 }
     ensures time { nat_lt stamp.time 4294967296 ≡ true }

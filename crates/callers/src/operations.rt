@@ -1,7 +1,7 @@
 //! A caller of the operations' commands: the delete of the document that has an id.
 ghost use Rattle.std.specs.Prelude.{◌≡◌, ◌∷◌, [], ℕ, false, List as Listed, IfOk};
+ghost use Rattle.driver_link.specs.Numbers.{field};
 ghost use Rattle.driver_ops.specs.Deleting.{delete_command, delete_statement};
-ghost use Rattle.driver_ops.specs.Fields.{field};
 
 use bson_lite::{Bson, Document, ID_KEY};
 use driver_link::DeleteOptions;

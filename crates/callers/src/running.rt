@@ -1,6 +1,6 @@
 //! A caller of the program's run: a script from its input to its report.
 ghost use Rattle.std.specs.Prelude.{◌≡◌, IfErr, OnOk};
-ghost use Rattle.script_run.specs.Ended.{HasRun, IsRefused};
+ghost use Rattle.script_run.specs.Ended.{IsRefused, RunIsMade};
 
 use driver_link::{Sink, Source};
 use script_run::{Run, run_script};
@@ -13,7 +13,7 @@ pub fn run_or_status<I: Source, O: Sink>(
     sink: &mut O,
     run: &mut Run,
 ) -> Result<(), u8>
-    ensures done { OnOk result (HasRun (I.left source.old) (I.left source.new) run.new) }
+    ensures done { OnOk result (RunIsMade (I.left source.old) (I.left source.new) run.new) }
     ensures refused { IfErr result (λ status. status ≡ 3 →
         IsRefused (I.left source.old) (I.left source.new)) }
 {

@@ -27,11 +27,11 @@ use Rattle.driver_actions.specs.Causes.{RefusesFirst, TellsOwnRefusal}
 use Rattle.driver_actions.specs.Forms.{WriteForm, command_body, deletes, finds, inserts, namespace_in, updates}
 use Rattle.driver_actions.specs.Inputs.{InputRefused, IsAccepted, JudgesInput, RefusesValues, TellsInput, argument_refusal, change_refusal, dotted_text, else_text, has_dot, is_long, name_refusal, operator_refusal, replacement_text, update_text, value_list}
 use Rattle.driver_actions.specs.inside.Faults.{ErrorOfFault, IsArgumentError, RefusesDocument, first_of, length_fault, values_fault}
-use Rattle.driver_actions.proofs.Judging.{document_first, document_taken}
+use Rattle.driver_actions.proofs.InputFaults.{document_first, document_taken}
 
 -- the pair of an id
-abbrev pub named : ObjectId → Pair Bson
-named id = record { key = id_key; value = bson.ObjectId id }
+abbrev pub id_pair : ObjectId → Pair Bson
+id_pair id = record { key = id_key; value = bson.ObjectId id }
 
 depth_of_id : (id : ObjectId) → depth (bson.ObjectId id) ≡ 0
 depth_of_id id = search (rules, bson.the_lemmas)
@@ -45,20 +45,20 @@ spelled_id id = search (rules, bson.the_lemmas)
 max_zero : (n : ℕ) → max 0 n ≡ n
 max_zero n = omega arith
 
-nesting_named : (id : ObjectId) (document : List (Pair Bson)) → nesting (named id ∷ document) ≡ nesting document
+nesting_named : (id : ObjectId) (document : List (Pair Bson)) → nesting (id_pair id ∷ document) ≡ nesting document
 nesting_named id document =
     let rest = deepest_pair (map (on_value depth) document) in
     ap (λ n. suc (max n rest)) (depth_of_id id) ∙ ap suc (max_zero rest)
 
-zero_named : (id : ObjectId) (document : List (Pair Bson)) → zero_in (named id ∷ document) ≡ zero_in document
+zero_named : (id : ObjectId) (document : List (Pair Bson)) → zero_in (id_pair id ∷ document) ≡ zero_in document
 zero_named id document = ap (λ b. (false || b) || zero_in document) (zero_of_id id)
 
 length_framed : (body : List ℕ) → length (framed body) ≡ length body + 5
 length_framed body = omega (arith, length-append body (0 ∷ []))
 
-length_named : (id : ObjectId) (document : List (Pair Bson)) → length id.bytes ≡ 12 → length (spelling (named id ∷ document)) ≡ length (spelling document) + 17
+length_named : (id : ObjectId) (document : List (Pair Bson)) → length id.bytes ≡ 12 → length (spelling (id_pair id ∷ document)) ≡ length (spelling document) + 17
 length_named id document twelve =
-    let body : body_of (named id ∷ document) ≡ element id_key (7, id.bytes) ++ body_of document
+    let body : body_of (id_pair id ∷ document) ≡ element id_key (7, id.bytes) ++ body_of document
     = ap (λ value. element id_key value ++ body_of document) (spelled_id id) in
     let parts = length-append (element id_key (7, id.bytes)) (body_of document) in
     ap (λ b. length (framed b)) body ∙ length_framed (element id_key (7, id.bytes) ++ body_of document)
@@ -72,20 +72,20 @@ refused_by deep zero long =
     if nat_lt 2147483647 long then Some TooLong else None))
 
 refusal_named : (id : ObjectId) (document : List (Pair Bson)) → length id.bytes ≡ 12
-    → refusal_within 96 (named id ∷ document) ≡ refused_by (nesting document) (zero_in document) (length (spelling document) + 17)
+    → refusal_within 96 (id_pair id ∷ document) ≡ refused_by (nesting document) (zero_in document) (length (spelling document) + 17)
 refusal_named id document twelve =
-    ap (λ n. refused_by n (zero_in (named id ∷ document)) (length (spelling (named id ∷ document)))) (nesting_named id document)
-    ∙ ap (λ b. refused_by (nesting document) b (length (spelling (named id ∷ document)))) (zero_named id document)
+    ap (λ n. refused_by n (zero_in (id_pair id ∷ document)) (length (spelling (id_pair id ∷ document)))) (nesting_named id document)
+    ∙ ap (λ b. refused_by (nesting document) b (length (spelling (id_pair id ∷ document)))) (zero_named id document)
     ∙ ap (λ n. refused_by (nesting document) (zero_in document) n) (length_named id document twelve)
 
 -- a document that has an id
 pub refuses_own : (document : List (Pair Bson)) (found : Option Bson) → value_of id_key document ≡ found → is_some found ≡ true
     → RefusesDocument document (refusal_within 96 document)
 refuses_own document found at there = λ id twelve.
-    ap (refusal_within 96) (cond-true (is_some (value_of id_key document)) document (named id ∷ document) (ap is_some at ∙ there))
+    ap (refusal_within 96) (cond-true (is_some (value_of id_key document)) document (id_pair id ∷ document) (ap is_some at ∙ there))
 
-with_none : (id : ObjectId) (document : List (Pair Bson)) → is_some (value_of id_key document) ≡ false → with_id id document ≡ named id ∷ document
-with_none id document none = cond-false (is_some (value_of id_key document)) document (named id ∷ document) none
+with_none : (id : ObjectId) (document : List (Pair Bson)) → is_some (value_of id_key document) ≡ false → with_id id document ≡ id_pair id ∷ document
+with_none id document none = cond-false (is_some (value_of id_key document)) document (id_pair id ∷ document) none
 
 lt_longer : (long : ℕ) → nat_lt 2147483647 long ≡ true → nat_lt 2147483647 (long + 17) ≡ true
 lt_longer long is = grind (arith, nat_tests)

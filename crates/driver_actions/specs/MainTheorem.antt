@@ -99,7 +99,7 @@ SendsOwn call (Some told) (Some now) =
 pub record CallEnds (number : ℕ) (before now : Moment) (call : Call) (outcome : Outcome) : Type 0 where
   pub caused : CallCaused number before now call outcome
   pub complete : CallCompletes number before now call outcome.result
-  pub own : SendsOwn number (server_run before.link) (server_run now.link)
+  pub sends_own : SendsOwn number (server_run before.link) (server_run now.link)
 
 -- each call of a list ended so
 abbrev pub HaveEnded : List Call → List Outcome → Moment → Moment → Type 0

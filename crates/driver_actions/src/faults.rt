@@ -64,7 +64,7 @@ pub(crate) fn length_fault(document: &Document) -> Option<EncodeFault>
 }
 
 /// The fault of a document by itself, but for its length.
-#[tactic(auto, using(crate::proofs::Judging::without_length))]
+#[tactic(auto, using(crate::proofs::InputFaults::without_length))]
 fn document_fault(document: &Document) -> Option<EncodeFault>
     ensures { result ≡ value_fault (bson.Document document.now) }
 {
@@ -75,7 +75,7 @@ fn document_fault(document: &Document) -> Option<EncodeFault>
 }
 
 /// The first fault of documents.
-#[tactic(auto, using(crate::proofs::Judging::first_twice))]
+#[tactic(auto, using(crate::proofs::InputFaults::first_twice))]
 fn documents_fault(documents: &[Document]) -> Option<EncodeFault>
     ensures { result ≡ values_fault (document_values documents.now) }
 {
@@ -107,7 +107,7 @@ fn option_document_fault(document: &Option<Document>) -> Option<EncodeFault>
 }
 
 /// The fault of a hint by its keys; a name has none.
-#[tactic(auto, using(crate::proofs::Judging::text_fault))]
+#[tactic(auto, using(crate::proofs::InputFaults::text_fault))]
 fn hint_fault(hint: &Option<Hint>) -> Option<EncodeFault>
     ensures { result ≡ values_fault (value_list (hint_of hint.now)) }
 {
@@ -132,7 +132,7 @@ pub(crate) fn comment_fault(
 }
 
 /// The fault of a value by itself.
-#[tactic(auto, using(crate::proofs::Judging::within_around))]
+#[tactic(auto, using(crate::proofs::InputFaults::within_around))]
 fn value_fault(alloc: Global, value: &Bson) -> Result<Option<EncodeFault>, AllocError>
     ensures { IfOk result (λ fault. fault ≡ value_fault value.now) }
 {
@@ -170,7 +170,7 @@ fn modification_fault(modification: &Modification) -> Option<EncodeFault>
 }
 
 /// The first fault of the options of an update.
-#[tactic(auto, using(crate::proofs::Judging::joined))]
+#[tactic(auto, using(crate::proofs::InputFaults::joined))]
 fn update_options_fault(
     alloc: Global,
     options: &UpdateOptions,
@@ -186,7 +186,7 @@ fn update_options_fault(
 }
 
 /// The first fault of the options of a delete.
-#[tactic(auto, using(crate::proofs::Judging::joined))]
+#[tactic(auto, using(crate::proofs::InputFaults::joined))]
 fn delete_options_fault(
     alloc: Global,
     options: &DeleteOptions,
@@ -200,7 +200,7 @@ fn delete_options_fault(
 }
 
 /// The first fault of the options of a findAndModify.
-#[tactic(auto, using(crate::proofs::Judging::joined))]
+#[tactic(auto, using(crate::proofs::InputFaults::joined))]
 fn find_options_fault(
     alloc: Global,
     options: &FindAndModifyOptions,
@@ -217,7 +217,7 @@ fn find_options_fault(
 }
 
 /// The first fault of an update's filter, change and options.
-#[tactic(auto, using(crate::proofs::Judging::joined))]
+#[tactic(auto, using(crate::proofs::InputFaults::joined))]
 pub(crate) fn update_fault(
     alloc: Global,
     filter: &Document,
@@ -247,7 +247,7 @@ pub(crate) fn delete_fault(
 }
 
 /// The first fault of a findAndModify's filter, of what it does, and of its options.
-#[tactic(auto, using(crate::proofs::Judging::joined))]
+#[tactic(auto, using(crate::proofs::InputFaults::joined))]
 pub(crate) fn find_fault(
     alloc: Global,
     filter: &Document,

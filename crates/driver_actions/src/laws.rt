@@ -12,7 +12,7 @@ ghost use Rattle.driver_actions.specs.declared.call.Call.{Call};
 ghost use Rattle.driver_actions.specs.declared.call.Outcome.{Outcome};
 
 /// Calls that are appended to the list change nothing of a run that stands.
-#[tactic(auto, using(crate::proofs::Standing::stands_appended))]
+#[tactic(auto, using(crate::proofs::StandingRuns::stands_appended))]
 pub fn appended_calls_change_nothing()
     ensures { (run : RunState) (calls more : List Call) (now : Moment) →
         RunInvariant run calls now → RunInvariant run (calls ++ more) now }

@@ -244,7 +244,7 @@ fn document_refusal(document: &Document) -> Option<EncodeFault>
 }
 
 /// Why an update is refused for its values, or for the length of its command.
-#[tactic(auto, using(crate::proofs::Judging::refused_by))]
+#[tactic(auto, using(crate::proofs::InputFaults::refused_by))]
 fn update_values_fault(
     alloc: Global,
     namespace: &Namespace,
@@ -263,7 +263,7 @@ fn update_values_fault(
 }
 
 /// Why a delete is refused for its values, or for the length of its command.
-#[tactic(auto, using(crate::proofs::Judging::refused_by))]
+#[tactic(auto, using(crate::proofs::InputFaults::refused_by))]
 fn delete_values_fault(
     alloc: Global,
     namespace: &Namespace,
@@ -280,7 +280,7 @@ fn delete_values_fault(
 }
 
 /// Why a findAndModify is refused for its values, or for the length of its command.
-#[tactic(auto, using(crate::proofs::Judging::refused_by))]
+#[tactic(auto, using(crate::proofs::InputFaults::refused_by))]
 fn find_values_fault(
     alloc: Global,
     namespace: &Namespace,

@@ -1,4 +1,4 @@
--- What an error becomes when all that may tell of the data is taken out of it.
+-- What an error becomes when what a server said in messages, details and replies is taken out of it and of all below it; ids and counts stay.
 use Rattle.std.specs.Prelude.{ℕ, suc, zero, true, List, [], ◌∷◌, map, codes, Option, None}
 use Rattle.std.specs.Option.{option_map}
 use Rattle.bson_lite.specs.declared.bson.Bson as bson

@@ -80,20 +80,17 @@ impl Error {
     pub fn is_network_error(&self) -> bool
         ensures { result ≡ is_network_error self.now }
     {
-        match &self.kind {
-            ErrorKind::Io(_) | ErrorKind::ConnectionPoolCleared { .. } => true,
-            _ => false,
-        }
+        matches!(
+            &self.kind,
+            ErrorKind::Io(_) | ErrorKind::ConnectionPoolCleared { .. }
+        )
     }
 
     /// Whether the network took too long.
     pub fn is_network_timeout(&self) -> bool
         ensures { result ≡ is_network_timeout self.now }
     {
-        match &self.kind {
-            ErrorKind::Io(IoKind::TimedOut) => true,
-            _ => false,
-        }
+        matches!(&self.kind, ErrorKind::Io(IoKind::TimedOut))
     }
 
     /// Whether the network failed in another way.
@@ -111,50 +108,35 @@ impl Error {
     pub fn is_server_selection_error(&self) -> bool
         ensures { result ≡ is_server_selection_error self.now }
     {
-        match &self.kind {
-            ErrorKind::ServerSelection { .. } => true,
-            _ => false,
-        }
+        matches!(&self.kind, ErrorKind::ServerSelection { .. })
     }
 
     /// Whether the driver could not prove who it is.
     pub fn is_auth_error(&self) -> bool
         ensures { result ≡ is_auth_error self.now }
     {
-        match &self.kind {
-            ErrorKind::Authentication { .. } => true,
-            _ => false,
-        }
+        matches!(&self.kind, ErrorKind::Authentication { .. })
     }
 
     /// Whether the connections to a server were given up.
     pub fn is_pool_cleared(&self) -> bool
         ensures { result ≡ is_pool_cleared self.now }
     {
-        match &self.kind {
-            ErrorKind::ConnectionPoolCleared { .. } => true,
-            _ => false,
-        }
+        matches!(&self.kind, ErrorKind::ConnectionPoolCleared { .. })
     }
 
     /// Whether the server is too old.
     pub fn is_incompatible_server(&self) -> bool
         ensures { result ≡ is_incompatible_server self.now }
     {
-        match &self.kind {
-            ErrorKind::IncompatibleServer { .. } => true,
-            _ => false,
-        }
+        matches!(&self.kind, ErrorKind::IncompatibleServer { .. })
     }
 
     /// Whether the caller gave what the call does not take.
     pub fn is_invalid_argument(&self) -> bool
         ensures { result ≡ is_invalid_argument self.now }
     {
-        match &self.kind {
-            ErrorKind::InvalidArgument { .. } => true,
-            _ => false,
-        }
+        matches!(&self.kind, ErrorKind::InvalidArgument { .. })
     }
 
     /// Whether a command named a namespace that is not there.
@@ -171,13 +153,13 @@ impl Error {
     pub fn is_server_error(&self) -> bool
         ensures { result ≡ is_server_error self.now }
     {
-        match &self.kind {
+        matches!(
+            &self.kind,
             ErrorKind::Authentication { .. }
-            | ErrorKind::InsertMany(_)
-            | ErrorKind::Command(_)
-            | ErrorKind::Write(_) => true,
-            _ => false,
-        }
+                | ErrorKind::InsertMany(_)
+                | ErrorKind::Command(_)
+                | ErrorKind::Write(_)
+        )
     }
 
     /// Whether a read may be tried again.

@@ -1,4 +1,5 @@
-//! Redaction: all that may tell of the data is taken out of an error and those below it.
+//! Redaction: what a server said in messages, details and replies is taken out of an error and those below it. Ids and
+//! counts stay.
 ghost use Rattle.std.specs.Prelude.{◌≡◌, map, codes, IfOk, OnOk, OnErr};
 ghost use Rattle.std.specs.Option.{option_map};
 ghost use Rattle.bson_lite.specs.Indexed.{changed};

@@ -11,8 +11,8 @@ use Rattle.driver_link.specs.Counting.{Counts, KeepsServer, Listed, OnlyCounts, 
 use Rattle.driver_link.specs.Failures.{is_network}
 use Rattle.driver_link.specs.ServerRun.{ServerRun}
 use Rattle.driver_session.specs.Session.{MayRaise, Numbers, Raises, Session}
-use Rattle.driver_exec.specs.Attempting.{AttemptState, Sends, Trial, held_after}
-use Rattle.driver_exec.specs.Holding.{ExecutionSession, dirty_held, number_before}
+use Rattle.driver_exec.specs.Attempting.{AttemptState, AttemptedOperation, Sends, held_after}
+use Rattle.driver_exec.specs.Holding.{ExecutionSession, dirty_session_held, number_before}
 use Rattle.driver_exec.specs.Retry.{RetryState}
 
 -- a next number is the last one and one more
@@ -52,7 +52,7 @@ module _ (A : Type 0) (next : ServerRun → ServerRun) (fault : ServerRun → Op
   only_counts : (link now : Option ServerRun) (result : Result A LinkError) → Counts {A = A} next fault link now result → OnlyCounts link now
   only_counts None now result counts = counts
   only_counts (Some told) now (Ok given) counts = counted told now counts.0
-  only_counts (Some told) now (Err (Fault found own)) counts = counted told now counts.0
+  only_counts (Some told) now (Err (Fault found labels)) counts = counted told now counts.0
   only_counts (Some told) now (Err Memory) counts = elim counts [
     | inl same ↦ subst (OnlyCounts (Some told)) (sym same) (counts_refl (Some told))
     | inr is ↦ counted told now is
@@ -74,14 +74,14 @@ check_out_counts A link now result counts = only_counts A checked_out check_out_
 -- a failed exchange changes no number
 number_after : (result : Result (List ℕ) LinkError) (held : ExecutionSession) → number_before (held_after result held) ≡ number_before held
 number_after (Ok reply) held = refl
-number_after (Err (Fault fault own)) held = by_network (is_network fault)
+number_after (Err (Fault fault labels)) held = by_network (is_network fault)
   where
-    by_network : (dirty : Bool) → number_before (if dirty then dirty_held held else held) ≡ number_before held
+    by_network : (dirty : Bool) → number_before (if dirty then dirty_session_held held else held) ≡ number_before held
     by_network true = refl
     by_network false = refl
 number_after (Err Memory) held = refl
 
 -- so the number of the last send before the end of an attempt is that of its own send
-pub sent_number : {A : Type 0} {trial : Trial A} {past : Option RetryState} {before now : AttemptState} {address : Address} {conn : Conn} (result : Result (List ℕ) LinkError)
-    (sends : Sends trial past before now address conn result) → number_before now.held ≡ sends.number
+pub sent_number : {A : Type 0} {op : AttemptedOperation A} {past : Option RetryState} {before now : AttemptState} {address : Address} {conn : Conn} (result : Result (List ℕ) LinkError)
+    (sends : Sends op past before now address conn result) → number_before now.held ≡ sends.number
 sent_number result sends = ap number_before sends.held_is ∙ number_after result (record sends.numbered { sent = Some sends.number })

@@ -16,7 +16,7 @@ use Rattle.driver_exec.specs.declared.attempt_end.AttemptEnd.TheVariants.{Done, 
 use Rattle.driver_exec.specs.declared.failure.AttemptFailure.{AttemptFailure}
 use Rattle.driver_exec.specs.declared.failure.FailurePhase.{FailurePhase}
 use Rattle.driver_exec.specs.declared.failure.FailurePhase.TheVariants.{ConnectionEstablishment, Execution}
-use Rattle.driver_exec.specs.Attempting.{AttemptState, EndsAtOnce, FailsIn, Readies, Sends, Trial, Tries, asks_session, besides_out, trial_of}
+use Rattle.driver_exec.specs.Attempting.{AttemptState, AttemptedOperation, EndsAtOnce, FailsIn, MakesAttempt, Readies, Sends, asks_session, attempted_operation, besides_out}
 use Rattle.driver_exec.specs.Concerns.{concern_of}
 use Rattle.driver_exec.specs.Executing.{Ends, Proceeds, first_state}
 use Rattle.driver_exec.specs.Holding.{ExecutionSession, GivesBack, HoldsSession, IsBackAt, IsLentAt, needs_session}
@@ -24,7 +24,7 @@ use Rattle.driver_exec.specs.Moment.{Moment}
 use Rattle.driver_exec.specs.Readings.{MayRead, OnlyRead, Reads}
 use Rattle.driver_exec.specs.Retry.{RetryState}
 use Rattle.driver_exec.specs.inside.Executing.{Reaches}
-use Rattle.driver_exec.proofs.Folding.{came_of}
+use Rattle.driver_exec.proofs.RetryFold.{came_of}
 
 -- a clock that is as it was
 pub read_same : (clock now : ClockTells) → now ≡ clock → OnlyRead clock now
@@ -69,55 +69,55 @@ back_read store now None back clock clock_now at = read_same clock clock_now at
 back_read store now (Some session) back clock clock_now at = read_once clock clock_now back.at at
 
 -- one attempt
-module _ {A : Type 0} (trial : Trial A) (kept : Option RetryState) (before now : AttemptState) where
-  readies_read : (address : Address) (conn : Conn) → Readies trial kept before now address conn → OnlyRead before.clock now.clock
+module _ {A : Type 0} (op : AttemptedOperation A) (kept : Option RetryState) (before now : AttemptState) where
+  readies_read : (address : Address) (conn : Conn) → Readies op kept before now address conn → OnlyRead before.clock now.clock
   readies_read address conn readies =
-      lent_read (needs_session (asks_session trial.spec.sessions conn.description) before.held) before.store now.store before.held now.held readies.holds before.clock now.clock readies.lent_at
+      lent_read (needs_session (asks_session op.spec.sessions conn.description) before.held) before.store now.store before.held now.held readies.holds before.clock now.clock readies.lent_at
 
-module _ {A : Type 0} (trial : Trial A) (kept : Option RetryState) (before now : AttemptState) where
-  sends_read : (address : Address) (conn : Conn) (result : Result (List ℕ) LinkError) → Sends trial kept before now address conn result → OnlyRead before.clock now.clock
-  sends_read address conn result sends = subst (OnlyRead before.clock) (sym sends.clock_is) (readies_read trial kept before sends.ready address conn sends.readies)
+module _ {A : Type 0} (op : AttemptedOperation A) (kept : Option RetryState) (before now : AttemptState) where
+  sends_read : (address : Address) (conn : Conn) (result : Result (List ℕ) LinkError) → Sends op kept before now address conn result → OnlyRead before.clock now.clock
+  sends_read address conn result sends = subst (OnlyRead before.clock) (sym sends.clock_is) (readies_read op kept before sends.ready address conn sends.readies)
 
-  failed_read : (address : Address) (phase : FailurePhase) (error : Error) → FailsIn trial kept before now address phase error → OnlyRead before.clock now.clock
+  failed_read : (address : Address) (phase : FailurePhase) (error : Error) → FailsIn op kept before now address phase error → OnlyRead before.clock now.clock
   failed_read address ConnectionEstablishment error fails = read_same before.clock now.clock fails.rest.clock
   failed_read address Execution error fails = elim fails [
-    | inl lost ↦ sends_read address lost.conn (Err (Fault lost.fault lost.own)) lost.sends
+    | inl lost ↦ sends_read address lost.conn (Err (Fault lost.fault lost.labels)) lost.sends
     | inr spelled ↦ sends_read address spelled.conn (Ok spelled.reply) spelled.sends
   ]
 
-  ended_read : (error : Error) → EndsAtOnce trial kept before now error → OnlyRead before.clock now.clock
+  ended_read : (error : Error) → EndsAtOnce op kept before now error → OnlyRead before.clock now.clock
   ended_read error ends = elim ends [
     | inl unready ↦ may_read before.clock now.clock unready.clock
     | inr other ↦ elim other [
-      | inl refused ↦ subst (OnlyRead before.clock) (sym refused.clock) (readies_read trial kept before refused.ready refused.address refused.conn refused.readies)
+      | inl refused ↦ subst (OnlyRead before.clock) (sym refused.clock) (readies_read op kept before refused.ready refused.address refused.conn refused.readies)
       | inr sent ↦ sends_read sent.address sent.conn sent.result sent.sends
     ]
   ]
 
-  tried_read : (attempt : AttemptEnd A) → Tries trial kept before now attempt → OnlyRead before.clock now.clock
-  tried_read (Done output) tries = sends_read tries.address tries.conn (Ok tries.reply) tries.sends
-  tried_read (Failed failing) tries = failed_read failing.address failing.phase failing.error tries.0
-  tried_read (Unselected error) tries = read_same before.clock now.clock tries.rest.clock
-  tried_read Stopped tries = readies_read trial kept before now tries.1.address tries.1.conn tries.1.readies
-  tried_read Unfit tries = subst (OnlyRead before.clock) (sym tries.1.clock) (readies_read trial kept before tries.1.ready tries.1.address tries.1.conn tries.1.readies)
-  tried_read (Ended error) tries = ended_read error tries
+  attempt_read : (attempt : AttemptEnd A) → MakesAttempt op kept before now attempt → OnlyRead before.clock now.clock
+  attempt_read (Done output) makes = sends_read makes.address makes.conn (Ok makes.reply) makes.sends
+  attempt_read (Failed failure) makes = failed_read failure.address failure.phase failure.error makes.0
+  attempt_read (Unselected error) makes = read_same before.clock now.clock makes.rest.clock
+  attempt_read Stopped makes = readies_read op kept before now makes.1.address makes.1.conn makes.1.readies
+  attempt_read Unfit makes = subst (OnlyRead before.clock) (sym makes.1.clock) (readies_read op kept before makes.1.ready makes.1.address makes.1.conn makes.1.readies)
+  attempt_read (Ended error) makes = ended_read error makes
 
 -- all attempts
-module _ {A : Type 0} (trial : Trial A) (sharded : Bool) (before : AttemptState) where
-  reached_read : (failures : List AttemptFailure) (kept : Option RetryState) (now : AttemptState) → Reaches trial sharded before failures kept now → OnlyRead before.clock now.clock
+module _ {A : Type 0} (op : AttemptedOperation A) (sharded : Bool) (before : AttemptState) where
+  reached_read : (failures : List AttemptFailure) (kept : Option RetryState) (now : AttemptState) → Reaches op sharded before failures kept now → OnlyRead before.clock now.clock
   reached_read [] kept now reaches = read_same before.clock now.clock (ap (λ s. s.clock) reaches.1)
-  reached_read (failing ∷ failures) kept now reaches =
+  reached_read (failure ∷ failures) kept now reaches =
       let mid = reaches.1.1.0 in
       let rest = reaches.1.1.1 in
       read_twice before.clock mid.clock now.clock (reached_read failures rest.0 mid rest.1.0)
-      (failed_read trial rest.0 mid now failing.address failing.phase failing.error rest.1.1.tries.0)
+      (failed_read op rest.0 mid now failure.address failure.phase failure.error rest.1.1.makes.0)
 
-  ended_all : (kept : Option RetryState) (mid now : AttemptState) (result : Result A Error) → OnlyRead before.clock mid.clock → Ends trial sharded kept mid now result → OnlyRead before.clock now.clock
+  ended_all : (kept : Option RetryState) (mid now : AttemptState) (result : Result A Error) → OnlyRead before.clock mid.clock → Ends op sharded kept mid now result → OnlyRead before.clock now.clock
   ended_all kept mid now result read ends = elim ends [
-    | inl last ↦ read_twice before.clock mid.clock now.clock read (tried_read trial kept mid now last.attempt last.tries)
+    | inl last ↦ read_twice before.clock mid.clock now.clock read (attempt_read op kept mid now last.attempt last.makes)
     | inr other ↦ elim other [
       | inl limit ↦ subst (λ s. OnlyRead before.clock s.clock) (sym limit.same) read
-      | inr refused ↦ read_twice before.clock mid.clock now.clock read (tried_read trial kept mid now (Failed refused.failing) refused.tries)
+      | inr refused ↦ read_twice before.clock mid.clock now.clock read (attempt_read op kept mid now (Failed refused.failure) refused.makes)
     ]
   ]
 
@@ -125,10 +125,10 @@ module _ {A : Type 0} (trial : Trial A) (sharded : Bool) (before : AttemptState)
 pub proceeds_read : {A : Type 0} (spec : OperationSpec A) (batch : Batch) (which : SendKind) (before now : Moment) (count count_now : ℕ) (result : Result A Error)
     → Proceeds spec batch which before now count count_now result → OnlyRead before.clock now.clock
 proceeds_read spec batch which before now count count_now result executes =
-    let trial = trial_of spec batch which (spec.retryability before.client.options) (concern_of spec which before.client.options) in
+    let op = attempted_operation spec batch which (spec.retryability before.client.options) (concern_of spec which before.client.options) in
     let first = first_state before.store (besides_out before.link) before.clock count in
     let last = executes.last in
-    let came = came_of trial executes.sharded first last result executes.attempts in
-    let so_far = reached_read trial executes.sharded first came.0 executes.attempts.kept executes.attempts.mid came.1 in
-    let attempts = ended_all trial executes.sharded first executes.attempts.kept executes.attempts.mid last result so_far executes.attempts.ends in
+    let came = came_of op executes.sharded first last result executes.attempts in
+    let so_far = reached_read op executes.sharded first came.0 executes.attempts.kept executes.attempts.mid came.1 in
+    let attempts = ended_all op executes.sharded first executes.attempts.kept executes.attempts.mid last result so_far executes.attempts.ends in
     read_twice before.clock last.clock now.clock attempts (back_read last.store now.store last.held.session executes.comes_back last.clock now.clock executes.back_at)

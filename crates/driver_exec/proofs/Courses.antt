@@ -26,9 +26,9 @@ use Rattle.driver_exec.specs.Attempting.{Exchanges, held_after}
 use Rattle.driver_exec.specs.Holding.{DrawsNumber, DrawsSession, GivesNumber, ExecutionSession, HoldsSession, dirty_session, held_id, needs_session}
 use Rattle.driver_exec.specs.Resending.{AnsweredLast, IsNumbered, SentTimes, SentWithin}
 use Rattle.driver_exec.proofs.Attempts.{raises, stays}
-use Rattle.driver_exec.proofs.Trying.{both_true}
-use Rattle.driver_exec.proofs.Resends.{answered_last, begins_unsent, none_sent, sent_answered, sent_counted, sent_lost, sent_maybe}
-use Rattle.driver_exec.proofs.Borrowing.{CountFits, HeldFrom, HoldsFrom, HoldsLast, MayGoOn, NumberFits, Unnumbered, id_of, lends_then_stays, number_of}
+use Rattle.driver_exec.proofs.OneAttempt.{both_true}
+use Rattle.driver_exec.proofs.SendRelations.{answered_last, begins_unsent, none_sent, sent_answered, sent_counted, sent_lost, sent_maybe}
+use Rattle.driver_exec.proofs.BorrowedSession.{CountFits, HeldFrom, HoldsFrom, HoldsLast, MayGoOn, NumberFits, Unnumbered, id_of, lends_then_stays, number_of}
 
 module _ {A : Type 0} (spec : OperationSpec A) (batch : Batch) (store : StoreTells) (link : Option ServerRun) where
   -- what was done so far, in at most so many attempts
@@ -202,18 +202,18 @@ module _ {A : Type 0} (spec : OperationSpec A) (batch : Batch) (store : StoreTel
       by_session None holds = (holds.0, tt)
       by_session (Some held) holds = holds
 
-  first_drawn : (store_now : StoreTells) (turn : Retryability) (session now : Option Session) (number : Option ℤ) → HoldsFrom store store_now None session
-      → DrawsSession turn session now (Ok number) → (id_of now ≡ id_of session) × HoldsFrom store store_now (Some number) now
+  first_drawn : (store_now : StoreTells) (connection_retryability : Retryability) (session now : Option Session) (number : Option ℤ) → HoldsFrom store store_now None session
+      → DrawsSession connection_retryability session now (Ok number) → (id_of now ≡ id_of session) × HoldsFrom store store_now (Some number) now
   first_drawn store_now may.Write (Some session) now number holds draws =
       drawn_from store_now session now number draws.numbered draws.next holds draws.numbers draws.is draws.gives
   first_drawn store_now may.Write None now number holds draws = undrawn store_now None now number holds draws.0 draws.1
   first_drawn store_now other session now number holds draws = undrawn store_now session now number holds draws.0 draws.1
 
-  pub drawn : (store_now : StoreTells) (turn : Retryability) (held numbered : ExecutionSession) (number : Option ℤ) → HoldsFrom store store_now held.sent held.session
-      → DrawsNumber held.sent turn held numbered (Ok number) → Drawn held numbered number store_now
-  drawn store_now turn held numbered number holds draws = by_sent held.sent refl holds draws
+  pub drawn : (store_now : StoreTells) (connection_retryability : Retryability) (held numbered : ExecutionSession) (number : Option ℤ) → HoldsFrom store store_now held.sent held.session
+      → DrawsNumber held.sent connection_retryability held numbered (Ok number) → Drawn held numbered number store_now
+  drawn store_now connection_retryability held numbered number holds draws = by_sent held.sent refl holds draws
     where
-      by_sent : (sent : Option (Option ℤ)) → held.sent ≡ sent → HoldsFrom store store_now sent held.session → DrawsNumber sent turn held numbered (Ok number)
+      by_sent : (sent : Option (Option ℤ)) → held.sent ≡ sent → HoldsFrom store store_now sent held.session → DrawsNumber sent connection_retryability held numbered (Ok number)
           → Drawn held numbered number store_now
       by_sent (Some before) is holds draws =
           let number_is : number ≡ before = cc draws.1 in record {
@@ -224,7 +224,7 @@ module _ {A : Type 0} (spec : OperationSpec A) (batch : Batch) (store : StoreTel
             again = λ other found. let same : before ≡ other = cc (sym is ∙ found) in number_is ∙ same;
           }
       by_sent None is holds draws =
-          let first = first_drawn store_now turn held.session draws.session number holds draws.draws in record {
+          let first = first_drawn store_now connection_retryability held.session draws.session number holds draws.draws in record {
             same_id = ap (λ h. id_of h.session) draws.is ∙ first.0;
             same_sent = ap (λ h. h.sent) draws.is;
             holds = subst (λ h. HoldsFrom store store_now (Some number) h.session) (sym draws.is) first.1;
@@ -258,7 +258,7 @@ module _ {A : Type 0} (spec : OperationSpec A) (batch : Batch) (store : StoreTel
       → HeldAfter held (held_after result held) store_now
   after_exchange store_now held (Ok reply) holds = record { id = refl; sent = refl; holds = holds }
   after_exchange store_now held (Err Memory) holds = record { id = refl; sent = refl; holds = holds }
-  after_exchange store_now held (Err (Fault fault own)) holds = by_network (is_network fault)
+  after_exchange store_now held (Err (Fault fault labels)) holds = by_network (is_network fault)
     where
       dirty_id : (session : Option Session) → id_of (option_map dirty_session session) ≡ id_of session
       dirty_id None = refl
@@ -286,13 +286,13 @@ module _ {A : Type 0} (spec : OperationSpec A) (batch : Batch) (store : StoreTel
   same_send mid session (Some before) number count body again fits sent =
       subst (λ n. SentTimes link mid (send_of (under session n) body) count) (sym (again before refl)) sent
 
-  module _ (most : ℕ) (store_now : StoreTells) (mid : LinkState) (now : LinkState) (ready numbered : ExecutionSession) (turn : Retryability) (number : Option ℤ)
-      (goes : MayGoOn ready.sent) (draws : DrawsNumber ready.sent turn ready numbered (Ok number)) (course : Course most store_now (server_run mid) ready.session ready.sent) where
+  module _ (most : ℕ) (store_now : StoreTells) (mid : LinkState) (now : LinkState) (ready numbered : ExecutionSession) (connection_retryability : Retryability) (number : Option ℤ)
+      (goes : MayGoOn ready.sent) (draws : DrawsNumber ready.sent connection_retryability ready numbered (Ok number)) (course : Course most store_now (server_run mid) ready.session ready.sent) where
     abbrev held : ExecutionSession
     held = record numbered { sent = Some number }
 
     is_drawn : Drawn ready numbered number store_now
-    is_drawn = drawn store_now turn ready numbered number course.holds draws
+    is_drawn = drawn store_now connection_retryability ready numbered number course.holds draws
 
     -- the sends so far, as this one
     so_far : (body : SendBody) → AsksFor spec batch body → SentTimes link (server_run mid) (send_of (under (id_of numbered.session) number) body) course.count
@@ -320,17 +320,17 @@ module _ {A : Type 0} (spec : OperationSpec A) (batch : Batch) (store : StoreTel
       answered_sends bytes is body asked = sent_answered link (send_of (under (id_of numbered.session) number) body) course.count (server_run mid) (server_run now) bytes (so_far body asked)
           (subst (λ r. TakesStep (server_run mid) (server_run now) (send_of (under (id_of numbered.session) number) body) r) is (exchanges.exchanges.steps _ (exchanges.reads body asked)))
 
-      lost_sends : (fault : LinkFault) (own : List (List ℕ)) → result ≡ Err (Fault fault own) → (body : SendBody) → AsksFor spec batch body
+      lost_sends : (fault : LinkFault) (labels : List (List ℕ)) → result ≡ Err (Fault fault labels) → (body : SendBody) → AsksFor spec batch body
           → SentTimes link (server_run now) (send_of (under (id_of numbered.session) number) body) (suc course.count)
-      lost_sends fault own is body asked = sent_lost link (send_of (under (id_of numbered.session) number) body) course.count (server_run mid) (server_run now) fault own (so_far body asked)
+      lost_sends fault labels is body asked = sent_lost link (send_of (under (id_of numbered.session) number) body) course.count (server_run mid) (server_run now) fault labels (so_far body asked)
           (subst (λ r. TakesStep (server_run mid) (server_run now) (send_of (under (id_of numbered.session) number) body) r) is (exchanges.exchanges.steps _ (exchanges.reads body asked)))
 
       pub answered_course : (bytes : List ℕ) → result ≡ Ok bytes → Course (suc most) store_now (server_run now) (held_after result held).session (held_after result held).sent
       answered_course bytes is = sent_course (answered_sends bytes is)
 
-      pub lost_course : (fault : LinkFault) (own : List (List ℕ)) → result ≡ Err (Fault fault own)
+      pub lost_course : (fault : LinkFault) (labels : List (List ℕ)) → result ≡ Err (Fault fault labels)
           → Course (suc most) store_now (server_run now) (held_after result held).session (held_after result held).sent
-      lost_course fault own is = sent_course (lost_sends fault own is)
+      lost_course fault labels is = sent_course (lost_sends fault labels is)
 
       -- want of memory in the exchange: the send went out or not
       memory_over : result ≡ Err Memory → Over (suc most) store_now (server_run now) numbered.session (Some number)
@@ -368,7 +368,7 @@ module _ {A : Type 0} (spec : OperationSpec A) (batch : Batch) (store : StoreTel
           by_result : (found : Result (List ℕ) LinkError) → result ≡ found → OverAfter found
           by_result (Ok bytes) is = subst OverAfter is (over_course (answered_course bytes is))
           by_result (Err Memory) is = memory_over is
-          by_result (Err (Fault fault own)) is = subst OverAfter is (over_course (lost_course fault own is))
+          by_result (Err (Fault fault labels)) is = subst OverAfter is (over_course (lost_course fault labels is))
 
       -- the reply answers the last send
       abbrev send_now : SendBody → Send

@@ -56,7 +56,7 @@ TakesSessions (Some session) (Some setup) = setup.description.supports_sessions 
 TakesSessions session setup = Unit {0}
 
 -- what is held at one moment of an operation, by the store and the setup at its start
-pub record Stands (store : StoreTells) (setup : Option Setup) (now : StoreTells) (session : Option Session) (sent : Option (Option ℤ)) : Type 0 where
+pub record HeldSoFar (store : StoreTells) (setup : Option Setup) (now : StoreTells) (session : Option Session) (sent : Option (Option ℤ)) : Type 0 where
   pub untouched : IsUntouched session store now
   pub first : IsFirst session sent (next_number store)
   pub takes : TakesSessions session setup
@@ -108,8 +108,8 @@ some_of (Some b) is = refl
 
 module _ (store : StoreTells) (setup : Option Setup) where
   -- an operation that has not begun
-  pub stands_at_first : Stands store setup store None None
-  stands_at_first = record { untouched = refl; first = tt; takes = tt }
+  pub held_at_first : HeldSoFar store setup store None None
+  held_at_first = record { untouched = refl; first = tt; takes = tt }
 
   -- a session was lent where one is needed
   module _ (sessions : Bool) (description : Description) (is : IsOf setup description) (mid now : StoreTells) (held ready : ExecutionSession) where
@@ -123,21 +123,21 @@ module _ (store : StoreTells) (setup : Option Setup) where
     first_lent session None fits = fits
     first_lent session (Some before) fits = tt
 
-    pub ready_stands : HoldsSession (needs_session (asks_session sessions description) held) mid now held ready (Ok tt) → Stands store setup mid held.session held.sent
-        → Stands store setup now ready.session ready.sent
-    ready_stands holds stands = by_need (needs_session (asks_session sessions description) held) refl holds
+    pub ready_held : HoldsSession (needs_session (asks_session sessions description) held) mid now held ready (Ok tt) → HeldSoFar store setup mid held.session held.sent
+        → HeldSoFar store setup now ready.session ready.sent
+    ready_held holds held_so_far = by_need (needs_session (asks_session sessions description) held) refl holds
       where
         by_need : (needed : Bool) → needs_session (asks_session sessions description) held ≡ needed → HoldsSession needed mid now held ready (Ok tt)
-            → Stands store setup now ready.session ready.sent
+            → HeldSoFar store setup now ready.session ready.sent
         by_need false needs holds =
-            subst (λ h. Stands store setup now h.session h.sent) (sym holds.1) (subst (λ s. Stands store setup s held.session held.sent) (sym holds.0) stands)
+            subst (λ h. HeldSoFar store setup now h.session h.sent) (sym holds.1) (subst (λ s. HeldSoFar store setup s held.session held.sent) (sym holds.0) held_so_far)
         by_need true needs holds =
             let both = both_true (asks_session sessions description && is_none held.session) (is_none held.sent) needs in
             let first = both_true (asks_session sessions description) (is_none held.session) both.0 in
             let supports = (both_true sessions description.supports_sessions first.0).1 in
-            let same : mid ≡ store = subst (λ s. IsUntouched s store mid) (none_of held.session first.1) stands.untouched in
+            let same : mid ≡ store = subst (λ s. IsUntouched s store mid) (none_of held.session first.1) held_so_far.untouched in
             let fits = subst (λ s. FitsNumber (next_number s) holds.session.number) same (lent_fits mid now holds.at holds.session holds.lends) in
-            subst (λ h. Stands store setup now h.session h.sent) (sym holds.is)
+            subst (λ h. HeldSoFar store setup now h.session h.sent) (sym holds.is)
             (record { untouched = tt; first = first_lent holds.session held.sent fits; takes = takes_asked holds.session setup is supports })
 
     -- with one asked for and nothing sent, a session is held
@@ -162,24 +162,24 @@ module _ (store : StoreTells) (setup : Option Setup) where
         by_need true needs holds = (ap (λ h. h.sent) holds.is ∙ unsent, ap (λ h. is_some h.session) holds.is)
 
   -- what is held after a number was drawn is a session where it was one
-  pub draw_holds : (turn : Retryability) (held numbered : ExecutionSession) (result : Result (Option ℤ) Error) → DrawsNumber held.sent turn held numbered result
+  pub draw_holds : (connection_retryability : Retryability) (held numbered : ExecutionSession) (result : Result (Option ℤ) Error) → DrawsNumber held.sent connection_retryability held numbered result
       → is_some numbered.session ≡ is_some held.session
-  draw_holds turn held numbered result draws = by_sent held.sent draws
+  draw_holds connection_retryability held numbered result draws = by_sent held.sent draws
     where
-      by_turn : (turn : Retryability) (session now : Option Session) → DrawsSession turn session now result → is_some now ≡ is_some session
-      by_turn may.Write (Some session) now draws = ap is_some draws.is
-      by_turn may.Write None now draws = ap is_some draws.0
-      by_turn other session now draws = ap is_some draws.0
+      by_retryability : (connection_retryability : Retryability) (session now : Option Session) → DrawsSession connection_retryability session now result → is_some now ≡ is_some session
+      by_retryability may.Write (Some session) now draws = ap is_some draws.is
+      by_retryability may.Write None now draws = ap is_some draws.0
+      by_retryability other session now draws = ap is_some draws.0
 
-      by_sent : (sent : Option (Option ℤ)) → DrawsNumber sent turn held numbered result → is_some numbered.session ≡ is_some held.session
+      by_sent : (sent : Option (Option ℤ)) → DrawsNumber sent connection_retryability held numbered result → is_some numbered.session ≡ is_some held.session
       by_sent (Some before) draws = ap (λ h. is_some h.session) draws.0
-      by_sent None draws = ap (λ h. is_some h.session) draws.is ∙ by_turn turn held.session draws.session draws.draws
+      by_sent None draws = ap (λ h. is_some h.session) draws.is ∙ by_retryability connection_retryability held.session draws.session draws.draws
 
   -- so is what is held after an exchange
   pub exchange_holds : (result : Result (List ℕ) LinkError) (held : ExecutionSession) → (is_some (held_after result held).session ≡ is_some held.session) × ((held_after result held).sent ≡ held.sent)
   exchange_holds (Ok reply) held = (refl, refl)
   exchange_holds (Err Memory) held = (refl, refl)
-  exchange_holds (Err (Fault found own)) held = by_network (is_network found)
+  exchange_holds (Err (Fault found labels)) held = by_network (is_network found)
     where
       dirty_some : (session : Option Session) → is_some (option_map dirty_session session) ≡ is_some session
       dirty_some None = refl
@@ -191,17 +191,17 @@ module _ (store : StoreTells) (setup : Option Setup) where
       by_network true = (dirty_some held.session, refl)
       by_network false = (refl, refl)
 
-  -- so it stands after a send
-  pub sent_stands : (now : StoreTells) (session after : Option Session) (sent : Option (Option ℤ)) (number : Option ℤ) → is_some after ≡ is_some session
-      → Stands store setup now session sent → Stands store setup now after (Some number)
-  sent_stands now None None sent number same stands = record { untouched = stands.untouched; first = tt; takes = tt }
-  sent_stands now (Some session) (Some after) sent number same stands = record { untouched = tt; first = tt; takes = by_setup setup stands.takes }
+  -- what is held after a send
+  pub sent_held : (now : StoreTells) (session after : Option Session) (sent : Option (Option ℤ)) (number : Option ℤ) → is_some after ≡ is_some session
+      → HeldSoFar store setup now session sent → HeldSoFar store setup now after (Some number)
+  sent_held now None None sent number same held_so_far = record { untouched = held_so_far.untouched; first = tt; takes = tt }
+  sent_held now (Some session) (Some after) sent number same held_so_far = record { untouched = tt; first = tt; takes = by_setup setup held_so_far.takes }
     where
       by_setup : (setup : Option Setup) → TakesSessions (Some session) setup → TakesSessions (Some after) setup
       by_setup None takes = tt
       by_setup (Some told) takes = takes
-  sent_stands now None (Some after) sent number same stands = absurd (not_both same)
-  sent_stands now (Some session) None sent number same stands = absurd (not_both (sym same))
+  sent_held now None (Some after) sent number same held_so_far = absurd (not_both same)
+  sent_held now (Some session) None sent number same held_so_far = absurd (not_both (sym same))
 
 -- a session is held, and the connection takes none: the setup is not told
 pub sessionless : (setup : Option Setup) (description : Description) (session : Option Session) → IsOf setup description → TakesSessions session setup
@@ -211,14 +211,14 @@ sessionless (Some setup) description None is takes refused = absurd (not_both re
 sessionless (Some setup) description (Some session) is takes refused = absurd (not_both (sym (ap (λ d. d.supports_sessions) is ∙ takes) ∙ refused))
 
 -- what each send has a number by
-pub none_draws : (sessions : Bool) (own : Retryability) → DrawsNumbers sessions own None → ⊥
+pub none_draws : (sessions : Bool) (retryability : Retryability) → DrawsNumbers sessions retryability None → ⊥
 none_draws sessions may.Write draws = draws
 none_draws sessions may.Read draws = draws
 none_draws sessions may.None draws = draws
 
 -- where each send has a number, a session is asked for on each connection, and the write may be repeated on it
-pub draws_on : (sessions : Bool) (own : Retryability) (setup : Option Setup) (description : Description) → DrawsNumbers sessions own setup → IsOf setup description
-    → (asks_session sessions description ≡ true) × (on_connection own description ≡ may.Write)
+pub draws_on : (sessions : Bool) (retryability : Retryability) (setup : Option Setup) (description : Description) → DrawsNumbers sessions retryability setup → IsOf setup description
+    → (asks_session sessions description ≡ true) × (on_connection retryability description ≡ may.Write)
 draws_on sessions may.Write None description draws is = absurd draws
 draws_on sessions may.Write (Some setup) description draws is =
     let supports = ap (λ d. d.supports_sessions) is ∙ draws.1 in
@@ -228,10 +228,10 @@ draws_on sessions may.Read setup description draws is = absurd draws
 draws_on sessions may.None setup description draws is = absurd draws
 
 -- there is no number after the last one
-pub last_draws_none : (next : Option ℤ) (turn : Retryability) (held numbered : ExecutionSession) (number : Option ℤ) → IsLast next → turn ≡ may.Write → held.sent ≡ None
-    → is_some held.session ≡ true → IsFirst held.session held.sent next → DrawsNumber held.sent turn held numbered (Ok number) → ⊥
-last_draws_none next turn held numbered number last is_write unsent holds first draws =
-    let drawn = subst (λ t. DrawsNumber None t held numbered (Ok number)) is_write (subst (λ s. DrawsNumber s turn held numbered (Ok number)) unsent draws) in
+pub last_draws_none : (next : Option ℤ) (connection_retryability : Retryability) (held numbered : ExecutionSession) (number : Option ℤ) → IsLast next → connection_retryability ≡ may.Write → held.sent ≡ None
+    → is_some held.session ≡ true → IsFirst held.session held.sent next → DrawsNumber held.sent connection_retryability held numbered (Ok number) → ⊥
+last_draws_none next connection_retryability held numbered number last is_write unsent holds first draws =
+    let drawn = subst (λ t. DrawsNumber None t held numbered (Ok number)) is_write (subst (λ s. DrawsNumber s connection_retryability held numbered (Ok number)) unsent draws) in
     by_session held.session drawn.session holds (subst (λ s. IsFirst held.session s next) unsent first) drawn.draws
   where
     by_next : (session back : Session) (given : Result ℤ Error) → FitsNumber next session.number → Numbers session back given → GivesNumber given (Ok number) → ⊥
@@ -252,9 +252,9 @@ abbrev pub AtEnd : Option ℤ → Error → Type 0
 AtEnd next error = (kind_of error ≡ kind.Memory) ⊎ AtEndBy next error
 
 -- where there is no number, an error tells why
-pub unnumbered_at_end : (next : Option ℤ) (turn : Retryability) (held numbered : ExecutionSession) (error : Error) → IsFirst held.session held.sent next
-    → DrawsNumber held.sent turn held numbered (Err error) → AtEnd next error
-unnumbered_at_end next turn held numbered error first draws = by_sent held.sent first draws
+pub unnumbered_at_end : (next : Option ℤ) (connection_retryability : Retryability) (held numbered : ExecutionSession) (error : Error) → IsFirst held.session held.sent next
+    → DrawsNumber held.sent connection_retryability held numbered (Err error) → AtEnd next error
+unnumbered_at_end next connection_retryability held numbered error first draws = by_sent held.sent first draws
   where
     err_ok : (number : Option ℤ) → ◌≡◌ {A = Result (Option ℤ) Error} (Err error) (Ok number) → ⊥
     err_ok number same = cc
@@ -271,11 +271,11 @@ unnumbered_at_end next turn held numbered error first draws = by_sent held.sent 
     by_next session back (Err other) fits numbers gives =
         let same : other ≡ error = cc (sym gives) in subst (AtEnd next) same (tells session other fits numbers.1)
 
-    by_turn : (turn : Retryability) (session now : Option Session) → IsFirst session None next → DrawsSession turn session now (Err error) → AtEnd next error
-    by_turn may.Write (Some session) now first draws = by_next session draws.numbered draws.next first draws.numbers draws.gives
-    by_turn may.Write None now first draws = absurd (err_ok None draws.1)
-    by_turn other session now first draws = absurd (err_ok None draws.1)
+    by_retryability : (connection_retryability : Retryability) (session now : Option Session) → IsFirst session None next → DrawsSession connection_retryability session now (Err error) → AtEnd next error
+    by_retryability may.Write (Some session) now first draws = by_next session draws.numbered draws.next first draws.numbers draws.gives
+    by_retryability may.Write None now first draws = absurd (err_ok None draws.1)
+    by_retryability other session now first draws = absurd (err_ok None draws.1)
 
-    by_sent : (sent : Option (Option ℤ)) → IsFirst held.session sent next → DrawsNumber sent turn held numbered (Err error) → AtEnd next error
+    by_sent : (sent : Option (Option ℤ)) → IsFirst held.session sent next → DrawsNumber sent connection_retryability held numbered (Err error) → AtEnd next error
     by_sent (Some before) first draws = absurd (err_ok before draws.1)
-    by_sent None first draws = by_turn turn held.session draws.session first draws.draws
+    by_sent None first draws = by_retryability connection_retryability held.session draws.session first draws.draws

@@ -25,7 +25,7 @@ use Rattle.driver_ops.specs.Fields.{under}
 use Rattle.driver_ops.specs.Operations.{AsksFor, send_of}
 use Rattle.driver_exec.specs.declared.failure.FailurePhase.{FailurePhase}
 use Rattle.driver_exec.specs.declared.failure.FailurePhase.TheVariants.{ConnectionEstablishment, Execution}
-use Rattle.driver_exec.specs.Attempting.{AttemptState, Connects, FailsIn, NotConnected, Sends, Trial}
+use Rattle.driver_exec.specs.Attempting.{AttemptState, AttemptedOperation, Connects, FailsIn, NotConnected, Sends}
 use Rattle.driver_exec.specs.Gentle.{IsCounted, IsGentlePart}
 use Rattle.driver_exec.specs.Holding.{held_id}
 use Rattle.driver_exec.specs.Retry.{RetryState}
@@ -185,9 +185,9 @@ steps_lead a before now send result setup steps = by_result result steps
     by_result (Err Memory) steps = elim steps [ inl same ↦ stayed same | inr more ↦ moved more ]
 
 -- an attempt that failed
-module _ {A : Type 0} (trial : Trial A) (past : Option RetryState) (body : SendBody) (asked : AsksFor trial.spec trial.batch body) (a : ServerRun) (mid now : AttemptState) (is : server_run mid.link ≡ Some a) where
+module _ {A : Type 0} (op : AttemptedOperation A) (past : Option RetryState) (body : SendBody) (asked : AsksFor op.spec op.batch body) (a : ServerRun) (mid now : AttemptState) (is : server_run mid.link ≡ Some a) where
   -- its command went out
-  pub sends_lead : (address : Address) (conn : Conn) (result : Result (List ℕ) LinkError) → Sends trial past mid now address conn result → Leads a mid.link now.link
+  pub sends_lead : (address : Address) (conn : Conn) (result : Result (List ℕ) LinkError) → Sends op past mid now address conn result → Leads a mid.link now.link
   sends_lead address conn result sends =
       let ready = sends.ready in
       let first = (connects_lead a mid.link ready.link address conn is sends.readies.connects).leads in
@@ -196,17 +196,17 @@ module _ {A : Type 0} (trial : Trial A) (past : Option RetryState) (body : SendB
       leads_twice a mid.link ready.link now.link first (steps_lead first.moment ready.link now.link send result sends.exchanges.exchanges.setup steps)
 
   -- it had no connection
-  pub unconnected_leads : (address : Address) (error : Error) → NotConnected trial past mid now address error → Leads a mid.link now.link
+  pub unconnected_leads : (address : Address) (error : Error) → NotConnected op past mid now address error → Leads a mid.link now.link
   unconnected_leads address error fails =
       let first = selects_lead a mid.link fails.mid (Ok address) is fails.selects.calls in
       (calling_twice a mid.link fails.mid now.link first
-      (checks_lead first.leads.moment fails.mid now.link (Err (Fault fails.fault fails.own)) first.leads.is fails.checks_out.calls)).leads
+      (checks_lead first.leads.moment fails.mid now.link (Err (Fault fails.fault fails.labels)) first.leads.is fails.checks_out.calls)).leads
 
   -- it failed either way
-  pub fails_lead : (address : Address) (phase : FailurePhase) (error : Error) → FailsIn trial past mid now address phase error → Leads a mid.link now.link
+  pub fails_lead : (address : Address) (phase : FailurePhase) (error : Error) → FailsIn op past mid now address phase error → Leads a mid.link now.link
   fails_lead address ConnectionEstablishment error fails = unconnected_leads address error fails
   fails_lead address Execution error fails = elim fails [
-    | inl lost ↦ sends_lead address lost.conn (Err (Fault lost.fault lost.own)) lost.sends
+    | inl lost ↦ sends_lead address lost.conn (Err (Fault lost.fault lost.labels)) lost.sends
     | inr spelled ↦ sends_lead address spelled.conn (Ok spelled.reply) spelled.sends
   ]
 

@@ -19,18 +19,18 @@ use Rattle.driver_exec.specs.Readings.{OnlyRead}
 use Rattle.driver_exec.specs.Resending.{EndsWithReading, SendsOneCommand, SentTimes}
 use Rattle.driver_exec.proofs.Causes.{notes_nothing}
 use Rattle.driver_exec.proofs.ClockReadings.{proceeds_read, read_same}
-use Rattle.driver_exec.proofs.OperationCausing.{proceeds_caused}
-use Rattle.driver_exec.proofs.Resending.{proceeds_draws, proceeds_lends, proceeds_works}
-use Rattle.driver_exec.proofs.Resends.{begins_unsent}
+use Rattle.driver_exec.proofs.OperationCauses.{proceeds_caused}
+use Rattle.driver_exec.proofs.OneCommand.{proceeds_draws, proceeds_lends, proceeds_sends_one_command}
+use Rattle.driver_exec.proofs.SendRelations.{begins_unsent}
 use Rattle.driver_exec.proofs.SendCounts.{proceeds_few, proceeds_once}
 
 module _ {A : Type 0} (spec : OperationSpec A) (batch : Batch) (which : SendKind) (before now : Moment) (count count_now : ℕ) (result : Result A Error) where
   -- one that is refused sends nothing
-  refused_works : RefusesConcern spec which before now count count_now result → SendsOneCommand spec batch before now result
-  refused_works refuses = record {
+  refused_sends_one_command : RefusesConcern spec which before now count count_now result → SendsOneCommand spec batch before now result
+  refused_sends_one_command refuses = record {
     session = None;
     number = None;
-    unnumbered = λ own. refl;
+    unnumbered = λ nothing. refl;
     borrows = (ap (λ moment. moment.store) refuses.same, refl);
     sends = λ body asked. record {
       count = 0;
@@ -39,14 +39,14 @@ module _ {A : Type 0} (spec : OperationSpec A) (batch : Batch) (which : SendKind
       sends = subst (λ moment. SentTimes (server_run before.link) (server_run moment.link) (send_of (under None None) body) 0) (sym refuses.same)
           (begins_unsent (server_run before.link) (send_of (under None None) body));
     };
-    ends = subst (EndsWithReading spec batch (server_run before.link) (server_run now.link) None None) (sym refuses.answers) tt;
+    ends = subst (EndsWithReading spec batch (server_run before.link) (server_run now.link) None None) (sym refuses.result_is) tt;
   }
 
   -- its error is that of the concern, or of want of memory
   refused_caused : RefusesConcern spec which before now count count_now result → Caused spec which before now (end_of result)
   refused_caused refuses =
       subst (λ moment. Caused spec which before moment (end_of result)) (sym refuses.same)
-      (subst (λ ended. Caused spec which before before (end_of ended)) (sym refuses.answers) (record {
+      (subst (λ ended. Caused spec which before before (end_of ended)) (sym refuses.result_is) (record {
         items = [];
         noted = notes_nothing before.link.answers;
         never_falls = omega arith;
@@ -68,10 +68,10 @@ module _ {A : Type 0} (spec : OperationSpec A) (batch : Batch) (which : SendKind
   ]
 
   -- its sends are one command
-  pub executes_works : Executes spec batch which before now count count_now result → SendsOneCommand spec batch before now result
-  executes_works executes = elim executes [
-    | inl refuses ↦ refused_works refuses
-    | inr proceeds ↦ proceeds_works spec batch which before now count count_now result proceeds
+  pub executes_sends_one_command : Executes spec batch which before now count count_now result → SendsOneCommand spec batch before now result
+  executes_sends_one_command executes = elim executes [
+    | inl refuses ↦ refused_sends_one_command refuses
+    | inr proceeds ↦ proceeds_sends_one_command spec batch which before now count count_now result proceeds
   ]
 
   -- each session is lent as often as before
@@ -97,9 +97,9 @@ module _ {A : Type 0} (spec : OperationSpec A) (batch : Batch) (which : SendKind
 
   -- and one where nothing may be repeated
   pub executes_once : spec.retryability before.client.options ≡ may.None → Executes spec batch which before now count count_now result → count_now ≤ count + 1
-  executes_once own executes = elim executes [
+  executes_once nothing executes = elim executes [
     | inl refuses ↦ omega (arith, refuses.uncounted)
-    | inr proceeds ↦ proceeds_once spec batch which before now count count_now result own proceeds
+    | inr proceeds ↦ proceeds_once spec batch which before now count count_now result nothing proceeds
   ]
 
   -- the clock was only read

@@ -15,18 +15,18 @@ use Rattle.driver_exec.specs.declared.attempt_end.AttemptEnd.{AttemptEnd}
 use Rattle.driver_exec.specs.declared.attempt_end.AttemptEnd.TheVariants.{Done, Ended, Failed, Stopped, Unfit, Unselected}
 use Rattle.driver_exec.specs.declared.failure.FailurePhase.{FailurePhase}
 use Rattle.driver_exec.specs.declared.failure.FailurePhase.TheVariants.{ConnectionEstablishment, Execution}
-use Rattle.driver_exec.specs.Attempting.{EndsAtOnce, Exchanges, FailsIn, Readies, AttemptState, Sends, Trial, Tries, asks_session, trial_of}
+use Rattle.driver_exec.specs.Attempting.{EndsAtOnce, Exchanges, FailsIn, Readies, AttemptState, Sends, AttemptedOperation, MakesAttempt, asks_session, attempted_operation}
 use Rattle.driver_exec.specs.Holding.{needs_session}
 use Rattle.driver_exec.specs.inside.Holding.{HoldsAt}
 use Rattle.driver_exec.specs.Retry.{RetryState}
-use Rattle.driver_exec.proofs.Trying.{answers_same, framed_same, refuses_same, unspelled_same}
+use Rattle.driver_exec.proofs.OneAttempt.{answers_same, framed_same, refuses_same, unspelled_same}
 
-module _ {A : Type 0} (old now : OperationSpec A) (same : SameSpec old now) (batch : Batch) (which : SendKind) (own : Retryability) (concern : Option WriteConcern) where
-  abbrev told : Trial A
-  told = trial_of now batch which own concern
+module _ {A : Type 0} (old now : OperationSpec A) (same : SameSpec old now) (batch : Batch) (which : SendKind) (retryability : Retryability) (concern : Option WriteConcern) where
+  abbrev told : AttemptedOperation A
+  told = attempted_operation now batch which retryability concern
 
-  abbrev was : Trial A
-  was = trial_of old batch which own concern
+  abbrev was : AttemptedOperation A
+  was = attempted_operation old batch which retryability concern
 
   readies_same : {past : Option RetryState} (before after : AttemptState) (address : Address) (conn : Conn) → Readies told past before after address conn → Readies was past before after address conn
   readies_same before after address conn readies =
@@ -66,7 +66,7 @@ module _ {A : Type 0} (old now : OperationSpec A) (same : SameSpec old now) (bat
     mid = fails.mid;
     selects = fails.selects;
     fault = fails.fault;
-    own = fails.own;
+    labels = fails.labels;
     checks_out = fails.checks_out;
     is = fails.is;
     rest = fails.rest;
@@ -75,7 +75,7 @@ module _ {A : Type 0} (old now : OperationSpec A) (same : SameSpec old now) (bat
     | inl lost ↦ inl (record {
       conn = lost.conn;
       fault = lost.fault;
-      own = lost.own;
+      labels = lost.labels;
       sends = sends_same past before after address lost.conn _ lost.sends;
       is = lost.is;
     })
@@ -138,44 +138,44 @@ module _ {A : Type 0} (old now : OperationSpec A) (same : SameSpec old now) (bat
     ]
   ]
 
-  pub tries_same : (past : Option RetryState) (before after : AttemptState) (attempt : AttemptEnd A) → Tries told past before after attempt → Tries was past before after attempt
-  tries_same past before after (Done output) tries = record {
-    address = tries.address;
-    conn = tries.conn;
-    reply = tries.reply;
-    sends = sends_same past before after tries.address tries.conn (Ok tries.reply) tries.sends;
-    reads = answers_same old now same tries.reply (Ok output) tries.reads;
+  pub attempt_same : (past : Option RetryState) (before after : AttemptState) (attempt : AttemptEnd A) → MakesAttempt told past before after attempt → MakesAttempt was past before after attempt
+  attempt_same past before after (Done output) makes = record {
+    address = makes.address;
+    conn = makes.conn;
+    reply = makes.reply;
+    sends = sends_same past before after makes.address makes.conn (Ok makes.reply) makes.sends;
+    reads = answers_same old now same makes.reply (Ok output) makes.reads;
   }
-  tries_same past before after (Failed failing) tries = (fails_same past before after failing.address failing.phase failing.error tries.0, tries.1)
-  tries_same past before after (Unselected error) tries = tries
-  tries_same past before after Stopped tries = (
-    tries.0,
+  attempt_same past before after (Failed failure) makes = (fails_same past before after failure.address failure.phase failure.error makes.0, makes.1)
+  attempt_same past before after (Unselected error) makes = makes
+  attempt_same past before after Stopped makes = (
+    makes.0,
     record {
-      address = tries.1.address;
-      conn = tries.1.conn;
-      readies = readies_same before after tries.1.address tries.1.conn tries.1.readies;
-      allowed = tries.1.allowed;
-      nothing = tries.1.nothing;
+      address = makes.1.address;
+      conn = makes.1.conn;
+      readies = readies_same before after makes.1.address makes.1.conn makes.1.readies;
+      allowed = makes.1.allowed;
+      nothing = makes.1.nothing;
     },
   )
-  tries_same past before after Unfit tries = (
-    tries.0,
+  attempt_same past before after Unfit makes = (
+    makes.0,
     record {
-      ready = tries.1.ready;
-      address = tries.1.address;
-      conn = tries.1.conn;
-      readies = readies_same before tries.1.ready tries.1.address tries.1.conn tries.1.readies;
-      link = tries.1.link;
-      store = tries.1.store;
-      clock = tries.1.clock;
-      count = tries.1.count;
-      allowed = tries.1.allowed;
-      goes = tries.1.goes;
-      number = tries.1.number;
-      draws = tries.1.draws;
-      again = tries.1.again;
-      error = tries.1.error;
-      refused = refuses_same old now same tries.1.conn.description tries.1.error tries.1.refused;
+      ready = makes.1.ready;
+      address = makes.1.address;
+      conn = makes.1.conn;
+      readies = readies_same before makes.1.ready makes.1.address makes.1.conn makes.1.readies;
+      link = makes.1.link;
+      store = makes.1.store;
+      clock = makes.1.clock;
+      count = makes.1.count;
+      allowed = makes.1.allowed;
+      goes = makes.1.goes;
+      number = makes.1.number;
+      draws = makes.1.draws;
+      again = makes.1.again;
+      error = makes.1.error;
+      refused = refuses_same old now same makes.1.conn.description makes.1.error makes.1.refused;
     },
   )
-  tries_same past before after (Ended error) tries = ends_same past before after error tries
+  attempt_same past before after (Ended error) makes = ends_same past before after error makes

@@ -47,21 +47,21 @@ pub record AttemptState : Type 0 where
 
 -- an operation as its attempts see it: what it tells, the places of its writes with the number of its command's statements,
 -- the kind of its sends, what of it may be repeated by its own rules, and the write concern that it goes out with
-pub record Trial (A : Type 0) : Type 1 where
+pub record AttemptedOperation (A : Type 0) : Type 1 where
   pub spec : OperationSpec A
   pub batch : Batch
   pub which : SendKind
-  pub own : Retryability
+  pub retryability : Retryability
   pub concern : Option WriteConcern
 
 -- an operation of these parts
-abbrev pub trial_of : {A : Type 0} → OperationSpec A → Batch → SendKind → Retryability → Option WriteConcern → Trial A
-trial_of spec batch which own concern = record { spec = spec; batch = batch; which = which; own = own; concern = concern }
+abbrev pub attempted_operation : {A : Type 0} → OperationSpec A → Batch → SendKind → Retryability → Option WriteConcern → AttemptedOperation A
+attempted_operation spec batch which retryability concern = record { spec = spec; batch = batch; which = which; retryability = retryability; concern = concern }
 
 -- what of an operation may be repeated on a connection: a write where that takes such writes
 abbrev pub on_connection : Retryability → Description → Retryability
 on_connection may.Write description = if description.supports_retryable_writes then may.Write else may.None
-on_connection own description = own
+on_connection retryability description = retryability
 
 -- nothing may be repeated
 abbrev pub is_nothing : Retryability → Bool
@@ -70,7 +70,7 @@ is_nothing other = false
 
 -- an attempt that is not the first stops where nothing may be repeated
 abbrev pub stops : Bool → Retryability → Bool
-stops again turn = again && is_nothing turn
+stops again connection_retryability = again && is_nothing connection_retryability
 
 -- the servers that a selection is asked to avoid, which is by what is kept of the failures before
 abbrev pub avoided : Option RetryState → List Address
@@ -95,19 +95,19 @@ pub record OnlyLink (before now : AttemptState) : Type 0 where
 -- no server was selected: the fault has its own labels alone
 pub record NotSelected (kept : Option RetryState) (before now : AttemptState) (error : Error) : Type 0 where
   pub fault : LinkFault
-  pub own : List (List ℕ)
-  pub selects : Selects (avoided kept) before.link now.link (Err (Fault fault own))
-  pub is : IsFaultOf fault own may.None error
+  pub labels : List (List ℕ)
+  pub selects : Selects (avoided kept) before.link now.link (Err (Fault fault labels))
+  pub is : IsFaultOf fault labels may.None error
   pub rest : OnlyLink before now
 
 -- a server was selected, and no connection to it was had
-pub record NotConnected {A : Type 0} (trial : Trial A) (kept : Option RetryState) (before now : AttemptState) (address : Address) (error : Error) : Type 0 where
+pub record NotConnected {A : Type 0} (op : AttemptedOperation A) (kept : Option RetryState) (before now : AttemptState) (address : Address) (error : Error) : Type 0 where
   pub mid : LinkState
   pub selects : Selects (avoided kept) before.link mid (Ok address)
   pub fault : LinkFault
-  pub own : List (List ℕ)
-  pub checks_out : ChecksOutConnection mid now.link address (Err (Fault fault own))
-  pub is : IsFaultOf fault own trial.own error
+  pub labels : List (List ℕ)
+  pub checks_out : ChecksOutConnection mid now.link address (Err (Fault fault labels))
+  pub is : IsFaultOf fault labels op.retryability error
   pub rest : OnlyLink before now
 
 -- a server was selected, which was asked to be none of those to be avoided, and a connection to it checked out
@@ -125,10 +125,10 @@ abbrev pub may_use : ExecutionSession → Description → Bool
 may_use held description = if is_some held.session then description.supports_sessions else true
 
 -- a connection was had, and a session where one is needed, which was lent at a reading of the clock
-pub record Readies {A : Type 0} (trial : Trial A) (kept : Option RetryState) (before now : AttemptState) (address : Address) (conn : Conn) : Type 0 where
+pub record Readies {A : Type 0} (op : AttemptedOperation A) (kept : Option RetryState) (before now : AttemptState) (address : Address) (conn : Conn) : Type 0 where
   pub connects : Connects (avoided kept) before.link now.link address conn
-  pub holds : HoldsSession (needs_session (asks_session trial.spec.sessions conn.description) before.held) before.store now.store before.held now.held (Ok tt)
-  pub lent_at : IsLentAt (needs_session (asks_session trial.spec.sessions conn.description) before.held) before.store now.store before.held now.held (Ok tt) holds before.clock now.clock
+  pub holds : HoldsSession (needs_session (asks_session op.spec.sessions conn.description) before.held) before.store now.store before.held now.held (Ok tt)
+  pub lent_at : IsLentAt (needs_session (asks_session op.spec.sessions conn.description) before.held) before.store now.store before.held now.held (Ok tt) holds before.clock now.clock
   pub count : now.count ≡ before.count
 
 -- a command went out over a connection with the front of the places, and this came of the exchange: the frame was the built
@@ -146,61 +146,61 @@ held_after (Err failure) held = held_after_failure failure held
 
 -- the command went out on a connection, under the number of the send before or a first one, and was counted; a further
 -- attempt sends it only where it may be repeated there
-pub record Sends {A : Type 0} (trial : Trial A) (kept : Option RetryState) (before now : AttemptState) (address : Address) (conn : Conn) (result : Result (List ℕ) LinkError) : Type 0 where
+pub record Sends {A : Type 0} (op : AttemptedOperation A) (kept : Option RetryState) (before now : AttemptState) (address : Address) (conn : Conn) (result : Result (List ℕ) LinkError) : Type 0 where
   pub ready : AttemptState
-  pub readies : Readies trial kept before ready address conn
+  pub readies : Readies op kept before ready address conn
   pub allowed : may_use ready.held conn.description ≡ true
-  pub goes : stops (is_some kept) (on_connection trial.own conn.description) ≡ false
+  pub goes : stops (is_some kept) (on_connection op.retryability conn.description) ≡ false
   pub numbered : ExecutionSession
   pub number : Option ℤ
-  pub draws : DrawsNumber ready.held.sent (on_connection trial.own conn.description) ready.held numbered (Ok number)
-  pub exchanges : Exchanges trial.spec trial.which trial.batch ready.link now.link conn (in_context (held_id numbered) number trial.concern) result
+  pub draws : DrawsNumber ready.held.sent (on_connection op.retryability conn.description) ready.held numbered (Ok number)
+  pub exchanges : Exchanges op.spec op.which op.batch ready.link now.link conn (in_context (held_id numbered) number op.concern) result
   pub store_is : now.store ≡ ready.store
   pub clock_is : now.clock ≡ ready.clock
   pub held_is : now.held ≡ held_after result (record numbered { sent = Some number })
   pub counted : now.count ≡ ready.count + 1
 
 -- the attempt's reply was read
-pub record IsAnswered {A : Type 0} (trial : Trial A) (kept : Option RetryState) (before now : AttemptState) (output : A) : Type 0 where
+pub record IsAnswered {A : Type 0} (op : AttemptedOperation A) (kept : Option RetryState) (before now : AttemptState) (output : A) : Type 0 where
   pub address : Address
   pub conn : Conn
   pub reply : List ℕ
-  pub sends : Sends trial kept before now address conn (Ok reply)
-  pub reads : ReadsAnswer trial.spec reply (Ok output)
+  pub sends : Sends op kept before now address conn (Ok reply)
+  pub reads : ReadsAnswer op.spec reply (Ok output)
 
 -- the exchange of the attempt's command failed
-pub record LosesExchange {A : Type 0} (trial : Trial A) (kept : Option RetryState) (before now : AttemptState) (address : Address) (error : Error) : Type 0 where
+pub record LosesExchange {A : Type 0} (op : AttemptedOperation A) (kept : Option RetryState) (before now : AttemptState) (address : Address) (error : Error) : Type 0 where
   pub conn : Conn
   pub fault : LinkFault
-  pub own : List (List ℕ)
-  pub sends : Sends trial kept before now address conn (Err (Fault fault own))
-  pub is : IsVersioned (IsFaultOf fault own (on_connection trial.own conn.description)) conn.description.max_wire_version error
+  pub labels : List (List ℕ)
+  pub sends : Sends op kept before now address conn (Err (Fault fault labels))
+  pub is : IsVersioned (IsFaultOf fault labels (on_connection op.retryability conn.description)) conn.description.max_wire_version error
 
 -- an error that was read in a reply, with the labels of the table
-pub record IsReadIn {A : Type 0} (spec : OperationSpec A) (bytes : List ℕ) (turn : Retryability) (error : Error) : Type 0 where
+pub record IsReadIn {A : Type 0} (spec : OperationSpec A) (bytes : List ℕ) (connection_retryability : Retryability) (error : Error) : Type 0 where
   pub bare : Error
   pub reads : ReadsAnswer spec bytes (Err bare)
-  pub labelled : IsLabelledRead turn bare error
+  pub labelled : IsLabelledRead connection_retryability bare error
 
 -- the reply to the attempt's command spelled an error
-pub record SpellsFailure {A : Type 0} (trial : Trial A) (kept : Option RetryState) (before now : AttemptState) (address : Address) (error : Error) : Type 0 where
+pub record SpellsFailure {A : Type 0} (op : AttemptedOperation A) (kept : Option RetryState) (before now : AttemptState) (address : Address) (error : Error) : Type 0 where
   pub conn : Conn
   pub reply : List ℕ
-  pub sends : Sends trial kept before now address conn (Ok reply)
-  pub is : IsVersioned (IsReadIn trial.spec reply (on_connection trial.own conn.description)) conn.description.max_wire_version error
+  pub sends : Sends op kept before now address conn (Ok reply)
+  pub is : IsVersioned (IsReadIn op.spec reply (on_connection op.retryability conn.description)) conn.description.max_wire_version error
 
 -- an attempt failed in a phase
-abbrev pub FailsIn : {A : Type 0} → Trial A → Option RetryState → AttemptState → AttemptState → Address → FailurePhase → Error → Type 0
-FailsIn trial kept before now address ConnectionEstablishment error = NotConnected trial kept before now address error
-FailsIn trial kept before now address Execution error = LosesExchange trial kept before now address error ⊎ SpellsFailure trial kept before now address error
+abbrev pub FailsIn : {A : Type 0} → AttemptedOperation A → Option RetryState → AttemptState → AttemptState → Address → FailurePhase → Error → Type 0
+FailsIn op kept before now address ConnectionEstablishment error = NotConnected op kept before now address error
+FailsIn op kept before now address Execution error = LosesExchange op kept before now address error ⊎ SpellsFailure op kept before now address error
 
 -- a connection was had that what is held may use, and nothing may be repeated on it
-pub record Stops {A : Type 0} (trial : Trial A) (kept : Option RetryState) (before now : AttemptState) : Type 0 where
+pub record Stops {A : Type 0} (op : AttemptedOperation A) (kept : Option RetryState) (before now : AttemptState) : Type 0 where
   pub address : Address
   pub conn : Conn
-  pub readies : Readies trial kept before now address conn
+  pub readies : Readies op kept before now address conn
   pub allowed : may_use now.held conn.description ≡ true
-  pub nothing : is_nothing (on_connection trial.own conn.description) ≡ true
+  pub nothing : is_nothing (on_connection op.retryability conn.description) ≡ true
 
 -- a selection failed
 pub record SelectionFails (avoid : List Address) (link now : LinkState) : Type 0 where
@@ -235,72 +235,72 @@ pub record NoSessions (description : Description) (ready now : ExecutionSession)
   pub is : IsAlone kind.SessionsNotSupported no_labels error
 
 -- there was no number
-pub record NoNumber (kept : Option RetryState) (description : Description) (turn : Retryability) (ready now : ExecutionSession) (error : Error) : Type 0 where
+pub record NoNumber (kept : Option RetryState) (description : Description) (connection_retryability : Retryability) (ready now : ExecutionSession) (error : Error) : Type 0 where
   pub allowed : may_use ready description ≡ true
-  pub goes : stops (is_some kept) turn ≡ false
-  pub draws : DrawsNumber ready.sent turn ready now (Err error)
+  pub goes : stops (is_some kept) connection_retryability ≡ false
+  pub draws : DrawsNumber ready.sent connection_retryability ready now (Err error)
 
 -- the command is built again: it went out before, and a failure is kept
 abbrev pub builds_again : Bool → ExecutionSession → Bool
 builds_again again held = again && is_some held.sent
 
 -- there was no frame under the number: the first build was refused, what was built has no spelling, or memory ran out
-pub record NoFrame {A : Type 0} (spec : OperationSpec A) (concern : Option WriteConcern) (kept : Option RetryState) (description : Description) (turn : Retryability) (ready now : ExecutionSession) (error : Error) : Type 0 where
-  pub goes : stops (is_some kept) turn ≡ false
+pub record NoFrame {A : Type 0} (spec : OperationSpec A) (concern : Option WriteConcern) (kept : Option RetryState) (description : Description) (connection_retryability : Retryability) (ready now : ExecutionSession) (error : Error) : Type 0 where
+  pub goes : stops (is_some kept) connection_retryability ≡ false
   pub number : Option ℤ
-  pub draws : DrawsNumber ready.sent turn ready now (Ok number)
+  pub draws : DrawsNumber ready.sent connection_retryability ready now (Ok number)
   pub allowed : may_use ready description ≡ true
   pub why : ((builds_again (is_some kept) ready ≡ false) × Refuses spec description error) ⊎ (IsUnframed spec (in_context (held_id now) number concern) error ⊎ (kind_of error ≡ kind.Memory))
 
 -- a connection was had, and the command was refused before it went out
-pub record EndsRefused {A : Type 0} (trial : Trial A) (kept : Option RetryState) (before now : AttemptState) (error : Error) : Type 0 where
+pub record EndsRefused {A : Type 0} (op : AttemptedOperation A) (kept : Option RetryState) (before now : AttemptState) (error : Error) : Type 0 where
   pub ready : AttemptState
   pub address : Address
   pub conn : Conn
-  pub readies : Readies trial kept before ready address conn
+  pub readies : Readies op kept before ready address conn
   pub link : now.link ≡ ready.link
   pub store : now.store ≡ ready.store
   pub clock : now.clock ≡ ready.clock
   pub count : now.count ≡ ready.count
   pub refused : NoSessions conn.description ready.held now.held error
-      ⊎ (NoNumber kept conn.description (on_connection trial.own conn.description) ready.held now.held error ⊎ NoFrame trial.spec trial.concern kept conn.description (on_connection trial.own conn.description) ready.held now.held error)
+      ⊎ (NoNumber kept conn.description (on_connection op.retryability conn.description) ready.held now.held error ⊎ NoFrame op.spec op.concern kept conn.description (on_connection op.retryability conn.description) ready.held now.held error)
 
 -- a connection was had for which the command, which went out before, was not built again: that was refused
-pub record RefusedAgain {A : Type 0} (trial : Trial A) (kept : Option RetryState) (before now : AttemptState) : Type 0 where
+pub record RefusedAgain {A : Type 0} (op : AttemptedOperation A) (kept : Option RetryState) (before now : AttemptState) : Type 0 where
   pub ready : AttemptState
   pub address : Address
   pub conn : Conn
-  pub readies : Readies trial kept before ready address conn
+  pub readies : Readies op kept before ready address conn
   pub link : now.link ≡ ready.link
   pub store : now.store ≡ ready.store
   pub clock : now.clock ≡ ready.clock
   pub count : now.count ≡ ready.count
   pub allowed : may_use ready.held conn.description ≡ true
-  pub goes : stops (is_some kept) (on_connection trial.own conn.description) ≡ false
+  pub goes : stops (is_some kept) (on_connection op.retryability conn.description) ≡ false
   pub number : Option ℤ
-  pub draws : DrawsNumber ready.held.sent (on_connection trial.own conn.description) ready.held now.held (Ok number)
+  pub draws : DrawsNumber ready.held.sent (on_connection op.retryability conn.description) ready.held now.held (Ok number)
   pub again : builds_again (is_some kept) ready.held ≡ true
   pub error : Error
-  pub refused : Refuses trial.spec conn.description error
+  pub refused : Refuses op.spec conn.description error
 
 -- the command went out, and there was no memory for what came of it
-pub record EndsSent {A : Type 0} (trial : Trial A) (kept : Option RetryState) (before now : AttemptState) (error : Error) : Type 0 where
+pub record EndsSent {A : Type 0} (op : AttemptedOperation A) (kept : Option RetryState) (before now : AttemptState) (error : Error) : Type 0 where
   pub address : Address
   pub conn : Conn
   pub result : Result (List ℕ) LinkError
-  pub sends : Sends trial kept before now address conn result
+  pub sends : Sends op kept before now address conn result
   pub why : kind_of error ≡ kind.Memory
 
 -- the operation ends at once
-abbrev pub EndsAtOnce : {A : Type 0} → Trial A → Option RetryState → AttemptState → AttemptState → Error → Type 0
-EndsAtOnce trial kept before now error = EndsUnready kept before now error ⊎ (EndsRefused trial kept before now error ⊎ EndsSent trial kept before now error)
+abbrev pub EndsAtOnce : {A : Type 0} → AttemptedOperation A → Option RetryState → AttemptState → AttemptState → Error → Type 0
+EndsAtOnce op kept before now error = EndsUnready kept before now error ⊎ (EndsRefused op kept before now error ⊎ EndsSent op kept before now error)
 
 -- one attempt, by what is kept of the failures before and how it ended: a failure has the number of the last send before it;
 -- only an attempt that is not the first stops, or builds its command again
-abbrev pub Tries : {A : Type 0} → Trial A → Option RetryState → AttemptState → AttemptState → AttemptEnd A → Type 0
-Tries trial kept before now (Done output) = IsAnswered trial kept before now output
-Tries trial kept before now (Failed failing) = FailsIn trial kept before now failing.address failing.phase failing.error × (failing.number ≡ number_before now.held)
-Tries trial kept before now (Unselected error) = NotSelected kept before now error
-Tries trial kept before now Stopped = (is_some kept ≡ true) × Stops trial kept before now
-Tries trial kept before now Unfit = (is_some kept ≡ true) × RefusedAgain trial kept before now
-Tries trial kept before now (Ended error) = EndsAtOnce trial kept before now error
+abbrev pub MakesAttempt : {A : Type 0} → AttemptedOperation A → Option RetryState → AttemptState → AttemptState → AttemptEnd A → Type 0
+MakesAttempt op kept before now (Done output) = IsAnswered op kept before now output
+MakesAttempt op kept before now (Failed failure) = FailsIn op kept before now failure.address failure.phase failure.error × (failure.number ≡ number_before now.held)
+MakesAttempt op kept before now (Unselected error) = NotSelected kept before now error
+MakesAttempt op kept before now Stopped = (is_some kept ≡ true) × Stops op kept before now
+MakesAttempt op kept before now Unfit = (is_some kept ≡ true) × RefusedAgain op kept before now
+MakesAttempt op kept before now (Ended error) = EndsAtOnce op kept before now error

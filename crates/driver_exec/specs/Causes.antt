@@ -22,8 +22,8 @@ HasReply P (answer.Fault call fault labels ∷ items) = HasReply P items
 abbrev pub AllEarly : List Answered → Type 0
 AllEarly [] = Unit {0}
 AllEarly (answer.Reply bytes ∷ items) = ⊥
-AllEarly (answer.Fault Exchange fault own ∷ items) = ⊥
-AllEarly (answer.Fault call fault own ∷ items) = AllEarly items
+AllEarly (answer.Fault Exchange fault labels ∷ items) = ⊥
+AllEarly (answer.Fault call fault labels ∷ items) = AllEarly items
 
 -- the number is the last one, where it is told
 abbrev pub MayBeLast : Option ℤ → Type 0

@@ -12,7 +12,7 @@ use Rattle.driver_ops.specs.SendKinds.{SendKind}
 use Rattle.driver_exec.specs.declared.attempt_end.AttemptEnd.{AttemptEnd}
 use Rattle.driver_exec.specs.declared.attempt_end.AttemptEnd.TheVariants.{Done, Ended, Failed, Stopped, Unfit, Unselected}
 use Rattle.driver_exec.specs.declared.failure.AttemptFailure.{AttemptFailure}
-use Rattle.driver_exec.specs.Attempting.{AttemptState, Trial, Tries, besides_out, trial_of}
+use Rattle.driver_exec.specs.Attempting.{AttemptState, AttemptedOperation, MakesAttempt, attempted_operation, besides_out}
 use Rattle.driver_exec.specs.Concerns.{IsConcernError, concern_of, concern_refusal}
 use Rattle.driver_exec.specs.Holding.{GivesBack, IsBackAt, holds_nothing}
 use Rattle.driver_exec.specs.Moment.{Moment}
@@ -24,27 +24,27 @@ limit_reached None = false
 limit_reached (Some kept) = nat_lt kept.limit kept.attempt
 
 -- what is kept after failures of an operation's attempts, the oldest first
-abbrev pub kept_after : {A : Type 0} → Trial A → Bool → List AttemptFailure → Result (Option RetryState) Error
-kept_after trial sharded failures = folded trial.own sharded None failures
+abbrev pub kept_after : {A : Type 0} → AttemptedOperation A → Bool → List AttemptFailure → Result (Option RetryState) Error
+kept_after op sharded failures = folded op.retryability sharded None failures
 
 -- an attempt failed, under what is kept of the failures before it
-pub record FailsUnder {A : Type 0} (trial : Trial A) (sharded : Bool) (earlier : List AttemptFailure) (before : AttemptState) (failing : AttemptFailure) (now : AttemptState) : Type 0 where
+pub record FailsUnder {A : Type 0} (op : AttemptedOperation A) (sharded : Bool) (earlier : List AttemptFailure) (before : AttemptState) (failure : AttemptFailure) (now : AttemptState) : Type 0 where
   pub kept : Option RetryState
-  pub kept_is : kept_after trial sharded earlier ≡ Ok kept
+  pub kept_is : kept_after op sharded earlier ≡ Ok kept
   pub goes_on : limit_reached kept ≡ false
-  pub tries : Tries trial kept before now (Failed failing)
+  pub makes : MakesAttempt op kept before now (Failed failure)
 
 -- attempts that failed one after another, the oldest first, behind earlier ones
-abbrev pub AttemptsFail : {A : Type 0} → Trial A → Bool → List AttemptFailure → AttemptState → List AttemptFailure → AttemptState → Type 0
-AttemptsFail trial sharded earlier before [] now = now ≡ before
-AttemptsFail trial sharded earlier before (failing ∷ failures) now =
-    (mid : AttemptState) × (FailsUnder trial sharded earlier before failing mid × AttemptsFail trial sharded (earlier ++ failing ∷ []) mid failures now)
+abbrev pub AttemptsFail : {A : Type 0} → AttemptedOperation A → Bool → List AttemptFailure → AttemptState → List AttemptFailure → AttemptState → Type 0
+AttemptsFail op sharded earlier before [] now = now ≡ before
+AttemptsFail op sharded earlier before (failure ∷ failures) now =
+    (mid : AttemptState) × (FailsUnder op sharded earlier before failure mid × AttemptsFail op sharded (earlier ++ failure ∷ []) mid failures now)
 
 -- the result of an attempt after which there is no other: where no server was selected the failure that is kept is answered,
 -- else the selection's; where nothing may be repeated, or the command could not be built again, the failure that is kept
 abbrev pub EndsWith : {A : Type 0} → Option RetryState → AttemptEnd A → Result A Error → Type 0
 EndsWith kept (Done output) result = result ≡ Ok output
-EndsWith kept (Failed failing) result = ⊥
+EndsWith kept (Failed failure) result = ⊥
 EndsWith None (Unselected error) result = result ≡ Err error
 EndsWith (Some retry) (Unselected error) result = result ≡ Err retry.failure.error
 EndsWith None Stopped result = ⊥
@@ -54,10 +54,10 @@ EndsWith (Some retry) Unfit result = result ≡ Err retry.failure.error
 EndsWith kept (Ended error) result = result ≡ Err error
 
 -- the last attempt was done, selected no server, stopped, could not build its command again, or ended the operation at once
-pub record EndsLast {A : Type 0} (trial : Trial A) (kept : Option RetryState) (mid now : AttemptState) (result : Result A Error) : Type 0 where
+pub record EndsLast {A : Type 0} (op : AttemptedOperation A) (kept : Option RetryState) (mid now : AttemptState) (result : Result A Error) : Type 0 where
   pub goes_on : limit_reached kept ≡ false
   pub attempt : AttemptEnd A
-  pub tries : Tries trial kept mid now attempt
+  pub makes : MakesAttempt op kept mid now attempt
   pub ends : EndsWith kept attempt result
 
 -- no further attempt was made, and the failure that is kept is answered
@@ -66,39 +66,39 @@ pub record EndsAtLimit {A : Type 0} (kept : Option RetryState) (mid now : Attemp
   pub is : kept ≡ Some retry
   pub reached : limit_reached kept ≡ true
   pub same : now ≡ mid
-  pub answers : result ≡ Err retry.failure.error
+  pub result_is : result ≡ Err retry.failure.error
 
 -- the last attempt failed, and its failure may not be followed by another: the failure that is kept is answered, or
 -- want of memory
-pub record EndsNotAllowed {A : Type 0} (trial : Trial A) (sharded : Bool) (kept : Option RetryState) (mid now : AttemptState) (result : Result A Error) : Type 0 where
+pub record EndsNotAllowed {A : Type 0} (op : AttemptedOperation A) (sharded : Bool) (kept : Option RetryState) (mid now : AttemptState) (result : Result A Error) : Type 0 where
   pub goes_on : limit_reached kept ≡ false
-  pub failing : AttemptFailure
-  pub tries : Tries trial kept mid now (Failed failing)
+  pub failure : AttemptFailure
+  pub makes : MakesAttempt op kept mid now (Failed failure)
   pub error : Error
-  pub answers : result ≡ Err error
-  pub refused : (decide kept failing trial.own sharded ≡ Err error) ⊎ (kind_of error ≡ kind.Memory)
+  pub result_is : result ≡ Err error
+  pub refused : (decide kept failure op.retryability sharded ≡ Err error) ⊎ (kind_of error ≡ kind.Memory)
 
 -- an operation ends with its last attempt, at the limit, or where a failure may not be followed by another attempt
-abbrev pub Ends : {A : Type 0} → Trial A → Bool → Option RetryState → AttemptState → AttemptState → Result A Error → Type 0
-Ends trial sharded kept mid now result = EndsLast trial kept mid now result ⊎ (EndsAtLimit kept mid now result ⊎ EndsNotAllowed trial sharded kept mid now result)
+abbrev pub Ends : {A : Type 0} → AttemptedOperation A → Bool → Option RetryState → AttemptState → AttemptState → Result A Error → Type 0
+Ends op sharded kept mid now result = EndsLast op kept mid now result ⊎ (EndsAtLimit kept mid now result ⊎ EndsNotAllowed op sharded kept mid now result)
 
 -- the state of an operation that begins
 abbrev pub first_state : StoreTells → LinkState → ClockTells → ℕ → AttemptState
 first_state store link clock count = record { store = store; link = link; clock = clock; held = holds_nothing; count = count }
 
 -- the attempts of an operation: its failures, the oldest first, what is kept of them all, and its end
-pub record Attempts {A : Type 0} (trial : Trial A) (sharded : Bool) (before now : AttemptState) (result : Result A Error) : Type 0 where
+pub record Attempts {A : Type 0} (op : AttemptedOperation A) (sharded : Bool) (before now : AttemptState) (result : Result A Error) : Type 0 where
   pub failures : List AttemptFailure
   pub mid : AttemptState
-  pub fails : AttemptsFail trial sharded [] before failures mid
+  pub fails : AttemptsFail op sharded [] before failures mid
   pub kept : Option RetryState
-  pub kept_is : kept_after trial sharded failures ≡ Ok kept
-  pub ends : Ends trial sharded kept mid now result
+  pub kept_is : kept_after op sharded failures ≡ Ok kept
+  pub ends : Ends op sharded kept mid now result
 
 -- an operation whose concern is refused ends with that error: nothing is asked, drawn, sent or counted
 pub record RefusesConcern {A : Type 0} (spec : OperationSpec A) (which : SendKind) (before now : Moment) (count count_now : ℕ) (result : Result A Error) : Type 0 where
   pub error : Error
-  pub answers : result ≡ Err error
+  pub result_is : result ≡ Err error
   pub is : IsConcernError (concern_of spec which before.client.options) error
   pub same : now ≡ before
   pub uncounted : count_now ≡ count
@@ -111,7 +111,7 @@ pub record Proceeds {A : Type 0} (spec : OperationSpec A) (batch : Batch) (which
   pub sharded : Bool
   pub sharded_is : IfSome (setup_of before.link) (λ setup. sharded ≡ setup.description.sharded)
   pub last : AttemptState
-  pub attempts : Attempts (trial_of spec batch which (spec.retryability before.client.options) (concern_of spec which before.client.options)) sharded (first_state before.store (besides_out before.link) before.clock count) last result
+  pub attempts : Attempts (attempted_operation spec batch which (spec.retryability before.client.options) (concern_of spec which before.client.options)) sharded (first_state before.store (besides_out before.link) before.clock count) last result
   pub link_is : besides_out now.link ≡ last.link
   pub out : now.link.out ≡ before.link.out
   pub count_is : count_now ≡ last.count

@@ -20,9 +20,9 @@ pub record IsLabelled (retryability : Retryability) (old now : Error) : Type 0 w
   pub rest : KeepsAllButLabels old now
 
 -- the error of a fault of the link: its kind, its own labels and those of the table, and nothing else
-pub record IsFaultOf (fault : LinkFault) (own : List (List ℕ)) (retryability : Retryability) (error : Error) : Type 0 where
+pub record IsFaultOf (fault : LinkFault) (labels : List (List ℕ)) (retryability : Retryability) (error : Error) : Type 0 where
   pub bare : Error
-  pub is : IsAlone (fault_kind fault) (label_set own) bare
+  pub is : IsAlone (fault_kind fault) (label_set labels) bare
   pub labelled : IsLabelled retryability bare error
 
 -- an error as it came on a connection with this wire version

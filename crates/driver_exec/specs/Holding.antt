@@ -36,12 +36,12 @@ abbrev pub dirty_session : Session → Session
 dirty_session session = record session { dirty = true }
 
 -- what is held, once the network failed under its session
-abbrev pub dirty_held : ExecutionSession → ExecutionSession
-dirty_held held = record held { session = option_map dirty_session held.session }
+abbrev pub dirty_session_held : ExecutionSession → ExecutionSession
+dirty_session_held held = record held { session = option_map dirty_session held.session }
 
 -- what is held after an exchange that failed: a fault of the network makes the session dirty
 abbrev pub held_after_failure : LinkError → ExecutionSession → ExecutionSession
-held_after_failure (Fault fault own) held = if is_network fault then dirty_held held else held
+held_after_failure (Fault fault labels) held = if is_network fault then dirty_session_held held else held
 held_after_failure Memory held = held
 
 -- a session is lent where one is asked for, none is held, and nothing was sent yet
@@ -84,28 +84,28 @@ pub record DrawsFrom (session : Session) (now : Option Session) (result : Result
 -- the first number of an operation: the session's next for a write that may be repeated, else none
 abbrev pub DrawsSession : Retryability → Option Session → Option Session → Result (Option ℤ) Error → Type 0
 DrawsSession Write (Some session) now result = DrawsFrom session now result
-DrawsSession turn session now result = (now ≡ session) × (result ≡ Ok None)
+DrawsSession connection_retryability session now result = (now ≡ session) × (result ≡ Ok None)
 
 -- the same for what is held
-pub record DrawsFirst (turn : Retryability) (held held_now : ExecutionSession) (result : Result (Option ℤ) Error) : Type 0 where
+pub record DrawsFirst (connection_retryability : Retryability) (held held_now : ExecutionSession) (result : Result (Option ℤ) Error) : Type 0 where
   pub session : Option Session
-  pub draws : DrawsSession turn held.session session result
+  pub draws : DrawsSession connection_retryability held.session session result
   pub is : held_now ≡ record held { session = session }
 
 -- the number of the next send: that of the send before, else a first one
 abbrev pub DrawsNumber : Option (Option ℤ) → Retryability → ExecutionSession → ExecutionSession → Result (Option ℤ) Error → Type 0
-DrawsNumber (Some before) turn held held_now result = (held_now ≡ held) × (result ≡ Ok before)
-DrawsNumber None turn held held_now result = DrawsFirst turn held held_now result
+DrawsNumber (Some before) connection_retryability held held_now result = (held_now ≡ held) × (result ≡ Ok before)
+DrawsNumber None connection_retryability held held_now result = DrawsFirst connection_retryability held held_now result
 
 -- the session came back
-pub record TakesHeld (store now : StoreTells) (session : Session) : Type 0 where
+pub record TakesSessionBack (store now : StoreTells) (session : Session) : Type 0 where
   pub at : ℕ
   pub takes : TakesSession store now session at
 
 -- a session that is held comes back to its store
 abbrev pub GivesBack : StoreTells → StoreTells → Option Session → Type 0
 GivesBack store now None = now ≡ store
-GivesBack store now (Some session) = TakesHeld store now session
+GivesBack store now (Some session) = TakesSessionBack store now session
 
 -- it comes back at a reading of the clock, its one then; where there is none the clock stays
 abbrev pub IsBackAt : (store now : StoreTells) (session : Option Session) → GivesBack store now session → ClockTells → ClockTells → Type 0

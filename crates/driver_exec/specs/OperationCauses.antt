@@ -34,32 +34,32 @@ use Rattle.driver_exec.specs.Moment.{Moment}
 -- the labels of the error of a fault: a failure of the network has the label that lets a write be tried again beside the
 -- link's own labels, where the write may be repeated
 abbrev pub labels_after : Retryability → LinkFault → List (List ℕ) → LabelSet
-labels_after may.Write found own = if is_network found then with_label (label_set own) RETRYABLE_WRITE_ERROR.now else label_set own
-labels_after other found own = label_set own
+labels_after may.Write found labels = if is_network found then with_label (label_set labels) RETRYABLE_WRITE_ERROR.now else label_set labels
+labels_after other found labels = label_set labels
 
 -- the same by the call that met the fault: without a connection what the operation may repeat by its own rules counts, and
 -- after it what it may repeat on the connection, which is known where the link tells its setup
 abbrev pub FaultLabels : LinkCall → Retryability → Option Setup → LinkFault → List (List ℕ) → LabelSet → Type 0
-FaultLabels CheckOut own setup found labels now = now ≡ labels_after own found labels
-FaultLabels Exchange own None found labels now = (now ≡ labels_after own found labels) ⊎ (now ≡ label_set labels)
-FaultLabels Exchange own (Some setup) found labels now = now ≡ labels_after (on_connection own setup.description) found labels
-FaultLabels call own setup found labels now = now ≡ label_set labels
+FaultLabels CheckOut retryability setup found labels now = now ≡ labels_after retryability found labels
+FaultLabels Exchange retryability None found labels now = (now ≡ labels_after retryability found labels) ⊎ (now ≡ label_set labels)
+FaultLabels Exchange retryability (Some setup) found labels now = now ≡ labels_after (on_connection retryability setup.description) found labels
+FaultLabels call retryability setup found labels now = now ≡ label_set labels
 
 -- this is one of the faults that were answered, and its error has these labels
 abbrev pub HasFault : Retryability → Option Setup → LinkFault → LabelSet → List Answered → Type 0
-HasFault own setup fault labels [] = ⊥
-HasFault own setup fault labels (answer.Reply bytes ∷ items) = HasFault own setup fault labels items
-HasFault own setup fault labels (answer.Fault call found given ∷ items) =
-    ((found ≡ fault) × FaultLabels call own setup found given labels) ⊎ HasFault own setup fault labels items
+HasFault retryability setup fault labels [] = ⊥
+HasFault retryability setup fault labels (answer.Reply bytes ∷ items) = HasFault retryability setup fault labels items
+HasFault retryability setup fault labels (answer.Fault call found given ∷ items) =
+    ((found ≡ fault) × FaultLabels call retryability setup found given labels) ⊎ HasFault retryability setup fault labels items
 
 -- a reply spells this error for an operation: its kind is the one that is read, in words for the caller, and its labels are
 -- those of what is read, with that of the table where the network failed
 pub record SpellsEnd {A : Type 0} (spec : OperationSpec A) (why : ErrorOutline) (bytes : List ℕ) : Type 0 where
   pub bare : Error
   pub reads : ReadsAnswer spec bytes (Err bare)
-  pub turn : Retryability
+  pub connection_retryability : Retryability
   pub kind_is : why.kind ≡ reworded_kind (kind_of bare)
-  pub labels_are : why.labels ≡ labels_outside_transactions turn bare
+  pub labels_are : why.labels ≡ labels_outside_transactions connection_retryability bare
 
 -- a built command with this concern has no spelling, under some session and number
 pub record Unspelled {A : Type 0} (spec : OperationSpec A) (concern : Option WriteConcern) (fault : EncodeFault) : Type 0 where
@@ -83,7 +83,7 @@ IsRead {A} spec bytes = (output : A) × ReadsAnswer spec bytes (Ok output)
 -- what the link tells of its setup, and the number of the session that is lent next
 pub record Grounds (A : Type 0) : Type 1 where
   pub spec : OperationSpec A
-  pub own : Retryability
+  pub retryability : Retryability
   pub concern : Option WriteConcern
   pub setup : Option Setup
   pub number : Option ℤ
@@ -92,7 +92,7 @@ pub record Grounds (A : Type 0) : Type 1 where
 abbrev pub grounds : {A : Type 0} → OperationSpec A → SendKind → Moment → Grounds A
 grounds spec which before = record {
   spec = spec;
-  own = spec.retryability before.client.options;
+  retryability = spec.retryability before.client.options;
   concern = concern_of spec which before.client.options;
   setup = setup_of before.link;
   number = next_number before.store;
@@ -100,10 +100,10 @@ grounds spec which before = record {
 
 -- what an error of each kind needs; want of memory needs nothing. That of a refusal before a send has no labels
 abbrev pub KindNeeds : {A : Type 0} → Grounds A → ℕ → ℕ → List Answered → LabelSet → ErrorKind → Type 0
-KindNeeds on before now items labels (kind.Io io) = Rose before now × HasFault on.own on.setup (fault.Io io) labels items
-KindNeeds on before now items labels (kind.ConnectionPoolCleared message) = Rose before now × HasFault on.own on.setup (fault.PoolCleared message) labels items
-KindNeeds on before now items labels (kind.ServerSelection message) = Rose before now × HasFault on.own on.setup (fault.Selection message) labels items
-KindNeeds on before now items labels (kind.Authentication message) = Rose before now × HasFault on.own on.setup (fault.Authentication message) labels items
+KindNeeds on before now items labels (kind.Io io) = Rose before now × HasFault on.retryability on.setup (fault.Io io) labels items
+KindNeeds on before now items labels (kind.ConnectionPoolCleared message) = Rose before now × HasFault on.retryability on.setup (fault.PoolCleared message) labels items
+KindNeeds on before now items labels (kind.ServerSelection message) = Rose before now × HasFault on.retryability on.setup (fault.Selection message) labels items
+KindNeeds on before now items labels (kind.Authentication message) = Rose before now × HasFault on.retryability on.setup (fault.Authentication message) labels items
 KindNeeds on before now items labels (kind.InvalidArgument message) = (concern_refusal on.concern ≡ Some message) × (labels ≡ no_labels)
 KindNeeds on before now items labels (kind.BsonSerialization fault) = Unspelled on.spec on.concern fault × (labels ≡ no_labels)
 KindNeeds on before now items labels (kind.Internal message) = MayBeLast on.number × (message ≡ number_at_its_end) × (labels ≡ no_labels)
@@ -122,7 +122,7 @@ EndNeeds on before now items (Some why) = KindNeeds on before now items why.labe
 abbrev pub DrawsNumbers : Bool → Retryability → Option Setup → Type 0
 DrawsNumbers sessions may.Write (Some setup) =
     (sessions ≡ true) × (setup.description.supports_sessions ≡ true) × (setup.description.supports_retryable_writes ≡ true)
-DrawsNumbers sessions own setup = ⊥
+DrawsNumbers sessions retryability setup = ⊥
 
 -- where the next session's number is at its end nothing is exchanged, and an error tells so, but for what was found before
 abbrev pub EndAtLast : {A : Type 0} → Grounds A → List Answered → Option ErrorOutline → Type 0
@@ -135,7 +135,7 @@ pub record EndsCaused {A : Type 0} (on : Grounds A) (link now : LinkState) (ende
   pub noted : GainsAll link.answers now.answers items
   pub never_falls : link.faults ≤ now.faults
   pub needs : EndNeeds on link.faults now.faults items ended
-  pub at_last : concern_refusal on.concern ≡ None → DrawsNumbers on.spec.sessions on.own on.setup → IsLast on.number → EndAtLast on items ended
+  pub at_last : concern_refusal on.concern ≡ None → DrawsNumbers on.spec.sessions on.retryability on.setup → IsLast on.number → EndAtLast on items ended
 
 -- an operation that began at a moment ended so
 abbrev pub Caused : {A : Type 0} → OperationSpec A → SendKind → Moment → Moment → Option ErrorOutline → Type 0

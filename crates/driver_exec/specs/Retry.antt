@@ -100,20 +100,20 @@ unfoldable pub avoiding : Bool → Address → RetryState → RetryState
 avoiding sharded address kept = if sharded then record kept { deprioritized = with_server address kept.deprioritized } else kept
 
 -- the failure in words for the caller
-abbrev pub told : AttemptFailure → AttemptFailure
-told failure = record failure { error = reworded failure.error }
+abbrev pub reworded_failure : AttemptFailure → AttemptFailure
+reworded_failure failure = record failure { error = reworded failure.error }
 
 -- the next retry after a failure in words for the caller, or the error of the failure that is kept where it may not be
 -- tried again
-abbrev pub decide_told : Option RetryState → AttemptFailure → Retryability → Bool → Result RetryState Error
-decide_told kept failure retryability sharded =
+abbrev pub decide_reworded : Option RetryState → AttemptFailure → Retryability → Bool → Result RetryState Error
+decide_reworded kept failure retryability sharded =
     if may_be_retried failure retryability
     then Ok (avoiding sharded failure.address (after kept failure))
     else Err (after kept failure).failure.error
 
 -- the same, once the failure is in words for the caller
 unfoldable pub decide : Option RetryState → AttemptFailure → Retryability → Bool → Result RetryState Error
-decide kept failure retryability sharded = decide_told kept (told failure) retryability sharded
+decide kept failure retryability sharded = decide_reworded kept (reworded_failure failure) retryability sharded
 
 -- a call gives what is decided, or want of memory
 abbrev pub Decides : Result RetryState Error → Result RetryState Error → Type 0
@@ -128,5 +128,5 @@ and_then (Err error) rest = Err error
 -- what is decided after failures, the oldest first: what is then kept, where each of them may be followed by another
 -- attempt, or the error of the first that may not
 abbrev pub folded : Retryability → Bool → Option RetryState → List AttemptFailure → Result (Option RetryState) Error
-folded own sharded kept [] = Ok kept
-folded own sharded kept (failure ∷ failures) = and_then (decide kept failure own sharded) (λ retry. folded own sharded (Some retry) failures)
+folded retryability sharded kept [] = Ok kept
+folded retryability sharded kept (failure ∷ failures) = and_then (decide kept failure retryability sharded) (λ retry. folded retryability sharded (Some retry) failures)

@@ -103,13 +103,13 @@ pub(crate) fn unselected<T>(alloc: Global, failure: LinkError) -> AttemptEnd<T>
 pub(crate) fn unconnected<T>(
     alloc: Global,
     failure: LinkError,
-    own: Retryability,
+    retryability: Retryability,
     address: Address,
     number: Option<i64>,
 ) -> AttemptEnd<T>
-    ensures { EndsUnconnected own address number failure result }
+    ensures { EndsUnconnected retryability address number failure result }
 {
-    match fault_error(alloc, failure, own) {
+    match fault_error(alloc, failure, retryability) {
         Ok(error) => fails_at(
             error,
             FailurePhase::ConnectionEstablishment,
@@ -135,14 +135,14 @@ pub(crate) fn unbuilt<T>(error: Error, again: bool) -> AttemptEnd<T>
 pub(crate) fn lost<T>(
     alloc: Global,
     failure: LinkError,
-    turn: Retryability,
+    connection_retryability: Retryability,
     version: Option<i32>,
     address: Address,
     number: Option<i64>,
 ) -> AttemptEnd<T>
-    ensures { EndsLost turn version address number failure result }
+    ensures { EndsLost connection_retryability version address number failure result }
 {
-    match fault_error(alloc, failure, turn) {
+    match fault_error(alloc, failure, connection_retryability) {
         Ok(error) => fails_at(
             error.with_wire_version(version),
             FailurePhase::Execution,
@@ -157,16 +157,23 @@ pub(crate) fn lost<T>(
 pub(crate) fn read<T>(
     alloc: Global,
     answer: Result<T, Error>,
-    turn: Retryability,
+    connection_retryability: Retryability,
     version: Option<i32>,
     address: Address,
     number: Option<i64>,
 ) -> AttemptEnd<T>
-    ensures { EndsRead turn version address number answer result }
+    ensures { EndsRead connection_retryability version address number answer result }
 {
     match answer {
         Ok(output) => AttemptEnd::Done(output),
-        Err(error) => spelled(alloc, error, turn, version, address, number),
+        Err(error) => spelled(
+            alloc,
+            error,
+            connection_retryability,
+            version,
+            address,
+            number,
+        ),
     }
 }
 
@@ -174,17 +181,17 @@ pub(crate) fn read<T>(
 fn spelled<T>(
     alloc: Global,
     error: Error,
-    turn: Retryability,
+    connection_retryability: Retryability,
     version: Option<i32>,
     address: Address,
     number: Option<i64>,
 ) -> AttemptEnd<T>
-    ensures { EndsRead turn version address number (Err error) result }
+    ensures { EndsRead connection_retryability version address number (Err error) result }
 {
     if is_memory(&error) {
         return AttemptEnd::Ended(error);
     }
-    match labelled(alloc, error, turn) {
+    match labelled(alloc, error, connection_retryability) {
         Ok(error) => fails_at(
             error.with_wire_version(version),
             FailurePhase::Execution,

@@ -2,7 +2,7 @@
 ghost use Rattle.std.specs.Prelude.{◌≡◌, ◌⊎◌, ℕ, List as Listed, IsSome, Some};
 ghost use Rattle.driver_link.specs.declared.machine.SendBody.{SendBody};
 ghost use Rattle.driver_ops.specs.Operations.{AsksFor, HasBodies, IsFixed, SameSpec, StaysFixed, batch_of};
-ghost use Rattle.driver_exec.specs.Attempting.{trial_of};
+ghost use Rattle.driver_exec.specs.Attempting.{attempted_operation};
 ghost use Rattle.driver_exec.specs.Causes.{end_of};
 ghost use Rattle.driver_exec.specs.Client.{options_of, store_of};
 ghost use Rattle.driver_exec.specs.Concerns.{concern_of, concern_refusal};
@@ -16,6 +16,7 @@ ghost use Rattle.driver_exec.specs.Retry.{Decides, decide};
 ghost use Rattle.driver_exec.specs.inside.Attempting.{attempt_state};
 ghost use Rattle.driver_exec.specs.inside.Executing.{FailureOf, IsLastError, MayAnswer, kept_or};
 
+use crate::attempt::make_attempt;
 use crate::attempt_end::AttemptEnd;
 use crate::client::Client;
 use crate::concern::concern_refusal;
@@ -24,7 +25,6 @@ use crate::failure::{AttemptFailure, FailurePhase};
 use crate::outside::Outside;
 use crate::retry::Retry;
 use crate::steps::Steps;
-use crate::try_once::try_once;
 use driver_error::{Error, Result};
 use driver_link::{ClientOptions, Clock, Link, Place};
 use driver_ops::Operation;
@@ -106,7 +106,7 @@ fn execute_operation_with_retry<O: Operation, S: SessionStore, L: Link, K: Clock
 ) -> (ExecutionSession, Result<O::Output>)
     requires { HasBodies (O.spec op.old) places.now }
     ensures attempts { (statements : ℕ) → IsFixed (O.built op.new) statements → Attempts
-        (trial_of (O.spec op.old) (batch_of places.now statements) (O.next op.old)
+        (attempted_operation (O.spec op.old) (batch_of places.now statements) (O.next op.old)
         ((O.spec op.old).retryability (options_of client.old))
         (concern_of (O.spec op.old) (O.next op.old) (options_of client.old))) sharded
         (attempt_state (S.tells (store_of client.old)) (L.tells outside.old.link)
@@ -123,14 +123,14 @@ fn execute_operation_with_retry<O: Operation, S: SessionStore, L: Link, K: Clock
     ensures call { outside.new.call ≡ outside.old.call }
     ensures counted { (sends.new ≡ sends.old) ⊎ IsSome (O.built op.new) }
 {
-    let own = op.retryability(client.options());
+    let retryability = op.retryability(client.options());
     let mut held = ExecutionSession::nothing();
     let mut kept: Option<Retry> = None;
     'attempts: loop {
         if limit_reached(&kept) {
             return (held, Err(last_error(kept)));
         }
-        let (next, attempt) = try_once(
+        let (next, attempt) = make_attempt(
             alloc,
             client,
             outside,
@@ -141,11 +141,19 @@ fn execute_operation_with_retry<O: Operation, S: SessionStore, L: Link, K: Clock
             sends,
         );
         held = next;
-        let failing = match failure_of(attempt) {
-            Ok(failing) => failing,
+        let failure = match failure_of(attempt) {
+            Ok(failure) => failure,
             Err(end) => return (held, answer_of(end, kept)),
         };
-        match decide(alloc, kept, failing, op, own, client.options(), sharded) {
+        match decide(
+            alloc,
+            kept,
+            failure,
+            op,
+            retryability,
+            client.options(),
+            sharded,
+        ) {
             Ok(retry) => kept = Some(retry),
             Err(error) => return (held, Err(error)),
         }
@@ -157,7 +165,7 @@ fn failure_of<T>(attempt: AttemptEnd<T>) -> std::result::Result<AttemptFailure, 
     ensures { FailureOf attempt result }
 {
     match attempt {
-        AttemptEnd::Failed(failing) => Ok(failing),
+        AttemptEnd::Failed(failure) => Ok(failure),
         end => Err(end),
     }
 }
@@ -168,8 +176,8 @@ fn answer_of<T>(end: AttemptEnd<T>, kept: Option<Retry>) -> Result<T>
     ensures { EndsWith kept end result }
 {
     match end {
-        AttemptEnd::Failed(failing) => {
-            drop(failing);
+        AttemptEnd::Failed(failure) => {
+            drop(failure);
             drop(kept);
             unreachable!()
         }
@@ -224,26 +232,42 @@ fn kept_or(kept: Option<Retry>, error: Error) -> Error
 fn decide<O: Operation>(
     alloc: Global,
     kept: Option<Retry>,
-    failing: AttemptFailure,
+    failure: AttemptFailure,
     op: &O,
-    own: Retryability,
+    retryability: Retryability,
     options: &ClientOptions,
     sharded: bool,
 ) -> Result<Retry>
-    ensures { Decides (decide kept failing own sharded) result }
+    ensures { Decides (decide kept failure retryability sharded) result }
 {
     let AttemptFailure {
         error,
         phase,
         address,
         number,
-    } = failing;
+    } = failure;
     match phase {
         FailurePhase::ConnectionEstablishment => Retry::for_connection_establishment_failure(
-            alloc, kept, error, number, &address, op, own, options, sharded,
+            alloc,
+            kept,
+            error,
+            number,
+            &address,
+            op,
+            retryability,
+            options,
+            sharded,
         ),
         FailurePhase::Execution => Retry::for_execution_failure(
-            alloc, kept, error, number, &address, op, own, options, sharded,
+            alloc,
+            kept,
+            error,
+            number,
+            &address,
+            op,
+            retryability,
+            options,
+            sharded,
         ),
     }
 }

@@ -3,7 +3,7 @@
 ghost use Rattle.std.specs.Prelude.{◌≡◌, None, Some, is_some};
 ghost use Rattle.std.specs.Option.{option_copied};
 ghost use Rattle.driver_exec.specs.Client.{options_of, store_of};
-ghost use Rattle.driver_exec.specs.Holding.{DrawsNumber, DrawsSession, dirty_held, held_after_failure, held_id, holds_nothing, needs_session, number_before};
+ghost use Rattle.driver_exec.specs.Holding.{DrawsNumber, DrawsSession, dirty_session_held, held_after_failure, held_id, holds_nothing, needs_session, number_before};
 ghost use Rattle.driver_exec.specs.inside.Holding.{GivesBackAt, HoldsAt};
 
 use crate::client::Client;
@@ -104,7 +104,7 @@ impl ExecutionSession {
 
     /// The same, once the network failed under its session.
     pub(crate) fn dirty(self) -> ExecutionSession
-        ensures { result ≡ dirty_held self }
+        ensures { result ≡ dirty_session_held self }
     {
         let ExecutionSession { mut session, sent } = self;
         if let Some(session) = &mut session {
@@ -160,14 +160,14 @@ pub(crate) fn check_out_session<S: SessionStore, K: Clock>(
 pub(crate) fn draw_number(
     alloc: Global,
     held: ExecutionSession,
-    turn: Retryability,
+    connection_retryability: Retryability,
 ) -> (ExecutionSession, Result<Option<i64>>)
-    ensures { DrawsNumber held.sent turn held result.0 result.1 }
+    ensures { DrawsNumber held.sent connection_retryability held result.0 result.1 }
 {
     let ExecutionSession { mut session, sent } = held;
     let number = match sent {
         Some(before) => Ok(before),
-        None => first_number(alloc, &mut session, turn),
+        None => first_number(alloc, &mut session, connection_retryability),
     };
     (ExecutionSession { session, sent }, number)
 }
@@ -176,11 +176,11 @@ pub(crate) fn draw_number(
 fn first_number(
     alloc: Global,
     session: &mut Option<ServerSession>,
-    turn: Retryability,
+    connection_retryability: Retryability,
 ) -> Result<Option<i64>>
-    ensures { DrawsSession turn session.old session.new result }
+    ensures { DrawsSession connection_retryability session.old session.new result }
 {
-    match (turn, session) {
+    match (connection_retryability, session) {
         (Retryability::Write, Some(session)) => match session.next_number(alloc) {
             Ok(number) => Ok(Some(number)),
             Err(error) => Err(error),

@@ -38,7 +38,10 @@ pub(crate) struct AttemptFailure {
 }
 
 /// The failure in words for the caller.
-pub(crate) fn told(alloc: Global, failure: Failure) -> std::result::Result<Failure, AllocError>
+pub(crate) fn reworded_failure(
+    alloc: Global,
+    failure: Failure,
+) -> std::result::Result<Failure, AllocError>
     ensures { IfOk result (λ now. now ≡ record failure { error = reworded failure.error }) }
 {
     let Failure { error, phase } = failure;

@@ -1,6 +1,7 @@
 //! The executor: a client over a store of sessions, and an operation's attempts over a link with its one retry.
 #![tactic(auto)]
 
+mod attempt;
 mod attempt_end;
 mod client;
 mod concern;
@@ -15,7 +16,6 @@ mod outside;
 mod retry;
 mod sending;
 mod steps;
-mod try_once;
 
 pub use client::Client;
 pub use execute::execute_operation;

@@ -17,7 +17,7 @@ pub const NUMBERS_REFUSED: &str = "Transaction numbers";
 const ILLEGAL_OPERATION: i32 = 20;
 
 /// The same error, with the message for the caller where its deployment takes no transaction numbers.
-#[tactic(auto, using(crate::proofs::Retelling::told_as_it_is), unfolding(crate::specs::OldDeployment::reworded))]
+#[tactic(auto, using(crate::proofs::Rewording::reworded_as_it_is), unfolding(crate::specs::OldDeployment::reworded))]
 pub(crate) fn reworded(alloc: Global, error: Error) -> Result<Error, AllocError>
     ensures { IfOk result (λ now. now ≡ reworded error) }
 {
@@ -39,7 +39,7 @@ fn reworded_kind(alloc: Global, kind: &ErrorKind) -> Result<Option<ErrorKind>, A
     match kind {
         ErrorKind::Command(error) => {
             if refuses_numbers(error) {
-                Ok(Some(ErrorKind::Command(told(alloc, error)?)))
+                Ok(Some(ErrorKind::Command(reword_command(alloc, error)?)))
             } else {
                 Ok(None)
             }
@@ -63,7 +63,7 @@ fn refuses_numbers(error: &CommandError) -> bool
 
 /// The same error of a command with the message for the caller.
 #[tactic(auto, unfolding(crate::specs::OldDeployment::no_retryable_writes))]
-fn told(alloc: Global, error: &CommandError) -> Result<CommandError, AllocError>
+fn reword_command(alloc: Global, error: &CommandError) -> Result<CommandError, AllocError>
     ensures { IfOk result (λ now. now ≡ record error.now { message = no_retryable_writes }) }
 {
     Ok(CommandError {

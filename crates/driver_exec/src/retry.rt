@@ -6,7 +6,7 @@ ghost use Rattle.driver_exec.specs.Retry.{Decides, decide, after, avoiding, is_s
 ghost use Rattle.driver_exec.specs.inside.Retry.{failure_at};
 ghost use Rattle.driver_exec.specs.declared.failure.FailurePhase.TheVariants.{ConnectionEstablishment, Execution};
 
-use crate::failure::{Failure, FailurePhase, failure_kept, may_be_retried, told};
+use crate::failure::{Failure, FailurePhase, failure_kept, may_be_retried, reworded_failure};
 use bson_lite::{List, TryClone};
 use driver_error::{Error, Result};
 use driver_link::{Address, ClientOptions};
@@ -182,7 +182,7 @@ fn after_failure(
     ensures { Decides
         (decide kept (failure_at failure number address.now) retryability sharded) result }
 {
-    let failure = match told(alloc, failure) {
+    let failure = match reworded_failure(alloc, failure) {
         Ok(failure) => failure,
         Err(refused) => {
             drop(kept);

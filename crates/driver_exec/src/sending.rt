@@ -26,7 +26,7 @@ use std::sync::ledger::Ledger;
 #[derive(Clone, Copy)]
 pub(crate) struct AttemptConnection<'a> {
     pub conn: &'a Conn,
-    pub turn: Retryability,
+    pub connection_retryability: Retryability,
     pub again: bool,
 }
 
@@ -38,29 +38,29 @@ pub(crate) fn send<O: Operation, L: Link, Q: Ledger>(
     options: &ClientOptions,
     places: &[Place],
     held: ExecutionSession,
-    turn: &AttemptConnection<'_>,
+    on: &AttemptConnection<'_>,
     address: Address,
     sends: &mut Steps<Q>,
 ) -> (ExecutionSession, AttemptEnd<O::Output>)
     requires { HasBodies (O.spec op.old) places.now }
     ensures sending { (statements : ℕ) → IsFixed (O.built op.new) statements →
         Sending (O.spec op.old) (O.next op.old) (concern_of (O.spec op.old) (O.next op.old) options.now)
-        (batch_of places.now statements) turn.now.again
+        (batch_of places.now statements) on.now.again
         (besides_out (L.tells link.old)) (besides_out (L.tells link.new))
-        turn.now.turn turn.now.conn.now address held result.0 sends.old sends.new result.1 }
+        on.now.connection_retryability on.now.conn.now address held result.0 sends.old sends.new result.1 }
     ensures spec { SameSpec (O.spec op.old) (O.spec op.new) }
     ensures fixed { StaysFixed (O.built op.old) (O.built op.new) }
     ensures next { O.next op.new ≡ O.next op.old }
     ensures out { (L.tells link.new).out ≡ (L.tells link.old).out }
     ensures counted { (sends.new ≡ sends.old) ⊎ IsSome (O.built op.new) }
 {
-    let again = builds_again(turn, &held);
-    let (held, drawn) = draw_number(alloc, held, turn.turn);
+    let again = builds_again(on, &held);
+    let (held, drawn) = draw_number(alloc, held, on.connection_retryability);
     let number = match drawn {
         Ok(number) => number,
         Err(error) => return (held, AttemptEnd::Ended(error)),
     };
-    let command = match op.build(alloc, &turn.conn.description) {
+    let command = match op.build(alloc, &on.conn.description) {
         Ok(command) => command,
         Err(error) => return (held, unbuilt(error, again)),
     };
@@ -71,14 +71,14 @@ pub(crate) fn send<O: Operation, L: Link, Q: Ledger>(
     };
     let own = front(places, op.statements());
     let held = held.sent_under(number);
-    exchange(alloc, link, op, own, &frame, held, turn, address, sends)
+    exchange(alloc, link, op, own, &frame, held, on, address, sends)
 }
 
 /// Whether the command is built again: it went out before, and a failure is kept.
-fn builds_again(turn: &AttemptConnection<'_>, held: &ExecutionSession) -> bool
-    ensures { result ≡ builds_again turn.now.again held.now }
+fn builds_again(on: &AttemptConnection<'_>, held: &ExecutionSession) -> bool
+    ensures { result ≡ builds_again on.now.again held.now }
 {
-    turn.again && held.has_sent()
+    on.again && held.has_sent()
 }
 
 /// The first of the places, as many as the command has statements.
@@ -97,34 +97,48 @@ fn exchange<O: Operation, L: Link, Q: Ledger>(
     places: &[Place],
     frame: &Frame,
     held: ExecutionSession,
-    turn: &AttemptConnection<'_>,
+    on: &AttemptConnection<'_>,
     address: Address,
     sends: &mut Steps<Q>,
 ) -> (ExecutionSession, AttemptEnd<O::Output>)
     requires { (sent : Sent) × Reads frame.now places.now sent }
     ensures exchanges { ExchangesOnce (O.spec op.old)
         (besides_out (L.tells link.old)) (besides_out (L.tells link.new))
-        turn.now.turn turn.now.conn.now address frame.now places.now held result.0 result.1 }
+        on.now.connection_retryability on.now.conn.now address frame.now places.now held result.0 result.1 }
     ensures spec { SameSpec (O.spec op.old) (O.spec op.new) }
     ensures built { O.built op.new ≡ O.built op.old }
     ensures next { O.next op.new ≡ O.next op.old }
     ensures out { (L.tells link.new).out ≡ (L.tells link.old).out }
     ensures sends { sends.new ≡ sends.old + 1 }
 {
-    let version = turn.conn.description.max_wire_version;
+    let version = on.conn.description.max_wire_version;
     let number = held.number();
     sends.tick();
-    match link.exchange(alloc, turn.conn, frame, places) {
+    match link.exchange(alloc, on.conn, frame, places) {
         Ok(reply) => {
             let answer = read_answer(alloc, op, reply.as_slice());
             (
                 held,
-                read(alloc, answer, turn.turn, version, address, number),
+                read(
+                    alloc,
+                    answer,
+                    on.connection_retryability,
+                    version,
+                    address,
+                    number,
+                ),
             )
         }
         Err(failure) => (
             held.after(&failure),
-            lost(alloc, failure, turn.turn, version, address, number),
+            lost(
+                alloc,
+                failure,
+                on.connection_retryability,
+                version,
+                address,
+                number,
+            ),
         ),
     }
 }

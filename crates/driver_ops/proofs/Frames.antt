@@ -1,5 +1,5 @@
 -- The frame of a command with the executor's fields reads as the send of what the command asks for.
-use Rattle.std.proofs.Common.{◌≡◌, ℕ, List, [], ◌∷◌, ◌++◌, length, refl, ap, rules, Bool, subst, sym}
+use Rattle.std.proofs.Common.{◌≡◌, ℕ, List, [], ◌∷◌, ◌++◌, length, refl, ap, Bool, subst, sym}
 use Rattle.std.specs.Prelude.{ℤ, true, false, Some, None, Option, bytes_eq, if◌then◌else◌}
 use Rattle.std.specs.Option.{option_map}
 use denote.Hole.Carrier.{out}
@@ -16,23 +16,21 @@ use Rattle.driver_link.specs.declared.machine.SendBody.{SendBody}
 use Rattle.driver_link.specs.Asking.{asks, spelled}
 use Rattle.driver_link.specs.Commands.{flag, flag_value, goes_to, needed, optional, optional_value, sent_as, session_id_of, uuid_in}
 use Rattle.driver_link.specs.Framed.{Framed}
+use Rattle.driver_link.specs.Numbers.{field}
 use Rattle.driver_link.specs.Reads.{SpellSequences}
-use Rattle.driver_link.specs.Values.{text_of, int64_of, binary_of, document_of}
+use Rattle.driver_link.specs.Values.{text_of, int64_of, binary_of}
 use Rattle.driver_link.specs.Writes.{is_common}
+use Rattle.driver_link.proofs.Forms.{document_is, text_is}
 use Rattle.driver_session.proofs.Ids.{equal_bytes}
 use Rattle.driver_ops.specs.declared.command.Command.{Command}
 use Rattle.driver_ops.specs.ConcernFields.{concern_value}
 use Rattle.driver_ops.specs.Encoding.{IsUnspelled}
-use Rattle.driver_ops.specs.Fields.{AreCommon, IsFrameOf, IsPlain, IsSixteen, SendContext, executor_fields, field, number_field, session_document, session_field, with_fields}
+use Rattle.driver_ops.specs.Fields.{AreCommon, IsFrameOf, IsPlain, IsSixteen, SendContext, executor_fields, number_field, session_document, session_field, with_fields}
 use Rattle.driver_ops.specs.OptionFields.{option_field}
 use Rattle.driver_ops.specs.Operations.{Batch, IsBuilt, IsUnframed, OperationSpec, ReadsAsAsked, front, send_of}
 use Rattle.driver_ops.specs.SendKinds.{SendKind}
 
 -- what values are as the fields of a command
-text_is : (text : List ℕ) → text_of (bson.String text) ≡ Some text
-unfolding bson.out-Bson out
-text_is text = refl
-
 int_is : (number : ℤ) → int64_of (bson.Int64 number) ≡ Some number
 unfolding bson.out-Bson out
 int_is number = refl
@@ -40,9 +38,6 @@ int_is number = refl
 binary_is : (binary : Binary) → binary_of (bson.Binary binary) ≡ Some binary
 unfolding bson.out-Bson out
 binary_is binary = refl
-
-document_is : (pairs : List (Pair Bson)) → document_of (bson.Document pairs) ≡ Some pairs
-document_is pairs = search (rules, bson.the_lemmas)
 
 uuid_is : (id : List ℕ) → length id ≡ 16 → uuid_in (record { subtype = UUID_SUBTYPE; bytes = id }) ≡ Some id
 unfolding uuid_in
@@ -52,8 +47,8 @@ id_is : (id : List ℕ) → length id ≡ 16 → session_id_of (bson.Document (s
 unfolding session_id_of session_document
 id_is id sixteen = rw (document_is (session_document id), binary_is (record { subtype = UUID_SUBTYPE; bytes = id })) (uuid_is id sixteen)
 
-differ : (value : Bson) → Some value ≡ None → ⊥
-differ value is = cc
+some_is_not_none : (value : Bson) → Some value ≡ None → ⊥
+some_is_not_none value is = cc
 
 -- a key that a body does not have is found behind it
 pub skips : (key : List ℕ) (body fields : List (Pair Bson)) → value_of key body ≡ None → value_of key (body ++ fields) ≡ value_of key fields
@@ -63,7 +58,7 @@ skips key (pair ∷ body) fields none = by_test (bytes_eq pair.key key) (skips k
     by_test : (same : Bool) → (value_of key body ≡ None → value_of key (body ++ fields) ≡ value_of key fields)
         → (if same then Some pair.value else value_of key body) ≡ None
         → (if same then Some pair.value else value_of key (body ++ fields)) ≡ value_of key fields
-    by_test true rest none = absurd (differ pair.value none)
+    by_test true rest none = absurd (some_is_not_none pair.value none)
     by_test false rest none = rest none
 
 -- the executor's fields by their parts

@@ -1,13 +1,10 @@
 -- Over the machine's own reply the insert of one document is read as done exactly where its statement counts one document.
 use Rattle.std.proofs.Common.{◌≡◌, ℕ, Bool, true, false, List, [], ◌∷◌, refl, sym, ap, subst, ◌∙◌}
-use Rattle.std.specs.Prelude.{ℤ, pos, negsuc, ◌^◌, ◌&&◌, int_lt, Option, None, Some, if◌then◌else◌}
+use Rattle.std.specs.Prelude.{ℤ, pos, ◌&&◌, Option, None, Some}
 use Rattle.std.specs.Option.{option_map}
 use Rattle.std.specs.Ordering.{int_eq}
 use Rattle.std.proofs.lemmas.Bool.Decides.{Decides-int_eq}
-use denote.Hole.Carrier.{out}
 use Rattle.bson_lite.specs.declared.bson.Bson.{Bson}
-use Rattle.bson_lite.specs.declared.bson.Bson as bson
-use Rattle.bson_lite.specs.Fields.{int_of}
 use Rattle.bson_lite.specs.Spelling.{Spells}
 use Rattle.driver_error.specs.declared.results.InsertManyResult.{InsertManyResult}
 use Rattle.driver_error.specs.declared.write.WriteConcernError.{WriteConcernError}
@@ -42,19 +39,10 @@ use Rattle.driver_ops.specs.Operations.{ReadsOutput}
 use Rattle.driver_ops.specs.Served.{statements_in}
 use Rattle.driver_ops.specs.Targets.{namespace_of}
 use Rattle.driver_ops.specs.WriteReplies.{concern_error_of, concern_in}
-use Rattle.driver_ops.specs.lawful.InsertRead.{output_concern, spells_one}
+use Rattle.driver_ops.specs.lawful.CountsTold.{reply_number_is}
+use Rattle.driver_ops.specs.lawful.InsertRead.{differ, output_concern, spells_one}
 use Rattle.driver_ops.specs.lawful.InsertTold.{IsInsertOf, IsReadDone, one_told, read_done}
 use Rattle.driver_ops.proofs.InsertReading.{inserted_plain, plain_done, plain_read}
-
--- the truth values differ
-differ : ◌≡◌ {A = Bool} false true → ⊥
-differ is = cc
-
--- a number of a reply is read as it is
-number_of : (n : ℤ) → int_of (reply_number n) ≡ Some n
-unfolding reply_number bson.out-Bson out
-number_of n =
-    elim (int_lt (negsuc (2 ^ 31)) n && int_lt n (pos (2 ^ 31))) as (λ b. int_of (if b then bson.Int32 n else bson.Int64 n) ≡ Some n) [ true ↦ refl | false ↦ refl ]
 
 -- the sum of what statements count
 abbrev sum_in : List Statement → ℤ
@@ -63,7 +51,7 @@ sum_in done = sum_of (λ result. result.n) (results_in done)
 -- the reply's count of documents is what its statement counts
 n_told : (plan : Plan) (server : Server) (write : PlacedWrite) (statement : Statement) → int_at N.now (one_reply command.Insert plan server write statement) ≡ Some (sum_in (statement ∷ []))
 unfolding write_reply
-n_told plan server write statement = number_of (sum_in (statement ∷ []))
+n_told plan server write statement = reply_number_is (sum_in (statement ∷ []))
 
 -- a statement that is told to be done counts one document
 done_one : (plan : Plan) (server : Server) (write : PlacedWrite) (statement : Statement) → is_done_reply (one_reply command.Insert plan server write statement) ≡ true

@@ -1,11 +1,11 @@
 pub mod Entries
+pub mod FindCommand
 pub mod FindLaw
-pub mod Finding
 pub mod Frames
+pub mod InsertCommand
 pub mod InsertLaw
 pub mod InsertReading
-pub mod Inserting
 pub mod PlainReading
-pub mod Responding
+pub mod ResponseReading
+pub mod StatementCommand
 pub mod StatementLaw
-pub mod Stating

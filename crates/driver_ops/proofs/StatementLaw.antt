@@ -62,14 +62,14 @@ use Rattle.driver_ops.specs.UpdateLawful as updating
 use Rattle.driver_ops.specs.UpdateLawful.{update_lawful}
 use Rattle.driver_ops.specs.Updating.{update_statement}
 use Rattle.driver_ops.specs.WriteReplies.{concern_error_of, write_errors_in}
-use Rattle.driver_ops.specs.lawful.CountsTold.{number_of, plus_nothing, reply_counted, reply_taken, upserted_read}
+use Rattle.driver_ops.specs.lawful.CountsTold.{plus_nothing, reply_counted, reply_number_is, reply_taken, upserted_read}
 use Rattle.driver_ops.specs.lawful.OneTold.{IsOneCounted, IsOneOf, counted_unfailed, one_told}
 use Rattle.driver_ops.proofs.PlainReading.{may_be_done, only_memory}
 
 -- a number of a reply is read as the count that it is
 count_is : (n : ℤ) → natural_of (reply_number (n +ℤ pos 0)) ≡ natural n
 unfolding natural_of
-count_is n = ap (option_and_then natural) (number_of (n +ℤ pos 0)) ∙ ap natural (plus_nothing n)
+count_is n = ap (option_and_then natural) (reply_number_is (n +ℤ pos 0)) ∙ ap natural (plus_nothing n)
 
 -- a number that is not negative is a count
 counted_natural : (n : ℤ) → pos 0 ≤ℤ n → (count : ℕ) × (natural n ≡ Some count)

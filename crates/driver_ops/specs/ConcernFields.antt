@@ -6,7 +6,7 @@ use Rattle.bson_lite.specs.declared.document.Pair.{Pair}
 use Rattle.driver_link.specs.declared.concerns.Acknowledgment.{Acknowledgment}
 use Rattle.driver_link.specs.declared.concerns.Acknowledgment.TheVariants.{Custom, Majority, Nodes}
 use Rattle.driver_link.specs.declared.concerns.WriteConcern.{WriteConcern}
-use Rattle.driver_ops.specs.declared.option_keys.TheConstants.{JOURNAL, MAJORITY, W, W_TIMEOUT}
+use Rattle.driver_ops.specs.declared.keys.TheConstants.{JOURNAL, MAJORITY, W, W_TIMEOUT}
 use Rattle.driver_ops.specs.OptionFields.{flag_of, option_field}
 
 -- a number of 32 bits as a command has it: an Int32 where it fits, else an Int64

@@ -1,5 +1,5 @@
 -- A delete of one statement keeps the law of operations.
-use Rattle.std.proofs.Common.{◌≡◌, ℕ, Bool, true, false, List, [], ◌∷◌, refl, sym, ap, subst, ◌∙◌, inl, inr}
+use Rattle.std.proofs.Common.{◌≡◌, ℕ, Bool, true, List, [], ◌∷◌, refl, sym, ap, subst, ◌∙◌, inl, inr}
 use Rattle.std.specs.Prelude.{Some}
 use Rattle.bson_lite.specs.declared.bson.Bson.{Bson}
 use Rattle.bson_lite.specs.declared.document.Pair.{Pair}
@@ -27,13 +27,9 @@ use Rattle.driver_ops.specs.Served.{statements_in}
 use Rattle.driver_ops.specs.StatementSpec.{statement_write, delete_spec}
 use Rattle.driver_ops.specs.Targets.{namespace_of}
 use Rattle.driver_ops.specs.lawful.CountsTold.{IsDeleteRead, error_not_one, delete_by, delete_counts, delete_read}
-use Rattle.driver_ops.specs.lawful.InsertRead.{ok_is_one, spells_one}
+use Rattle.driver_ops.specs.lawful.InsertRead.{differ, ok_is_one, spells_one}
 use Rattle.driver_ops.specs.lawful.OneTold.{IsOneCounted, IsOneOf, one_stands, one_told}
 use Rattle.driver_ops.specs.lawful.Statements.{TellsStatements, reply_of_writes}
-
--- the truth values differ
-differ : ◌≡◌ {A = Bool} false true → ⊥
-differ is = cc
 
 -- a delete whose reply is read as done: its one statement is told, and its counts are those that are read
 pub record IsTold (server : Server) (send : Send) (step : Scheduled) (write : PlacedWrite) (found : Reply) (output : DeleteResult) : Type 0 where

@@ -6,8 +6,8 @@ use Rattle.bson_lite.specs.declared.document.Pair.{Pair}
 use Rattle.bson_lite.specs.declared.namespace.Namespace.{Namespace}
 use Rattle.driver_link.specs.declared.keys.TheConstants.{DELETE, DELETES, ORDERED}
 use Rattle.driver_link.specs.declared.write_options.DeleteOptions.{DeleteOptions}
-use Rattle.driver_ops.specs.declared.option_keys.TheConstants.{COLLATION, COMMENT, HINT, LET, LIMIT, QUERY}
-use Rattle.driver_ops.specs.Fields.{field}
+use Rattle.driver_link.specs.Numbers.{field}
+use Rattle.driver_ops.specs.declared.keys.TheConstants.{COLLATION, COMMENT, HINT, LET, LIMIT, QUERY}
 use Rattle.driver_ops.specs.OptionFields.{document_in, hint_of, option_field}
 
 -- how many of the documents found are taken out: all at 0

@@ -11,15 +11,12 @@ use Rattle.driver_error.specs.Error.{kind_of}
 use Rattle.driver_link.specs.declared.concerns.WriteConcern.{WriteConcern}
 use Rattle.driver_link.specs.declared.keys.TheConstants.{SESSION, SESSION_ID, TRANSACTION_NUMBER, DATABASE, UUID_SUBTYPE, WRITE_CONCERN}
 use Rattle.driver_link.specs.Framed.{Framed}
+use Rattle.driver_link.specs.Numbers.{field}
 use Rattle.driver_link.specs.Writes.{common_keys, is_common}
 use Rattle.driver_ops.specs.declared.command.Command.{Command}
 use Rattle.driver_ops.specs.ConcernFields.{concern_value}
 use Rattle.driver_ops.specs.Encoding.{IsUnspelled}
 use Rattle.driver_ops.specs.OptionFields.{option_field}
-
--- one field of a document
-abbrev pub field : List ℕ → Bson → Pair Bson
-field key value = record { key = key; value = value }
 
 -- the id of a session as a command carries it: a document with a UUID
 unfoldable pub session_document : List ℕ → List (Pair Bson)

@@ -1,5 +1,5 @@
 -- A findAndModify keeps the law of operations.
-use Rattle.std.proofs.Common.{◌≡◌, ℕ, Bool, true, false, List, [], ◌∷◌, refl, sym, ap, subst, ◌∙◌, inl, inr}
+use Rattle.std.proofs.Common.{◌≡◌, ℕ, true, List, [], ◌∷◌, refl, sym, ap, subst, ◌∙◌, inl, inr}
 use Rattle.std.specs.Prelude.{Option, Some}
 use Rattle.bson_lite.specs.declared.bson.Bson.{Bson}
 use Rattle.bson_lite.specs.declared.document.Pair.{Pair}
@@ -28,13 +28,9 @@ use Rattle.driver_ops.specs.StatementSpec.{find_spec, statement_write}
 use Rattle.driver_ops.specs.Targets.{namespace_of}
 use Rattle.driver_ops.specs.lawful.CountsTold.{error_not_one}
 use Rattle.driver_ops.specs.lawful.FoundTold.{IsFindRead, find_by, find_counts, find_read}
-use Rattle.driver_ops.specs.lawful.InsertRead.{ok_is_one, spells_one}
+use Rattle.driver_ops.specs.lawful.InsertRead.{differ, ok_is_one, spells_one}
 use Rattle.driver_ops.specs.lawful.OneTold.{IsOneCounted, IsOneOf, one_stands, one_told}
 use Rattle.driver_ops.specs.lawful.Statements.{TellsStatements, reply_of_writes}
-
--- the truth values differ
-differ : ◌≡◌ {A = Bool} false true → ⊥
-differ is = cc
 
 -- a findAndModify whose reply is read as done: its one write is told, and the document of its result is the one that is read
 pub record IsTold (server : Server) (send : Send) (step : Scheduled) (write : PlacedWrite) (found : Reply) (output : Option (List (Pair Bson))) : Type 0 where

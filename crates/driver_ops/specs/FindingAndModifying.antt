@@ -8,9 +8,9 @@ use Rattle.driver_link.specs.declared.find_options.FindAndModifyOptions.{FindAnd
 use Rattle.driver_link.specs.declared.keys.TheConstants.{FIND_AND_MODIFY, UPDATE}
 use Rattle.driver_link.specs.declared.updates.Modification.{Modification}
 use Rattle.driver_link.specs.declared.updates.Modification.TheVariants.{Delete, Update}
-use Rattle.driver_ops.specs.declared.option_keys.TheConstants.{ARRAY_FILTERS, BYPASS_DOCUMENT_VALIDATION, COLLATION, COMMENT, FIELDS, FIND_QUERY, HINT, LET, MAX_TIME, NEW, REMOVE, SORT, UPSERT}
+use Rattle.driver_link.specs.Numbers.{field}
+use Rattle.driver_ops.specs.declared.keys.TheConstants.{ARRAY_FILTERS, BYPASS_DOCUMENT_VALIDATION, COLLATION, COMMENT, FIELDS, FIND_QUERY, HINT, LET, MAX_TIME, NEW, REMOVE, SORT, UPSERT}
 use Rattle.driver_ops.specs.ConcernFields.{number_of}
-use Rattle.driver_ops.specs.Fields.{field}
 use Rattle.driver_ops.specs.OptionFields.{document_in, documents_of, flag_of, hint_of, option_field}
 use Rattle.driver_ops.specs.Updating.{change_value}
 

@@ -15,9 +15,10 @@ use Rattle.driver_link.specs.declared.machine.Place.{Place}
 use Rattle.driver_link.specs.declared.machine.PlacedWrite.{PlacedWrite}
 use Rattle.driver_link.specs.declared.machine.WriteKind.TheVariants as write_kind
 use Rattle.driver_link.specs.declared.write_options.InsertManyOptions.{InsertManyOptions}
+use Rattle.driver_link.specs.Numbers.{field}
 use Rattle.driver_link.specs.Writes.{write_on}
-use Rattle.driver_ops.specs.declared.option_keys.TheConstants.{BYPASS_DOCUMENT_VALIDATION, COMMENT}
-use Rattle.driver_ops.specs.Fields.{IsSixteen, SendContext, executor_fields, field}
+use Rattle.driver_ops.specs.declared.keys.TheConstants.{BYPASS_DOCUMENT_VALIDATION, COMMENT}
+use Rattle.driver_ops.specs.Fields.{IsSixteen, SendContext, executor_fields}
 use Rattle.driver_ops.specs.OptionFields.{flag_of, option_field}
 
 -- an insert stops at the first document that fails, unless its options say that it goes on

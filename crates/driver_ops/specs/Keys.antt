@@ -1,8 +1,6 @@
 -- The texts of those keys that are constants of this crate.
 use Rattle.std.specs.Prelude.{◌≡◌, codes}
-use Rattle.driver_ops.specs.declared.option_keys.TheConstants.{ARRAY_FILTERS, BYPASS_DOCUMENT_VALIDATION, CHANGE, COLLATION, COMMENT, FIELDS, FIND_QUERY, HINT, JOURNAL, LET, LIMIT, MAJORITY, MAX_TIME, MULTI, NEW, QUERY, REMOVE, SORT, UPSERT, W, W_TIMEOUT}
-use Rattle.driver_ops.specs.declared.reply_fields.TheConstants.{BASE_BACKOFF, CODE_NAME}
-use Rattle.driver_ops.specs.declared.write_reply.TheConstants.{ERROR_INFO}
+use Rattle.driver_ops.specs.declared.keys.TheConstants.{ARRAY_FILTERS, BASE_BACKOFF, BYPASS_DOCUMENT_VALIDATION, CHANGE, CODE_NAME, COLLATION, COMMENT, ERROR_INFO, FIELDS, FIND_QUERY, HINT, JOURNAL, LET, LIMIT, MAJORITY, MAX_TIME, MULTI, NEW, QUERY, REMOVE, SORT, UPSERT, W, W_TIMEOUT}
 
 -- each key is its text
 pub record HaveTexts : Type 0 where

@@ -9,7 +9,7 @@ use Rattle.driver_error.specs.declared.command.CommandErrorBody.{CommandErrorBod
 use Rattle.driver_link.specs.declared.keys.TheConstants.{CODE, ERROR_LABELS, ERROR_MESSAGE}
 use Rattle.driver_link.specs.Commands.{needed, optional}
 use Rattle.driver_link.specs.Values.{text_of, array_of}
-use Rattle.driver_ops.specs.declared.reply_fields.TheConstants.{BASE_BACKOFF, CODE_NAME}
+use Rattle.driver_ops.specs.declared.keys.TheConstants.{BASE_BACKOFF, CODE_NAME}
 
 -- a whole number that has 32 bits
 unfoldable pub small_of : Bson → Option ℤ

@@ -9,8 +9,8 @@ use Rattle.driver_link.specs.declared.updates.UpdateModifications.TheVariants as
 use Rattle.driver_link.specs.declared.updates.UpdateOrReplace.{UpdateOrReplace}
 use Rattle.driver_link.specs.declared.updates.UpdateOrReplace.TheVariants.{UpdateModifications, Replacement}
 use Rattle.driver_link.specs.declared.write_options.UpdateOptions.{UpdateOptions}
-use Rattle.driver_ops.specs.declared.option_keys.TheConstants.{ARRAY_FILTERS, BYPASS_DOCUMENT_VALIDATION, CHANGE, COLLATION, COMMENT, HINT, LET, MULTI, QUERY, SORT, UPSERT}
-use Rattle.driver_ops.specs.Fields.{field}
+use Rattle.driver_link.specs.Numbers.{field}
+use Rattle.driver_ops.specs.declared.keys.TheConstants.{ARRAY_FILTERS, BYPASS_DOCUMENT_VALIDATION, CHANGE, COLLATION, COMMENT, HINT, LET, MULTI, QUERY, SORT, UPSERT}
 use Rattle.driver_ops.specs.OptionFields.{document_in, documents_of, documents_value, flag_of, hint_of, option_field, where_true}
 
 -- what an update does, as a value: operators or a whole document, or the stages of a pipeline

@@ -8,8 +8,7 @@ use Rattle.driver_error.specs.declared.write.WriteConcernError.{WriteConcernErro
 use Rattle.driver_link.specs.declared.keys.TheConstants.{CODE, ERROR_MESSAGE, INDEX, WRITE_CONCERN_ERROR, WRITE_ERRORS}
 use Rattle.driver_link.specs.Commands.{needed, optional}
 use Rattle.driver_link.specs.Values.{array_of, document_of, text_of}
-use Rattle.driver_ops.specs.declared.reply_fields.TheConstants.{CODE_NAME}
-use Rattle.driver_ops.specs.declared.write_reply.TheConstants.{ERROR_INFO}
+use Rattle.driver_ops.specs.declared.keys.TheConstants.{CODE_NAME, ERROR_INFO}
 use Rattle.driver_ops.specs.Readings.{labels_in, natural_of, small_of, text_in}
 
 -- a write error by its fields: its index and its code are needed

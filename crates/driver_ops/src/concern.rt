@@ -3,8 +3,8 @@ ghost use Rattle.std.specs.Prelude.{◌≡◌, ◌++◌, IfOk, OnOk};
 ghost use Rattle.driver_ops.specs.ConcernFields.{acknowledgment_of, acknowledgment_value, concern_document, number_of, number_value};
 ghost use Rattle.driver_ops.specs.OptionFields.{option_field};
 
+use crate::keys::{JOURNAL, MAJORITY, W, W_TIMEOUT};
 use crate::option_fields::push_flag;
-use crate::option_keys::{JOURNAL, MAJORITY, W, W_TIMEOUT};
 use bson_lite::{Bson, Document, Text, TryClone};
 use driver_link::{Acknowledgment, WriteConcern};
 use std::alloc::{AllocError, Global};

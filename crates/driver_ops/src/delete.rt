@@ -18,9 +18,9 @@ use crate::defaults::{
 };
 use crate::failed_write::{FailedWrite, answer_of, failed_write_in};
 use crate::feature::Feature;
+use crate::keys::{COLLATION, COMMENT, HINT, LET, LIMIT, QUERY};
 use crate::operation::{Operation, Reading};
 use crate::option_fields::{one_statement, push_document, push_hint, push_value};
-use crate::option_keys::{COLLATION, COMMENT, HINT, LET, LIMIT, QUERY};
 use crate::reply_fields::{Unread, count_at};
 use crate::response::odd_reply;
 use crate::target::{Collection, OperationTarget};

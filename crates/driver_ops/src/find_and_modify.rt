@@ -20,12 +20,12 @@ use crate::defaults::{
 };
 use crate::failed_write::{FailedWrite, answer_of, failed_write_in};
 use crate::feature::Feature;
-use crate::operation::{Operation, Reading};
-use crate::option_fields::{push_document, push_documents, push_flag, push_hint, push_value};
-use crate::option_keys::{
+use crate::keys::{
     ARRAY_FILTERS, BYPASS_DOCUMENT_VALIDATION, COLLATION, COMMENT, FIELDS, FIND_QUERY, HINT, LET,
     MAX_TIME, NEW, REMOVE, SORT, UPSERT,
 };
+use crate::operation::{Operation, Reading};
+use crate::option_fields::{push_document, push_documents, push_flag, push_hint, push_value};
 use crate::reply_fields::Unread;
 use crate::response::odd_reply;
 use crate::target::{Collection, OperationTarget};

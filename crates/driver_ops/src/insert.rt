@@ -18,9 +18,9 @@ use crate::defaults::{
     takes_sessions, writes_after_cluster_time,
 };
 use crate::feature::Feature;
+use crate::keys::{BYPASS_DOCUMENT_VALIDATION, COMMENT};
 use crate::operation::{Operation, Reading};
 use crate::option_fields::{push_flag, push_value};
-use crate::option_keys::{BYPASS_DOCUMENT_VALIDATION, COMMENT};
 use crate::reply_fields::{Unread, int_at, labels_at};
 use crate::response::odd_reply;
 use crate::target::{Collection, OperationTarget};

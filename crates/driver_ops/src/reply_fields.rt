@@ -7,16 +7,11 @@ ghost use Rattle.driver_link.specs.Values.{text_of};
 ghost use Rattle.driver_ops.specs.Readings.{small_of, natural_of, text_in, texts_in, texts_of, labels_in, command_error_in};
 ghost use Rattle.driver_ops.specs.inside.Readings.{Gives};
 
+use crate::keys::{BASE_BACKOFF, CODE_NAME};
 use bson_lite::{Bson, Document, List, Text, TryClone, get_int};
 use driver_error::{CommandError, CommandErrorBody};
 use driver_link::keys;
 use std::alloc::{AllocError, Global};
-
-/// How long the server asks to wait before another try, in milliseconds.
-pub const BASE_BACKOFF: &str = "baseBackoffMS";
-
-/// The name of an error's code.
-pub const CODE_NAME: &str = "codeName";
 
 /// Why a field was not read.
 #[derive(Clone, Copy, Debug, PartialEq, Eq)]

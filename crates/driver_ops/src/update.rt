@@ -18,14 +18,14 @@ use crate::defaults::{
 };
 use crate::failed_write::{FailedWrite, answer_of, failed_write_in, upserted_in};
 use crate::feature::Feature;
+use crate::keys::{
+    ARRAY_FILTERS, BYPASS_DOCUMENT_VALIDATION, CHANGE, COLLATION, COMMENT, HINT, LET, MULTI, QUERY,
+    SORT, UPSERT,
+};
 use crate::operation::{Operation, Reading};
 use crate::option_fields::{
     documents_value, one_statement, push_document, push_documents, push_flag, push_hint,
     push_value, push_where,
-};
-use crate::option_keys::{
-    ARRAY_FILTERS, BYPASS_DOCUMENT_VALIDATION, CHANGE, COLLATION, COMMENT, HINT, LET, MULTI, QUERY,
-    SORT, UPSERT,
 };
 use crate::reply_fields::{Unread, count_at};
 use crate::response::odd_reply;

@@ -6,14 +6,12 @@ ghost use Rattle.driver_link.specs.Values.{document_of, text_of};
 ghost use Rattle.driver_ops.specs.inside.Readings.{Gives};
 ghost use Rattle.driver_ops.specs.WriteReplies.{concern_error_in, concern_error_of, concern_in, indexed_error_in, indexed_error_of, indexed_errors, indexed_errors_of, write_errors_in};
 
-use crate::reply_fields::{CODE_NAME, Unread, code_at, count_at, labels_at, text_at};
+use crate::keys::{CODE_NAME, ERROR_INFO};
+use crate::reply_fields::{Unread, code_at, count_at, labels_at, text_at};
 use bson_lite::{Bson, Document, List, Text, TryClone};
 use driver_error::{IndexedWriteError, WriteConcernError};
 use driver_link::keys;
 use std::alloc::Global;
-
-/// What a server adds to an error, as a document.
-pub const ERROR_INFO: &str = "errInfo";
 
 /// The document of a value.
 fn document_of(value: &Bson) -> Option<&Document>

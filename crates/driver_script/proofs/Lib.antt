@@ -1,5 +1,5 @@
 mod Bytes
-mod Planning
+mod PlannedResults
 mod Readings
 mod Schedules
 mod ValueLaws

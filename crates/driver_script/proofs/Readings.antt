@@ -5,19 +5,14 @@ use Rattle.std.specs.Prelude.{All, ◌&&◌, Option, None, Some, IfSome, is_none
 use Rattle.std.specs.Option.{option_and_then, option_map}
 use Rattle.serde_json.specs.Data.{Data, null, boolean, number, string, array, object, Items, no_items, item}
 use Rattle.serde_json.specs.Find.{get}
-use Rattle.driver_script.specs.Json.{each, list_of, needed, optional, where_there}
-
-pub none_is_some : {A : Type 0} (x : A) → ◌≡◌ {A = Option A} None (Some x) → ⊥
-none_is_some x is = cc
-
-pub some_same : {A : Type 0} (x y : A) → ◌≡◌ {A = Option A} (Some x) (Some y) → x ≡ y
-some_same x y is = cc
+use Rattle.driver_link.proofs.Lists.{none_is_some, some_is_some}
+use Rattle.driver_script.specs.Json.{each, list_of, needed_part, optional_part, where_there}
 
 -- what holds of all that a reading makes of what was found
 pub mapped : {A B : Type 0} (P : B → Type 0) (f : A → B) (found : Option A) → ((x : A) → found ≡ Some x → P (f x)) → (y : B)
     → option_map f found ≡ Some y → P y
 mapped P f None well y is = absurd (none_is_some y is)
-mapped P f (Some x) well y is = subst P (some_same (f x) y is) (well x refl)
+mapped P f (Some x) well y is = subst P (some_is_some (f x) y is) (well x refl)
 
 pub chained : {A B : Type 0} (P : B → Type 0) (f : A → Option B) (found : Option A)
     → ((x : A) → found ≡ Some x → (y : B) → f x ≡ Some y → P y) → (y : B) → option_and_then f found ≡ Some y → P y
@@ -54,21 +49,21 @@ abbrev pub AllOf : {A : Type 0} → (A → Type 0) → Option (List A) → Type 
 AllOf P found = All P (unwrap_or found [])
 
 module _ {A : Type 0} (P : A → Type 0) (form : Data → Option A) (well : (d : Data) (x : A) → form d ≡ Some x → P x) where
-  pub needed_holds : (key : List ℕ) (d : Data) (x : A) → needed form key d ≡ Some x → P x
-  unfolding needed
+  pub needed_holds : (key : List ℕ) (d : Data) (x : A) → needed_part form key d ≡ Some x → P x
+  unfolding needed_part
   needed_holds key d x is = chained P form (get key d) (λ inner _. well inner) x is
 
   if_there : (given : Option Data) (found : Option A) → where_there form given ≡ Some found → IfSome found P
-  if_there None found is = subst (λ (o : Option A). IfSome o P) (some_same None found is) tt
+  if_there None found is = subst (λ (o : Option A). IfSome o P) (some_is_some None found is) tt
   if_there (Some d) found is = mapped (λ (o : Option A). IfSome o P) (λ x. Some x) (form d) (well d) found is
 
-  pub optional_holds : (key : List ℕ) (d : Data) (found : Option A) → optional form key d ≡ Some found → IfSome found P
-  unfolding optional
+  pub optional_holds : (key : List ℕ) (d : Data) (found : Option A) → optional_part form key d ≡ Some found → IfSome found P
+  unfolding optional_part
   optional_holds key d found is = if_there (get key d) found is
 
   each_holds : (items : Items) (found : List A) → each form items ≡ Some found → All P found
   unfolding each
-  each_holds no_items found is = subst (All P) (some_same [] found is) (All-nil P)
+  each_holds no_items found is = subst (All P) (some_is_some [] found is) (All-nil P)
   each_holds (item d items) found is =
       chained (All P) (λ one. option_map (λ rest. one ∷ rest) (each form items)) (form d)
       (λ one here. mapped (All P) (λ rest. one ∷ rest) (each form items)
@@ -84,9 +79,9 @@ module _ {A : Type 0} (P : A → Type 0) (form : Data → Option A) (well : (d :
   list_holds (object _) found is = absurd (none_is_some found is)
 
   list_there : (given : Option Data) (found : Option (List A)) → where_there (list_of form) given ≡ Some found → AllOf P found
-  list_there None found is = subst (AllOf P) (some_same None found is) (All-nil P)
+  list_there None found is = subst (AllOf P) (some_is_some None found is) (All-nil P)
   list_there (Some d) found is = mapped (AllOf P) (λ list. Some list) (list_of form d) (list_holds d) found is
 
-  pub list_optional : (key : List ℕ) (d : Data) (found : Option (List A)) → optional (list_of form) key d ≡ Some found → AllOf P found
-  unfolding optional
+  pub list_optional : (key : List ℕ) (d : Data) (found : Option (List A)) → optional_part (list_of form) key d ≡ Some found → AllOf P found
+  unfolding optional_part
   list_optional key d found is = list_there (get key d) found is

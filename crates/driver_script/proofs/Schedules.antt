@@ -11,19 +11,20 @@ use Rattle.driver_link.specs.declared.machine.Scheduled.{Scheduled}
 use Rattle.driver_link.specs.declared.options.ClientOptions.{ClientOptions}
 use Rattle.driver_link.specs.Exchange.{usual_item}
 use Rattle.driver_link.specs.WellFormed.{IsItem, IsPlan, IsWellFormed}
+use Rattle.driver_link.proofs.Lists.{none_is_some, some_is_some}
 use Rattle.driver_actions.specs.declared.call.Call.{Call}
 use Rattle.driver_script.specs.declared.keys.TheConstants.{AFTER, CALLS, CODE, DELIVER, FAULTS, INTERRUPTED, ITEM, LABELS, LATE, LOST, OPTIONS, REFUSED, REPLY_LOST, SCHEDULE, SERVE}
 use Rattle.driver_script.specs.declared.schedule.ErrorReply.{ErrorReply}
 use Rattle.driver_script.specs.declared.script.Script.{Script}
 use Rattle.driver_script.specs.Calls.{call_of}
-use Rattle.driver_script.specs.Json.{has_only, list_of, needed, optional}
+use Rattle.driver_script.specs.Json.{has_only, list_of, needed_part, optional_part}
 use Rattle.driver_script.specs.Options.{client_options_of}
 use Rattle.driver_script.specs.Plans.{is_built_code}
+use Rattle.driver_script.specs.ScheduleSteps.{built_reply, delivering_of, faults_of, interrupted_of, is_built_label, item_in, item_named, item_under, refused_of, reply_of, reply_with, step_of, step_with}
 use Rattle.driver_script.specs.Script.{script_around, script_of, script_with}
-use Rattle.driver_script.specs.Steps.{built_reply, delivering_of, faults_of, interrupted_of, is_built_label, item_in, item_named, item_under, refused_of, reply_of, reply_with, step_of, step_with}
 use Rattle.driver_script.specs.Values.{code_of, count_of, text_of}
-use Rattle.driver_script.proofs.Planning.{IsOther, other_code, serve_well}
-use Rattle.driver_script.proofs.Readings.{chained, either, first_holds, list_optional, mapped, needed_holds, none_is_some, some_same, where_so}
+use Rattle.driver_script.proofs.PlannedResults.{IsOther, other_code, serve_well}
+use Rattle.driver_script.proofs.Readings.{chained, either, first_holds, list_optional, mapped, needed_holds, where_so}
 
 -- a step of a schedule that may be scheduled
 abbrev IsStep : Scheduled → Type 0
@@ -41,20 +42,20 @@ built_well : (reply found : ErrorReply) → built_reply reply ≡ Some found →
 unfolding built_reply
 built_well reply found is =
     where_so IsBuilt (is_built_code reply.code && list_all is_built_label reply.labels) (Some reply)
-    (λ both x here. subst IsBuilt (some_same reply x here) (first_holds (is_built_code reply.code) (list_all is_built_label reply.labels) both)) found is
+    (λ both x here. subst IsBuilt (some_is_some reply x here) (first_holds (is_built_code reply.code) (list_all is_built_label reply.labels) both)) found is
 
 reply_well : (d : Data) (found : ErrorReply) → reply_of d ≡ Some found → IsBuilt found
 unfolding reply_of
 reply_well d found is =
-    chained IsBuilt (λ code. option_and_then (λ labels. built_reply (reply_with code labels)) (needed (list_of text_of) LABELS.now d)) (needed code_of CODE.now d)
-    (λ code _. chained IsBuilt (λ labels. built_reply (reply_with code labels)) (needed (list_of text_of) LABELS.now d)
+    chained IsBuilt (λ code. option_and_then (λ labels. built_reply (reply_with code labels)) (needed_part (list_of text_of) LABELS.now d)) (needed_part code_of CODE.now d)
+    (λ code _. chained IsBuilt (λ labels. built_reply (reply_with code labels)) (needed_part (list_of text_of) LABELS.now d)
     (λ labels _. built_well (reply_with code labels))) found is
 
 interrupted_well : (d : Data) (found : Item) → interrupted_of d ≡ Some found → IsItem found
 unfolding interrupted_of
 interrupted_well d found is =
     where_so IsItem (has_only (AFTER.now ∷ CODE.now ∷ LABELS.now ∷ []) d) _
-    (λ _. chained IsItem (λ after. option_map (λ reply. Interrupted after reply.code reply.labels) (reply_of d)) (needed count_of AFTER.now d)
+    (λ _. chained IsItem (λ after. option_map (λ reply. Interrupted after reply.code reply.labels) (reply_of d)) (needed_part count_of AFTER.now d)
     (λ after _. mapped IsItem (λ reply. Interrupted after reply.code reply.labels) (reply_of d)
     (λ reply here. other_code reply.code (reply_well d reply here)))) found is
 
@@ -65,7 +66,7 @@ refused_well d found is =
     (λ _. mapped IsItem (λ reply. Refused reply.code reply.labels) (reply_of d) (λ reply here. tt)) found is
 
 one_well : (made found : Item) → IsItem made → ◌≡◌ {A = Option Item} (Some made) (Some found) → IsItem found
-one_well made found well is = subst IsItem (some_same made found is) well
+one_well made found well is = subst IsItem (some_is_some made found is) well
 
 named_well : (name : List ℕ) (found : Item) → item_named name ≡ Some found → IsItem found
 unfolding item_named
@@ -96,8 +97,8 @@ item_well (array items) found is = absurd (none_is_some found is)
 delivering_well : (d : Data) (step : Scheduled) → delivering_of d ≡ Some step → IsStep step
 unfolding delivering_of
 delivering_well d step is =
-    chained IsStep (λ deliver. option_map (step_with deliver) (needed item_in ITEM.now d)) (needed (list_of count_of) DELIVER.now d)
-    (λ deliver _. mapped IsStep (step_with deliver) (needed item_in ITEM.now d) (needed_holds IsItem item_in item_well ITEM.now d)) step is
+    chained IsStep (λ deliver. option_map (step_with deliver) (needed_part item_in ITEM.now d)) (needed_part (list_of count_of) DELIVER.now d)
+    (λ deliver _. mapped IsStep (step_with deliver) (needed_part item_in ITEM.now d) (needed_holds IsItem item_in item_well ITEM.now d)) step is
 
 step_well : (d : Data) (step : Scheduled) → step_of d ≡ Some step → IsStep step
 unfolding step_of
@@ -108,17 +109,17 @@ step_well d step is =
 around_well : (options : Option ClientOptions) (calls : List Call) (d : Data) (asked : Script) → script_around options calls d ≡ Some asked → IsWell asked
 unfolding script_around
 around_well options calls d asked is =
-    chained IsWell _ (optional (list_of step_of) SCHEDULE.now d)
-    (λ steps here. chained IsWell _ (optional faults_of FAULTS.now d)
-    (λ faults _. mapped IsWell (script_with options calls steps faults) (optional (list_of count_of) LATE.now d)
+    chained IsWell _ (optional_part (list_of step_of) SCHEDULE.now d)
+    (λ steps here. chained IsWell _ (optional_part faults_of FAULTS.now d)
+    (λ faults _. mapped IsWell (script_with options calls steps faults) (optional_part (list_of count_of) LATE.now d)
     (λ late _. list_optional IsStep step_of step_well SCHEDULE.now d steps here))) asked is
 
 script_of_well : (d : Data) (asked : Script) → script_of d ≡ Some asked → IsWell asked
 unfolding script_of
 script_of_well d asked is =
     where_so IsWell (has_only (OPTIONS.now ∷ CALLS.now ∷ SCHEDULE.now ∷ FAULTS.now ∷ LATE.now ∷ []) d) _
-    (λ _. chained IsWell (λ options. option_and_then (λ calls. script_around options calls d) (needed (list_of call_of) CALLS.now d)) (optional client_options_of OPTIONS.now d)
-    (λ options _. chained IsWell (λ calls. script_around options calls d) (needed (list_of call_of) CALLS.now d) (λ calls _. around_well options calls d))) asked is
+    (λ _. chained IsWell (λ options. option_and_then (λ calls. script_around options calls d) (needed_part (list_of call_of) CALLS.now d)) (optional_part client_options_of OPTIONS.now d)
+    (λ options _. chained IsWell (λ calls. script_around options calls d) (needed_part (list_of call_of) CALLS.now d) (λ calls _. around_well options calls d))) asked is
 
 -- the script of a value
 pub read_well : (value : Option Data) (asked : Script) → option_and_then script_of value ≡ Some asked → IsWellFormed asked.schedule

@@ -9,7 +9,7 @@ use Rattle.bson_lite.specs.declared.document.Pair.{Pair}
 use Rattle.serde_json.specs.Data.{Data, array, Items, no_items, item}
 use Rattle.serde_json.specs.View.{view, items_view}
 use Rattle.serde_json.specs.declared.value.Value.{Value}
-use Rattle.driver_script.specs.Json.{Gives}
+use Rattle.driver_script.specs.Json.{GivesPart}
 use Rattle.driver_script.specs.Values.{text_of, value_of, pair_of, values_of}
 use Rattle.driver_script.specs.declared.json.Unread.{Unread}
 use Rattle.driver_script.specs.declared.json.Unread.TheVariants.{Wrong, Memory}
@@ -39,7 +39,7 @@ pair_read items key inner text value two is was =
 
 -- where its value is wrong, so is the pair
 pub pair_wrong : (items : List Value) (key inner : Value) (text : List ℕ) (unread : Unread) → items ≡ key ∷ (inner ∷ []) → text_of (view key) ≡ Some text
-    → Gives {A = Bson} (Err unread) (value_of (view inner)) → Gives {A = Pair Bson} (Err unread) (pair_of (array (items_view items)))
+    → GivesPart {A = Bson} (Err unread) (value_of (view inner)) → GivesPart {A = Pair Bson} (Err unread) (pair_of (array (items_view items)))
 pair_wrong items key inner text Wrong two is was =
     ap (λ i. pair_of (array (items_view i))) two ∙ pair_is (view key) (view inner)
     ∙ ap (λ t. pair_by t (value_of (view inner))) is ∙ ap (λ v. pair_by (Some text) v) was

@@ -21,7 +21,7 @@ use Rattle.driver_script.specs.declared.calls.DeleteParts.{DeleteParts}
 use Rattle.driver_script.specs.declared.calls.SharedOptions.{SharedOptions}
 use Rattle.driver_script.specs.declared.calls.UpdateParts.{UpdateParts}
 use Rattle.driver_script.specs.declared.keys.TheConstants.{COMMENT, DELETE_MANY, DELETE_ONE, DOC, FILTER, FIND_ONE_AND_DELETE, FIND_ONE_AND_REPLACE, FIND_ONE_AND_UPDATE, INSERT_ONE, NS, PIPELINE, REPLACE_ONE, UPDATE, UPDATE_MANY, UPDATE_ONE, UPSERT, WRITE_CONCERN}
-use Rattle.driver_script.specs.Json.{has_only, list_of, needed, optional}
+use Rattle.driver_script.specs.Json.{has_only, list_of, needed_part, optional_part}
 use Rattle.driver_script.specs.Options.{flag_of, write_concern_of}
 use Rattle.driver_script.specs.Values.{document_of, namespace_of, value_of}
 
@@ -31,7 +31,7 @@ shared_with write_concern comment = record { write_concern = write_concern; comm
 
 -- the same under their keys of an object; a comment of null is one
 unfoldable pub shared_of : Data → Option SharedOptions
-shared_of d = option_and_then (λ write_concern. option_map (shared_with write_concern) (optional value_of COMMENT.now d)) (optional write_concern_of WRITE_CONCERN.now d)
+shared_of d = option_and_then (λ write_concern. option_map (shared_with write_concern) (optional_part value_of COMMENT.now d)) (optional_part write_concern_of WRITE_CONCERN.now d)
 
 -- the options of an insert, of which these are set
 abbrev pub insert_options : SharedOptions → InsertManyOptions
@@ -47,12 +47,12 @@ unfoldable pub insert_one_of : Data → Option Call
 insert_one_of d =
     if has_only (NS.now ∷ DOC.now ∷ WRITE_CONCERN.now ∷ COMMENT.now ∷ []) d
     then option_and_then (λ namespace. option_and_then (λ document. option_map (λ shared. Single (InsertOne namespace document (insert_options shared)))
-    (shared_of d)) (needed document_of DOC.now d)) (needed namespace_of NS.now d)
+    (shared_of d)) (needed_part document_of DOC.now d)) (needed_part namespace_of NS.now d)
     else None
 
 -- a pipeline: an object with the list of its stages
 unfoldable pub pipeline_of : Data → Option UpdateModifications
-pipeline_of d = if has_only (PIPELINE.now ∷ []) d then option_map modifies.Pipeline (needed (list_of document_of) PIPELINE.now d) else None
+pipeline_of d = if has_only (PIPELINE.now ∷ []) d then option_map modifies.Pipeline (needed_part (list_of document_of) PIPELINE.now d) else None
 
 -- what an update does: a document of operators, or a pipeline
 unfoldable pub update_of : Data → Option UpdateModifications
@@ -76,7 +76,7 @@ update_options upsert shared = record {
 
 -- the same under their keys of an object
 unfoldable pub update_options_of : Data → Option UpdateOptions
-update_options_of d = option_and_then (λ upsert. option_map (update_options upsert) (shared_of d)) (optional flag_of UPSERT.now d)
+update_options_of d = option_and_then (λ upsert. option_map (update_options upsert) (shared_of d)) (optional_part flag_of UPSERT.now d)
 
 -- an update of these parts
 abbrev pub update_parts_with : Namespace → List (Pair Bson) → UpdateModifications → UpdateOptions → UpdateParts
@@ -87,7 +87,7 @@ unfoldable pub update_parts_of : Data → Option UpdateParts
 update_parts_of d =
     if has_only (NS.now ∷ FILTER.now ∷ UPDATE.now ∷ UPSERT.now ∷ WRITE_CONCERN.now ∷ COMMENT.now ∷ []) d
     then option_and_then (λ namespace. option_and_then (λ filter. option_and_then (λ update. option_map (update_parts_with namespace filter update)
-    (update_options_of d)) (needed update_of UPDATE.now d)) (needed document_of FILTER.now d)) (needed namespace_of NS.now d)
+    (update_options_of d)) (needed_part update_of UPDATE.now d)) (needed_part document_of FILTER.now d)) (needed_part namespace_of NS.now d)
     else None
 
 -- an update of one document
@@ -103,7 +103,7 @@ unfoldable pub replace_one_of : Data → Option Call
 replace_one_of d =
     if has_only (NS.now ∷ FILTER.now ∷ DOC.now ∷ UPSERT.now ∷ WRITE_CONCERN.now ∷ COMMENT.now ∷ []) d
     then option_and_then (λ namespace. option_and_then (λ filter. option_and_then (λ replacement. option_map (λ options. Single (ReplaceOne namespace filter replacement options))
-    (update_options_of d)) (needed document_of DOC.now d)) (needed document_of FILTER.now d)) (needed namespace_of NS.now d)
+    (update_options_of d)) (needed_part document_of DOC.now d)) (needed_part document_of FILTER.now d)) (needed_part namespace_of NS.now d)
     else None
 
 -- the options of a delete, of which these are set
@@ -125,7 +125,7 @@ unfoldable pub delete_parts_of : Data → Option DeleteParts
 delete_parts_of d =
     if has_only (NS.now ∷ FILTER.now ∷ WRITE_CONCERN.now ∷ COMMENT.now ∷ []) d
     then option_and_then (λ namespace. option_and_then (λ filter. option_map (delete_parts_with namespace filter)
-    (shared_of d)) (needed document_of FILTER.now d)) (needed namespace_of NS.now d)
+    (shared_of d)) (needed_part document_of FILTER.now d)) (needed_part namespace_of NS.now d)
     else None
 
 -- a delete of one document
@@ -175,7 +175,7 @@ unfoldable pub find_one_and_update_of : Data → Option Call
 find_one_and_update_of d =
     if has_only (NS.now ∷ FILTER.now ∷ UPDATE.now ∷ WRITE_CONCERN.now ∷ COMMENT.now ∷ []) d
     then option_and_then (λ namespace. option_and_then (λ filter. option_and_then (λ update. option_map (λ shared. Single (FindOneAndUpdate namespace filter update (find_update_options shared)))
-    (shared_of d)) (needed update_of UPDATE.now d)) (needed document_of FILTER.now d)) (needed namespace_of NS.now d)
+    (shared_of d)) (needed_part update_of UPDATE.now d)) (needed_part document_of FILTER.now d)) (needed_part namespace_of NS.now d)
     else None
 
 -- the options of a replacement that answers the document before it, of which these are set
@@ -199,7 +199,7 @@ unfoldable pub find_one_and_replace_of : Data → Option Call
 find_one_and_replace_of d =
     if has_only (NS.now ∷ FILTER.now ∷ DOC.now ∷ WRITE_CONCERN.now ∷ COMMENT.now ∷ []) d
     then option_and_then (λ namespace. option_and_then (λ filter. option_and_then (λ replacement. option_map (λ shared. Single (FindOneAndReplace namespace filter replacement (find_replace_options shared)))
-    (shared_of d)) (needed document_of DOC.now d)) (needed document_of FILTER.now d)) (needed namespace_of NS.now d)
+    (shared_of d)) (needed_part document_of DOC.now d)) (needed_part document_of FILTER.now d)) (needed_part namespace_of NS.now d)
     else None
 
 -- the write that answers a document, whose parts stand under its name

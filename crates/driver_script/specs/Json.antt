@@ -8,10 +8,10 @@ use Rattle.driver_script.specs.declared.json.Unread.{Unread}
 use Rattle.driver_script.specs.declared.json.Unread.TheVariants.{Wrong, Memory}
 
 -- the answer is what is given, and wrong where none is; want of memory says nothing
-abbrev pub Gives : {A : Type 0} → Result A Unread → Option A → Type 0
-Gives (Ok value) given = given ≡ Some value
-Gives (Err Wrong) given = given ≡ None
-Gives (Err Memory) given = Unit {0}
+abbrev pub GivesPart : {A : Type 0} → Result A Unread → Option A → Type 0
+GivesPart (Ok value) given = given ≡ Some value
+GivesPart (Err Wrong) given = given ≡ None
+GivesPart (Err Memory) given = Unit {0}
 
 -- each item, or none where one of them is wrong
 unfoldable pub each : {A : Type 0} → (Data → Option A) → Items → Option (List A)
@@ -24,8 +24,8 @@ list_of form (array items) = each form items
 list_of form d = None
 
 -- the thing under a key of an object
-unfoldable pub needed : {A : Type 0} → (Data → Option A) → List ℕ → Data → Option A
-needed form key d = option_and_then form (get key d)
+unfoldable pub needed_part : {A : Type 0} → (Data → Option A) → List ℕ → Data → Option A
+needed_part form key d = option_and_then form (get key d)
 
 -- a value that is missing, or has its form
 abbrev pub where_there : {A : Type 0} → (Data → Option A) → Option Data → Option (Option A)
@@ -33,8 +33,8 @@ where_there form None = Some None
 where_there form (Some d) = option_map (λ found. Some found) (form d)
 
 -- the thing under a key of an object, which may be missing
-unfoldable pub optional : {A : Type 0} → (Data → Option A) → List ℕ → Data → Option (Option A)
-optional form key d = where_there form (get key d)
+unfoldable pub optional_part : {A : Type 0} → (Data → Option A) → List ℕ → Data → Option (Option A)
+optional_part form key d = where_there form (get key d)
 
 -- a key is one of these
 unfoldable pub among : List (List ℕ) → List ℕ → Bool

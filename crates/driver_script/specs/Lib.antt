@@ -3,6 +3,6 @@ pub mod Json
 pub mod Keys
 pub mod Options
 pub mod Plans
+pub mod ScheduleSteps
 pub mod Script
-pub mod Steps
 pub mod Values

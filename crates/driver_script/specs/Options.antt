@@ -10,7 +10,7 @@ use Rattle.driver_link.specs.declared.concerns.WriteConcern.{WriteConcern}
 use Rattle.driver_link.specs.declared.options.ClientOptions.{ClientOptions}
 use Rattle.serde_json.specs.Data.{Data, boolean, number, string}
 use Rattle.driver_script.specs.declared.keys.TheConstants.{AVAILABLE, JOURNAL, LINEARIZABLE, LOCAL, MAJORITY, READ_CONCERN, RETRY_WRITES, SNAPSHOT, W, W_TIMEOUT, WRITE_CONCERN}
-use Rattle.driver_script.specs.Json.{has_only, optional}
+use Rattle.driver_script.specs.Json.{has_only, optional_part}
 use Rattle.driver_script.specs.Values.{small_of}
 
 -- true or false
@@ -37,7 +37,7 @@ unfoldable pub write_concern_of : Data → Option WriteConcern
 write_concern_of d =
     if has_only (W.now ∷ W_TIMEOUT.now ∷ JOURNAL.now ∷ []) d
     then option_and_then (λ w. option_and_then (λ w_timeout. option_map (write_concern_with w w_timeout)
-    (optional flag_of JOURNAL.now d)) (optional small_of W_TIMEOUT.now d)) (optional acknowledgment_of W.now d)
+    (optional_part flag_of JOURNAL.now d)) (optional_part small_of W_TIMEOUT.now d)) (optional_part acknowledgment_of W.now d)
     else None
 
 -- the level of a name, which is its own where it is none of the five that are known
@@ -72,5 +72,5 @@ unfoldable pub client_options_of : Data → Option ClientOptions
 client_options_of d =
     if has_only (RETRY_WRITES.now ∷ WRITE_CONCERN.now ∷ READ_CONCERN.now ∷ []) d
     then option_and_then (λ retry_writes. option_and_then (λ write_concern. option_map (client_options_with retry_writes write_concern)
-    (optional read_concern_of READ_CONCERN.now d)) (optional write_concern_of WRITE_CONCERN.now d)) (optional flag_of RETRY_WRITES.now d)
+    (optional_part read_concern_of READ_CONCERN.now d)) (optional_part write_concern_of WRITE_CONCERN.now d)) (optional_part flag_of RETRY_WRITES.now d)
     else None

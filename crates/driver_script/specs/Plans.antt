@@ -16,7 +16,7 @@ use Rattle.driver_link.specs.Numbers.{field}
 use Rattle.serde_json.specs.Data.{Data}
 use Rattle.serde_json.specs.Find.{at}
 use Rattle.driver_script.specs.declared.keys.TheConstants.{CODE, FAIL, MESSAGE, MODIFIED, N, RESULTS, UPSERTED, VALUE, WRITE_CONCERN_ERROR}
-use Rattle.driver_script.specs.Json.{has_only, list_of, needed, optional}
+use Rattle.driver_script.specs.Json.{has_only, list_of, needed_part, optional_part}
 use Rattle.driver_script.specs.Values.{code_of, count_of, document_of, item_of, small_of, text_of, value_of}
 
 -- a code that an item may answer: the one that asks for another authentication is not built yet, and neither an
@@ -54,7 +54,7 @@ plan_with n modified upserted value = record { n = option_map pos n; modified = 
 unfoldable pub plan_in : Data → Option Planned
 plan_in d =
     option_and_then (λ n. option_and_then (λ modified. option_and_then (λ upserted. option_and_then (λ value. built_plan (plan_with n modified upserted value))
-    (optional document_of VALUE.now d)) (optional value_of UPSERTED.now d)) (optional small_of MODIFIED.now d)) (optional small_of N.now d)
+    (optional_part document_of VALUE.now d)) (optional_part value_of UPSERTED.now d)) (optional_part small_of MODIFIED.now d)) (optional_part small_of N.now d)
 
 -- what is planned for a statement: an object with the parts that are set
 unfoldable pub planned_of : Data → Option Planned
@@ -78,7 +78,7 @@ concern_error_with message code = record { code = code; message = message }
 
 -- the code and the message under their keys of an object
 unfoldable pub concern_error_in : Data → Option PlannedConcern
-concern_error_in d = option_and_then (λ code. option_and_then (λ message. option_map (concern_error_with message) (built_code code)) (needed text_of MESSAGE.now d)) (needed code_of CODE.now d)
+concern_error_in d = option_and_then (λ code. option_and_then (λ message. option_map (concern_error_with message) (built_code code)) (needed_part text_of MESSAGE.now d)) (needed_part code_of CODE.now d)
 
 -- a write concern error: an object with its code and its message
 unfoldable pub concern_error_of : Data → Option PlannedConcern
@@ -92,7 +92,7 @@ serve_with results fail concern = Serve (unwrap_or results []) (unwrap_or fail [
 unfoldable pub serve_in : Data → Option Item
 serve_in d =
     option_and_then (λ results. option_and_then (λ fail. option_map (serve_with results fail)
-    (optional concern_error_of WRITE_CONCERN_ERROR.now d)) (optional (list_of failing_of) FAIL.now d)) (optional (list_of planned_of) RESULTS.now d)
+    (optional_part concern_error_of WRITE_CONCERN_ERROR.now d)) (optional_part (list_of failing_of) FAIL.now d)) (optional_part (list_of planned_of) RESULTS.now d)
 
 -- a send that is served: an object with the parts that are set
 unfoldable pub serve_of : Data → Option Item

@@ -15,9 +15,9 @@ use Rattle.driver_script.specs.declared.script.Script.{Script}
 use Rattle.driver_script.specs.declared.script.ScriptFault.{ScriptFault}
 use Rattle.driver_script.specs.declared.script.ScriptFault.TheVariants.{Wrong, TooManyCalls, Memory}
 use Rattle.driver_script.specs.Calls.{call_of}
-use Rattle.driver_script.specs.Json.{list_of, needed, optional, has_only}
+use Rattle.driver_script.specs.Json.{list_of, needed_part, optional_part, has_only}
 use Rattle.driver_script.specs.Options.{client_options_of}
-use Rattle.driver_script.specs.Steps.{faults_of, no_faults, schedule_with, step_of}
+use Rattle.driver_script.specs.ScheduleSteps.{faults_of, no_faults, schedule_with, step_of}
 use Rattle.driver_script.specs.Values.{count_of}
 
 -- the options of a script's client where it sets none; the client is the first
@@ -55,13 +55,13 @@ script_with options calls steps faults late = record {
 unfoldable pub script_around : Option ClientOptions → List Call → Data → Option Script
 script_around options calls d =
     option_and_then (λ steps. option_and_then (λ faults. option_map (script_with options calls steps faults)
-    (optional (list_of count_of) LATE.now d)) (optional faults_of FAULTS.now d)) (optional (list_of step_of) SCHEDULE.now d)
+    (optional_part (list_of count_of) LATE.now d)) (optional_part faults_of FAULTS.now d)) (optional_part (list_of step_of) SCHEDULE.now d)
 
 -- a script: an object with its calls, and what it may leave out
 unfoldable pub script_of : Data → Option Script
 script_of d =
     if has_only (OPTIONS.now ∷ CALLS.now ∷ SCHEDULE.now ∷ FAULTS.now ∷ LATE.now ∷ []) d
-    then option_and_then (λ options. option_and_then (λ calls. script_around options calls d) (needed (list_of call_of) CALLS.now d)) (optional client_options_of OPTIONS.now d)
+    then option_and_then (λ options. option_and_then (λ calls. script_around options calls d) (needed_part (list_of call_of) CALLS.now d)) (optional_part client_options_of OPTIONS.now d)
     else None
 
 -- the value of a text in JSON
@@ -80,11 +80,11 @@ pub record HasTooMany (count : ℕ) (given : Result Script (List ℕ)) : Type 0 
   pub many : MOST_CALLS < count
 
 -- the answer is the one given, or it has too many calls; want of memory says nothing
-abbrev pub Reads : Result Script ScriptFault → Result Script (List ℕ) → Type 0
-Reads (Ok found) given = (given ≡ Ok found) × (length found.calls ≤ MOST_CALLS)
-Reads (Err (Wrong path)) given = given ≡ Err path
-Reads (Err (TooManyCalls count)) given = HasTooMany count given
-Reads (Err Memory) given = Unit {0}
+abbrev pub ReadsScript : Result Script ScriptFault → Result Script (List ℕ) → Type 0
+ReadsScript (Ok found) given = (given ≡ Ok found) × (length found.calls ≤ MOST_CALLS)
+ReadsScript (Err (Wrong path)) given = given ≡ Err path
+ReadsScript (Err (TooManyCalls count)) given = HasTooMany count given
+ReadsScript (Err Memory) given = Unit {0}
 
 -- the fault names the path, or memory ran out
 abbrev pub IsWrong : List ℕ → ScriptFault → Type 0

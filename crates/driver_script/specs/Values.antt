@@ -1,6 +1,5 @@
 -- How a script writes texts, namespaces, values and documents.
-use Rattle.std.specs.Prelude.{ℕ, ◌^◌, Bool, ◌==◌, if◌then◌else◌, ℤ, List, [], ◌∷◌, length, Option, None, Some, nat_lt, is_some, bytes_eq}
-use Rattle.std.specs.List.{position_or_len, before_first, after_first}
+use Rattle.std.specs.Prelude.{ℕ, ◌^◌, if◌then◌else◌, ℤ, List, [], ◌∷◌, Option, None, Some, nat_lt, is_some, bytes_eq}
 use Rattle.std.specs.Option.{option_and_then, option_map}
 use Rattle.std.specs.Result.{result_ok}
 use Rattle.bson_lite.specs.declared.bson.Bson as bson
@@ -9,6 +8,7 @@ use Rattle.bson_lite.specs.declared.bson.Timestamp.{Timestamp}
 use Rattle.bson_lite.specs.declared.document.Pair.{Pair}
 use Rattle.bson_lite.specs.declared.namespace.Namespace.{Namespace}
 use Rattle.bson_lite.specs.Ranges.{fits}
+use Rattle.driver_link.specs.Writes.{cut}
 use Rattle.hex.specs.Hex.{decode_of, decode_sized}
 use Rattle.serde_json.specs.Data.{Data, null, boolean, number, string, array, object, Items, no_items, item, no_members, member}
 use Rattle.serde_json.specs.Find.{at, as_i64, as_u64}
@@ -18,17 +18,6 @@ use Rattle.driver_script.specs.declared.keys.TheConstants.{ARRAY, BYTES, DATE, D
 unfoldable pub text_of : Data → Option (List ℕ)
 text_of (string text) = Some text
 text_of d = None
-
--- a dot
-abbrev pub is_dot : ℕ → Bool
-is_dot byte = byte == 46
-
--- a text cut at its first dot; a text without a dot is no namespace
-unfoldable pub cut : List ℕ → Option Namespace
-cut text =
-    if nat_lt (position_or_len is_dot text) (length text)
-    then Some (record { db = before_first is_dot text; coll = after_first is_dot text })
-    else None
 
 -- the thing at a place of a list
 unfoldable pub item_of : {A : Type 0} → (Data → Option A) → ℕ → Data → Option A
@@ -40,7 +29,7 @@ two_texts d =
     if is_some (at 2 d) then None else
     option_and_then (λ db. option_map (λ coll. record { db = db; coll = coll }) (item_of text_of 1 d)) (item_of text_of 0 d)
 
--- a namespace: a text that is cut, or two texts
+-- a namespace: a text that is cut at its first dot, or two texts
 unfoldable pub namespace_of : Data → Option Namespace
 namespace_of (string text) = cut text
 namespace_of (array items) = two_texts (array items)

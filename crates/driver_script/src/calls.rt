@@ -2,7 +2,7 @@
 ghost use Rattle.std.specs.Prelude.{◌≡◌};
 ghost use Rattle.serde_json.specs.View.{view};
 ghost use Rattle.driver_script.specs.Calls.{call_of, delete_many_of, delete_one_of, delete_options, delete_parts_of, find_delete_options, find_one_and_delete_of, find_one_and_replace_of, find_one_and_update_of, find_replace_options, find_under, find_update_options, insert_one_of, insert_options, pipeline_of, replace_one_of, shared_of, update_many_of, update_of, update_one_of, update_options, update_options_of, update_parts_of, update_under, write_under};
-ghost use Rattle.driver_script.specs.Json.{Gives};
+ghost use Rattle.driver_script.specs.Json.{GivesPart};
 
 use crate::json::{FromJson, Unread, is_object_of, read_needed, read_optional};
 use crate::keys::{
@@ -46,7 +46,7 @@ pub(crate) struct DeleteParts {
 /// The options that every write has, under their keys.
 #[tactic(auto, unfolding(crate::specs::Calls::shared_of))]
 fn read_shared(alloc: Global, value: &Value) -> Result<SharedOptions, Unread>
-    ensures { Gives result (shared_of (view value.now)) }
+    ensures { GivesPart result (shared_of (view value.now)) }
 {
     let write_concern = read_optional(alloc, value, WRITE_CONCERN)?;
     let comment = read_optional(alloc, value, COMMENT)?;
@@ -70,7 +70,7 @@ fn insert_options(shared: SharedOptions) -> InsertManyOptions
 
 #[tactic(auto, unfolding(crate::specs::Calls::insert_one_of))]
 fn insert_one(alloc: Global, value: &Value) -> Result<Call, Unread>
-    ensures { Gives result (insert_one_of (view value.now)) }
+    ensures { GivesPart result (insert_one_of (view value.now)) }
 {
     if !is_object_of(value, &[NS, DOC, WRITE_CONCERN, COMMENT]) {
         return Err(Unread::Wrong);
@@ -89,7 +89,7 @@ fn insert_one(alloc: Global, value: &Value) -> Result<Call, Unread>
 
 #[tactic(auto, unfolding(crate::specs::Calls::pipeline_of))]
 fn pipeline(alloc: Global, value: &Value) -> Result<UpdateModifications, Unread>
-    ensures { Gives result (pipeline_of (view value.now)) }
+    ensures { GivesPart result (pipeline_of (view value.now)) }
 {
     if !is_object_of(value, &[PIPELINE]) {
         return Err(Unread::Wrong);
@@ -131,7 +131,7 @@ fn update_options(upsert: Option<bool>, shared: SharedOptions) -> UpdateOptions
 /// The same, under their keys.
 #[tactic(auto, unfolding(crate::specs::Calls::update_options_of))]
 fn read_update_options(alloc: Global, value: &Value) -> Result<UpdateOptions, Unread>
-    ensures { Gives result (update_options_of (view value.now)) }
+    ensures { GivesPart result (update_options_of (view value.now)) }
 {
     let upsert = read_optional(alloc, value, UPSERT)?;
     let shared = read_shared(alloc, value)?;
@@ -140,7 +140,7 @@ fn read_update_options(alloc: Global, value: &Value) -> Result<UpdateOptions, Un
 
 #[tactic(auto, unfolding(crate::specs::Calls::update_parts_of))]
 fn update_parts(alloc: Global, value: &Value) -> Result<UpdateParts, Unread>
-    ensures { Gives result (update_parts_of (view value.now)) }
+    ensures { GivesPart result (update_parts_of (view value.now)) }
 {
     if !is_object_of(value, &[NS, FILTER, UPDATE, UPSERT, WRITE_CONCERN, COMMENT]) {
         return Err(Unread::Wrong);
@@ -159,7 +159,7 @@ fn update_parts(alloc: Global, value: &Value) -> Result<UpdateParts, Unread>
 
 #[tactic(auto, unfolding(crate::specs::Calls::update_one_of))]
 fn update_one(alloc: Global, value: &Value) -> Result<Call, Unread>
-    ensures { Gives result (update_one_of (view value.now)) }
+    ensures { GivesPart result (update_one_of (view value.now)) }
 {
     let UpdateParts {
         namespace,
@@ -179,7 +179,7 @@ fn update_one(alloc: Global, value: &Value) -> Result<Call, Unread>
 
 #[tactic(auto, unfolding(crate::specs::Calls::update_many_of))]
 fn update_many(alloc: Global, value: &Value) -> Result<Call, Unread>
-    ensures { Gives result (update_many_of (view value.now)) }
+    ensures { GivesPart result (update_many_of (view value.now)) }
 {
     let UpdateParts {
         namespace,
@@ -199,7 +199,7 @@ fn update_many(alloc: Global, value: &Value) -> Result<Call, Unread>
 
 #[tactic(auto, unfolding(crate::specs::Calls::replace_one_of))]
 fn replace_one(alloc: Global, value: &Value) -> Result<Call, Unread>
-    ensures { Gives result (replace_one_of (view value.now)) }
+    ensures { GivesPart result (replace_one_of (view value.now)) }
 {
     if !is_object_of(value, &[NS, FILTER, DOC, UPSERT, WRITE_CONCERN, COMMENT]) {
         return Err(Unread::Wrong);
@@ -233,7 +233,7 @@ fn delete_options(shared: SharedOptions) -> DeleteOptions
 
 #[tactic(auto, unfolding(crate::specs::Calls::delete_parts_of))]
 fn delete_parts(alloc: Global, value: &Value) -> Result<DeleteParts, Unread>
-    ensures { Gives result (delete_parts_of (view value.now)) }
+    ensures { GivesPart result (delete_parts_of (view value.now)) }
 {
     if !is_object_of(value, &[NS, FILTER, WRITE_CONCERN, COMMENT]) {
         return Err(Unread::Wrong);
@@ -250,7 +250,7 @@ fn delete_parts(alloc: Global, value: &Value) -> Result<DeleteParts, Unread>
 
 #[tactic(auto, unfolding(crate::specs::Calls::delete_one_of))]
 fn delete_one(alloc: Global, value: &Value) -> Result<Call, Unread>
-    ensures { Gives result (delete_one_of (view value.now)) }
+    ensures { GivesPart result (delete_one_of (view value.now)) }
 {
     let DeleteParts {
         namespace,
@@ -268,7 +268,7 @@ fn delete_one(alloc: Global, value: &Value) -> Result<Call, Unread>
 
 #[tactic(auto, unfolding(crate::specs::Calls::delete_many_of))]
 fn delete_many(alloc: Global, value: &Value) -> Result<Call, Unread>
-    ensures { Gives result (delete_many_of (view value.now)) }
+    ensures { GivesPart result (delete_many_of (view value.now)) }
 {
     let DeleteParts {
         namespace,
@@ -302,7 +302,7 @@ fn find_delete_options(shared: SharedOptions) -> FindOneAndDeleteOptions
 
 #[tactic(auto, unfolding(crate::specs::Calls::find_one_and_delete_of))]
 fn find_one_and_delete(alloc: Global, value: &Value) -> Result<Call, Unread>
-    ensures { Gives result (find_one_and_delete_of (view value.now)) }
+    ensures { GivesPart result (find_one_and_delete_of (view value.now)) }
 {
     let DeleteParts {
         namespace,
@@ -340,7 +340,7 @@ fn find_update_options(shared: SharedOptions) -> FindOneAndUpdateOptions
 
 #[tactic(auto, unfolding(crate::specs::Calls::find_one_and_update_of))]
 fn find_one_and_update(alloc: Global, value: &Value) -> Result<Call, Unread>
-    ensures { Gives result (find_one_and_update_of (view value.now)) }
+    ensures { GivesPart result (find_one_and_update_of (view value.now)) }
 {
     if !is_object_of(value, &[NS, FILTER, UPDATE, WRITE_CONCERN, COMMENT]) {
         return Err(Unread::Wrong);
@@ -380,7 +380,7 @@ fn find_replace_options(shared: SharedOptions) -> FindOneAndReplaceOptions
 
 #[tactic(auto, unfolding(crate::specs::Calls::find_one_and_replace_of))]
 fn find_one_and_replace(alloc: Global, value: &Value) -> Result<Call, Unread>
-    ensures { Gives result (find_one_and_replace_of (view value.now)) }
+    ensures { GivesPart result (find_one_and_replace_of (view value.now)) }
 {
     if !is_object_of(value, &[NS, FILTER, DOC, WRITE_CONCERN, COMMENT]) {
         return Err(Unread::Wrong);
@@ -402,7 +402,7 @@ fn find_one_and_replace(alloc: Global, value: &Value) -> Result<Call, Unread>
 /// The write that answers a document, whose parts stand under its name.
 #[tactic(auto, unfolding(crate::specs::Calls::find_under))]
 fn find_under(alloc: Global, name: &str, value: &Value) -> Result<Call, Unread>
-    ensures { Gives result (find_under name.now (view value.now)) }
+    ensures { GivesPart result (find_under name.now (view value.now)) }
 {
     if name == FIND_ONE_AND_DELETE {
         return find_one_and_delete(alloc, value);
@@ -419,7 +419,7 @@ fn find_under(alloc: Global, name: &str, value: &Value) -> Result<Call, Unread>
 /// The update or replacement whose parts stand under its name, or a write that answers a document.
 #[tactic(auto, unfolding(crate::specs::Calls::update_under))]
 fn update_under(alloc: Global, name: &str, value: &Value) -> Result<Call, Unread>
-    ensures { Gives result (update_under name.now (view value.now)) }
+    ensures { GivesPart result (update_under name.now (view value.now)) }
 {
     if name == UPDATE_ONE {
         return update_one(alloc, value);
@@ -436,7 +436,7 @@ fn update_under(alloc: Global, name: &str, value: &Value) -> Result<Call, Unread
 /// The write whose parts stand under its name.
 #[tactic(auto, unfolding(crate::specs::Calls::write_under))]
 fn write_under(alloc: Global, name: &str, value: &Value) -> Result<Call, Unread>
-    ensures { Gives result (write_under name.now (view value.now)) }
+    ensures { GivesPart result (write_under name.now (view value.now)) }
 {
     if name == INSERT_ONE {
         return insert_one(alloc, value);

@@ -2,7 +2,7 @@
 ghost use Rattle.std.specs.Prelude.{◌≡◌, Option, map};
 ghost use Rattle.serde_json.specs.Data.{Data};
 ghost use Rattle.serde_json.specs.View.{view, items_view};
-ghost use Rattle.driver_script.specs.Json.{Gives, each, list_of, needed, optional, has_only, among};
+ghost use Rattle.driver_script.specs.Json.{GivesPart, each, list_of, needed_part, optional_part, has_only, among};
 
 use bson_lite::List;
 use serde_json::Value;
@@ -33,7 +33,7 @@ pub(crate) trait FromJson: Sized + Drop {
     ghost spec: { Data → Option Self };
 
     fn read(alloc: Global, value: &Value) -> Result<Self, Unread>
-        ensures { Gives result (spec (view value.now)) };
+        ensures { GivesPart result (spec (view value.now)) };
 }
 
 impl<T: FromJson> FromJson for List<T> {
@@ -50,7 +50,7 @@ impl<T: FromJson> FromJson for List<T> {
 
 #[tactic(auto, unfolding(crate::specs::Json::each))]
 fn read_each<T: FromJson>(alloc: Global, items: &[Value]) -> Result<List<T>, Unread>
-    ensures { Gives result (each T.spec (items_view items.now)) }
+    ensures { GivesPart result (each T.spec (items_view items.now)) }
 {
     let mut found = List::new(alloc);
     for item in items {
@@ -60,13 +60,13 @@ fn read_each<T: FromJson>(alloc: Global, items: &[Value]) -> Result<List<T>, Unr
 }
 
 /// The value under a key that has to be there.
-#[tactic(auto, unfolding(crate::specs::Json::needed))]
+#[tactic(auto, unfolding(crate::specs::Json::needed_part))]
 pub(crate) fn read_needed<T: FromJson>(
     alloc: Global,
     object: &Value,
     key: &str,
 ) -> Result<T, Unread>
-    ensures { Gives result (needed T.spec key.now (view object.now)) }
+    ensures { GivesPart result (needed_part T.spec key.now (view object.now)) }
 {
     match object.get(key) {
         Some(value) => T::read(alloc, value),
@@ -75,13 +75,13 @@ pub(crate) fn read_needed<T: FromJson>(
 }
 
 /// The value under a key, where it is there.
-#[tactic(auto, unfolding(crate::specs::Json::optional))]
+#[tactic(auto, unfolding(crate::specs::Json::optional_part))]
 pub(crate) fn read_optional<T: FromJson>(
     alloc: Global,
     object: &Value,
     key: &str,
 ) -> Result<Option<T>, Unread>
-    ensures { Gives result (optional T.spec key.now (view object.now)) }
+    ensures { GivesPart result (optional_part T.spec key.now (view object.now)) }
 {
     match object.get(key) {
         Some(value) => Ok(Some(T::read(alloc, value)?)),

@@ -1,7 +1,7 @@
 //! Readers of numbers, and of the values that hold no other.
 ghost use Rattle.std.specs.Prelude.{◌≡◌};
 ghost use Rattle.serde_json.specs.View.{view};
-ghost use Rattle.driver_script.specs.Json.{Gives};
+ghost use Rattle.driver_script.specs.Json.{GivesPart};
 ghost use Rattle.driver_script.specs.Values.{tagged_leaf, whole_of, small_of, count_of, code_of, stamp_of, sized_of, bytes_of, whole_number};
 
 use crate::json::{FromJson, Unread};
@@ -14,7 +14,7 @@ use std::alloc::Global;
 /// A value that holds no other, under a key which says what it is.
 #[tactic(auto, unfolding(crate::specs::Values::tagged_leaf))]
 pub(crate) fn read_leaf(alloc: Global, key: &str, value: &Value) -> Result<Bson, Unread>
-    ensures { Gives result (tagged_leaf key.now (view value.now)) }
+    ensures { GivesPart result (tagged_leaf key.now (view value.now)) }
 {
     if key == INT64 {
         return Ok(Bson::Int64(whole(value)?));
@@ -42,7 +42,7 @@ pub(crate) fn read_leaf(alloc: Global, key: &str, value: &Value) -> Result<Bson,
 /// A whole number of 64 bits with a sign.
 #[tactic(auto, unfolding(crate::specs::Values::whole_of))]
 fn whole(value: &Value) -> Result<i64, Unread>
-    ensures { Gives result (whole_of (view value.now)) }
+    ensures { GivesPart result (whole_of (view value.now)) }
 {
     match value.as_i64() {
         Some(number) => Ok(number),
@@ -53,7 +53,7 @@ fn whole(value: &Value) -> Result<i64, Unread>
 /// A number of 32 bits without a sign.
 #[tactic(auto, unfolding(crate::specs::Values::small_of))]
 fn small(value: &Value) -> Result<u32, Unread>
-    ensures { Gives result (small_of (view value.now)) }
+    ensures { GivesPart result (small_of (view value.now)) }
 {
     let Some(number) = value.as_u64() else {
         return Err(Unread::Wrong);
@@ -102,7 +102,7 @@ impl FromJson for i32 {
 /// A time and an increment, as a list of the two.
 #[tactic(auto, unfolding(crate::specs::Values::stamp_of, crate::specs::Values::item_of))]
 fn stamp(value: &Value) -> Result<Timestamp, Unread>
-    ensures { Gives result (stamp_of (view value.now)) }
+    ensures { GivesPart result (stamp_of (view value.now)) }
 {
     if value.get(2).is_some() {
         return Err(Unread::Wrong);
@@ -119,7 +119,7 @@ fn stamp(value: &Value) -> Result<Timestamp, Unread>
 /// So many bytes, two hexadecimal digits of either case for each.
 #[tactic(auto, unfolding(crate::specs::Values::sized_of))]
 fn sized<const N: usize>(value: &Value) -> Result<[u8; N], Unread>
-    ensures { Gives result (sized_of N (view value.now)) }
+    ensures { GivesPart result (sized_of N (view value.now)) }
 {
     let Value::String(text) = value else {
         return Err(Unread::Wrong);
@@ -133,7 +133,7 @@ fn sized<const N: usize>(value: &Value) -> Result<[u8; N], Unread>
 /// Bytes of any number, two hexadecimal digits of either case for each.
 #[tactic(auto, unfolding(crate::specs::Values::bytes_of))]
 fn read_bytes(alloc: Global, value: &Value) -> Result<Bytes, Unread>
-    ensures { Gives result (bytes_of (view value.now)) }
+    ensures { GivesPart result (bytes_of (view value.now)) }
 {
     let Value::String(text) = value else {
         return Err(Unread::Wrong);

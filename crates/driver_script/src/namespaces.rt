@@ -1,7 +1,8 @@
 //! Readers of the script's texts and namespaces.
 ghost use Rattle.serde_json.specs.View.{view};
-ghost use Rattle.driver_script.specs.Json.{Gives};
-ghost use Rattle.driver_script.specs.Values.{text_of, namespace_of, cut, two_texts};
+ghost use Rattle.driver_link.specs.Writes.{cut};
+ghost use Rattle.driver_script.specs.Json.{GivesPart};
+ghost use Rattle.driver_script.specs.Values.{text_of, namespace_of, two_texts};
 
 use crate::json::{FromJson, Unread};
 use bson_lite::{Namespace, Text};
@@ -33,9 +34,9 @@ impl FromJson for Namespace {
     }
 }
 
-#[tactic(auto, unfolding(crate::specs::Values::cut))]
+#[tactic(auto, unfolding(driver_link::specs::Writes::cut))]
 fn cut_at_dot(alloc: Global, text: &str) -> Result<Namespace, Unread>
-    ensures { Gives result (cut text.now) }
+    ensures { GivesPart result (cut text.now) }
 {
     match text.split_once('.') {
         Some((db, coll)) => Ok(Namespace {
@@ -48,7 +49,7 @@ fn cut_at_dot(alloc: Global, text: &str) -> Result<Namespace, Unread>
 
 #[tactic(auto, unfolding(crate::specs::Values::two_texts, crate::specs::Values::item_of))]
 fn read_two_texts(alloc: Global, value: &Value) -> Result<Namespace, Unread>
-    ensures { Gives result (two_texts (view value.now)) }
+    ensures { GivesPart result (two_texts (view value.now)) }
 {
     if value.get(2).is_some() {
         return Err(Unread::Wrong);

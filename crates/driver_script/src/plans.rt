@@ -2,7 +2,7 @@
 ghost use Rattle.std.specs.Prelude.{◌≡◌, pos, IfOk};
 ghost use Rattle.std.specs.Option.{option_map};
 ghost use Rattle.serde_json.specs.View.{view};
-ghost use Rattle.driver_script.specs.Json.{Gives};
+ghost use Rattle.driver_script.specs.Json.{GivesPart};
 ghost use Rattle.driver_script.specs.Plans.{built_code, built_plan, concern_error_of, failing_of, is_built_code, is_spelled_within, may_be_found, may_be_upserted, planned_of, serve_of, serve_with};
 
 use crate::json::{FromJson, Unread, is_object_of, read_needed, read_optional};
@@ -32,7 +32,7 @@ pub(crate) fn is_built_code(code: i32) -> bool
 /// A code, where it is one that may be answered.
 #[tactic(auto, unfolding(crate::specs::Plans::built_code))]
 fn built_code(code: i32) -> Result<i32, Unread>
-    ensures { Gives result (built_code code) }
+    ensures { GivesPart result (built_code code) }
 {
     if is_built_code(code) {
         return Ok(code);
@@ -78,7 +78,7 @@ fn may_be_upserted(alloc: Global, upserted: &Option<Bson>) -> Result<bool, Alloc
 /// What is planned for a statement, where a reply can hold it.
 #[tactic(auto, unfolding(crate::specs::Plans::built_plan))]
 fn built_plan(alloc: Global, planned: Planned) -> Result<Planned, Unread>
-    ensures { Gives result (built_plan planned) }
+    ensures { GivesPart result (built_plan planned) }
 {
     let held = may_be_upserted(alloc, &planned.upserted)?;
     if held && may_be_found(&planned.value) {
@@ -173,7 +173,7 @@ fn serve_with(
 /// A send that is served, of which these parts are set.
 #[tactic(auto, unfolding(crate::specs::Plans::serve_of, crate::specs::Plans::serve_in))]
 pub(crate) fn served(alloc: Global, value: &Value) -> Result<Item, Unread>
-    ensures { Gives result (serve_of (view value.now)) }
+    ensures { GivesPart result (serve_of (view value.now)) }
 {
     if !is_object_of(value, &[RESULTS, FAIL, WRITE_CONCERN_ERROR]) {
         return Err(Unread::Wrong);

@@ -3,8 +3,8 @@ ghost use Rattle.std.specs.Prelude.{◌≡◌};
 ghost use Rattle.std.specs.List.{list_all};
 ghost use Rattle.serde_json.specs.View.{view};
 ghost use Rattle.driver_link.specs.Exchange.{usual_item};
-ghost use Rattle.driver_script.specs.Json.{Gives};
-ghost use Rattle.driver_script.specs.Steps.{built_reply, delivering_of, faults_of, interrupted_of, is_built_label, item_in, item_named, item_under, no_faults, refused_of, reply_of, schedule_with, step_of};
+ghost use Rattle.driver_script.specs.Json.{GivesPart};
+ghost use Rattle.driver_script.specs.ScheduleSteps.{built_reply, delivering_of, faults_of, interrupted_of, is_built_label, item_in, item_named, item_under, no_faults, refused_of, reply_of, schedule_with, step_of};
 
 use crate::json::{FromJson, Unread, is_object_of, read_needed, read_optional};
 use crate::keys::{
@@ -33,7 +33,7 @@ pub(crate) struct Faults {
 }
 
 /// Whether an item may answer this label.
-#[tactic(auto, unfolding(crate::specs::Steps::is_built_label))]
+#[tactic(auto, unfolding(crate::specs::ScheduleSteps::is_built_label))]
 fn is_built_label(label: &str) -> bool
     ensures { result ≡ is_built_label label.now }
 {
@@ -54,9 +54,9 @@ fn are_built(labels: &[Text]) -> bool
 }
 
 /// An error reply, where its code and its labels are built.
-#[tactic(auto, unfolding(crate::specs::Steps::built_reply))]
+#[tactic(auto, unfolding(crate::specs::ScheduleSteps::built_reply))]
 fn built_reply(reply: ErrorReply) -> Result<ErrorReply, Unread>
-    ensures { Gives result (built_reply reply) }
+    ensures { GivesPart result (built_reply reply) }
 {
     if is_built_code(reply.code) && are_built(reply.labels.as_slice()) {
         return Ok(reply);
@@ -65,18 +65,18 @@ fn built_reply(reply: ErrorReply) -> Result<ErrorReply, Unread>
 }
 
 /// The error reply whose parts stand under their keys.
-#[tactic(auto, unfolding(crate::specs::Steps::reply_of))]
+#[tactic(auto, unfolding(crate::specs::ScheduleSteps::reply_of))]
 fn read_reply(alloc: Global, value: &Value) -> Result<ErrorReply, Unread>
-    ensures { Gives result (reply_of (view value.now)) }
+    ensures { GivesPart result (reply_of (view value.now)) }
 {
     let code = read_needed(alloc, value, CODE)?;
     let labels = read_needed(alloc, value, LABELS)?;
     built_reply(ErrorReply { code, labels })
 }
 
-#[tactic(auto, unfolding(crate::specs::Steps::interrupted_of))]
+#[tactic(auto, unfolding(crate::specs::ScheduleSteps::interrupted_of))]
 fn interrupted(alloc: Global, value: &Value) -> Result<Item, Unread>
-    ensures { Gives result (interrupted_of (view value.now)) }
+    ensures { GivesPart result (interrupted_of (view value.now)) }
 {
     if !is_object_of(value, &[AFTER, CODE, LABELS]) {
         return Err(Unread::Wrong);
@@ -90,9 +90,9 @@ fn interrupted(alloc: Global, value: &Value) -> Result<Item, Unread>
     })
 }
 
-#[tactic(auto, unfolding(crate::specs::Steps::refused_of))]
+#[tactic(auto, unfolding(crate::specs::ScheduleSteps::refused_of))]
 fn refused(alloc: Global, value: &Value) -> Result<Item, Unread>
-    ensures { Gives result (refused_of (view value.now)) }
+    ensures { GivesPart result (refused_of (view value.now)) }
 {
     if !is_object_of(value, &[CODE, LABELS]) {
         return Err(Unread::Wrong);
@@ -102,9 +102,9 @@ fn refused(alloc: Global, value: &Value) -> Result<Item, Unread>
 }
 
 /// The item of a name.
-#[tactic(auto, unfolding(crate::specs::Steps::item_named))]
+#[tactic(auto, unfolding(crate::specs::ScheduleSteps::item_named))]
 fn item_named(alloc: Global, name: &str) -> Result<Item, Unread>
-    ensures { Gives result (item_named name.now) }
+    ensures { GivesPart result (item_named name.now) }
 {
     if name == SERVE {
         return Ok(usual_item(alloc));
@@ -134,9 +134,9 @@ fn usual_item(alloc: Global) -> Item
 }
 
 /// The item whose parts stand under its name.
-#[tactic(auto, unfolding(crate::specs::Steps::item_under))]
+#[tactic(auto, unfolding(crate::specs::ScheduleSteps::item_under))]
 fn item_under(alloc: Global, name: &str, value: &Value) -> Result<Item, Unread>
-    ensures { Gives result (item_under name.now (view value.now)) }
+    ensures { GivesPart result (item_under name.now (view value.now)) }
 {
     if name == SERVE {
         return served(alloc, value);
@@ -153,7 +153,7 @@ fn item_under(alloc: Global, name: &str, value: &Value) -> Result<Item, Unread>
 impl FromJson for Item {
     ghost spec = { item_in };
 
-    #[tactic(auto, unfolding(crate::specs::Steps::item_in))]
+    #[tactic(auto, unfolding(crate::specs::ScheduleSteps::item_in))]
     fn read(alloc: Global, value: &Value) -> Result<Item, Unread> {
         match value {
             Value::String(name) => item_named(alloc, name.as_str()),
@@ -170,9 +170,9 @@ impl FromJson for Item {
 }
 
 /// A step with the waiting sends to serve before its item.
-#[tactic(auto, unfolding(crate::specs::Steps::delivering_of))]
+#[tactic(auto, unfolding(crate::specs::ScheduleSteps::delivering_of))]
 fn delivering(alloc: Global, value: &Value) -> Result<Scheduled, Unread>
-    ensures { Gives result (delivering_of (view value.now)) }
+    ensures { GivesPart result (delivering_of (view value.now)) }
 {
     let deliver = read_needed(alloc, value, DELIVER)?;
     let item = read_needed(alloc, value, ITEM)?;
@@ -182,7 +182,7 @@ fn delivering(alloc: Global, value: &Value) -> Result<Scheduled, Unread>
 impl FromJson for Scheduled {
     ghost spec = { step_of };
 
-    #[tactic(auto, unfolding(crate::specs::Steps::step_of))]
+    #[tactic(auto, unfolding(crate::specs::ScheduleSteps::step_of))]
     fn read(alloc: Global, value: &Value) -> Result<Scheduled, Unread> {
         if is_object_of(value, &[DELIVER, ITEM]) {
             return delivering(alloc, value);
@@ -198,7 +198,7 @@ impl FromJson for Scheduled {
 impl FromJson for Faults {
     ghost spec = { faults_of };
 
-    #[tactic(auto, unfolding(crate::specs::Steps::faults_of))]
+    #[tactic(auto, unfolding(crate::specs::ScheduleSteps::faults_of))]
     fn read(alloc: Global, value: &Value) -> Result<Faults, Unread> {
         if !is_object_of(value, &[SELECT, CHECK_OUT]) {
             return Err(Unread::Wrong);

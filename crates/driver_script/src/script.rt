@@ -1,8 +1,8 @@
 //! The script: one JSON object with the calls to be made and the schedule of the model server.
 ghost use Rattle.std.specs.Prelude.{◌≡◌, codes, option_and_then, IfOk};
 ghost use Rattle.driver_link.specs.WellFormed.{IsWellFormed};
-ghost use Rattle.driver_script.specs.Json.{Gives};
-ghost use Rattle.driver_script.specs.Script.{script_of, script, value_read, usual_options, usual_setup, IsWrong, Reads};
+ghost use Rattle.driver_script.specs.Json.{GivesPart};
+ghost use Rattle.driver_script.specs.Script.{script_of, script, value_read, usual_options, usual_setup, IsWrong, ReadsScript};
 
 use crate::json::{FromJson, Unread, is_object_of, read_needed, read_optional};
 use crate::keys::{CALLS, FAULTS, LATE, OPTIONS, SCHEDULE};
@@ -40,7 +40,7 @@ pub enum ScriptFault {
 /// The script that the bytes are, where it has no more than 10000 calls.
 #[tactic(auto, unfolding(crate::specs::Script::script))]
 pub fn read_script(alloc: Global, bytes: &[u8]) -> Result<Script, ScriptFault>
-    ensures reads { Reads result (script bytes.now) }
+    ensures reads { ReadsScript result (script bytes.now) }
     ensures well_formed { IfOk result (λ asked. IsWellFormed asked.schedule) }
 {
     match any_script(alloc, bytes) {
@@ -70,7 +70,7 @@ fn wrong(alloc: Global) -> ScriptFault
 
 #[tactic(auto, using(crate::proofs::Bytes::value_read_text, crate::proofs::Bytes::value_read_none))]
 fn any_script(alloc: Global, bytes: &[u8]) -> Result<Script, Unread>
-    ensures { Gives result (option_and_then script_of (value_read bytes.now)) }
+    ensures { GivesPart result (option_and_then script_of (value_read bytes.now)) }
 {
     let value = match Value::from_slice(alloc, bytes) {
         Ok(value) => value,

@@ -1,6 +1,6 @@
 //! Readers of the script's values and documents, which hold one another.
 ghost use Rattle.serde_json.specs.View.{view, items_view};
-ghost use Rattle.driver_script.specs.Json.{Gives};
+ghost use Rattle.driver_script.specs.Json.{GivesPart};
 ghost use Rattle.driver_script.specs.Values.{value_of, tagged, document_of, pairs_of, pair_of, array_of, values_of};
 
 use crate::json::{FromJson, Unread};
@@ -37,7 +37,7 @@ impl FromJson for Document {
 #[cycle(value)]
 #[tactic(auto, unfolding(crate::specs::Values::value_of))]
 fn read_value(alloc: Global, value: &Value) -> Result<Bson, Unread>
-    ensures { Gives result (value_of (view value.now)) }
+    ensures { GivesPart result (value_of (view value.now)) }
 {
     match value {
         Value::Null => Ok(Bson::Null),
@@ -62,7 +62,7 @@ fn read_value(alloc: Global, value: &Value) -> Result<Bson, Unread>
 #[cycle(value)]
 #[tactic(auto, unfolding(crate::specs::Values::tagged))]
 fn read_tagged(alloc: Global, key: &str, value: &Value) -> Result<Bson, Unread>
-    ensures { Gives result
+    ensures { GivesPart result
         (tagged key.now (view value.now) (document_of (view value.now)) (array_of (view value.now))) }
 {
     if key == DOC {
@@ -77,7 +77,7 @@ fn read_tagged(alloc: Global, key: &str, value: &Value) -> Result<Bson, Unread>
 #[cycle(value)]
 #[tactic(auto, unfolding(crate::specs::Values::document_of))]
 fn read_document(alloc: Global, value: &Value) -> Result<Document, Unread>
-    ensures { Gives result (document_of (view value.now)) }
+    ensures { GivesPart result (document_of (view value.now)) }
 {
     match value {
         Value::Array(items) => read_pairs(alloc, items.as_slice()),
@@ -88,7 +88,7 @@ fn read_document(alloc: Global, value: &Value) -> Result<Document, Unread>
 #[cycle(value)]
 #[tactic(auto, unfolding(crate::specs::Values::pairs_of))]
 fn read_pairs(alloc: Global, items: &[Value]) -> Result<Document, Unread>
-    ensures { Gives result (pairs_of (items_view items.now)) }
+    ensures { GivesPart result (pairs_of (items_view items.now)) }
 {
     let mut document = Document::new(alloc);
     for item in items {
@@ -101,7 +101,7 @@ fn read_pairs(alloc: Global, items: &[Value]) -> Result<Document, Unread>
 #[cycle(value)]
 #[tactic(auto, unfolding(crate::specs::Values::pair_of))]
 fn read_pair(alloc: Global, value: &Value) -> Result<Pair<Bson>, Unread>
-    ensures { Gives result (pair_of (view value.now)) }
+    ensures { GivesPart result (pair_of (view value.now)) }
 {
     let Value::Array(items) = value else {
         return Err(Unread::Wrong);
@@ -124,7 +124,7 @@ fn read_pair(alloc: Global, value: &Value) -> Result<Pair<Bson>, Unread>
 #[cycle(value)]
 #[tactic(auto, unfolding(crate::specs::Values::array_of))]
 fn read_array(alloc: Global, value: &Value) -> Result<List<Bson>, Unread>
-    ensures { Gives result (array_of (view value.now)) }
+    ensures { GivesPart result (array_of (view value.now)) }
 {
     match value {
         Value::Array(items) => read_values(alloc, items.as_slice()),
@@ -135,7 +135,7 @@ fn read_array(alloc: Global, value: &Value) -> Result<List<Bson>, Unread>
 #[cycle(value)]
 #[tactic(auto, unfolding(crate::specs::Values::values_of))]
 fn read_values(alloc: Global, items: &[Value]) -> Result<List<Bson>, Unread>
-    ensures { Gives result (values_of (items_view items.now)) }
+    ensures { GivesPart result (values_of (items_view items.now)) }
 {
     let mut values = List::new(alloc);
     for item in items {

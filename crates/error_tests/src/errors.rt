@@ -199,7 +199,7 @@ fn reply(alloc: Global) -> Result<Option<RawDocumentBuf>, AllocError> {
     Ok(RawDocumentBuf::from_document(alloc, &document).ok())
 }
 
-/// The error without all that may tell of the data.
+/// The error without what a server said in messages, details and replies.
 pub(crate) fn redact(alloc: Global, error: Error) -> Result<Error, AllocError> {
     let mut error = error;
     match error.redact(alloc) {

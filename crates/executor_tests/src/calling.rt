@@ -1,11 +1,12 @@
 //! What no clause shows: that a call succeeds with ample memory, over a link whose replies a test chooses.
+use crate::inserting::SERVER;
 use bson_lite::{Bson, Bytes, Document, EncodeFault, List, Namespace, Text, TryClone};
 use driver_actions::{Answer, Call, CallRun, Outcome, SingleAnswer, SingleWrite, run_calls};
 use driver_error::{Error, ErrorKind, IoKind};
 use driver_exec::{Client, Outside};
 use driver_link::{
-    Address, Answered, ClientOptions, Conn, CountingIds, Description, Frame, InsertManyOptions,
-    Link, LinkError, LinkFault, MemClock, Place, SelectionCriteria,
+    Address, Answered, ClientOptions, Conn, CountingIds, Frame, InsertManyOptions, Link, LinkError,
+    LinkFault, MemClock, Place, SelectionCriteria,
 };
 use driver_session::PlainStore;
 use rand_core::SeedableRng;
@@ -65,7 +66,7 @@ impl Link for OneReply {
                 host,
                 port: address.port,
             },
-            description: description(),
+            description: SERVER,
             number: 0,
         })
     }
@@ -97,18 +98,6 @@ impl Link for OneReply {
     }
 
     fn report(&mut self, _address: &Address, _error: &Error) {}
-}
-
-fn description() -> Description {
-    Description {
-        max_wire_version: Some(25),
-        max_bson_object_size: 16_777_216,
-        max_message_size_bytes: 48_000_000,
-        max_write_batch_size: 100_000,
-        supports_sessions: true,
-        supports_retryable_writes: true,
-        sharded: false,
-    }
 }
 
 /// The reply `{ok: 1, n: 1}`.

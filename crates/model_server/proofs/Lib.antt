@@ -1,6 +1,6 @@
 pub mod EffectLaws
 pub mod ServeLaws
-pub mod StepLaws
+pub mod SessionStepLaws
 pub mod TransientLaws
 pub mod WaitingLaws
 pub mod InterruptLaws
@@ -9,7 +9,7 @@ pub mod WriteLaws
 pub mod UndoLaws
 pub mod StillLaws
 pub mod IndexLaws
-pub mod StepsLaws
+pub mod ExchangeLaws
 pub mod SteadyLaws
 pub mod CommitLaws
 pub mod GrowLaws

@@ -102,7 +102,7 @@ fn gathers(alloc: Global, send: &Send, done: &[Statement]) -> Result<SessionStep
 }
 
 /// The step of a send in its case.
-#[tactic(auto, using(crate::proofs::StepLaws::commits_does, crate::proofs::StepLaws::ends_does, crate::proofs::StepLaws::denied_does, crate::proofs::StepLaws::cursor_does, crate::proofs::StepLaws::nothing_does, crate::proofs::StepLaws::old_does))]
+#[tactic(auto, using(crate::proofs::SessionStepLaws::commits_does, crate::proofs::SessionStepLaws::ends_does, crate::proofs::SessionStepLaws::denied_does, crate::proofs::SessionStepLaws::cursor_does, crate::proofs::SessionStepLaws::nothing_does, crate::proofs::SessionStepLaws::old_does))]
 pub fn step_in(
     alloc: Global,
     send: &Send,

@@ -78,7 +78,7 @@ pub record IsRunOf (asked : Script) (run : Run) : Type 0 where
   pub late : model ≡ record before { server = after_picks before.server asked.late }
 
 -- the input and the output before and now: what is left to read, what was written, how many calls failed
-pub record Ends : Type 0 where
+pub record ProgramEnds : Type 0 where
   pub left : Option (List ℕ)
   pub left_now : Option (List ℕ)
   pub reads_failed : ℕ
@@ -89,8 +89,8 @@ pub record Ends : Type 0 where
   pub writes_failed_now : ℕ
 
 -- the same by its parts
-abbrev pub ends_of : Option (List ℕ) → Option (List ℕ) → ℕ → ℕ → Option (List ℕ) → Option (List ℕ) → ℕ → ℕ → Ends
-ends_of left left_now reads_failed reads_failed_now contents contents_now writes_failed writes_failed_now = record {
+abbrev pub program_ends : Option (List ℕ) → Option (List ℕ) → ℕ → ℕ → Option (List ℕ) → Option (List ℕ) → ℕ → ℕ → ProgramEnds
+program_ends left left_now reads_failed reads_failed_now contents contents_now writes_failed writes_failed_now = record {
   left = left;
   left_now = left_now;
   reads_failed = reads_failed;
@@ -106,7 +106,7 @@ abbrev pub SaysTo : Option (List ℕ) → Option (List ℕ) → ℕ → ℕ → 
 SaysTo contents now failed failed_now line = Appends contents now line ⊎ (Rose failed failed_now × TookFront contents now line)
 
 -- the same of the input and the output of a run
-abbrev pub Said : Ends → List ℕ → Type 0
+abbrev pub Said : ProgramEnds → List ℕ → Type 0
 Said ends line = SaysTo ends.contents ends.contents_now ends.writes_failed ends.writes_failed_now line
 
 -- nothing was written, and no write failed
@@ -114,7 +114,7 @@ abbrev pub IsSilent : Option (List ℕ) → Option (List ℕ) → ℕ → ℕ �
 IsSilent contents now failed failed_now = (now ≡ contents) × (failed_now ≡ failed)
 
 -- the input was read to its end, it is a script, and the run is one of that script
-pub record HasRun (left left_now : Option (List ℕ)) (run : Run) : Type 0 where
+pub record RunIsMade (left left_now : Option (List ℕ)) (run : Run) : Type 0 where
   pub bytes : List ℕ
   pub asked : Script
   pub read : ReadToEnd LIMIT left left_now bytes
@@ -123,14 +123,14 @@ pub record HasRun (left left_now : Option (List ℕ)) (run : Run) : Type 0 where
   pub made : IsRunOf asked run
 
 -- the input was read to its end, and it is no script: the path is that of what is wrong
-pub record Refuses (left left_now : Option (List ℕ)) (path : List ℕ) : Type 0 where
+pub record RefusesScript (left left_now : Option (List ℕ)) (path : List ℕ) : Type 0 where
   pub bytes : List ℕ
   pub read : ReadToEnd LIMIT left left_now bytes
   pub is : script bytes ≡ Err path
 
 -- the same for some path
 abbrev pub IsRefused : Option (List ℕ) → Option (List ℕ) → Type 0
-IsRefused left left_now = (path : List ℕ) × Refuses left left_now path
+IsRefused left left_now = (path : List ℕ) × RefusesScript left left_now path
 
 -- the input was read to its end, and it is a script of too many calls
 pub record HasManyCalls (left left_now : Option (List ℕ)) : Type 0 where
@@ -180,16 +180,16 @@ unfoldable pub large_line : List ℕ
 large_line = codes "script too large\n"
 
 -- what each status says; after want of memory nothing was written, and the run is the one before or that of the script
-abbrev pub Ended : Status → Ends → Run → Run → Type 0
-Ended status.Done ends run now = HasRun ends.left ends.left_now now × Appends ends.contents ends.contents_now (report now)
+abbrev pub Ended : Status → ProgramEnds → Run → Run → Type 0
+Ended status.Done ends run now = RunIsMade ends.left ends.left_now now × Appends ends.contents ends.contents_now (report now)
 Ended status.Usage ends run now = Said ends usage_line × (ends.left_now ≡ ends.left) × (now ≡ run)
-Ended status.Refused ends run now = ((path : List ℕ) × Refuses ends.left ends.left_now path × Said ends (refused_line path)) × (now ≡ run)
+Ended status.Refused ends run now = ((path : List ℕ) × RefusesScript ends.left ends.left_now path × Said ends (refused_line path)) × (now ≡ run)
 Ended status.ReadFailed ends run now =
     ReadFailed LIMIT ends.left ends.left_now ends.reads_failed ends.reads_failed_now × Said ends failed_line × (now ≡ run)
 Ended status.WriteFailed ends run now =
-    HasRun ends.left ends.left_now now × Rose ends.writes_failed ends.writes_failed_now × TookFront ends.contents ends.contents_now (report now)
+    RunIsMade ends.left ends.left_now now × Rose ends.writes_failed ends.writes_failed_now × TookFront ends.contents ends.contents_now (report now)
 Ended status.Memory ends run now =
-    IsSilent ends.contents ends.contents_now ends.writes_failed ends.writes_failed_now × ((now ≡ run) ⊎ HasRun ends.left ends.left_now now)
+    IsSilent ends.contents ends.contents_now ends.writes_failed ends.writes_failed_now × ((now ≡ run) ⊎ RunIsMade ends.left ends.left_now now)
 Ended status.TooLarge ends run now = IsTooLarge ends.left ends.left_now × Said ends large_line × (now ≡ run)
 
 -- the number of a status
@@ -203,8 +203,8 @@ code status.Memory = 6
 code status.TooLarge = 7
 
 -- a number is that of a status and says what the status says
-abbrev pub EndsWith : ℕ → Ends → Run → Run → Type 0
-EndsWith number ends run now = (status : Status) × (number ≡ code status) × Ended status ends run now
+abbrev pub EndsWithStatus : ℕ → ProgramEnds → Run → Run → Type 0
+EndsWithStatus number ends run now = (status : Status) × (number ≡ code status) × Ended status ends run now
 
 -- what the words ask for
 abbrev pub command_of : List (List ℕ) → Option Command

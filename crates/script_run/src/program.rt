@@ -3,7 +3,7 @@ ghost use Rattle.std.specs.Prelude.{◌≡◌, ◌≢◌, ◌≤◌, ◌↔◌, 
 ghost use Rattle.driver_link.specs.Exchange.{after_picks, delivered};
 ghost use Rattle.driver_link.specs.Faults.{Rose};
 ghost use Rattle.driver_link.specs.WellFormed.{IsWellFormed};
-ghost use Rattle.script_run.specs.Ended.{Completes, Ended, EndsWith, ends_of, HasRun, IsRefused, IsRunOf, IsTooLarge, SaysTo, Refusal, Reported, command_of, refused_line, usage_line};
+ghost use Rattle.script_run.specs.Ended.{Completes, Ended, EndsWithStatus, IsRefused, IsRunOf, IsTooLarge, SaysTo, Refusal, Reported, RunIsMade, command_of, program_ends, refused_line, usage_line};
 ghost use Rattle.script_run.specs.Report.{drawn_of};
 
 use crate::report::report_text;
@@ -132,12 +132,12 @@ pub fn run_script<I: Source, O: Sink>(
     sink: &mut O,
     run: &mut Run,
 ) -> u8
-    ensures ends { EndsWith result
-        (ends_of (I.left source.old) (I.left source.new) (I.faults source.old) (I.faults source.new)
+    ensures ends { EndsWithStatus result
+        (program_ends (I.left source.old) (I.left source.new) (I.faults source.old) (I.faults source.new)
         (O.contents sink.old) (O.contents sink.new) (O.faults sink.old) (O.faults sink.new))
         run.old run.new }
     ensures no_usage { result ≢ 2 }
-    ensures done { result ≡ 0 → HasRun (I.left source.old) (I.left source.new) run.new }
+    ensures done { result ≡ 0 → RunIsMade (I.left source.old) (I.left source.new) run.new }
     ensures refused { result ≡ 3 → IsRefused (I.left source.old) (I.left source.new) }
     ensures read_failed { result ≡ 4 → Rose (I.faults source.old) (I.faults source.new) }
     ensures write_failed { result ≡ 5 → Rose (O.faults sink.old) (O.faults sink.new) }
@@ -158,7 +158,7 @@ fn script_status<I: Source, O: Sink>(
     run: &mut Run,
 ) -> Status
     ensures ended { Ended result
-        (ends_of (I.left source.old) (I.left source.new) (I.faults source.old) (I.faults source.new)
+        (program_ends (I.left source.old) (I.left source.new) (I.faults source.old) (I.faults source.new)
         (O.contents sink.old) (O.contents sink.new) (O.faults sink.old) (O.faults sink.new))
         run.old run.new }
     ensures no_usage { result ≢ Status.Usage }
@@ -252,12 +252,12 @@ pub fn top<T: Wait + Threads, I: Source, O: Sink>(
     sink: &mut O,
     run: &mut Run,
 ) -> u8
-    ensures ends { EndsWith result
-        (ends_of (I.left source.old) (I.left source.new) (I.faults source.old) (I.faults source.new)
+    ensures ends { EndsWithStatus result
+        (program_ends (I.left source.old) (I.left source.new) (I.faults source.old) (I.faults source.new)
         (O.contents sink.old) (O.contents sink.new) (O.faults sink.old) (O.faults sink.new))
         run.old run.new }
     ensures usage { (result ≡ 2) ↔ (command_of words.now ≡ None) }
-    ensures done { result ≡ 0 → HasRun (I.left source.old) (I.left source.new) run.new }
+    ensures done { result ≡ 0 → RunIsMade (I.left source.old) (I.left source.new) run.new }
     ensures refused { result ≡ 3 → IsRefused (I.left source.old) (I.left source.new) }
     ensures read_failed { result ≡ 4 → Rose (I.faults source.old) (I.faults source.new) }
     ensures write_failed { result ≡ 5 → Rose (O.faults sink.old) (O.faults sink.new) }

@@ -33,10 +33,10 @@ use Rattle.driver_exec.specs.declared.failure.FailurePhase.{FailurePhase}
 use Rattle.driver_exec.specs.declared.failure.FailurePhase.TheVariants.{ConnectionEstablishment, Execution}
 use Rattle.driver_exec.specs.Attempting.{held_after}
 use Rattle.driver_exec.specs.Gentle.{IsLossy}
-use Rattle.driver_exec.specs.Holding.{DrawsSession, ExecutionSession, HoldsSession, dirty_held, dirty_session, needs_session}
+use Rattle.driver_exec.specs.Holding.{DrawsSession, ExecutionSession, HoldsSession, dirty_session, dirty_session_held, needs_session}
 use Rattle.driver_exec.specs.OldDeployment.{reworded}
 use Rattle.driver_exec.specs.OperationCauses.{DrawsNumbers}
-use Rattle.driver_exec.specs.Retry.{RetryState, after, after_first, avoiding, decide, may_be_retried, may_be_sent, told}
+use Rattle.driver_exec.specs.Retry.{RetryState, after, after_first, avoiding, decide, may_be_retried, may_be_sent, reworded_failure}
 
 -- an Ok, or want of memory
 abbrev pub EndsQuietly : {A : Type 0} → Result A Error → Type 0
@@ -95,20 +95,20 @@ retries failure labelled some = ap (λ b. b && may_be_sent failure.phase failure
     by_phase Execution = some
 
 -- so the decision after a first failure allows one
-pub allows : (failure : AttemptFailure) (own : Retryability) (sharded : Bool) → own ≡ may.Write
+pub allows : (failure : AttemptFailure) (retryability : Retryability) (sharded : Bool) → retryability ≡ may.Write
     → has_label (labels_of (reworded failure.error)) RETRYABLE_WRITE_ERROR.now ≡ true → is_some failure.number ≡ true
-    → decide None failure own sharded ≡ Ok (avoiding sharded failure.address (after_first (told failure)))
+    → decide None failure retryability sharded ≡ Ok (avoiding sharded failure.address (after_first (reworded_failure failure)))
 unfolding decide after
-allows failure own sharded is_write labelled some =
-    let now = told failure in
+allows failure retryability sharded is_write labelled some =
+    let now = reworded_failure failure in
     ap (λ test. if test then Ok (avoiding sharded failure.address (after_first now)) else Err (after_first now).failure.error)
     (subst (λ o. may_be_retried now o ≡ true) (sym is_write) (retries now labelled some))
 
 -- where each send has a number the operation may repeat its write
-pub own_write : (sessions : Bool) (own : Retryability) (setup : Option Setup) → DrawsNumbers sessions own setup → own ≡ may.Write
-own_write sessions may.Write setup draws = refl
-own_write sessions may.Read setup draws = absurd draws
-own_write sessions may.None setup draws = absurd draws
+pub draws_write : (sessions : Bool) (retryability : Retryability) (setup : Option Setup) → DrawsNumbers sessions retryability setup → retryability ≡ may.Write
+draws_write sessions may.Write setup draws = refl
+draws_write sessions may.Read setup draws = absurd draws
+draws_write sessions may.None setup draws = absurd draws
 
 -- a session that is held, and a number that was drawn from it
 pub record HasNumber (held : ExecutionSession) (number : Option ℤ) : Type 0 where
@@ -126,15 +126,15 @@ pub no_none : may.None ≡ may.Write → ⊥
 no_none is = cc
 
 -- what is held after an exchange was lost under a session and a number
-pub lost_held : (held : ExecutionSession) (number : Option ℤ) (has : HasNumber held number) (fault : LinkFault) (own : List (List ℕ)) → fault ≡ Io ConnectionReset
-    → held_after (Err (Fault fault own)) (record held { sent = Some number }) ≡ record { session = Some (dirty_session has.session); sent = Some (Some has.value) }
-lost_held held number has fault own is =
-    ap (λ f. if is_network f then dirty_held (record held { sent = Some number }) else record held { sent = Some number }) is
+pub lost_held : (held : ExecutionSession) (number : Option ℤ) (has : HasNumber held number) (fault : LinkFault) (labels : List (List ℕ)) → fault ≡ Io ConnectionReset
+    → held_after (Err (Fault fault labels)) (record held { sent = Some number }) ≡ record { session = Some (dirty_session has.session); sent = Some (Some has.value) }
+lost_held held number has fault labels is =
+    ap (λ f. if is_network f then dirty_session_held (record held { sent = Some number }) else record held { sent = Some number }) is
     ∙ ap (λ s. record { session = option_map dirty_session s; sent = Some number }) has.session_is
     ∙ ap (λ n. record { session = Some (dirty_session has.session); sent = Some n }) has.number_is
 
 -- without a session no number is drawn
-pub undrawn : (turn : Retryability) (now : Option Session) (result : Result (Option ℤ) Error) → DrawsSession turn None now result → (now ≡ None) × (result ≡ Ok None)
+pub undrawn : (connection_retryability : Retryability) (now : Option Session) (result : Result (Option ℤ) Error) → DrawsSession connection_retryability None now result → (now ≡ None) × (result ≡ Ok None)
 undrawn may.Write now result draws = draws
 undrawn may.Read now result draws = draws
 undrawn may.None now result draws = draws

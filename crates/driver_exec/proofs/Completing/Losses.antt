@@ -34,18 +34,18 @@ use Rattle.driver_exec.specs.OperationCauses.{DrawsNumbers, labels_after}
 use Rattle.driver_exec.specs.Retry.{RetryState}
 use Rattle.driver_exec.proofs.HeldSessions.{draws_on, not_both}
 use Rattle.driver_exec.proofs.Moments.{IsBefore, LeadsCalling, after_before, before_twice, checks_well, longer_after, one_moment, selects_lead, selects_well}
-use Rattle.driver_exec.proofs.OperationCausing.{fault_error, reworded_is}
+use Rattle.driver_exec.proofs.OperationCauses.{fault_error, reworded_is}
 use Rattle.driver_exec.proofs.Completing.Ends.{ReadsPlainly, lossy_none, none_some, has_own_label, HasNumber, lost_held, held_again, same_again}
-use Rattle.driver_exec.proofs.Completing.Sessions.{KnownCommand, trial, MayGo, IsReadied, IsPrepared, again_readied, is_conn, reached_at, readied_at}
+use Rattle.driver_exec.proofs.Completing.Sessions.{KnownCommand, attempted, MayGo, IsReadied, IsPrepared, again_readied, is_conn, reached_at, readied_at}
 
 module _ {A : Type 0} (known : KnownCommand A) where
-  open known use {spec, body, does, own, told, link, Ready, ready_answers, ready_again}
+  open known use {spec, body, does, retryability, told, link, Ready, ready_answers, ready_again}
 
   -- the part that is gentle
-  module _ (told_now : ServerRun) (gentle : IsGentlePart does (DrawsNumbers true own (setup_of link)) told told_now) where
+  module _ (told_now : ServerRun) (gentle : IsGentlePart does (DrawsNumbers true retryability (setup_of link)) told told_now) where
     -- one exchange of the part was lost, from a moment on
     pub record Lost (from : ServerRun) (now : AttemptState) : Type 0 where
-      pub draws : DrawsNumbers true own (setup_of link)
+      pub draws : DrawsNumbers true retryability (setup_of link)
       pub session : Session
       pub number : ℤ
       pub held_is : now.held ≡ held_again session number
@@ -78,17 +78,17 @@ module _ {A : Type 0} (known : KnownCommand A) where
       -- its selection does not fail
       pub unselected_none : (error : Error) → NotSelected past mid now error → ⊥
       unselected_none error fails =
-          selects_well (DrawsNumbers true own (setup_of link)) told told_now gentle moment prepared.after mid.link now.link last prepared.is now_is later fails.fault fails.own fails.selects.calls
+          selects_well (DrawsNumbers true retryability (setup_of link)) told told_now gentle moment prepared.after mid.link now.link last prepared.is now_is later fails.fault fails.labels fails.selects.calls
 
       -- nor does its check-out
-      unconnected_none : (address : Address) (error : Error) → NotConnected (trial known) past mid now address error → ⊥
+      unconnected_none : (address : Address) (error : Error) → NotConnected (attempted known) past mid now address error → ⊥
       unconnected_none address error fails =
           let first = (selects_lead moment mid.link fails.mid (Ok address) prepared.is fails.selects.calls).leads in
-          checks_well (DrawsNumbers true own (setup_of link)) told told_now gentle first.moment (before_twice told moment first.moment prepared.after first.later) fails.mid now.link last
-          first.is now_is later fails.fault fails.own fails.checks_out.calls
+          checks_well (DrawsNumbers true retryability (setup_of link)) told told_now gentle first.moment (before_twice told moment first.moment prepared.after first.later) fails.mid now.link last
+          first.is now_is later fails.fault fails.labels fails.checks_out.calls
 
       -- the command went out
-      module _ (address : Address) (conn : Conn) (result : Result (List ℕ) LinkError) (sends : Sends (trial known) past mid now address conn result) where
+      module _ (address : Address) (conn : Conn) (result : Result (List ℕ) LinkError) (sends : Sends (attempted known) past mid now address conn result) where
         -- the calls before the exchange
         came : LeadsCalling moment mid.link sends.ready.link
         came = reached_at known moment mid prepared sends.ready address conn sends.readies
@@ -114,8 +114,8 @@ module _ {A : Type 0} (known : KnownCommand A) where
         steps = subst (λ s. TakesStep s (server_run now.link) send result) came.leads.is (sends.exchanges.exchanges.steps send (sends.exchanges.reads body known.asked))
 
         -- what was drawn may go out
-        goes : MayGo known moment.server conn.description (on_connection own conn.description) sends.numbered sends.number
-        goes = (readied_at known moment mid prepared sends.ready address conn sends.readies (subst DrawnApart sends.store_is apart)).numbered (on_connection own conn.description) sends.numbered sends.number sends.draws
+        goes : MayGo known moment.server conn.description (on_connection retryability conn.description) sends.numbered sends.number
+        goes = (readied_at known moment mid prepared sends.ready address conn sends.readies (subst DrawnApart sends.store_is apart)).numbered (on_connection retryability conn.description) sends.numbered sends.number sends.draws
 
         -- the send may go out to the server
         ready_here : Ready send before.server
@@ -148,7 +148,7 @@ module _ {A : Type 0} (known : KnownCommand A) where
 
         -- without a reply its item is lossy, and it has a number
         lossy_item : run_answer before send ≡ None → server_run now.link ≡ Some (run_after before send)
-            → DrawsNumbers true own (setup_of link) × IsLossy (step_at told.schedule (length before.server.trace)).item
+            → DrawsNumbers true retryability (setup_of link) × IsLossy (step_at told.schedule (length before.server.trace)).item
         lossy_item none is = elim (gentle.items (length before.server.trace) (of_part is)) [
           | inl serves ↦
               let here = ready_answers (held_id sends.numbered) sends.number before.server step ready_here (subst (λ s. IsGentleItem does s.item) step_is serves) in
@@ -161,12 +161,12 @@ module _ {A : Type 0} (known : KnownCommand A) where
         setup_now = sends.exchanges.exchanges.setup ∙ came.leads.setup ∙ prepared.setup
 
         -- the connection takes the write again
-        turn_write : DrawsNumbers true own (setup_of link) → (conn.description.supports_sessions ≡ true) × (on_connection own conn.description ≡ may.Write)
-        turn_write draws = draws_on true own (setup_of link) conn.description draws (is_conn known moment mid prepared sends.ready address conn sends.readies)
+        on_connection_write : DrawsNumbers true retryability (setup_of link) → (conn.description.supports_sessions ≡ true) × (on_connection retryability conn.description ≡ may.Write)
+        on_connection_write draws = draws_on true retryability (setup_of link) conn.description draws (is_conn known moment mid prepared sends.ready address conn sends.readies)
 
         -- the send has a number
-        lost_number : DrawsNumbers true own (setup_of link) → HasNumber sends.numbered sends.number
-        lost_number draws = let takes = turn_write draws in goes.numbers takes.0 takes.1
+        lost_number : DrawsNumbers true retryability (setup_of link) → HasNumber sends.numbered sends.number
+        lost_number draws = let takes = on_connection_write draws in goes.numbers takes.0 takes.1
 
         -- a fault means that the exchange was lost
         lost_now : (fault : LinkFault) (labels : List (List ℕ)) → TakesStep (Some before) (server_run now.link) send (Err (Fault fault labels)) → result ≡ Err (Fault fault labels) → Lost moment now
@@ -199,7 +199,7 @@ module _ {A : Type 0} (known : KnownCommand A) where
             since_after = before_twice told before (run_after before send) since_told (after_before before send)
 
       -- a reply spells no failure
-      spelled_none : (address : Address) (error : Error) → SpellsFailure (trial known) past mid now address error → ⊥
+      spelled_none : (address : Address) (error : Error) → SpellsFailure (attempted known) past mid now address error → ⊥
       spelled_none address error fails =
           let bare = fails.is.is in
           let plain = plain_reply address fails.conn (Ok fails.reply) fails.sends fails.reply (steps address fails.conn (Ok fails.reply) fails.sends) in
@@ -212,23 +212,23 @@ module _ {A : Type 0} (known : KnownCommand A) where
         pub labelled : has_label (labels_of (reworded error)) RETRYABLE_WRITE_ERROR.now ≡ true
 
       -- so it is for each exchange that failed
-      loses_well : (address : Address) (error : Error) → LosesExchange (trial known) past mid now address error → LosesWell error
+      loses_well : (address : Address) (error : Error) → LosesExchange (attempted known) past mid now address error → LosesWell error
       loses_well address error fails =
-          let result = Err (Fault fails.fault fails.own) in
-          let turn = on_connection own fails.conn.description in
+          let result = Err (Fault fails.fault fails.labels) in
+          let connection_retryability = on_connection retryability fails.conn.description in
           let stepped = steps address fails.conn result fails.sends in
-          let lost = lost_now address fails.conn result fails.sends fails.fault fails.own stepped refl in
-          let takes = turn_write address fails.conn result fails.sends lost.draws in
-          let is = fault_error fails.fault fails.own turn fails.is.bare fails.is.is in
-          let labels : labels_of (reworded error) ≡ with_label (label_set fails.own) RETRYABLE_WRITE_ERROR.now
-          = (reworded_is error).1 ∙ fails.is.versioned.labels ∙ is.1 ∙ ap (λ t. labels_after t fails.fault fails.own) takes.1
-          ∙ ap (λ f. labels_after may.Write f fails.own) stepped.2.0 in record {
+          let lost = lost_now address fails.conn result fails.sends fails.fault fails.labels stepped refl in
+          let takes = on_connection_write address fails.conn result fails.sends lost.draws in
+          let is = fault_error fails.fault fails.labels connection_retryability fails.is.bare fails.is.is in
+          let labels : labels_of (reworded error) ≡ with_label (label_set fails.labels) RETRYABLE_WRITE_ERROR.now
+          = (reworded_is error).1 ∙ fails.is.versioned.labels ∙ is.1 ∙ ap (λ t. labels_after t fails.fault fails.labels) takes.1
+          ∙ ap (λ f. labels_after may.Write f fails.labels) stepped.2.0 in record {
             lost = lost;
-            labelled = ap (λ l. has_label l RETRYABLE_WRITE_ERROR.now) labels ∙ has_own_label (label_set fails.own);
+            labelled = ap (λ l. has_label l RETRYABLE_WRITE_ERROR.now) labels ∙ has_own_label (label_set fails.labels);
           }
 
       -- an attempt of the part fails only so
-      pub fails_well : (address : Address) (phase : FailurePhase) (error : Error) → FailsIn (trial known) past mid now address phase error → LosesWell error
+      pub fails_well : (address : Address) (phase : FailurePhase) (error : Error) → FailsIn (attempted known) past mid now address phase error → LosesWell error
       fails_well address ConnectionEstablishment error fails = absurd (unconnected_none address error fails)
       fails_well address Execution error fails = elim fails [
         | inl lost ↦ loses_well address error lost

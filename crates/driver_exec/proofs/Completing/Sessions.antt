@@ -26,7 +26,7 @@ use Rattle.driver_session.specs.StoreTells.{DrawnApart, LendsSession, StoreTells
 use Rattle.driver_ops.specs.Fields.{SendContext, under}
 use Rattle.driver_ops.specs.Operations.{AsksFor, Batch, HasNoSpelling, OperationSpec, Refuses, send_of}
 use Rattle.driver_ops.specs.SendKinds.{SendKind}
-use Rattle.driver_exec.specs.Attempting.{AttemptState, EndsRefused, Readies, Trial, asks_session, may_use, on_connection, trial_of}
+use Rattle.driver_exec.specs.Attempting.{AttemptState, AttemptedOperation, EndsRefused, Readies, asks_session, attempted_operation, may_use, on_connection}
 use Rattle.driver_exec.specs.Concerns.{concern_refusal}
 use Rattle.driver_exec.specs.Executing.{first_state}
 use Rattle.driver_exec.specs.Gentle.{IsLossy}
@@ -48,7 +48,7 @@ pub record KnownCommand (A : Type 0) : Type 1 where
   pub does : WriteKind
   pub asked : AsksFor spec batch body
   -- what of it may be repeated by its own rules
-  pub own : Retryability
+  pub retryability : Retryability
   -- the concern that it goes out with, which is not refused
   pub concern : Option WriteConcern
   pub accepted : concern_refusal concern ≡ None
@@ -76,22 +76,22 @@ pub record KnownCommand (A : Type 0) : Type 1 where
   pub not_last : (at : ℕ) (lent : StoreTells) (session : Session) → LendsSession store lent at session → session.number ≡ last_number → ⊥
 
 module _ {A : Type 0} (known : KnownCommand A) where
-  open known use {spec, batch, which, body, own, concern, store, told, link, link_is, Ready, first_ready, bare_ready, takes_sessions, unrefused, spelled, not_last}
+  open known use {spec, batch, which, body, retryability, concern, store, told, link, link_is, Ready, first_ready, bare_ready, takes_sessions, unrefused, spelled, not_last}
 
   -- the operation as its attempts see it
-  abbrev pub trial : Trial A
-  trial = trial_of spec batch which own concern
+  abbrev pub attempted : AttemptedOperation A
+  attempted = attempted_operation spec batch which retryability concern
 
   -- what may go out under what was drawn
-  pub record MayGo (server : Server) (description : Description) (turn : Retryability) (held : ExecutionSession) (number : Option ℤ) : Type 0 where
+  pub record MayGo (server : Server) (description : Description) (connection_retryability : Retryability) (held : ExecutionSession) (number : Option ℤ) : Type 0 where
     pub ready : Ready (send_of (under (held_id held) number) body) server
-    pub numbers : description.supports_sessions ≡ true → turn ≡ may.Write → HasNumber held number
+    pub numbers : description.supports_sessions ≡ true → connection_retryability ≡ may.Write → HasNumber held number
 
   -- what is so once a connection was had
   pub record IsReadied (server : Server) (description : Description) (held : ExecutionSession) : Type 0 where
     pub allowed : may_use held description ≡ false → ⊥
-    pub unnumbered : (turn : Retryability) (now : ExecutionSession) (error : Error) → DrawsNumber held.sent turn held now (Err error) → kind_of error ≡ kind.Memory
-    pub numbered : (turn : Retryability) (now : ExecutionSession) (number : Option ℤ) → DrawsNumber held.sent turn held now (Ok number) → MayGo server description turn now number
+    pub unnumbered : (connection_retryability : Retryability) (now : ExecutionSession) (error : Error) → DrawsNumber held.sent connection_retryability held now (Err error) → kind_of error ≡ kind.Memory
+    pub numbered : (connection_retryability : Retryability) (now : ExecutionSession) (number : Option ℤ) → DrawsNumber held.sent connection_retryability held now (Ok number) → MayGo server description connection_retryability now number
 
   -- a send under an id and a number that are equal to these may go out
   ready_of : (server : Server) (held : ExecutionSession) (number : Option ℤ) (id : Option (List ℕ)) (value : Option ℤ) → held_id held ≡ id → number ≡ value
@@ -103,9 +103,9 @@ module _ {A : Type 0} (known : KnownCommand A) where
   bare_readied : (description : Description) → description.supports_sessions ≡ false → IsReadied told.server description holds_nothing
   bare_readied description none = record {
     allowed = λ refused. not_both refused;
-    unnumbered = λ turn now error draws. absurd (err_ok error None (undrawn turn draws.session (Err error) draws.draws).1);
-    numbered = λ turn now number draws.
-        let drawn = undrawn turn draws.session (Ok number) draws.draws in
+    unnumbered = λ connection_retryability now error draws. absurd (err_ok error None (undrawn connection_retryability draws.session (Err error) draws.draws).1);
+    numbered = λ connection_retryability now number draws.
+        let drawn = undrawn connection_retryability draws.session (Ok number) draws.draws in
         let number_is : number ≡ None = cc drawn.1 in record {
           ready = ready_of told.server now number None None (ap held_id draws.is ∙ ap (λ s. held_id (record { session = s; sent = None })) drawn.0) number_is (bare_ready None);
           numbers = λ supports is_write. absurd (not_both (sym supports ∙ none));
@@ -124,7 +124,7 @@ module _ {A : Type 0} (known : KnownCommand A) where
     not_at_end error ends = elim ends [ inl memory ↦ memory | inr at_end ↦ absurd (not_last at lent session lends at_end.last) ]
 
     -- so there is a number, unless memory runs out
-    lent_unnumbered : (turn : Retryability) (back : Option Session) (error : Error) → DrawsSession turn (Some session) back (Err error) → kind_of error ≡ kind.Memory
+    lent_unnumbered : (connection_retryability : Retryability) (back : Option Session) (error : Error) → DrawsSession connection_retryability (Some session) back (Err error) → kind_of error ≡ kind.Memory
     lent_unnumbered may.Write back error draws = by_next draws.numbered draws.next draws.numbers draws.gives
       where
         by_next : (numbered : Session) (next : Result ℤ Error) → Numbers session numbered next → GivesNumber next (Err error) → kind_of error ≡ kind.Memory
@@ -135,17 +135,17 @@ module _ {A : Type 0} (known : KnownCommand A) where
     lent_unnumbered may.None back error draws = absurd (err_ok error None draws.1)
 
     -- no number is drawn of it
-    lent_plain : (turn : Retryability) (back : Option Session) (now : ExecutionSession) (number : Option ℤ) → (turn ≡ may.Write → ⊥) → now ≡ held_first back → back ≡ Some session
-        → ◌≡◌ {A = Result (Option ℤ) Error} (Ok number) (Ok None) → MayGo told.server description turn now number
-    lent_plain turn back now number no_write is same none =
+    lent_plain : (connection_retryability : Retryability) (back : Option Session) (now : ExecutionSession) (number : Option ℤ) → (connection_retryability ≡ may.Write → ⊥) → now ≡ held_first back → back ≡ Some session
+        → ◌≡◌ {A = Result (Option ℤ) Error} (Ok number) (Ok None) → MayGo told.server description connection_retryability now number
+    lent_plain connection_retryability back now number no_write is same none =
         let number_is : number ≡ None = cc none in record {
           ready = ready_of told.server now number (Some session.id) None (ap held_id is ∙ ap (λ s. held_id (held_first s)) same) number_is (bare_ready (Some session.id));
           numbers = λ takes is_write. absurd (no_write is_write);
         }
 
     -- the number that is drawn, or none
-    lent_numbered : (turn : Retryability) (back : Option Session) (now : ExecutionSession) (number : Option ℤ) → now ≡ held_first back → DrawsSession turn (Some session) back (Ok number)
-        → MayGo told.server description turn now number
+    lent_numbered : (connection_retryability : Retryability) (back : Option Session) (now : ExecutionSession) (number : Option ℤ) → now ≡ held_first back → DrawsSession connection_retryability (Some session) back (Ok number)
+        → MayGo told.server description connection_retryability now number
     lent_numbered may.Write back now number is draws = by_next draws.numbered draws.next draws.numbers draws.gives (is ∙ ap held_first draws.is)
       where
         by_next : (numbered : Session) (next : Result ℤ Error) → Numbers session numbered next → GivesNumber next (Ok number) → now ≡ held_first (Some numbered)
@@ -164,8 +164,8 @@ module _ {A : Type 0} (known : KnownCommand A) where
     lent_readied : IsReadied told.server description (held_first (Some session))
     lent_readied = record {
       allowed = λ refused. not_both (sym supports ∙ refused);
-      unnumbered = λ turn now error draws. lent_unnumbered turn draws.session error draws.draws;
-      numbered = λ turn now number draws. lent_numbered turn draws.session now number draws.is draws.draws;
+      unnumbered = λ connection_retryability now error draws. lent_unnumbered connection_retryability draws.session error draws.draws;
+      numbered = λ connection_retryability now number draws. lent_numbered connection_retryability draws.session now number draws.is draws.draws;
     }
 
   -- a first attempt had its connection
@@ -181,11 +181,11 @@ module _ {A : Type 0} (known : KnownCommand A) where
 
   -- a further attempt had its connection
   pub again_readied : (session : Session) (number : ℤ) (server : Server) (description : Description) → Ready (send_of (under (Some session.id) (Some number)) body) server
-      → DrawsNumbers true own (setup_of link) → IsOf (setup_of link) description → IsReadied server description (held_again session number)
+      → DrawsNumbers true retryability (setup_of link) → IsOf (setup_of link) description → IsReadied server description (held_again session number)
   again_readied session number server description ready draws is = record {
-    allowed = λ refused. not_both (sym (draws_on true own (setup_of link) description draws is).0 ∙ refused);
-    unnumbered = λ turn now error drawn. absurd (err_ok error (Some number) drawn.1);
-    numbered = λ turn now value drawn.
+    allowed = λ refused. not_both (sym (draws_on true retryability (setup_of link) description draws is).0 ∙ refused);
+    unnumbered = λ connection_retryability now error drawn. absurd (err_ok error (Some number) drawn.1);
+    numbered = λ connection_retryability now value drawn.
         let number_is : value ≡ Some number = cc drawn.1 in record {
           ready = ready_of server now value (Some session.id) (Some number) (ap held_id drawn.0) number_is ready;
           numbers = λ takes is_write. record { session = session; value = number; session_is = ap (λ h. h.session) drawn.0; number_is = number_is };
@@ -212,7 +212,7 @@ module _ {A : Type 0} (known : KnownCommand A) where
   -- an attempt
   module _ (moment : ServerRun) (mid : AttemptState) (prepared : IsPrepared moment mid) where
     -- a connection was had
-    module _ {past : Option RetryState} (ready : AttemptState) (address : Address) (conn : Conn) (readies : Readies trial past mid ready address conn) where
+    module _ {past : Option RetryState} (ready : AttemptState) (address : Address) (conn : Conn) (readies : Readies attempted past mid ready address conn) where
       -- its description is that of the setup
       pub is_conn : IsOf (setup_of link) conn.description
       is_conn = is_of (setup_of link) (setup_of readies.connects.mid) address conn (readies.connects.selects.calls.setup ∙ prepared.setup) readies.connects.checks_out.to
@@ -227,12 +227,12 @@ module _ {A : Type 0} (known : KnownCommand A) where
           (subst (λ b. HoldsSession (needs_session (asks_session b conn.description) mid.held) mid.store ready.store mid.held ready.held (Ok tt)) takes_sessions readies.holds) apart
 
     -- the operation ends at once only for want of memory
-    pub refused_memory : (past : Option RetryState) (now : AttemptState) (error : Error) → DrawnApart now.store → EndsRefused trial past mid now error → kind_of error ≡ kind.Memory
+    pub refused_memory : (past : Option RetryState) (now : AttemptState) (error : Error) → DrawnApart now.store → EndsRefused attempted past mid now error → kind_of error ≡ kind.Memory
     refused_memory past now error apart refused =
         let here = readied_at refused.ready refused.address refused.conn refused.readies (subst DrawnApart refused.store apart) in elim refused.refused [
           | inl none ↦ absurd (here.allowed none.none)
           | inr other ↦ elim other [
-            | inl none ↦ here.unnumbered (on_connection own refused.conn.description) now.held error none.draws
+            | inl none ↦ here.unnumbered (on_connection retryability refused.conn.description) now.held error none.draws
             | inr none ↦ elim none.why [ inl early ↦ absurd (unrefused refused.conn.description error early.1) | inr late ↦ elim late [ inl unspelled ↦ absurd (spelled _ unspelled.fault refl unspelled.none) | inr memory ↦ memory ] ]
           ]
         ]

@@ -29,31 +29,31 @@ abbrev pub attempt_state : StoreTells → LinkState → ClockTells → Execution
 attempt_state store link clock held count = record { store = store; link = besides_out link; clock = clock; held = held; count = count }
 
 -- what comes of an exchange's result after a last send under a number: its reply was read, or the exchange failed
-pub record ComesOfReply {A : Type 0} (spec : OperationSpec A) (turn : Retryability) (version : Option ℤ) (address : Address) (number : Option ℤ) (reply : List ℕ) (attempt : AttemptEnd A) : Type 0 where
+pub record ComesOfReply {A : Type 0} (spec : OperationSpec A) (connection_retryability : Retryability) (version : Option ℤ) (address : Address) (number : Option ℤ) (reply : List ℕ) (attempt : AttemptEnd A) : Type 0 where
   pub answer : Result A Error
   pub reads : ReadsAnswer spec reply answer
-  pub ends : EndsRead turn version address number answer attempt
+  pub ends : EndsRead connection_retryability version address number answer attempt
 
 -- what comes of an exchange, by its result
 abbrev pub Comes : {A : Type 0} → OperationSpec A → Retryability → Option ℤ → Address → Option ℤ → Result (List ℕ) LinkError → AttemptEnd A → Type 0
-Comes spec turn version address number (Ok reply) attempt = ComesOfReply spec turn version address number reply attempt
-Comes spec turn version address number (Err failure) attempt = EndsLost turn version address number failure attempt
+Comes spec connection_retryability version address number (Ok reply) attempt = ComesOfReply spec connection_retryability version address number reply attempt
+Comes spec connection_retryability version address number (Err failure) attempt = EndsLost connection_retryability version address number failure attempt
 
 -- one exchange of a frame over a connection, and what came of it
-pub record ExchangesOnce {A : Type 0} (spec : OperationSpec A) (link link_now : LinkState) (turn : Retryability) (conn : Conn) (address : Address) (frame : Framed) (places : List Place)
+pub record ExchangesOnce {A : Type 0} (spec : OperationSpec A) (link link_now : LinkState) (connection_retryability : Retryability) (conn : Conn) (address : Address) (frame : Framed) (places : List Place)
     (held held_now : ExecutionSession) (attempt : AttemptEnd A) : Type 0 where
   pub result : Result (List ℕ) LinkError
   pub exchanges : ExchangesFrame link link_now conn frame places result
   pub held_is : held_now ≡ held_after result held
-  pub comes : Comes spec turn conn.description.max_wire_version address (number_before held) result attempt
+  pub comes : Comes spec connection_retryability conn.description.max_wire_version address (number_before held) result attempt
 
 -- one exchange of the command under what is held, and what came of it
-pub record Exchanging {A : Type 0} (spec : OperationSpec A) (which : SendKind) (concern : Option WriteConcern) (batch : Batch) (link link_now : LinkState) (turn : Retryability) (conn : Conn) (address : Address)
+pub record Exchanging {A : Type 0} (spec : OperationSpec A) (which : SendKind) (concern : Option WriteConcern) (batch : Batch) (link link_now : LinkState) (connection_retryability : Retryability) (conn : Conn) (address : Address)
     (held held_now : ExecutionSession) (attempt : AttemptEnd A) : Type 0 where
   pub result : Result (List ℕ) LinkError
   pub exchanges : Exchanges spec which batch link link_now conn (in_context (held_id held) (number_before held) concern) result
   pub held_is : held_now ≡ held_after result held
-  pub comes : Comes spec turn conn.description.max_wire_version address (number_before held) result attempt
+  pub comes : Comes spec connection_retryability conn.description.max_wire_version address (number_before held) result attempt
 
 -- the end of an attempt whose build was refused, or met want of memory: a first build's ends the operation
 abbrev pub EndsUnbuilt : {A : Type 0} → Bool → Error → AttemptEnd A → Type 0
@@ -62,30 +62,30 @@ EndsUnbuilt again error Unfit = (again ≡ true) × (is_memory (kind_of error) �
 EndsUnbuilt again error attempt = ⊥
 
 -- there was no number, and nothing went out
-pub record EndsUnnumbered {A : Type 0} (link link_now : LinkState) (turn : Retryability) (held held_now : ExecutionSession) (count count_now : ℕ) (attempt : AttemptEnd A) : Type 0 where
+pub record EndsUnnumbered {A : Type 0} (link link_now : LinkState) (connection_retryability : Retryability) (held held_now : ExecutionSession) (count count_now : ℕ) (attempt : AttemptEnd A) : Type 0 where
   pub error : Error
-  pub draws : DrawsNumber held.sent turn held held_now (Err error)
+  pub draws : DrawsNumber held.sent connection_retryability held held_now (Err error)
   pub link_is : link_now ≡ link
   pub uncounted : count_now ≡ count
   pub ends : attempt ≡ Ended error
 
 -- there was a number and no frame under it, and nothing went out
-pub record EndsUnframed {A : Type 0} (spec : OperationSpec A) (concern : Option WriteConcern) (again : Bool) (link link_now : LinkState) (turn : Retryability) (conn : Conn) (held held_now : ExecutionSession)
+pub record EndsUnframed {A : Type 0} (spec : OperationSpec A) (concern : Option WriteConcern) (again : Bool) (link link_now : LinkState) (connection_retryability : Retryability) (conn : Conn) (held held_now : ExecutionSession)
     (count count_now : ℕ) (attempt : AttemptEnd A) : Type 0 where
   pub error : Error
   pub number : Option ℤ
-  pub draws : DrawsNumber held.sent turn held held_now (Ok number)
+  pub draws : DrawsNumber held.sent connection_retryability held held_now (Ok number)
   pub why : ((builds_again again held ≡ false) × Refuses spec conn.description error) ⊎ (IsUnframed spec (in_context (held_id held_now) number concern) error ⊎ (kind_of error ≡ kind.Memory))
   pub link_is : link_now ≡ link
   pub uncounted : count_now ≡ count
   pub ends : attempt ≡ Ended error
 
 -- there was a number, and the command could not be built again
-pub record EndsUnfit {A : Type 0} (spec : OperationSpec A) (again : Bool) (link link_now : LinkState) (turn : Retryability) (conn : Conn) (held held_now : ExecutionSession)
+pub record EndsUnfit {A : Type 0} (spec : OperationSpec A) (again : Bool) (link link_now : LinkState) (connection_retryability : Retryability) (conn : Conn) (held held_now : ExecutionSession)
     (count count_now : ℕ) (attempt : AttemptEnd A) : Type 0 where
   pub error : Error
   pub number : Option ℤ
-  pub draws : DrawsNumber held.sent turn held held_now (Ok number)
+  pub draws : DrawsNumber held.sent connection_retryability held held_now (Ok number)
   pub again_is : builds_again again held ≡ true
   pub refused : Refuses spec conn.description error
   pub link_is : link_now ≡ link
@@ -93,18 +93,18 @@ pub record EndsUnfit {A : Type 0} (spec : OperationSpec A) (again : Bool) (link 
   pub ends : attempt ≡ Unfit
 
 -- the command went out under its number
-pub record SendsOut {A : Type 0} (spec : OperationSpec A) (which : SendKind) (concern : Option WriteConcern) (batch : Batch) (link link_now : LinkState) (turn : Retryability) (conn : Conn) (address : Address)
+pub record SendsOut {A : Type 0} (spec : OperationSpec A) (which : SendKind) (concern : Option WriteConcern) (batch : Batch) (link link_now : LinkState) (connection_retryability : Retryability) (conn : Conn) (address : Address)
     (held held_now : ExecutionSession) (count count_now : ℕ) (attempt : AttemptEnd A) : Type 0 where
   pub numbered : ExecutionSession
   pub number : Option ℤ
-  pub draws : DrawsNumber held.sent turn held numbered (Ok number)
-  pub exchanging : Exchanging spec which concern batch link link_now turn conn address (record numbered { sent = Some number }) held_now attempt
+  pub draws : DrawsNumber held.sent connection_retryability held numbered (Ok number)
+  pub exchanging : Exchanging spec which concern batch link link_now connection_retryability conn address (record numbered { sent = Some number }) held_now attempt
   pub counted : count_now ≡ count + 1
 
 -- the command of an attempt, of which a failure may be kept
 abbrev pub Sending : {A : Type 0} → OperationSpec A → SendKind → Option WriteConcern → Batch → Bool → LinkState → LinkState → Retryability → Conn → Address → ExecutionSession → ExecutionSession → ℕ → ℕ → AttemptEnd A → Type 0
-Sending spec which concern batch again link link_now turn conn address held held_now count count_now attempt =
-    EndsUnnumbered link link_now turn held held_now count count_now attempt
-    ⊎ (EndsUnframed spec concern again link link_now turn conn held held_now count count_now attempt
-    ⊎ (EndsUnfit spec again link link_now turn conn held held_now count count_now attempt
-    ⊎ SendsOut spec which concern batch link link_now turn conn address held held_now count count_now attempt))
+Sending spec which concern batch again link link_now connection_retryability conn address held held_now count count_now attempt =
+    EndsUnnumbered link link_now connection_retryability held held_now count count_now attempt
+    ⊎ (EndsUnframed spec concern again link link_now connection_retryability conn held held_now count count_now attempt
+    ⊎ (EndsUnfit spec again link link_now connection_retryability conn held held_now count count_now attempt
+    ⊎ SendsOut spec which concern batch link link_now connection_retryability conn address held held_now count count_now attempt))

@@ -4,7 +4,7 @@ use Rattle.driver_error.specs.declared.error.Error.{Error}
 use Rattle.driver_exec.specs.declared.attempt_end.AttemptEnd.{AttemptEnd}
 use Rattle.driver_exec.specs.declared.attempt_end.AttemptEnd.TheVariants.{Failed, Stopped, Unfit}
 use Rattle.driver_exec.specs.declared.failure.AttemptFailure.{AttemptFailure}
-use Rattle.driver_exec.specs.Attempting.{AttemptState, Trial, Tries}
+use Rattle.driver_exec.specs.Attempting.{AttemptState, AttemptedOperation, MakesAttempt}
 use Rattle.driver_exec.specs.Executing.{limit_reached}
 use Rattle.driver_exec.specs.Retry.{RetryState, decide}
 
@@ -20,25 +20,25 @@ kept_or (Some kept) error = kept.failure.error
 
 -- an attempt failed, or ended otherwise
 abbrev pub FailureOf : {A : Type 0} → AttemptEnd A → Result AttemptFailure (AttemptEnd A) → Type 0
-FailureOf (Failed failing) result = result ≡ Ok failing
+FailureOf (Failed failure) result = result ≡ Ok failure
 FailureOf end result = result ≡ Err end
 
 -- an end after which there is no other attempt: it did not fail, and one that needs a failure which is kept has one
 abbrev pub MayAnswer : {A : Type 0} → Option RetryState → AttemptEnd A → Type 0
-MayAnswer kept (Failed failing) = ⊥
+MayAnswer kept (Failed failure) = ⊥
 MayAnswer kept Stopped = is_some kept ≡ true
 MayAnswer kept Unfit = is_some kept ≡ true
 MayAnswer kept end = Unit {0}
 
 -- one more failure, after which the decision keeps this
-pub record FailsOnce {A : Type 0} (trial : Trial A) (sharded : Bool) (kept : Option RetryState) (mid : AttemptState) (failing : AttemptFailure) (retry : RetryState) (now : AttemptState) : Type 0 where
+pub record FailsOnce {A : Type 0} (op : AttemptedOperation A) (sharded : Bool) (kept : Option RetryState) (mid : AttemptState) (failure : AttemptFailure) (retry : RetryState) (now : AttemptState) : Type 0 where
   pub goes_on : limit_reached kept ≡ false
-  pub tries : Tries trial kept mid now (Failed failing)
-  pub decides : decide kept failing trial.own sharded ≡ Ok retry
+  pub makes : MakesAttempt op kept mid now (Failed failure)
+  pub decides : decide kept failure op.retryability sharded ≡ Ok retry
 
 -- the loop came to a moment by these failures, the newest first, and keeps this of them
-abbrev pub Reaches : {A : Type 0} → Trial A → Bool → AttemptState → List AttemptFailure → Option RetryState → AttemptState → Type 0
-Reaches trial sharded before [] kept now = (kept ≡ None) × (now ≡ before)
-Reaches trial sharded before (failing ∷ failures) kept now =
+abbrev pub Reaches : {A : Type 0} → AttemptedOperation A → Bool → AttemptState → List AttemptFailure → Option RetryState → AttemptState → Type 0
+Reaches op sharded before [] kept now = (kept ≡ None) × (now ≡ before)
+Reaches op sharded before (failure ∷ failures) kept now =
     (retry : RetryState) × ((kept ≡ Some retry)
-    × ((mid : AttemptState) × ((earlier : Option RetryState) × (Reaches trial sharded before failures earlier mid × FailsOnce trial sharded earlier mid failing retry now))))
+    × ((mid : AttemptState) × ((earlier : Option RetryState) × (Reaches op sharded before failures earlier mid × FailsOnce op sharded earlier mid failure retry now))))

@@ -22,38 +22,38 @@ IsLabelledBy retryability old (Err error) = kind_of error ≡ kind.Memory
 
 -- the error of a failure of the link, or want of memory
 abbrev pub FaultError : LinkError → Retryability → Result Error Error → Type 0
-FaultError (Fault fault own) retryability (Ok error) = IsFaultOf fault own retryability error
+FaultError (Fault fault labels) retryability (Ok error) = IsFaultOf fault labels retryability error
 FaultError Memory retryability (Ok error) = ⊥
 FaultError failure retryability (Err error) = kind_of error ≡ kind.Memory
 
 -- a failure in a phase, at the server of an address, after a last send under a number, whose error has a property
-pub record IsFailing (phase : FailurePhase) (address : Address) (number : Option ℤ) (P : Error → Type 0) (failing : AttemptFailure) : Type 0 where
-  pub phase_is : failing.phase ≡ phase
-  pub address_is : failing.address ≡ address
-  pub number_is : failing.number ≡ number
-  pub error : P failing.error
+pub record IsAttemptFailure (phase : FailurePhase) (address : Address) (number : Option ℤ) (P : Error → Type 0) (attempt_failure : AttemptFailure) : Type 0 where
+  pub phase_is : attempt_failure.phase ≡ phase
+  pub address_is : attempt_failure.address ≡ address
+  pub number_is : attempt_failure.number ≡ number
+  pub error : P attempt_failure.error
 
 -- the end of an attempt that selected no server
 abbrev pub EndsUnselected : {A : Type 0} → LinkError → AttemptEnd A → Type 0
-EndsUnselected (Fault fault own) (Unselected error) = IsFaultOf fault own may.None error
+EndsUnselected (Fault fault labels) (Unselected error) = IsFaultOf fault labels may.None error
 EndsUnselected failure (Ended error) = kind_of error ≡ kind.Memory
 EndsUnselected failure attempt = ⊥
 
 -- the end of an attempt that had no connection to its server
 abbrev pub EndsUnconnected : {A : Type 0} → Retryability → Address → Option ℤ → LinkError → AttemptEnd A → Type 0
-EndsUnconnected own address number (Fault fault labels) (Failed failing) = IsFailing ConnectionEstablishment address number (IsFaultOf fault labels own) failing
-EndsUnconnected own address number failure (Ended error) = kind_of error ≡ kind.Memory
-EndsUnconnected own address number failure attempt = ⊥
+EndsUnconnected retryability address number (Fault fault labels) (Failed attempt_failure) = IsAttemptFailure ConnectionEstablishment address number (IsFaultOf fault labels retryability) attempt_failure
+EndsUnconnected retryability address number failure (Ended error) = kind_of error ≡ kind.Memory
+EndsUnconnected retryability address number failure attempt = ⊥
 
 -- the end of an attempt whose exchange failed, on a connection of a wire version
 abbrev pub EndsLost : {A : Type 0} → Retryability → Option ℤ → Address → Option ℤ → LinkError → AttemptEnd A → Type 0
-EndsLost turn version address number (Fault fault own) (Failed failing) = IsFailing Execution address number (IsVersioned (IsFaultOf fault own turn) version) failing
-EndsLost turn version address number failure (Ended error) = kind_of error ≡ kind.Memory
-EndsLost turn version address number failure attempt = ⊥
+EndsLost connection_retryability version address number (Fault fault labels) (Failed attempt_failure) = IsAttemptFailure Execution address number (IsVersioned (IsFaultOf fault labels connection_retryability) version) attempt_failure
+EndsLost connection_retryability version address number failure (Ended error) = kind_of error ≡ kind.Memory
+EndsLost connection_retryability version address number failure attempt = ⊥
 
 -- the end of an attempt whose reply was read
 abbrev pub EndsRead : {A : Type 0} → Retryability → Option ℤ → Address → Option ℤ → Result A Error → AttemptEnd A → Type 0
-EndsRead turn version address number (Ok output) attempt = attempt ≡ Done output
-EndsRead turn version address number (Err read) (Failed failing) = IsFailing Execution address number (IsVersioned (IsLabelledRead turn read) version) failing
-EndsRead turn version address number (Err read) (Ended error) = kind_of error ≡ kind.Memory
-EndsRead turn version address number (Err read) attempt = ⊥
+EndsRead connection_retryability version address number (Ok output) attempt = attempt ≡ Done output
+EndsRead connection_retryability version address number (Err read) (Failed attempt_failure) = IsAttemptFailure Execution address number (IsVersioned (IsLabelledRead connection_retryability read) version) attempt_failure
+EndsRead connection_retryability version address number (Err read) (Ended error) = kind_of error ≡ kind.Memory
+EndsRead connection_retryability version address number (Err read) attempt = ⊥

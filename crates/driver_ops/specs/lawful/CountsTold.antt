@@ -1,6 +1,6 @@
 -- What the machine's replies to an update and a delete of one statement tell, where they are read as done: that statement ran now or
 -- had its kept result, and its counts are those that are read.
-use Rattle.std.proofs.Common.{◌≡◌, ℕ, Bool, true, false, List, [], ◌∷◌, ◌++◌, refl, sym, ap, subst, ◌∙◌}
+use Rattle.std.proofs.Common.{◌≡◌, ℕ, true, false, List, [], ◌∷◌, ◌++◌, refl, sym, ap, subst, ◌∙◌}
 use Rattle.std.specs.Prelude.{ℤ, pos, negsuc, ◌^◌, ◌+ℤ◌, ◌&&◌, int_lt, Option, None, Some, Ok, unwrap_or, if◌then◌else◌}
 use Rattle.std.specs.Option.{option_and_then, option_map}
 use Rattle.std.proofs.Math.IntN.{+ℤ_idr}
@@ -36,10 +36,6 @@ use Rattle.driver_ops.specs.Inserts.{int_at, is_one}
 use Rattle.driver_ops.specs.Readings.{labels_in, natural, natural_of}
 use Rattle.driver_ops.specs.WriteReplies.{concern_in, indexed_error_of, indexed_errors, indexed_errors_of, write_errors_in}
 use Rattle.driver_ops.specs.lawful.OneTold.{reply_of_one}
-
--- the truth values differ
-differ : ◌≡◌ {A = Bool} false true → ⊥
-differ is = cc
 
 -- an error says that its command was not done
 pub error_not_one : (code : ℤ) (labels : List (List ℕ)) → is_one (int_at OK.now (error_reply code labels)) ≡ false
@@ -191,9 +187,9 @@ delete_counts plan server write (Failed code) failed read none =
     absurd (errors_fail (reply_of_one command.Delete plan server write (Failed code)) (write_error 0 code) failed (delete_errors plan server write code) read none)
 
 -- a number of a reply is read as it is
-pub number_of : (n : ℤ) → int_of (reply_number n) ≡ Some n
+pub reply_number_is : (n : ℤ) → int_of (reply_number n) ≡ Some n
 unfolding reply_number bson.out-Bson out
-number_of n =
+reply_number_is n =
     elim (int_lt (negsuc (2 ^ 31)) n && int_lt n (pos (2 ^ 31))) as (λ b. int_of (if b then bson.Int32 n else bson.Int64 n) ≡ Some n) [ true ↦ refl | false ↦ refl ]
 
 -- a number and nothing
@@ -203,7 +199,7 @@ plus_nothing n = +ℤ_idr n
 -- the count of one result
 count_read : (n : ℤ) (count : ℕ) → natural_of (reply_number (n +ℤ pos 0)) ≡ Some count → natural n ≡ Some count
 unfolding natural_of
-count_read n count is = sym (ap (option_and_then natural) (number_of (n +ℤ pos 0)) ∙ ap natural (plus_nothing n)) ∙ is
+count_read n count is = sym (ap (option_and_then natural) (reply_number_is (n +ℤ pos 0)) ∙ ap natural (plus_nothing n)) ∙ is
 
 -- the id of a document that was put in is read in the reply
 id_read : (id : Bson) → first_id (bson.Document (field INDEX.now (reply_count 0) ∷ field DOCUMENT_ID.now id ∷ []) ∷ []) ≡ Some id

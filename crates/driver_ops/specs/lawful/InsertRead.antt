@@ -32,7 +32,7 @@ pub spells_one : (a b : List (Pair Bson)) (bytes : List ℕ) → Spells a bytes 
 spells_one a b bytes first second = cc (sym (read_again a first.has) ∙ ap read (sym first.is ∙ second.is) ∙ read_again b second.has)
 
 -- the truth values differ
-differ : ◌≡◌ {A = Bool} false true → ⊥
+pub differ : ◌≡◌ {A = Bool} false true → ⊥
 differ is = cc
 
 -- a failure is none that is done

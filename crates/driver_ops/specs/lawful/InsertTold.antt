@@ -33,7 +33,7 @@ use Rattle.driver_ops.specs.InsertSpec.{insert_spec}
 use Rattle.driver_ops.specs.Inserts.{is_done_reply}
 use Rattle.driver_ops.specs.Operations.{ReadsOutput}
 use Rattle.driver_ops.specs.Served.{met_statements, statements_in}
-use Rattle.driver_ops.specs.lawful.InsertRead.{output_done, spells_one}
+use Rattle.driver_ops.specs.lawful.InsertRead.{differ, output_done, spells_one}
 use Rattle.driver_ops.specs.lawful.Statements.{TellsStatements, reply_of_writes, told_outside, told_reply}
 
 -- an error tells of no insert
@@ -89,10 +89,6 @@ one_told server send write one item done found told is =
           told_reply server send item done found served_so is ∙ ap (body_reply send.body plan server.cursors) alone
           ∙ ap (λ body. body_reply body plan server.cursors (statement_at plan.results plan.fail kept 0 write ∷ [])) one.body;
     }
-
--- the truth values differ
-differ : ◌≡◌ {A = Bool} false true → ⊥
-differ is = cc
 
 -- a statement that is told to be done has a result
 pub done_counts : (plan : Plan) (server : Server) (write : PlacedWrite) (statement : Statement) → is_done_reply (one_reply command.Insert plan server write statement) ≡ true

@@ -2,7 +2,7 @@
 use Rattle.std.proofs.Common.{◌++◌, ◌∙◌}
 use Rattle.driver_ops.specs.OptionFields.{document_in, hint_of}
 use Rattle.driver_actions.specs.Inputs.{value_list}
-use Rattle.driver_actions.proofs.Judging.{joined}
+use Rattle.driver_actions.proofs.InputFaults.{joined}
 use Rattle.driver_actions.proofs.faults.delete_options_fault.Goals as goal
 
 pub returns : goal.returns

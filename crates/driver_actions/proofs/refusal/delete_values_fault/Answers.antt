@@ -4,7 +4,7 @@ use Rattle.driver_ops.specs.Deleting.{delete_command, delete_statement}
 use Rattle.driver_actions.specs.Forms.{command_body, deletes}
 use Rattle.driver_actions.specs.Inputs.{is_long, values_in}
 use Rattle.driver_actions.specs.inside.Faults.{first_of, length_fault, values_fault}
-use Rattle.driver_actions.proofs.Judging.{refused_by}
+use Rattle.driver_actions.proofs.InputFaults.{refused_by}
 use Rattle.driver_actions.proofs.refusal.delete_values_fault.Goals as goal
 
 pub returns : goal.returns

@@ -4,8 +4,8 @@ use Rattle.driver_session.proofs.Drawing.{draws_refl, draws_twice}
 use Rattle.driver_session.proofs.Lending.{lends_refl, lends_twice}
 use Rattle.driver_exec.specs.Client.{store_of}
 use Rattle.driver_exec.specs.Moment.{moment_of}
-use Rattle.driver_actions.proofs.Ending.{began_before, causes_more, causes_start, ended_more, ended_start}
-use Rattle.driver_actions.proofs.Moving.{fresh_replayed, keeps_refl, keeps_twice}
+use Rattle.driver_actions.proofs.CallsInOrder.{began_before, causes_more, causes_start, ended_more, ended_start}
+use Rattle.driver_actions.proofs.ServerMaking.{fresh_replayed, keeps_refl, keeps_twice}
 use Rattle.driver_actions.proofs.run.run_calls.Goals as goal
 
 pub calls-init : goal.calls-init

@@ -1,6 +1,6 @@
 -- The failure became an error that is no want of memory, and it was labelled.
 use Rattle.std.proofs.Common.{sym, ◌∙◌}
-use Rattle.driver_exec.proofs.Faulting.{faulted}
+use Rattle.driver_exec.proofs.FaultErrors.{faulted}
 use Rattle.driver_exec.proofs.attempt_end.fault_error.Goals as goal
 
 pub returns : goal.returns

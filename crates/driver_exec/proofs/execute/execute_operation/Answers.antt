@@ -5,9 +5,9 @@ use Rattle.std.specs.Prelude.{Option, None, Some, Err}
 use Rattle.driver_ops.specs.Operations.{batch_of}
 use Rattle.driver_exec.specs.Client.{store_of}
 use Rattle.driver_exec.specs.Concerns.{IsConcernError, concern_of, concern_refusal}
-use Rattle.driver_exec.proofs.Commanding.{fixed_some}
+use Rattle.driver_exec.proofs.CommandParts.{fixed_some}
 use Rattle.driver_exec.proofs.Keeping.Standing.{one_command_entries, one_command_keeps}
-use Rattle.driver_exec.proofs.Refusing.{executes_caused, executes_works}
+use Rattle.driver_exec.proofs.Refusing.{executes_caused, executes_sends_one_command}
 use Rattle.driver_exec.proofs.execute.execute_operation.Goals as goal
 use Rattle.driver_exec.specs.inside.Attempting.{attempt_state}
 
@@ -35,7 +35,7 @@ returns-clause-unbuilt g c = λ text refused.
 
 pub returns-clause-one_command : goal.returns-clause-one_command
 returns-clause-one_command g c = λ statements fixed.
-    executes_works (g.O.Operation.spec c.args.op.now) (batch_of c.args.places.now statements) (g.O.Operation.next c.args.op.now) _ _ c.args.sends.now c.execute_operation_with_retry-held.new.sends
+    executes_sends_one_command (g.O.Operation.spec c.args.op.now) (batch_of c.args.places.now statements) (g.O.Operation.next c.args.op.now) _ _ c.args.sends.now c.execute_operation_with_retry-held.new.sends
     c.execute_operation_with_retry-held.result.1 (returns-clause-executes g c statements fixed)
 
 -- a number that is fixed, if one is
@@ -57,7 +57,7 @@ returns-clause-entries g c = λ statements fixed body asked.
 pub returns-in-Some-clause-executes : goal.returns-in-Some-clause-executes
 returns-in-Some-clause-executes g c = λ statements fixed. inl (record {
   error = c.in-Some.error;
-  answers = refl;
+  result_is = refl;
   is = subst (λ options. IsConcernError (concern_of (g.O.Operation.spec c.args.op.now) (g.O.Operation.next c.args.op.now) options) c.in-Some.error) c.options.ensures c.in-Some.ensures;
   same = refl;
   uncounted = refl;
@@ -65,7 +65,7 @@ returns-in-Some-clause-executes g c = λ statements fixed. inl (record {
 
 pub returns-in-Some-clause-one_command : goal.returns-in-Some-clause-one_command
 returns-in-Some-clause-one_command g c = λ statements fixed.
-    executes_works (g.O.Operation.spec c.args.op.now) (batch_of c.args.places.now statements) (g.O.Operation.next c.args.op.now) _ _ c.args.sends.now c.args.sends.now (Err c.in-Some.error)
+    executes_sends_one_command (g.O.Operation.spec c.args.op.now) (batch_of c.args.places.now statements) (g.O.Operation.next c.args.op.now) _ _ c.args.sends.now c.args.sends.now (Err c.in-Some.error)
     (returns-in-Some-clause-executes g c statements fixed)
 
 pub returns-in-Some-clause-caused : goal.returns-in-Some-clause-caused

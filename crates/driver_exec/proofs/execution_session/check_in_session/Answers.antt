@@ -1,6 +1,6 @@
 -- The session comes back at a reading of the clock.
 use Rattle.std.proofs.Common.{◌≡◌, Some, rules}
-use Rattle.driver_exec.proofs.Trying.{gives_held}
+use Rattle.driver_exec.proofs.OneAttempt.{gives_held}
 use Rattle.driver_exec.proofs.execution_session.check_in_session.Goals as goal
 
 pub returns-in-Some-clause-takes : goal.returns-in-Some-clause-takes

@@ -1,7 +1,7 @@
 -- A session is lent at a reading of the clock.
 use Rattle.std.proofs.Common.{◌≡◌, true, rules}
 use Rattle.driver_exec.specs.Holding.{needs_session}
-use Rattle.driver_exec.proofs.Trying.{holds_lent}
+use Rattle.driver_exec.proofs.OneAttempt.{holds_lent}
 use Rattle.driver_exec.proofs.execution_session.check_out_session.Goals as goal
 
 pub returns-in-Ok-clause-holds : goal.returns-in-Ok-clause-holds

@@ -1,5 +1,5 @@
 -- Bytes that decode to no document spell none.
-use Rattle.driver_ops.proofs.Responding.{no_document, spells_nothing}
+use Rattle.driver_ops.proofs.ResponseReading.{no_document, spells_nothing}
 use Rattle.driver_ops.proofs.response.read_document.Goals as goal
 
 pub returns-in-Err-At : goal.returns-in-Err-At

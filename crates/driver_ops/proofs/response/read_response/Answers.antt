@@ -1,5 +1,5 @@
 -- An error that the reply says, with the reply.
-use Rattle.driver_ops.proofs.Responding.{says_error}
+use Rattle.driver_ops.proofs.ResponseReading.{says_error}
 use Rattle.driver_ops.proofs.response.read_response.Goals as goal
 
 pub returns-in-Some : goal.returns-in-Some

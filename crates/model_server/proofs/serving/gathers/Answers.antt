@@ -1,6 +1,6 @@
 use Rattle.std.proofs.Common.{ap, sym, ◌∙◌}
 use Rattle.driver_link.specs.Statements.{entries_of}
-use Rattle.model_server.proofs.StepLaws.{fails_does, gathers_does}
+use Rattle.model_server.proofs.SessionStepLaws.{fails_does, gathers_does}
 use Rattle.model_server.proofs.serving.gathers.Goals as goal
 
 pub returns-then-has_failed : goal.returns-then-has_failed

@@ -1,6 +1,6 @@
 use Rattle.std.proofs.Common.{ap, ◌∙◌}
 use Rattle.driver_link.specs.Statements.{entries_of}
-use Rattle.model_server.proofs.StepLaws.{keeps_does}
+use Rattle.model_server.proofs.SessionStepLaws.{keeps_does}
 use Rattle.model_server.proofs.serving.keeps.Goals as goal
 
 pub returns : goal.returns

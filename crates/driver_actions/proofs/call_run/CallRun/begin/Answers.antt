@@ -1,6 +1,6 @@
 -- A run that has made no call stands over whatever is new.
 use Rattle.std.proofs.Common.{[]}
-use Rattle.driver_actions.proofs.Standing.{stands_none}
+use Rattle.driver_actions.proofs.StandingRuns.{stands_none}
 use Rattle.driver_actions.proofs.call_run.CallRun.begin.Goals as goal
 
 pub returns-clause-stands : goal.returns-clause-stands

@@ -2,9 +2,9 @@
 use Rattle.driver_exec.specs.Moment.{moment_of}
 use Rattle.driver_actions.specs.Forms.{form_of}
 use Rattle.driver_actions.specs.SingleCalls.{first_place}
-use Rattle.driver_actions.proofs.Completing.{single_completes}
-use Rattle.driver_actions.proofs.Sending.{makes_raises}
-use Rattle.driver_actions.proofs.Writing.Entries.{makes_entry, makes_keeps}
+use Rattle.driver_actions.proofs.CallSends.{makes_raises}
+use Rattle.driver_actions.proofs.Completeness.{single_completes}
+use Rattle.driver_actions.proofs.SingleWrites.Entries.{makes_entry, makes_keeps}
 use Rattle.driver_actions.proofs.single.ClientSingleWrites.single.Goals as goal
 
 pub returns-clause-keeps : goal.returns-clause-keeps

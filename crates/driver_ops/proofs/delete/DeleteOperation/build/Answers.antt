@@ -3,7 +3,7 @@ use Rattle.std.proofs.Common.{◌∙◌, ap, refl}
 use Rattle.driver_ops.specs.Deleting.{delete_command, delete_statement}
 use Rattle.driver_ops.specs.SendKinds.{first}
 use Rattle.driver_ops.specs.Targets.{database_of}
-use Rattle.driver_ops.proofs.Stating.{built_delete}
+use Rattle.driver_ops.proofs.StatementCommand.{built_delete}
 use Rattle.driver_ops.proofs.delete.DeleteOperation.build.Goals as goal
 
 pub returns-clause-builds : goal.returns-clause-builds

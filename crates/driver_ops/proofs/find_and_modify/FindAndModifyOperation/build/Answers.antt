@@ -3,7 +3,7 @@ use Rattle.std.proofs.Common.{◌∙◌, ap, refl}
 use Rattle.driver_ops.specs.FindingAndModifying.{find_command}
 use Rattle.driver_ops.specs.SendKinds.{first}
 use Rattle.driver_ops.specs.Targets.{database_of}
-use Rattle.driver_ops.proofs.Finding.{built_find}
+use Rattle.driver_ops.proofs.FindCommand.{built_find}
 use Rattle.driver_ops.proofs.find_and_modify.FindAndModifyOperation.build.Goals as goal
 
 pub returns-clause-builds : goal.returns-clause-builds

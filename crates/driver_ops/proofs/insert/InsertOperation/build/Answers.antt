@@ -3,7 +3,7 @@ use Rattle.std.proofs.Common.{◌∙◌, ap, refl, subst}
 use Rattle.driver_ops.specs.Inserts.{IsOneDocument, insert_command}
 use Rattle.driver_ops.specs.SendKinds.{first}
 use Rattle.driver_ops.specs.Targets.{database_of}
-use Rattle.driver_ops.proofs.Inserting.{built_insert}
+use Rattle.driver_ops.proofs.InsertCommand.{built_insert}
 use Rattle.driver_ops.proofs.insert.InsertOperation.build.Goals as goal
 
 pub returns-clause-builds : goal.returns-clause-builds

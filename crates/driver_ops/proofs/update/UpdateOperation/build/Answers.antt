@@ -3,7 +3,7 @@ use Rattle.std.proofs.Common.{◌∙◌, ap, refl}
 use Rattle.driver_ops.specs.Updating.{update_command, update_statement}
 use Rattle.driver_ops.specs.SendKinds.{first}
 use Rattle.driver_ops.specs.Targets.{database_of}
-use Rattle.driver_ops.proofs.Stating.{built_update}
+use Rattle.driver_ops.proofs.StatementCommand.{built_update}
 use Rattle.driver_ops.proofs.update.UpdateOperation.build.Goals as goal
 
 pub returns-clause-builds : goal.returns-clause-builds

@@ -1,0 +1,132 @@
+#!/usr/bin/env python3
+"""Times a small insert: by a call of its own over a link that answers from memory, and as one of a list over the
+model server.
+
+Proves and builds crates/write_bench as the gate's first run does (`rt run`: LLVM, the default level), and runs
+each work with 1,000 and with 10,000 inserts. A figure of a call is what the larger run takes more, over the calls
+that it makes more, so the start of the program is left out; it has in it the insert that is made anew for each call
+and let go again. Processor time is the median of some runs. Where valgrind is installed, callgrind counts
+instructions, and two tables for each work say where those of a call go: the ten functions that take most
+themselves, all instances of a generic function in one row, and the ten that take most with all that they call, each
+instance in a row of its own.
+
+usage: bench/write.py [RUNS [PROGRAM]]      (RUNS: 9 if left out; with a PROGRAM nothing is built)
+"""
+
+import os
+import re
+import resource
+import shutil
+import statistics
+import subprocess
+import sys
+import tempfile
+
+CRATE = os.path.join(os.path.dirname(os.path.abspath(__file__)), "..", "crates", "write_bench")
+PROGRAM = os.path.join(CRATE, "out", "write_bench")
+WORKS = {"single": "ok={count}", "list": "ok={count} entries={count}"}
+FEW, MANY = 1_000, 10_000
+ROWS = 10
+
+# A line of callgrind_annotate: a count, its share, and a file with a function, as
+#  4,426 (1.75%)  ???:driver_exec::execute::execute_operation_with_retry::<#33556ab3133f353b> [/tmp/write_bench]
+LINE = re.compile(r"^ *([\d,]+) \( *[\d.]+%\)  ([^:\n]*):(.+?)(?: \[[^\]]*\])?$", re.MULTILINE)
+
+
+def spent():
+    usage = resource.getrusage(resource.RUSAGE_CHILDREN)
+    return usage.ru_utime + usage.ru_stime
+
+
+def seconds(program, work, count, runs):
+    """The processor seconds of a run, which must end well."""
+    wanted = f"{work} {count}: {WORKS[work].format(count=count)}\n"
+    times = []
+    for _ in range(runs):
+        before = spent()
+        told = subprocess.run([program, work, str(count)], check=True, stdout=subprocess.PIPE, text=True)
+        times.append(spent() - before)
+        if told.stdout != wanted:
+            raise SystemExit(f"{told.stdout.strip()}, and not {wanted.strip()}")
+    return statistics.median(times)
+
+
+def counted(program, work, count, folder):
+    """How many instructions a run takes, and the file that callgrind leaves."""
+    path = os.path.join(folder, f"{work}{count}")
+    counter = ["valgrind", "--tool=callgrind", f"--callgrind-out-file={path}", program, work, str(count)]
+    told = subprocess.run(counter, check=True, stdout=subprocess.DEVNULL, stderr=subprocess.PIPE)
+    return int(re.search(rb"Collected : (\d+)", told.stderr)[1]), path
+
+
+def annotated(path, inclusive):
+    """The instructions of each function: its own, or those with all that it calls."""
+    told = subprocess.run(
+        ["callgrind_annotate", "--threshold=100", f"--inclusive={inclusive}", path],
+        check=True,
+        stdout=subprocess.PIPE,
+        text=True,
+    )
+    return [(function, int(count.replace(",", ""))) for count, _, function in LINE.findall(told.stdout)]
+
+
+def own(path):
+    """The own instructions of each function, instances and depths of recursion added up."""
+    sums = {}
+    for function, count in annotated(path, "no"):
+        name = re.sub(r"'\d+$", "", re.sub(r"::<.*>", "", function))
+        sums[name] = sums.get(name, 0) + count
+    return sums
+
+
+def with_callees(path):
+    """The instructions of each instance with all that it calls. One that is inside of itself is counted by its outer
+    call; the C library and the start are left out."""
+    sums = {}
+    for function, count in annotated(path, "yes"):
+        if "::" in function and not re.search(r"'\d+$", function):
+            name = re.sub(r"<#(\w{4})\w*>", r"<\1>", function)
+            sums[name] = max(sums.get(name, 0), count)
+    return sums
+
+
+def table(title, few, many, whole):
+    """The functions that take most of a call, whose instructions are `whole`."""
+    print(title)
+    calls = MANY - FEW
+    each = {name: (count - few.get(name, 0)) / calls for name, count in many.items()}
+    dearest = sorted(each.items(), key=lambda item: (-item[1], item[0]))[:ROWS]
+    for name, count in dearest:
+        if count < 0.5:
+            break
+        print(f"{count:>10.0f} {100 * count / whole:>5.1f}%  {name}")
+    print()
+
+
+def measure(program, work, runs, folder):
+    """Prints the figures of a call, and where its instructions go."""
+    few, many = (seconds(program, work, count, runs) for count in (FEW, MANY))
+    print(f"{work}: a call of {MANY} over {FEW}, median of {runs} runs")
+    print(f"{1e6 * (many - few) / (MANY - FEW):>10.2f} us of processor time ({few * 1e3:.1f} and {many * 1e3:.1f} ms)")
+    if shutil.which("valgrind") is None or shutil.which("callgrind_annotate") is None:
+        print("         - instructions: valgrind is not installed\n")
+        return
+    (few, few_path), (many, many_path) = (counted(program, work, count, folder) for count in (FEW, MANY))
+    whole = (many - few) / (MANY - FEW)
+    print(f"{whole:>10.0f} instructions ({few / 1e6:.1f} and {many / 1e6:.1f} M)\n")
+    table("of these in the function itself", own(few_path), own(many_path), whole)
+    table("in the function and all that it calls", with_callees(few_path), with_callees(many_path), whole)
+
+
+def main():
+    runs = int(sys.argv[1]) if len(sys.argv) > 1 else 9
+    program = os.path.abspath(sys.argv[2]) if len(sys.argv) > 2 else PROGRAM
+    if len(sys.argv) <= 2:
+        subprocess.run(["rt", "run", "--jobs", "1"], cwd=CRATE, check=True, stdout=subprocess.DEVNULL)
+    with tempfile.TemporaryDirectory() as folder:
+        for work in WORKS:
+            measure(program, work, runs, folder)
+
+
+if __name__ == "__main__":
+    main()

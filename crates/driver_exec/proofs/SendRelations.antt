@@ -1,0 +1,108 @@
+-- The sends of a command, one after another: how many went out, and what answers the last.
+use Rattle.std.proofs.Common.{◌≡◌, ℕ, zero, suc, List, refl, sym, subst, ◌∙◌, inl, inr}
+use Rattle.std.specs.Prelude.{Option, None, Some, ◌⊎◌, Ok, Err}
+use Rattle.driver_link.specs.declared.fault.LinkError.TheVariants.{Fault, Memory}
+use Rattle.driver_link.specs.declared.fault.LinkFault.{LinkFault}
+use Rattle.driver_link.specs.declared.machine.Send.{Send}
+use Rattle.driver_link.specs.Counting.{KeepsServer, OnlyCounts}
+use Rattle.driver_link.specs.ServerRun.{ServerRun, TakesStep, run_after}
+use Rattle.driver_exec.specs.Resending.{AnsweredLast, SendsTold, SentTimes}
+
+keeps_twice : (a b c : ServerRun) → KeepsServer a b → KeepsServer b c → KeepsServer a c
+keeps_twice a b c first second =
+    record { server = second.server ∙ first.server; setup = second.setup ∙ first.setup; schedule = second.schedule ∙ first.schedule }
+
+keeps_refl : (told : ServerRun) → KeepsServer told told
+keeps_refl told = record { server = refl; setup = refl; schedule = refl }
+
+-- calls that were only counted behind the sends
+sends_counted : (told mid now : ServerRun) (send : Send) (count : ℕ) → SendsTold told mid send count → KeepsServer mid now → SendsTold told now send count
+sends_counted told mid now send zero sends keeps = keeps_twice told mid now sends keeps
+sends_counted told mid now send (suc count) sends keeps = (sends.0, (sends.1.0, keeps_twice (run_after sends.0 send) mid now sends.1.1 keeps))
+
+pub sent_counted : (link mid now : Option ServerRun) (send : Send) (count : ℕ) → SentTimes link mid send count → OnlyCounts mid now → SentTimes link now send count
+sent_counted None mid now send count sent counts = subst (λ told. OnlyCounts told now) sent counts
+sent_counted (Some told) None now send count sent counts = absurd sent
+sent_counted (Some told) (Some mid) None send count sent counts = absurd counts
+sent_counted (Some told) (Some mid) (Some now) send count sent counts = sends_counted told mid now send count sent counts
+
+-- nothing was sent, whatever it might be
+pub none_sent : (link now : Option ServerRun) (send other : Send) (count : ℕ) → count ≡ 0 → SentTimes link now send count → SentTimes link now other 0
+none_sent None now send other count none sent = sent
+none_sent (Some told) None send other count none sent = absurd sent
+none_sent (Some told) (Some now) send other count none sent = subst (SendsTold told now send) none sent
+
+pub begins_unsent : (link : Option ServerRun) (send : Send) → SentTimes link link send 0
+begins_unsent None send = refl
+begins_unsent (Some told) send = keeps_refl told
+
+-- one send more
+sent_more : (link mid : Option ServerRun) (now : Option ServerRun) (send : Send) (count : ℕ) → SentTimes link mid send count
+    → ((told : ServerRun) → mid ≡ Some told → now ≡ Some (run_after told send)) → (mid ≡ None → now ≡ None) → SentTimes link now send (suc count)
+sent_more None mid now send count sent steps none = none sent
+sent_more (Some told) None now send count sent steps none = absurd sent
+sent_more (Some told) (Some mid) now send count sent steps none =
+    subst (λ n. SentTimes (Some told) n send (suc count)) (sym (steps mid refl)) (mid, (sent, keeps_refl (run_after mid send)))
+
+module _ (link : Option ServerRun) (send : Send) (count : ℕ) where
+  -- a reply was given
+  pub sent_answered : (mid now : Option ServerRun) (bytes : List ℕ) → SentTimes link mid send count → TakesStep mid now send (Ok bytes) → SentTimes link now send (suc count)
+  sent_answered None now bytes sent steps = sent_more link None now send count sent (λ told is. absurd (none_some told is)) (λ none. steps)
+    where
+      none_some : (told : ServerRun) → ◌≡◌ {A = Option ServerRun} None (Some told) → ⊥
+      none_some told is = cc
+  sent_answered (Some mid) now bytes sent steps = sent_more link (Some mid) now send count sent (λ told is. steps_at told is) (λ none. absurd (some_none none))
+    where
+      steps_at : (told : ServerRun) → ◌≡◌ {A = Option ServerRun} (Some mid) (Some told) → now ≡ Some (run_after told send)
+      steps_at told is = let same : mid ≡ told = cc is in subst (λ t. now ≡ Some (run_after t send)) same steps.0
+
+      some_none : ◌≡◌ {A = Option ServerRun} (Some mid) None → ⊥
+      some_none is = cc
+
+  -- an exchange failed by a fault
+  pub sent_lost : (mid now : Option ServerRun) (fault : LinkFault) (labels : List (List ℕ)) → SentTimes link mid send count → TakesStep mid now send (Err (Fault fault labels))
+      → SentTimes link now send (suc count)
+  sent_lost None now fault labels sent steps = sent_more link None now send count sent (λ told is. absurd (none_some told is)) (λ none. steps)
+    where
+      none_some : (told : ServerRun) → ◌≡◌ {A = Option ServerRun} None (Some told) → ⊥
+      none_some told is = cc
+  sent_lost (Some mid) now fault labels sent steps = sent_more link (Some mid) now send count sent (λ told is. steps_at told is) (λ none. absurd (some_none none))
+    where
+      steps_at : (told : ServerRun) → ◌≡◌ {A = Option ServerRun} (Some mid) (Some told) → now ≡ Some (run_after told send)
+      steps_at told is = let same : mid ≡ told = cc is in subst (λ t. now ≡ Some (run_after t send)) same steps.0
+
+      some_none : ◌≡◌ {A = Option ServerRun} (Some mid) None → ⊥
+      some_none is = cc
+
+  -- after want of memory the send went out or not
+  pub sent_maybe : (mid now : Option ServerRun) → SentTimes link mid send count → TakesStep mid now send (Err Memory)
+      → SentTimes link now send count ⊎ SentTimes link now send (suc count)
+  sent_maybe None now sent steps = inl (subst (λ n. SentTimes link n send count) (sym steps) sent)
+  sent_maybe (Some mid) now sent steps = elim steps [
+    | inl same ↦ inl (subst (λ n. SentTimes link n send count) (sym same) sent)
+    | inr stepped ↦ inr (sent_lost_as stepped)
+  ]
+    where
+      sent_lost_as : now ≡ Some (run_after mid send) → SentTimes link now send (suc count)
+      sent_lost_as is = sent_more link (Some mid) now send count sent (λ told same. steps_at told same is) (λ none. absurd (some_none none))
+        where
+          steps_at : (told : ServerRun) → ◌≡◌ {A = Option ServerRun} (Some mid) (Some told) → now ≡ Some (run_after mid send) → now ≡ Some (run_after told send)
+          steps_at told is stepped = let same : mid ≡ told = cc is in subst (λ t. now ≡ Some (run_after t send)) same stepped
+
+          some_none : ◌≡◌ {A = Option ServerRun} (Some mid) None → ⊥
+          some_none is = cc
+
+  -- the reply answers the last send
+  pub answered_last : (mid now : Option ServerRun) (bytes : List ℕ) → SentTimes link mid send count → TakesStep mid now send (Ok bytes)
+      → AnsweredLast link now send count bytes
+  answered_last mid now bytes sent steps = by_link link mid sent steps
+    where
+      by_link : (link mid : Option ServerRun) → SentTimes link mid send count → TakesStep mid now send (Ok bytes) → AnsweredLast link now send count bytes
+      by_link None mid sent steps = subst (λ m. TakesStep m now send (Ok bytes)) sent steps
+      by_link (Some told) None sent steps = absurd sent
+      by_link (Some told) (Some mid) sent steps = subst (λ n. AnsweredLast (Some told) n send count bytes) (sym steps.0) (record {
+        mid = mid;
+        sent = sent;
+        reply = steps.1;
+        rest = keeps_refl (run_after mid send);
+      })

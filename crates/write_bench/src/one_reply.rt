@@ -1,0 +1,112 @@
+//! A link that answers from memory and keeps nothing, so that what is timed is the driver.
+use bson_lite::{Bytes, Text, TryClone};
+use driver_error::Error;
+use driver_link::{
+    Address, Conn, Description, Frame, Link, LinkError, Place, SelectionCriteria, Setup,
+};
+use std::alloc::{AllocError, Global};
+
+/// How the server of either link describes itself.
+pub const SETUP: Setup = Setup {
+    description: Description {
+        max_wire_version: Some(25),
+        max_bson_object_size: 16_777_216,
+        max_message_size_bytes: 48_000_000,
+        max_write_batch_size: 100_000,
+        supports_sessions: true,
+        supports_retryable_writes: true,
+        sharded: false,
+    },
+    transactions: true,
+    timeout_ms: Some(1_800_000),
+};
+
+/// The reply `{ok: 1, n: 1}`.
+const DONE: &[u8] = b"\x14\0\0\0\x10ok\0\x01\0\0\0\x10n\0\x01\0\0\0\0";
+
+/// A link that gives the same reply to each exchange, whatever is sent.
+#[derive(Drop)]
+pub struct OneReply {
+    reply: Bytes,
+}
+
+impl OneReply {
+    /// One that answers that one document was written.
+    pub fn new(alloc: Global) -> Result<OneReply, AllocError> {
+        Ok(OneReply {
+            reply: Bytes::from_slice(alloc, DONE)?,
+        })
+    }
+}
+
+impl Link for OneReply {
+    ghost use Rattle.std.specs.Prelude.{None};
+    ghost use Rattle.driver_link.specs.LinkState.{Untold};
+
+    ghost tells = { λ link. record {
+      making = Untold;
+      answers = None;
+      frames = None;
+      over = None;
+      asked = None;
+      addresses = None;
+      connections = None;
+      out = None;
+      faults = 0;
+    } };
+
+    fn select(
+        &mut self,
+        alloc: Global,
+        _criteria: Option<&SelectionCriteria>,
+        _deprioritized: &[Address],
+    ) -> Result<Address, LinkError> {
+        let host = Text::from_str(alloc, "bench")?;
+        Ok(Address { host, port: 27017 })
+    }
+
+    fn is_sharded(&self) -> bool {
+        SETUP.description.sharded
+    }
+
+    fn session_timeout_ms(&self) -> Option<u64> {
+        SETUP.timeout_ms
+    }
+
+    fn transaction_support(&mut self, _alloc: Global) -> Result<bool, LinkError> {
+        Ok(SETUP.transactions)
+    }
+
+    fn check_out(&mut self, alloc: Global, address: &Address) -> Result<Conn, LinkError> {
+        Ok(Conn {
+            address: address.try_clone(alloc)?,
+            description: SETUP.description,
+            number: 0,
+        })
+    }
+
+    fn exchange(
+        &mut self,
+        alloc: Global,
+        _conn: &Conn,
+        _frame: &Frame,
+        _places: &[Place],
+    ) -> Result<Bytes, LinkError> {
+        Ok(self.reply.try_clone(alloc)?)
+    }
+
+    fn reauthenticate(&mut self, _alloc: Global, _conn: &Conn) -> Result<(), LinkError> {
+        Ok(())
+    }
+
+    fn check_in(&mut self, conn: Conn) {
+        let Conn {
+            address,
+            description: _,
+            number: _,
+        } = conn;
+        drop(address);
+    }
+
+    fn report(&mut self, _address: &Address, _error: &Error) {}
+}

@@ -1,0 +1,99 @@
+//! The two ways to make so many inserts, and what came out of them.
+use crate::inserts::{all_served, insert, insert_calls, new_client, outside_with};
+use crate::one_reply::{OneReply, SETUP};
+use bson_lite::List;
+use driver_actions::{Call, Outcome, SingleWrites, run_calls};
+use driver_error::Result;
+use driver_exec::Outside;
+use driver_link::MemClock;
+use model_server::ModelServer;
+use rand_pcg::Pcg32;
+use std::alloc::Global;
+
+/// How so many inserts are made.
+#[derive(Clone, Copy)]
+pub enum Work {
+    /// By a call each, over a link that answers from memory.
+    Single,
+    /// As one list, over a model server that serves each exchange.
+    List,
+}
+
+impl Work {
+    /// The work with this name.
+    pub fn named(word: &str) -> Option<Work> {
+        match word {
+            "single" => Some(Work::Single),
+            "list" => Some(Work::List),
+            _ => None,
+        }
+    }
+
+    /// How many inserts it takes at most.
+    pub fn limit(self) -> u32 {
+        match self {
+            Work::Single => 1_000_000,
+            Work::List => 100_000,
+        }
+    }
+
+    /// Makes so many inserts, and says how many are Ok. An error is that of the first one that is not.
+    pub fn run(self, alloc: Global, count: u32) -> Result<String> {
+        match self {
+            Work::Single => one_by_one(alloc, count),
+            Work::List => as_list(alloc, count),
+        }
+    }
+}
+
+fn one_by_one(alloc: Global, count: u32) -> Result<String> {
+    let mut client = new_client(alloc);
+    let mut outside = outside_with(OneReply::new(alloc)?);
+    let mut done = 0u32;
+    for number in 0..count {
+        let write = insert(alloc, number)?;
+        outside.call = u64::from(number);
+        let answer = client.single(alloc, &write, &mut outside)?;
+        drop(answer);
+        done = done.wrapping_add(1);
+    }
+    Ok(format!(in alloc; "ok={done}")?)
+}
+
+fn as_list(alloc: Global, count: u32) -> Result<String> {
+    let calls = insert_calls(alloc, count)?;
+    let mut outside = outside_with(ModelServer::new(alloc, SETUP, all_served(alloc)));
+    let made = make(alloc, &mut outside, calls.as_slice());
+    let entries = outside.link.server().log.len();
+    drop(calls);
+    drop(outside);
+    let done = made?;
+    Ok(format!(in alloc; "ok={done} entries={entries}")?)
+}
+
+/// Makes the calls of a list by a new client, and says how many there were.
+fn make(
+    alloc: Global,
+    outside: &mut Outside<ModelServer, MemClock, Pcg32>,
+    calls: &[Call],
+) -> Result<u32> {
+    let mut client = new_client(alloc);
+    let made = run_calls(alloc, &mut client, outside, calls);
+    drop(client);
+    all_done(made?)
+}
+
+/// How many outcomes there are, where all are Ok.
+fn all_done(outcomes: List<Outcome>) -> Result<u32> {
+    let mut done = 0u32;
+    for outcome in outcomes.into_vec() {
+        let Outcome {
+            result,
+            started_ms: _,
+            ended_ms: _,
+        } = outcome;
+        drop(result?);
+        done = done.wrapping_add(1);
+    }
+    Ok(done)
+}
