@@ -1,6 +1,6 @@
 -- Input and output in memory, which fail at calls that are listed.
 use Rattle.std.specs.Prelude.{ℕ, Bool, ◌==◌, ◌||◌, List, length}
-use Rattle.std.specs.List.{list_any}
+use Rattle.driver_link.specs.Counting.{is_listed}
 
 -- the bytes that are left, the numbers of the calls that fail, and how many calls and faults there were
 pub record SourceState : Type 0 where
@@ -17,10 +17,6 @@ pub record SinkState : Type 0 where
   pub calls : ℕ
   pub faults : ℕ
 
--- a number is listed
-abbrev pub is_listed : ℕ → List ℕ → Bool
-is_listed call fails = list_any (λ k. k == call) fails
-
 -- the next write of a sink fails: it is listed, or the sink is full
 abbrev pub write_fails : SinkState → Bool
-write_fails sink = is_listed sink.calls sink.fails || (length sink.contents == sink.room)
+write_fails sink = is_listed sink.fails sink.calls || (length sink.contents == sink.room)
