@@ -6,7 +6,7 @@ use Rattle.driver_link.specs.declared.machine.Send.{Send}
 use Rattle.driver_link.specs.declared.machine.SendBody.{SendBody}
 use Rattle.driver_link.specs.declared.machine.Server.{Server}
 use Rattle.driver_link.specs.Cases.{body_writes, writes_of}
-use Rattle.driver_link.specs.Settled.{Has, IsOrderly, IsSettled, IsUnder, IsWrite}
+use Rattle.driver_link.specs.Settled.{Has, IsOrderly, IsSettled, IsUnder, IsWrite, PlacesApart}
 use Rattle.driver_link.specs.Apart.{NotAmong}
 use Rattle.driver_session.specs.declared.pool.IdleSession.{IdleSession}
 use Rattle.driver_session.specs.Pool.{Pool, Among}
@@ -43,11 +43,6 @@ pub record Between (pool : Pool) (trace : List Send) : Type 0 where
 pub record Sound (server : Server) : Type 0 where
   pub orderly : IsOrderly server.trace
   pub settled : IsSettled server.trace server
-
--- no place stands twice among writes
-abbrev pub PlacesApart : List PlacedWrite → Type 0
-PlacesApart writes =
-    (i j : ℕ) (one other : PlacedWrite) → slice_get writes i ≡ Some one → slice_get writes j ≡ Some other → one.place ≡ other.place → i ≡ j
 
 -- none of the places of writes stands in a trace
 abbrev pub PlacesNew : List Send → List PlacedWrite → Type 0

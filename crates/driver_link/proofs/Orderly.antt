@@ -4,9 +4,8 @@ use Rattle.std.specs.Prelude.{ℤ, Option, None, Some, ◌⊎◌, slice_get}
 use Rattle.driver_link.specs.declared.machine.PlacedWrite.{PlacedWrite}
 use Rattle.driver_link.specs.declared.machine.Send.{Send}
 use Rattle.driver_link.specs.Cases.{writes_of}
-use Rattle.driver_link.specs.Settled.{Has, IsEither, IsOneNumber, IsOrderly, IsPlain, IsSamePlace, IsUnder, IsUnnumbered, MayJoin, SharePlace}
+use Rattle.driver_link.specs.Settled.{Has, IsEither, IsOneNumber, IsOrderly, IsPlain, IsSamePlace, IsUnder, IsUnnumbered, MayJoin, PlacesApart, SharePlace}
 use Rattle.driver_link.proofs.Lists.{earlier_or_last, get_last, get_left, has_at, has_either, none_beyond, none_is_some, position_of, some_is_some}
-use Rattle.driver_link.proofs.Placing.{AllPlaces}
 
 -- a number is no lack of one
 pub numbered_or_not : (found : Option ℤ) (number : ℤ) → found ≡ Some number → found ≡ None → ⊥
@@ -48,7 +47,7 @@ alike trace orderly a b i j v w left right at_i at_j same =
     ]
 
 -- the places of one send's writes differ
-pub all_places : (trace : List Send) → IsOrderly trace → (send : Send) → Has trace send → AllPlaces (writes_of send)
+pub all_places : (trace : List Send) → IsOrderly trace → (send : Send) → Has trace send → PlacesApart (writes_of send)
 all_places trace orderly send sent = λ i j v w at_i at_j same. (alike trace orderly send send i j v w sent sent at_i at_j same).position
 
 -- a send under a number is plain
@@ -87,7 +86,7 @@ last_or trace send one has = elim (has_either trace (send ∷ []) one has) [
 ]
 
 -- a send whose places are new may join, under a number that is new or under none
-module _ (trace : List Send) (send : Send) (is_either : IsEither send) (apart : AllPlaces (writes_of send))
+module _ (trace : List Send) (send : Send) (is_either : IsEither send) (apart : PlacesApart (writes_of send))
     (new_places : (earlier : Send) → Has trace earlier → SharePlace earlier send → ⊥)
     (new_number : (earlier : Send) → Has trace earlier → IsPlain send → earlier.session ≡ send.session → earlier.number ≡ send.number → ⊥)
     (orderly : IsOrderly trace) where

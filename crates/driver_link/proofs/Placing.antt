@@ -1,13 +1,13 @@
 -- No write twice: lists of entries whose places differ.
 use Rattle.std.proofs.Common.{◌≡◌, ◌≢◌, ℕ, suc, List, [], ◌∷◌, ◌++◌, refl, sym, ap, ◌∙◌, inl, inr, arith}
-use Rattle.std.specs.Prelude.{ℤ, Option, Some, slice_get}
+use Rattle.std.specs.Prelude.{ℤ, Option}
 use Rattle.driver_link.specs.declared.machine.Entry.{Entry}
 use Rattle.driver_link.specs.declared.machine.Place.{Place}
 use Rattle.driver_link.specs.declared.machine.PlacedWrite.{PlacedWrite}
 use Rattle.driver_link.specs.declared.machine.Statement.{Statement}
 use Rattle.driver_link.specs.declared.machine.Statement.TheVariants.{Kept, Ran, Failed}
 use Rattle.driver_link.specs.Once.{NoneAt, Once}
-use Rattle.driver_link.specs.Settled.{Has}
+use Rattle.driver_link.specs.Settled.{Has, PlacesApart}
 use Rattle.driver_link.specs.Statements.{entries_of}
 use Rattle.driver_link.proofs.Following.{entry_from}
 
@@ -27,15 +27,11 @@ once_append (entry ∷ log) more once rest apart = (
   once_append log more once.1 rest (λ a b left right. apart a b (inr left) right),
 )
 
--- the places of writes differ
-abbrev pub AllPlaces : List PlacedWrite → Type 0
-AllPlaces writes = (i j : ℕ) (v w : PlacedWrite) → slice_get writes i ≡ Some v → slice_get writes j ≡ Some w → v.place ≡ w.place → i ≡ j
-
-tail_places : (first : PlacedWrite) (writes : List PlacedWrite) → AllPlaces (first ∷ writes) → AllPlaces writes
+tail_places : (first : PlacedWrite) (writes : List PlacedWrite) → PlacesApart (first ∷ writes) → PlacesApart writes
 tail_places first writes apart = λ i j v w at_i at_j same. let e = apart (suc i) (suc j) v w at_i at_j same in omega (arith, e)
 
--- so do those of their entries
-pub once_entries : (session : Option (List ℕ)) (number : Option ℤ) (writes : List PlacedWrite) (done : List Statement) → AllPlaces writes
+-- the entries of writes whose places differ: no write twice
+pub once_entries : (session : Option (List ℕ)) (number : Option ℤ) (writes : List PlacedWrite) (done : List Statement) → PlacesApart writes
     → Once (entries_of session number writes done)
 unfolding entries_of
 once_entries session number [] done apart = tt

@@ -59,6 +59,11 @@ pub record SharePlace (a b : Send) : Type 0 where
   pub also : slice_get (writes_of b) second ≡ Some other
   pub same : one.place ≡ other.place
 
+-- no place stands twice among writes
+abbrev pub PlacesApart : List PlacedWrite → Type 0
+PlacesApart writes =
+    (i j : ℕ) (one other : PlacedWrite) → slice_get writes i ≡ Some one → slice_get writes j ≡ Some other → one.place ≡ other.place → i ≡ j
+
 -- two sends are under one session and one number
 pub record IsOneNumber (a b : Send) : Type 0 where
   pub plain : IsPlain a
