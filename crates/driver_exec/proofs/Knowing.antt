@@ -6,6 +6,7 @@ use Rattle.std.specs.Str.{bytes_eq}
 use Rattle.std.proofs.Common.{inl, inr}
 use Rattle.std.proofs.lemmas.Bool.{cond-true}
 use Rattle.std.proofs.lemmas.Int.{ints}
+use Rattle.bson_lite.proofs.Numbers.{bytes_eq-same}
 use Rattle.driver_link.specs.declared.machine.Send.{Send}
 use Rattle.driver_link.specs.Settled.{IsUnder}
 use Rattle.driver_link.proofs.Lists.{has_either}
@@ -14,7 +15,7 @@ use Rattle.driver_session.specs.declared.pool.IdleSession.{IdleSession}
 use Rattle.driver_session.specs.declared.pool.StoreEvent.{StoreEvent}
 use Rattle.driver_session.specs.Pool.{Pool, lent_out, taken_back, session_out, idle_back, is_lent, without_first, Among}
 use Rattle.driver_session.specs.Session.{Session}
-use Rattle.driver_session.proofs.Ids.{among_left, among_last, not_among_left, apart_last, among_differs, equal_bytes}
+use Rattle.driver_session.proofs.Ids.{among_left, among_last, not_among_left, apart_last, among_differs}
 use Rattle.driver_session.proofs.PoolTells.{LendsPool}
 use Rattle.driver_exec.specs.BetweenCalls.{Between, FitsIdle, Knows, NoneOf, SentUpTo, ids_of}
 
@@ -159,7 +160,7 @@ back_between : (caller : ℕ) (session : Session) (moment : ℕ) (pool : Pool) (
       history = (taken_back caller session moment pool).history;
     }) trace
 back_between caller session moment pool trace holds = record {
-  lent = ap (without_first session.id) holds.lent ∙ cond-true (bytes_eq session.id session.id) [] (session.id ∷ []) (equal_bytes session.id);
+  lent = ap (without_first session.id) holds.lent ∙ cond-true (bytes_eq session.id session.id) [] (session.id ∷ []) (bytes_eq-same session.id);
   knows = record { strangers = holds.knows.strangers; fits = fits_back session.dirty pool trace session holds };
 }
   where
@@ -173,7 +174,7 @@ pub taken_between : (caller : ℕ) (session : Session) (moment : ℕ) (pool : Po
     → Between (taken_back caller session moment pool) trace
 unfolding taken_back
 taken_between caller session moment pool trace holds =
-    let lent : is_lent session.id pool.lent ≡ true = ap (is_lent session.id) holds.lent ∙ ap (λ b. b || false) (equal_bytes session.id) in
+    let lent : is_lent session.id pool.lent ≡ true = ap (is_lent session.id) holds.lent ∙ ap (λ b. b || false) (bytes_eq-same session.id) in
     let between = back_between caller session moment pool trace holds in
     let P : Pool → Type 0 = λ made. Between made trace in
     subst P (sym (cond-true (is_lent session.id pool.lent) _ pool lent)) (record { lent = between.lent; knows = between.knows })

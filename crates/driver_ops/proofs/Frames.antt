@@ -8,6 +8,7 @@ use Rattle.bson_lite.specs.declared.bson.Bson.{Bson}
 use Rattle.bson_lite.specs.declared.bson.Bson as bson
 use Rattle.bson_lite.specs.declared.document.Pair.{Pair}
 use Rattle.bson_lite.specs.Fields.{value_of}
+use Rattle.bson_lite.proofs.Numbers.{bytes_eq-same}
 use Rattle.driver_error.specs.declared.error.Error.{Error}
 use Rattle.driver_link.specs.declared.keys.TheConstants.{AUTOCOMMIT, DATABASE, SESSION, START_TRANSACTION, TRANSACTION_NUMBER, UUID_SUBTYPE, WRITE_CONCERN}
 use Rattle.driver_link.specs.declared.frame.Documents.{Documents}
@@ -21,7 +22,6 @@ use Rattle.driver_link.specs.Reads.{SpellSequences}
 use Rattle.driver_link.specs.Values.{text_of, int64_of, binary_of}
 use Rattle.driver_link.specs.Writes.{is_common}
 use Rattle.driver_link.proofs.Forms.{document_is, text_is}
-use Rattle.driver_session.proofs.Ids.{equal_bytes}
 use Rattle.driver_ops.specs.declared.command.Command.{Command}
 use Rattle.driver_ops.specs.ConcernFields.{concern_value}
 use Rattle.driver_ops.specs.Encoding.{IsUnspelled}
@@ -189,7 +189,7 @@ module _ (body : List (Pair Bson)) (context : SendContext) (database : List ℕ)
 
   goes : goes_to database joined ≡ true
   unfolding goes_to
-  goes = rw database_of (equal_bytes database)
+  goes = rw database_of (bytes_eq-same database)
 
   session_of : optional session_id_of SESSION.now joined ≡ Some context.session
   session_of = rw (behind SESSION.now plain.0, session_in context database) (session_read context.session sixteen)

@@ -1,13 +1,5 @@
--- Which ids are among others, and finite maps at them.
-use Rattle.std.proofs.Common.{◌≡◌, ℕ, true, List, [], ◌∷◌, ◌++◌, refl, sym, ◌∙◌, inl, inr}
-use Rattle.std.specs.Prelude.{Some}
-use Rattle.std.specs.Ordering.{nat_cmp}
-use Rattle.std.specs.Cmp.Lexicographic.{slice_cmp, nat_list_cmp_total}
-use Rattle.std.specs.FinMap as finite
-use Rattle.std.specs.Str.{bytes_eq}
-use Rattle.std.proofs.lemmas.Bool.{cond-true, cond-false, false_from_ne_true}
-use Rattle.std.proofs.lemmas.Map.Text.{is_eq-slice_cmp}
-use Rattle.std.proofs.lemmas.Slice.Eq.{bytes_eq-Decides}
+-- Which ids are among others.
+use Rattle.std.proofs.Common.{◌≡◌, ℕ, List, [], ◌∷◌, ◌++◌, refl, sym, ◌∙◌, inl, inr}
 use Rattle.driver_link.specs.Apart.{NotAmong, AllApart}
 use Rattle.driver_session.specs.Pool.{Among}
 
@@ -42,20 +34,3 @@ among_differs id other (first ∷ ids) among not same = elim among [
   | inl is ↦ not.0 (same ∙ is)
   | inr rest ↦ among_differs id other ids rest not.1 same
 ]
-
-pub equal_bytes : (id : List ℕ) → bytes_eq id id ≡ true
-equal_bytes id = (bytes_eq-Decides id id).1 refl
-
--- a map at the key that was inserted
-pub get_same : {V : Type 0} (known : finite.FinMap (slice_cmp nat_cmp) V) (id : List ℕ) (value : V) → finite.get (finite.insert known id value) id ≡ Some value
-get_same known id value =
-    finite.get-insert nat_list_cmp_total known id value id
-    ∙ cond-true _ (Some value) (finite.get known id) (is_eq-slice_cmp id id ∙ equal_bytes id)
-
--- and at another
-pub get_other : {V : Type 0} (known : finite.FinMap (slice_cmp nat_cmp) V) (id : List ℕ) (value : V) (other : List ℕ) → (other ≡ id → ⊥)
-    → finite.get (finite.insert known id value) other ≡ finite.get known other
-get_other known id value other differs =
-    finite.get-insert nat_list_cmp_total known id value other
-    ∙ cond-false _ (Some value) (finite.get known other)
-    (is_eq-slice_cmp other id ∙ false_from_ne_true (bytes_eq other id) (λ same. differs ((bytes_eq-Decides other id).0 same)))

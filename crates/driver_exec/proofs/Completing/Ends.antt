@@ -3,6 +3,7 @@ use Rattle.std.proofs.Common.{◌≡◌, ℕ, Bool, true, false, List, refl, sym
 use Rattle.std.specs.Prelude.{ℤ, ◌&&◌, ◌||◌, Option, None, Some, is_some, Result, Ok, Err, if◌then◌else◌}
 use Rattle.std.specs.Option.{option_map}
 use Rattle.bson_lite.specs.Spelling.{Spells}
+use Rattle.bson_lite.proofs.Numbers.{bytes_eq-same}
 use Rattle.driver_error.specs.declared.error.Error.{Error}
 use Rattle.driver_error.specs.declared.kind.ErrorKind.TheVariants as kind
 use Rattle.driver_error.specs.declared.kind.IoKind.TheVariants.{ConnectionReset}
@@ -26,7 +27,6 @@ use Rattle.driver_session.specs.declared.retryability.Retryability.{Retryability
 use Rattle.driver_session.specs.declared.retryability.Retryability.TheVariants as may
 use Rattle.driver_session.specs.Session.{Session}
 use Rattle.driver_session.specs.StoreTells.{StoreTells}
-use Rattle.driver_session.proofs.Ids.{equal_bytes}
 use Rattle.driver_ops.specs.Operations.{OperationSpec, ReadsAnswer}
 use Rattle.driver_exec.specs.declared.failure.AttemptFailure.{AttemptFailure}
 use Rattle.driver_exec.specs.declared.failure.FailurePhase.{FailurePhase}
@@ -82,7 +82,7 @@ ok_err retry error is = cc
 pub has_own_label : (labels : LabelSet) → has_label (with_label labels RETRYABLE_WRITE_ERROR.now) RETRYABLE_WRITE_ERROR.now ≡ true
 has_own_label labels =
     has_label-with labels RETRYABLE_WRITE_ERROR.now RETRYABLE_WRITE_ERROR.now
-    ∙ ap (λ b. b || has_label labels RETRYABLE_WRITE_ERROR.now) (equal_bytes RETRYABLE_WRITE_ERROR.now)
+    ∙ ap (λ b. b || has_label labels RETRYABLE_WRITE_ERROR.now) (bytes_eq-same RETRYABLE_WRITE_ERROR.now)
 
 -- a failure with it, of a write that has a number, is followed by another attempt
 retries : (failure : AttemptFailure) → has_label (labels_of failure.error) RETRYABLE_WRITE_ERROR.now ≡ true → is_some failure.number ≡ true
