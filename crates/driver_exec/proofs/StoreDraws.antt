@@ -1,5 +1,5 @@
 -- What the attempts of an operation draw from a store: the ids that it drew grow, so where the last are apart all were.
-use Rattle.std.proofs.Common.{◌≡◌, ℕ, sym, subst, inl, inr}
+use Rattle.std.proofs.Common.{ℕ, sym, subst, inl, inr}
 use Rattle.std.specs.Prelude.{Bool, true, false, List, Option, None, Some, Result, Ok}
 use Rattle.driver_error.specs.declared.error.Error.{Error}
 use Rattle.driver_link.specs.declared.fault.LinkError.{LinkError}
@@ -7,7 +7,7 @@ use Rattle.driver_link.specs.declared.options.Address.{Address}
 use Rattle.driver_link.specs.declared.options.Conn.{Conn}
 use Rattle.driver_session.specs.StoreTells.{DrawnApart, Draws, StoreTells}
 use Rattle.driver_session.specs.Session.{Session}
-use Rattle.driver_session.proofs.Drawing.{apart_before, draws_lending, draws_refl, draws_staying, draws_taking}
+use Rattle.driver_session.proofs.Drawing.{apart_before, draws_lending, draws_staying, draws_taking}
 use Rattle.driver_exec.specs.declared.attempt_end.AttemptEnd.{AttemptEnd}
 use Rattle.driver_exec.specs.declared.attempt_end.AttemptEnd.TheVariants.{Done, Ended, Failed, Stopped, Unfit, Unselected}
 use Rattle.driver_exec.specs.declared.failure.FailurePhase.{FailurePhase}
@@ -17,13 +17,9 @@ use Rattle.driver_exec.specs.Executing.{Ends}
 use Rattle.driver_exec.specs.Holding.{GivesBack, ExecutionSession, HoldsSession, needs_session}
 use Rattle.driver_exec.specs.Retry.{RetryState}
 
--- a store that is as it was drew nothing
-draws_same : (store now : StoreTells) → now ≡ store → Draws store now
-draws_same store now same = subst (Draws store) (sym same) (draws_refl store)
-
 -- a session is lent where one is needed
 holds_draws : (needed : Bool) (store now : StoreTells) (held held_now : ExecutionSession) → HoldsSession needed store now held held_now (Ok tt) → Draws store now
-holds_draws false store now held held_now holds = draws_same store now holds.0
+holds_draws false store now held held_now holds = draws_staying store now holds.0
 holds_draws true store now held held_now holds = draws_lending store now holds.at holds.session holds.lends
 
 module _ {A : Type 0} (op : AttemptedOperation A) (mid now : AttemptState) where
@@ -36,7 +32,7 @@ module _ {A : Type 0} (op : AttemptedOperation A) (past : Option RetryState) (mi
   sends_draws address conn result sends = subst (Draws mid.store) (sym sends.store_is) (readies_draws op mid sends.ready address conn sends.readies)
 
   fails_draws : (address : Address) (phase : FailurePhase) (error : Error) → FailsIn op past mid now address phase error → Draws mid.store now.store
-  fails_draws address ConnectionEstablishment error fails = draws_same mid.store now.store fails.rest.store
+  fails_draws address ConnectionEstablishment error fails = draws_staying mid.store now.store fails.rest.store
   fails_draws address Execution error fails = elim fails [
     | inl lost ↦ sends_draws address lost.conn _ lost.sends
     | inr says ↦ sends_draws address says.conn _ says.sends
@@ -45,7 +41,7 @@ module _ {A : Type 0} (op : AttemptedOperation A) (past : Option RetryState) (mi
   pub attempt_draws : (attempt : AttemptEnd A) → MakesAttempt op past mid now attempt → Draws mid.store now.store
   attempt_draws (Done output) makes = sends_draws makes.address makes.conn _ makes.sends
   attempt_draws (Failed failure) makes = fails_draws failure.address failure.phase failure.error makes.0
-  attempt_draws (Unselected error) makes = draws_same mid.store now.store makes.rest.store
+  attempt_draws (Unselected error) makes = draws_staying mid.store now.store makes.rest.store
   attempt_draws Stopped makes = readies_draws op mid now makes.1.address makes.1.conn makes.1.readies
   attempt_draws Unfit makes = subst (Draws mid.store) (sym makes.1.store) (readies_draws op mid makes.1.ready makes.1.address makes.1.conn makes.1.readies)
   attempt_draws (Ended error) makes = elim makes [

@@ -1,7 +1,7 @@
 -- What an operation outside transactions leaves of a told pool and a told server: whatever was answered, all that stood before
 -- it stands, and its last send could be sent.
-use Rattle.std.proofs.Common.{◌≡◌, ℕ, ◌≤◌, Bool, true, false, List, [], ◌∷◌, ◌++◌, refl, sym, ap, subst, ◌∙◌, inl, inr, arith}
-use Rattle.std.specs.Prelude.{ℤ, pos, ◌+ℤ◌, ◌<ℤ◌, ◌≤ℤ◌, Option, None, Some, ◌⊎◌, if◌then◌else◌}
+use Rattle.std.proofs.Common.{◌≡◌, ℕ, ◌≤◌, List, [], ◌∷◌, ◌++◌, refl, sym, ap, subst, ◌∙◌, inl, inr, arith}
+use Rattle.std.specs.Prelude.{ℤ, pos, ◌+ℤ◌, ◌<ℤ◌, ◌≤ℤ◌, Option, None, Some, ◌⊎◌}
 use Rattle.std.proofs.lemmas.Int.{ints}
 use Rattle.driver_link.specs.declared.machine.Entry.{Entry}
 use Rattle.driver_link.specs.declared.machine.Send.{Send}
@@ -11,8 +11,9 @@ use Rattle.driver_link.specs.Apart.{AllApart}
 use Rattle.driver_link.specs.LinkState.{server_run}
 use Rattle.driver_link.specs.Settled.{Has, IsEither, IsPlain, IsSettled, IsUnder, MayJoin}
 use Rattle.driver_link.specs.ServerRun.{ServerRun}
-use Rattle.driver_session.specs.Pool.{Pool, is_lent, taken_back}
+use Rattle.driver_session.specs.Pool.{Pool, taken_back}
 use Rattle.driver_session.specs.Session.{Session}
+use Rattle.driver_session.proofs.Drawing.{drawn_back}
 use Rattle.driver_session.proofs.PoolTells.{TurnsPool, same_told, turns_told}
 use Rattle.driver_ops.specs.Fields.{under}
 use Rattle.driver_ops.specs.Operations.{send_of}
@@ -36,15 +37,6 @@ pub record MayGo (send : Send) (server : Server) : Type 0 where
   pub either : IsEither send
   pub joins : MayJoin server.trace send
   pub settled : IsSettled server.trace server
-
--- a check-in draws no id
-drawn_back : (caller : ℕ) (session : Session) (moment : ℕ) (pool : Pool) → (taken_back caller session moment pool).drawn ≡ pool.drawn
-unfolding taken_back
-drawn_back caller session moment pool = if_drawn (is_lent session.id pool.lent) _ pool refl
-  where
-    if_drawn : (b : Bool) (taken kept : Pool) → taken.drawn ≡ kept.drawn → (if b then taken else kept).drawn ≡ kept.drawn
-    if_drawn true taken kept same = same
-    if_drawn false taken kept same = refl
 
 -- a pool that lends one session, and takes it back
 record Lending (now : Pool) (trace : List Send) (session back : Session) : Type 0 where
