@@ -1,6 +1,6 @@
 -- What one call left of store and link: nothing was sent, or its own write was.
-use Rattle.std.proofs.Common.{◌≡◌, ℕ, zero, suc, ◌+◌, ◌≤◌, arith, List, [], ◌∷◌, length, refl, sym, ap, subst, ◌∙◌, inl, inr}
-use Rattle.std.specs.Prelude.{ℤ, pos, Option, None, Some, ◌⊎◌, Result, Ok, Err, slice_get}
+use Rattle.std.proofs.Common.{◌≡◌, ℕ, ◌+◌, List, refl, sym, ap, subst, ◌∙◌, inl, inr}
+use Rattle.std.specs.Prelude.{ℤ, pos, Option, None, Some, ◌⊎◌, Result, Ok, Err}
 use Rattle.driver_error.specs.declared.error.Error.{Error}
 use Rattle.driver_link.specs.declared.machine.Place.{Place}
 use Rattle.driver_link.specs.declared.machine.Send.{Send}
@@ -9,6 +9,7 @@ use Rattle.driver_link.specs.Cases.{writes_of}
 use Rattle.driver_link.specs.Exchange.{empty_server, replayed}
 use Rattle.driver_link.specs.LinkState.{server_run}
 use Rattle.driver_link.specs.ServerRun.{ServerRun}
+use Rattle.driver_link.proofs.Lists.{none_past}
 use Rattle.driver_session.specs.Pool.{Pool}
 use Rattle.driver_session.specs.StoreTells.{Draws, LendsAsBefore, LendsPoolAsBefore, MayDrawObjectId, StoreTells}
 use Rattle.driver_session.proofs.Drawing.{draws_object, draws_staying, draws_twice}
@@ -114,16 +115,10 @@ own_of (Some told) (Some now) number session numbered form sent count times = λ
 own_same : (link link_now : Option ServerRun) (number : ℕ) → link_now ≡ link → SendsOwn number link link_now
 own_same link link_now number same = subst (SendsOwn number link) (sym same) (of_link link)
   where
-    -- nothing stands past the end of a list
-    past : (trace : List Send) (at : ℕ) (found : Send) → length trace ≤ at → slice_get trace at ≡ Some found → ⊥
-    past [] at found above is = let e : ◌≡◌ {A = Option Send} None (Some found) = is in cc
-    past (first ∷ trace) zero found above is = omega (arith, above)
-    past (first ∷ trace) (suc at) found above is = past trace at found (omega (arith, above)) is
-
     -- at one moment nothing was sent
     of_link : (link : Option ServerRun) → SendsOwn number link link
     of_link None = tt
-    of_link (Some told) = λ at found above is. absurd (past told.server.trace at found above is)
+    of_link (Some told) = λ at found above is. absurd (none_past told.server.trace at found above is)
 
 module _ (before now : Moment) (call : Call) (number : ℕ) (result : Result Answer Error) (sends : SendsCall before now call number result) where
   -- a call draws ids in order

@@ -1,13 +1,13 @@
 -- What the sends of an operation make of a link that tells its server: its setup and its schedule stay, and its server is
 -- the fold of the exchanges over its trace.
-use Rattle.std.proofs.Common.{◌≡◌, ℕ, zero, suc, ◌≤◌, List, [], ◌∷◌, length, sym, ap, subst, ◌∙◌, inl, inr, arith}
-use Rattle.std.specs.Prelude.{Option, None, Some, slice_get}
+use Rattle.std.proofs.Common.{◌≡◌, ℕ, zero, suc, ◌≤◌, List, length, sym, ap, subst, ◌∙◌, inl, inr}
+use Rattle.std.specs.Prelude.{Some, slice_get}
 use Rattle.driver_link.specs.declared.machine.Schedule.{Schedule}
 use Rattle.driver_link.specs.declared.machine.Send.{Send}
 use Rattle.driver_link.specs.declared.machine.Server.{Server}
 use Rattle.driver_link.specs.Exchange.{empty_server, exchanged, next_step, replayed}
 use Rattle.driver_link.specs.ServerRun.{ServerRun, run_after}
-use Rattle.driver_link.proofs.Lists.{earlier_or_last}
+use Rattle.driver_link.proofs.Lists.{earlier_or_last, none_past}
 use Rattle.driver_link.proofs.Replaying.{exchanged_trace, replayed_more}
 use Rattle.driver_exec.specs.Resending.{SendsTold}
 
@@ -44,12 +44,7 @@ module _ (told : ServerRun) (send : Send) where
   -- the trace gains the send alone
   pub new_is : (count : ℕ) (now : ServerRun) → SendsTold told now send count → (at : ℕ) (found : Send) → length told.server.trace ≤ at → slice_get now.server.trace at ≡ Some found
       → send ≡ found
-  new_is zero now sends at found above is = absurd (past told.server.trace at found above (ap (λ s. slice_get s.trace at) (sym sends.server) ∙ is))
-    where
-      past : (trace : List Send) (at : ℕ) (found : Send) → length trace ≤ at → slice_get trace at ≡ Some found → ⊥
-      past [] at found above is = let e : ◌≡◌ {A = Option Send} None (Some found) = is in cc
-      past (first ∷ trace) zero found above is = omega (arith, above)
-      past (first ∷ trace) (suc at) found above is = past trace at found (omega (arith, above)) is
+  new_is zero now sends at found above is = absurd (none_past told.server.trace at found above (ap (λ s. slice_get s.trace at) (sym sends.server) ∙ is))
   new_is (suc count) now sends at found above is =
       let mid = sends.0 in
       let trace = ap (λ s. s.trace) sends.1.1.server ∙ exchanged_trace mid.server send (next_step mid.schedule mid.server) in

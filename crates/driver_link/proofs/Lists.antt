@@ -1,5 +1,5 @@
 -- Elements and positions of lists.
-use Rattle.std.proofs.Common.{◌≡◌, ℕ, zero, suc, List, [], ◌∷◌, ◌++◌, length, refl, ap, inl, inr, arith}
+use Rattle.std.proofs.Common.{◌≡◌, ℕ, zero, suc, ◌≤◌, List, [], ◌∷◌, ◌++◌, length, refl, ap, inl, inr, arith}
 use Rattle.std.specs.Prelude.{Option, None, Some, ◌⊎◌, slice_get, slice_set}
 use Rattle.driver_link.specs.Settled.{Has}
 
@@ -80,3 +80,9 @@ pub none_beyond : {A : Type 0} (xs : List A) (p : ℕ) (x : A) → slice_get xs 
 none_beyond [] p x is same = none_is_some x is
 none_beyond (y ∷ ys) zero x is same = omega (arith, same)
 none_beyond (y ∷ ys) (suc p) x is same = none_beyond ys p x is (omega (arith, same))
+
+-- nor anywhere behind it
+pub none_past : {A : Type 0} (xs : List A) (p : ℕ) (x : A) → length xs ≤ p → slice_get xs p ≡ Some x → ⊥
+none_past [] p x above is = none_is_some x is
+none_past (y ∷ ys) zero x above is = omega (arith, above)
+none_past (y ∷ ys) (suc p) x above is = none_past ys p x (omega (arith, above)) is
