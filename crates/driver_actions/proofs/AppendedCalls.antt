@@ -8,7 +8,7 @@ use Rattle.driver_link.specs.declared.machine.Place.{Place}
 use Rattle.driver_link.specs.declared.machine.Send.{Send}
 use Rattle.driver_link.specs.declared.machine.Server.{Server}
 use Rattle.driver_link.specs.declared.machine.Written.{Written}
-use Rattle.driver_link.proofs.Lists.{get_left}
+use Rattle.driver_link.proofs.Lists.{get_left, some_is_some}
 use Rattle.driver_session.specs.Pool.{Pool}
 use Rattle.driver_actions.specs.declared.call.Answer.{Answer}
 use Rattle.driver_actions.specs.declared.call.Call.{Call}
@@ -35,10 +35,6 @@ get_before [] more (z ∷ ys) at y same is = absurd (no_length (length ys) same)
 get_before (x ∷ xs) more (z ∷ ys) zero y same is = refl
 get_before (x ∷ xs) more (z ∷ ys) (suc at) y same is = get_before xs more ys at y (one_less (length ys) (length xs) same) is
 
--- what is there twice is the same
-some_same : {A : Type 0} (a b : A) → ◌≡◌ {A = Option A} (Some a) (Some b) → a ≡ b
-some_same a b is = cc is
-
 -- the first elements, where they are none
 pub take_none : {A : Type 0} (xs : List A) → take 0 xs ≡ []
 take_none [] = refl
@@ -47,7 +43,7 @@ take_none (x ∷ xs) = refl
 -- the first elements with the next one, by the number after this one
 take_suc : {A : Type 0} (xs : List A) (at : ℕ) (x : A) → slice_get xs at ≡ Some x → take (suc at) xs ≡ take at xs ++ x ∷ []
 take_suc {A = A} [] at x is = absurd (let e : ◌≡◌ {A = Option A} None (Some x) = is in cc)
-take_suc (y ∷ xs) zero x is = ap (λ rest. y ∷ rest) (take_none xs) ∙ ap (λ first. first ∷ []) (some_same y x is)
+take_suc (y ∷ xs) zero x is = ap (λ rest. y ∷ rest) (take_none xs) ∙ ap (λ first. first ∷ []) (some_is_some y x is)
 take_suc (y ∷ xs) (suc at) x is = ap (λ rest. y ∷ rest) (take_suc xs at x is)
 
 -- the first elements with the next one

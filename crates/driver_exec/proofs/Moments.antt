@@ -20,6 +20,7 @@ use Rattle.driver_link.specs.Exchange.{next_step}
 use Rattle.driver_link.specs.LinkCalls.{CallsLink}
 use Rattle.driver_link.specs.LinkState.{LinkState, server_run, setup_of}
 use Rattle.driver_link.specs.ServerRun.{ServerRun, TakesStep, run_after}
+use Rattle.driver_link.proofs.Lists.{none_is_some}
 use Rattle.driver_link.proofs.Replaying.{exchanged_trace}
 use Rattle.driver_ops.specs.Fields.{under}
 use Rattle.driver_ops.specs.Operations.{AsksFor, send_of}
@@ -212,10 +213,6 @@ module _ {A : Type 0} (op : AttemptedOperation A) (past : Option RetryState) (bo
 
 -- in a gentle part no call fails that is counted
 module _ {does : WriteKind} (repeats : Type 0) (told told_now : ServerRun) (gentle : IsGentlePart does repeats told told_now) where
-  -- a fault is not none
-  none_some : (listed : Listed) → ◌≡◌ {A = Option Listed} None (Some listed) → ⊥
-  none_some listed is = cc
-
   -- a call that was counted before the end of the part is of it
   counted : (from at to : ℕ) → min from (2 ^ 64 - 1) ≤ at → min (one_more at) (2 ^ 64 - 1) ≤ to → IsCounted from to at
   counted from at to after before = (after, capped_last (2 ^ 64 - 1) at to before)
@@ -231,7 +228,7 @@ module _ {does : WriteKind} (repeats : Type 0) (told told_now : ServerRun) (gent
       let of_part = counted told.counts.selects a.counts.selects told_now.counts.selects after.selects before.selects in
       let none = gentle.selects a.counts.selects of_part in
       let here : is_listed a.schedule.selects a.counts.selects ≡ false = ap (λ s. is_listed s.selects a.counts.selects) after.schedule ∙ none in
-      none_some listed (sym (unlisted a.schedule.selects a.counts.selects (Selection SELECTION_FAILURE.now) [] None here) ∙ is)
+      none_is_some listed (sym (unlisted a.schedule.selects a.counts.selects (Selection SELECTION_FAILURE.now) [] None here) ∙ is)
 
   -- nor has a check-out
   pub no_check_out_fault : (a : ServerRun) (listed : Listed) → IsBefore told a → IsBefore (checked_out a) told_now → check_out_fault a ≡ Some listed → ⊥
@@ -243,7 +240,7 @@ module _ {does : WriteKind} (repeats : Type 0) (told told_now : ServerRun) (gent
       let here_over : is_listed a.schedule.overloaded_check_outs a.counts.check_outs ≡ false
       = ap (λ s. is_listed s.overloaded_check_outs a.counts.check_outs) after.schedule ∙ none_over in
       let later = fault_where (is_listed a.schedule.check_outs a.counts.check_outs) (Io ConnectionRefused) [] None in
-      none_some listed (
+      none_is_some listed (
       sym (unlisted a.schedule.overloaded_check_outs a.counts.check_outs (Io ConnectionRefused) overload_labels later here_over
       ∙ unlisted a.schedule.check_outs a.counts.check_outs (Io ConnectionRefused) [] None here) ∙ is
       )

@@ -6,6 +6,7 @@ use Rattle.driver_link.specs.declared.fault.LinkFault.{LinkFault}
 use Rattle.driver_link.specs.declared.machine.Send.{Send}
 use Rattle.driver_link.specs.Counting.{KeepsServer, OnlyCounts}
 use Rattle.driver_link.specs.ServerRun.{ServerRun, TakesStep, run_after}
+use Rattle.driver_link.proofs.Lists.{none_is_some}
 use Rattle.driver_exec.specs.Resending.{AnsweredLast, SendsTold, SentTimes}
 
 keeps_twice : (a b c : ServerRun) → KeepsServer a b → KeepsServer b c → KeepsServer a c
@@ -47,32 +48,20 @@ sent_more (Some told) (Some mid) now send count sent steps none =
 module _ (link : Option ServerRun) (send : Send) (count : ℕ) where
   -- a reply was given
   pub sent_answered : (mid now : Option ServerRun) (bytes : List ℕ) → SentTimes link mid send count → TakesStep mid now send (Ok bytes) → SentTimes link now send (suc count)
-  sent_answered None now bytes sent steps = sent_more link None now send count sent (λ told is. absurd (none_some told is)) (λ none. steps)
-    where
-      none_some : (told : ServerRun) → ◌≡◌ {A = Option ServerRun} None (Some told) → ⊥
-      none_some told is = cc
-  sent_answered (Some mid) now bytes sent steps = sent_more link (Some mid) now send count sent (λ told is. steps_at told is) (λ none. absurd (some_none none))
+  sent_answered None now bytes sent steps = sent_more link None now send count sent (λ told is. absurd (none_is_some told is)) (λ none. steps)
+  sent_answered (Some mid) now bytes sent steps = sent_more link (Some mid) now send count sent (λ told is. steps_at told is) (λ none. absurd (none_is_some mid (sym none)))
     where
       steps_at : (told : ServerRun) → ◌≡◌ {A = Option ServerRun} (Some mid) (Some told) → now ≡ Some (run_after told send)
       steps_at told is = let same : mid ≡ told = cc is in subst (λ t. now ≡ Some (run_after t send)) same steps.0
-
-      some_none : ◌≡◌ {A = Option ServerRun} (Some mid) None → ⊥
-      some_none is = cc
 
   -- an exchange failed by a fault
   pub sent_lost : (mid now : Option ServerRun) (fault : LinkFault) (labels : List (List ℕ)) → SentTimes link mid send count → TakesStep mid now send (Err (Fault fault labels))
       → SentTimes link now send (suc count)
-  sent_lost None now fault labels sent steps = sent_more link None now send count sent (λ told is. absurd (none_some told is)) (λ none. steps)
-    where
-      none_some : (told : ServerRun) → ◌≡◌ {A = Option ServerRun} None (Some told) → ⊥
-      none_some told is = cc
-  sent_lost (Some mid) now fault labels sent steps = sent_more link (Some mid) now send count sent (λ told is. steps_at told is) (λ none. absurd (some_none none))
+  sent_lost None now fault labels sent steps = sent_more link None now send count sent (λ told is. absurd (none_is_some told is)) (λ none. steps)
+  sent_lost (Some mid) now fault labels sent steps = sent_more link (Some mid) now send count sent (λ told is. steps_at told is) (λ none. absurd (none_is_some mid (sym none)))
     where
       steps_at : (told : ServerRun) → ◌≡◌ {A = Option ServerRun} (Some mid) (Some told) → now ≡ Some (run_after told send)
       steps_at told is = let same : mid ≡ told = cc is in subst (λ t. now ≡ Some (run_after t send)) same steps.0
-
-      some_none : ◌≡◌ {A = Option ServerRun} (Some mid) None → ⊥
-      some_none is = cc
 
   -- after want of memory the send went out or not
   pub sent_maybe : (mid now : Option ServerRun) → SentTimes link mid send count → TakesStep mid now send (Err Memory)
@@ -84,13 +73,10 @@ module _ (link : Option ServerRun) (send : Send) (count : ℕ) where
   ]
     where
       sent_lost_as : now ≡ Some (run_after mid send) → SentTimes link now send (suc count)
-      sent_lost_as is = sent_more link (Some mid) now send count sent (λ told same. steps_at told same is) (λ none. absurd (some_none none))
+      sent_lost_as is = sent_more link (Some mid) now send count sent (λ told same. steps_at told same is) (λ none. absurd (none_is_some mid (sym none)))
         where
           steps_at : (told : ServerRun) → ◌≡◌ {A = Option ServerRun} (Some mid) (Some told) → now ≡ Some (run_after mid send) → now ≡ Some (run_after told send)
           steps_at told is stepped = let same : mid ≡ told = cc is in subst (λ t. now ≡ Some (run_after t send)) same stepped
-
-          some_none : ◌≡◌ {A = Option ServerRun} (Some mid) None → ⊥
-          some_none is = cc
 
   -- the reply answers the last send
   pub answered_last : (mid now : Option ServerRun) (bytes : List ℕ) → SentTimes link mid send count → TakesStep mid now send (Ok bytes)

@@ -24,7 +24,7 @@ use Rattle.driver_link.specs.Sessions.{is_below}
 use Rattle.driver_link.specs.Settled.{Has, IsOrderly, IsPlain, IsSettled}
 use Rattle.driver_link.specs.Statements.{code_at, counted, planned_at, statement_at, statement_of, statements, entry_of, is_failed}
 use Rattle.driver_link.proofs.Following.{Follows, entry_there, follows_statements}
-use Rattle.driver_link.proofs.Lists.{has_right}
+use Rattle.driver_link.proofs.Lists.{has_right, none_is_some, some_is_some}
 use Rattle.driver_link.proofs.Plain.{case_above, case_below, known, none_known, planned, results_here, served_above, served_runs}
 use Rattle.driver_link.proofs.Serving.{Runs, kept_entry, taken_is}
 
@@ -123,17 +123,11 @@ pub record TellsServed {asks : SendCommand} (send : Send) (write : PlacedWrite) 
   pub item_is : item ≡ Serve plan.results plan.fail plan.concern plan.page
   pub served : IsServed send write one server plan found
 
-none_is_some : {A : Type 0} (x : A) → ◌≡◌ {A = Option A} None (Some x) → ⊥
-none_is_some x is = cc
-
-some_is_some : {A : Type 0} (x y : A) → ◌≡◌ {A = Option A} (Some x) (Some y) → y ≡ x
-some_is_some x y is = cc
-
 pub reply_tells : {asks : SendCommand} (send : Send) (write : PlacedWrite) (one : IsOneWrite asks send write) (server : Server) (item : Item) (found : Reply) → reply server send item ≡ Some found
     → IsError found ⊎ TellsServed send write one server item found
 unfolding reply
 reply_tells send write one server (Serve results fail concern page) found is =
-    elim (by_plan send write one server (plan_of results fail concern page) found (some_is_some _ found is)) [
+    elim (by_plan send write one server (plan_of results fail concern page) found (sym (some_is_some _ found is))) [
       | inl error ↦ inl error
       | inr served ↦ inr (record { plan = plan_of results fail concern page; item_is = refl; served = served })
     ]
@@ -142,10 +136,10 @@ reply_tells send write one server Late found is = absurd (none_is_some found is)
 reply_tells send write one server ReplyLost found is = absurd (none_is_some found is)
 reply_tells send write one server (Interrupted most code labels) found is =
     let error = interrupted_is_error most code labels send one.plain server in
-    inl (record { code = error.code; labels = error.labels; is = some_is_some _ found is ∙ error.is })
+    inl (record { code = error.code; labels = error.labels; is = sym (some_is_some _ found is) ∙ error.is })
 reply_tells send write one server (Refused code labels) found is =
-    inl (record { code = code; labels = refused_labels labels server send; is = some_is_some _ found is })
-reply_tells send write one server Reauthenticate found is = inl (record { code = reauthentication_required; labels = []; is = some_is_some _ found is })
+    inl (record { code = code; labels = refused_labels labels server send; is = sym (some_is_some _ found is) })
+reply_tells send write one server Reauthenticate found is = inl (record { code = reauthentication_required; labels = []; is = sym (some_is_some _ found is) })
 
 -- the entry of the one write stands
 pub record StandsFor (send : Send) (write : PlacedWrite) (plain : IsPlain send) (log : List Entry) : Type 0 where

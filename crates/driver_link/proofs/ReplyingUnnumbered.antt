@@ -25,7 +25,7 @@ use Rattle.driver_link.specs.Serving.{Plan, done_in, served, served_in}
 use Rattle.driver_link.specs.Settled.{Has, IsUnnumbered}
 use Rattle.driver_link.specs.Statements.{code_at, counted, planned_at, statement_at, statement_of, statements, entry_of, is_failed, no_results}
 use Rattle.driver_link.proofs.Following.{entry_there}
-use Rattle.driver_link.proofs.Lists.{has_right, none_is_some}
+use Rattle.driver_link.proofs.Lists.{has_right, none_is_some, some_is_some}
 use Rattle.driver_link.proofs.Replying.{IsError, one_reply}
 use Rattle.driver_link.proofs.Unnumbered.{RunsOnly, case_free, planned_only, results_free, served_free, served_runs_only}
 
@@ -43,9 +43,6 @@ only_statement plan write = statement_at plan.results plan.fail no_results 0 wri
 pub record StandsOnce (send : Send) (write : PlacedWrite) (log : List Entry) : Type 0 where
   pub result : Counted
   pub has : Has log (entry_of send.session None write result)
-
-some_is : {A : Type 0} (x y : A) → ◌≡◌ {A = Option A} (Some x) (Some y) → y ≡ x
-some_is x y is = cc
 
 -- it runs, or it failed
 ran_or_failed : (plan : Plan) (write : PlacedWrite) → ((code : ℤ) × (only_statement plan write ≡ Failed code)) ⊎ ((result : Counted) × (only_statement plan write ≡ Ran result))
@@ -100,16 +97,16 @@ module _ {asks : SendCommand} (send : Send) (write : PlacedWrite) (one : IsOneUn
   reply_tells_only (Serve results fail concern page) found is = inr (record {
     plan = plan_of results fail concern page;
     item_is = refl;
-    is = some_is _ found is ∙ served_only send write one server (plan_of results fail concern page);
+    is = sym (some_is_some _ found is) ∙ served_only send write one server (plan_of results fail concern page);
   })
   reply_tells_only Lost found is = absurd (none_is_some found is)
   reply_tells_only Late found is = absurd (none_is_some found is)
   reply_tells_only ReplyLost found is = absurd (none_is_some found is)
   reply_tells_only (Interrupted most code labels) found is =
       let error = interrupted_only_is_error send write one server most code labels in
-      inl (record { code = error.code; labels = error.labels; is = some_is _ found is ∙ error.is })
-  reply_tells_only (Refused code labels) found is = inl (record { code = code; labels = refused_labels labels server send; is = some_is _ found is })
-  reply_tells_only Reauthenticate found is = inl (record { code = reauthentication_required; labels = []; is = some_is _ found is })
+      inl (record { code = error.code; labels = error.labels; is = sym (some_is_some _ found is) ∙ error.is })
+  reply_tells_only (Refused code labels) found is = inl (record { code = code; labels = refused_labels labels server send; is = sym (some_is_some _ found is) })
+  reply_tells_only Reauthenticate found is = inl (record { code = reauthentication_required; labels = []; is = sym (some_is_some _ found is) })
 
   module _ (plan : Plan) where
     done : List Statement

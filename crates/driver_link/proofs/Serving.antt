@@ -24,7 +24,7 @@ use Rattle.driver_link.specs.Sessions.{begun, is_below, taken}
 use Rattle.driver_link.specs.Settled.{Has, HasFreeOrigin, HasOrigin, HasRun, IsOrderly, IsSettled, IsSettledSession, IsUnder, IsUnnumbered, IsUnserved}
 use Rattle.driver_link.specs.Statements.{entry_of, entries_of, has_run, kept_with}
 use Rattle.driver_link.proofs.Following.{Follows, IsEntryOf, entry_from, entry_there, kept_from, kept_ran, kept_still, ran_free}
-use Rattle.driver_link.proofs.Lists.{has_left, has_right, has_either}
+use Rattle.driver_link.proofs.Lists.{has_left, has_right, has_either, none_is_some, some_is_some}
 use Rattle.driver_link.proofs.Orderly.{alike, all_places, free_apart, plain_under}
 use Rattle.driver_link.proofs.Placing.{once_append, once_entries}
 
@@ -60,9 +60,6 @@ pub record IsTaken (number : ℤ) (before : Option KnownSession) (known : KnownS
 pub taken_is : (number : ℤ) (before : Option KnownSession) → is_below number before ≡ false → IsTaken number before (taken number false false before)
 unfolding taken is_below
 taken_is number None above = record { greatest = refl; is = inr (refl, λ old is. absurd (none_is_some old is)) }
-  where
-    none_is_some : (old : KnownSession) → ◌≡◌ {A = Option KnownSession} None (Some old) → ⊥
-    none_is_some old is = cc
 taken_is number (Some old) above = by_test (int_lt old.greatest number) refl
   where
     equal : (number greatest : ℤ) → int_lt number greatest ≡ false → int_lt greatest number ≡ false → greatest ≡ number
@@ -169,16 +166,13 @@ module _ (trace : List Send) (send : Send) (id : List ℕ) (number : ℤ) (known
   run_before : (other : ℤ) (at : ℕ) (found : KnownSession) → finite.get old.sessions id ≡ Some found → HasRun other at found → HasRun other at runs.after
   run_before other at found is_found has_run = elim is_taken.is [
     | inl before ↦
-        let same : found ≡ known = some_same found known (sym is_found ∙ before) in
+        let same : found ≡ known = some_is_some found known (sym is_found ∙ before) in
         run_still (subst (HasRun other at) same has_run)
     | inr anew ↦
         let below : found.greatest <ℤ number = anew.1 found is_found in
         inl (passed other found.greatest number runs.after.greatest (at_most has_run) below (runs.greatest ∙ is_taken.greatest))
   ]
     where
-      some_same : (a b : KnownSession) → ◌≡◌ {A = Option KnownSession} (Some a) (Some b) → a ≡ b
-      some_same a b is = cc
-
       at_most : HasRun other at found → other ≤ℤ found.greatest
       at_most (inl less) = weaken other found.greatest less
         where
@@ -252,22 +246,13 @@ module _ (trace : List Send) (send : Send) (id : List ℕ) (number : ℤ) (known
   apart a b origin new same =
       let place : origin.write.place ≡ new.write.place = sym (ap (λ e. e.place) origin.is) ∙ same ∙ ap (λ e. e.place) new.is in
       let one = alike trace orderly origin.send send origin.at new.at origin.write new.write origin.sent sent origin.stands new.stands place in
-      let same_id : origin.id ≡ id = some_list origin.id id (sym origin.under.session ∙ one.session ∙ under.session) in
-      let same_number : origin.number ≡ number = some_int origin.number number (sym origin.under.numbered ∙ one.number ∙ under.numbered) in
+      let same_id : origin.id ≡ id = some_is_some origin.id id (sym origin.under.session ∙ one.session ∙ under.session) in
+      let same_number : origin.number ≡ number = some_is_some origin.number number (sym origin.under.numbered ∙ one.number ∙ under.numbered) in
       let found : finite.get old.sessions id ≡ Some origin.known = ap (λ i. finite.get old.sessions i) (sym same_id) ∙ origin.is_known in
       let run : HasRun number new.at origin.known
       = subst (λ n. HasRun n new.at origin.known) same_number (subst (λ p. HasRun origin.number p origin.known) one.position origin.has_run) in
       not_run origin.known found run
     where
-      some_list : (a b : List ℕ) → ◌≡◌ {A = Option (List ℕ)} (Some a) (Some b) → a ≡ b
-      some_list a b is = cc
-
-      some_int : (a b : ℤ) → ◌≡◌ {A = Option ℤ} (Some a) (Some b) → a ≡ b
-      some_int a b is = cc
-
-      some_known : (a b : KnownSession) → ◌≡◌ {A = Option KnownSession} (Some a) (Some b) → a ≡ b
-      some_known a b is = cc
-
       below_itself : (a b : ℤ) → a <ℤ b → b ≡ a → ⊥
       below_itself a b less same = omega (arith, ints)
 
@@ -290,7 +275,7 @@ module _ (trace : List Send) (send : Send) (id : List ℕ) (number : ℤ) (known
 
       not_run : (found : KnownSession) → finite.get old.sessions id ≡ Some found → HasRun number new.at found → ⊥
       not_run found is_found run = elim is_taken.is [
-        | inl before ↦ is_kept (subst (HasRun number new.at) (some_known found known (sym is_found ∙ before)) run)
+        | inl before ↦ is_kept (subst (HasRun number new.at) (some_is_some found known (sym is_found ∙ before)) run)
         | inr anew ↦ anew_run found (anew.1 found is_found) run
       ]
 
@@ -326,7 +311,7 @@ module _ (trace : List Send) (send : Send) (id : List ℕ) (number : ℤ) (known
     waiting = λ at other is. settled.waiting at other (runs.waiting at other is);
     sessions = λ other found is_found. elim (id_cases other id) [
       | inl same ↦
-          let here : found ≡ runs.after = some_known found runs.after (sym is_found ∙ ap (λ i. finite.get now.sessions i) same ∙ known_here) in
+          let here : found ≡ runs.after = some_is_some found runs.after (sym is_found ∙ ap (λ i. finite.get now.sessions i) same ∙ known_here) in
           subst (λ i. IsSettledSession trace now.log i found) (sym same) (subst (IsSettledSession trace now.log id) (sym here) session_here)
       | inr differs ↦ session_there other found (settled.sessions other found (sym (known_there other differs) ∙ is_found))
     ];
@@ -343,6 +328,3 @@ module _ (trace : List Send) (send : Send) (id : List ℕ) (number : ℤ) (known
     unserved = unserved_now;
     alone = λ at other a b is_a is_b. settled.alone at other a b (runs.waiting at a is_a) (runs.waiting other b is_b);
   }
-    where
-      some_known : (a b : KnownSession) → ◌≡◌ {A = Option KnownSession} (Some a) (Some b) → a ≡ b
-      some_known a b is = cc

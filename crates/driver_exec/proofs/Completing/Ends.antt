@@ -66,10 +66,6 @@ pub lossy_none : (server : Server) (send : Send) (step : Scheduled) → IsLossy 
 unfolding answered
 lossy_none server send step lossy = lossy_reply (traced (after_picks server step.deliver) send) send step.item lossy
 
--- a reply is not none
-pub none_some : (reply : Reply) → ◌≡◌ {A = Option Reply} None (Some reply) → ⊥
-none_some reply is = cc
-
 -- an error is no number
 pub err_ok : (error : Error) (number : Option ℤ) → ◌≡◌ {A = Result (Option ℤ) Error} (Err error) (Ok number) → ⊥
 err_ok error number is = cc

@@ -18,6 +18,7 @@ use Rattle.driver_link.specs.Exchange.{exchanged, next_step, step_at}
 use Rattle.driver_link.specs.LinkState.{server_run, setup_of}
 use Rattle.driver_link.specs.Retried.{IsGentleItem}
 use Rattle.driver_link.specs.ServerRun.{IsReply, ServerRun, TakesStep, run_after, run_answer}
+use Rattle.driver_link.proofs.Lists.{none_is_some}
 use Rattle.driver_session.specs.declared.retryability.Retryability.TheVariants as may
 use Rattle.driver_session.specs.Session.{Session}
 use Rattle.driver_session.specs.StoreTells.{DrawnApart}
@@ -35,7 +36,7 @@ use Rattle.driver_exec.specs.Retry.{RetryState}
 use Rattle.driver_exec.proofs.HeldSessions.{draws_on, not_both}
 use Rattle.driver_exec.proofs.Moments.{IsBefore, LeadsCalling, after_before, before_twice, checks_well, longer_after, one_moment, selects_lead, selects_well}
 use Rattle.driver_exec.proofs.OperationCauses.{fault_error, reworded_is}
-use Rattle.driver_exec.proofs.Completing.Ends.{ReadsPlainly, lossy_none, none_some, has_own_label, HasNumber, lost_held, held_again, same_again}
+use Rattle.driver_exec.proofs.Completing.Ends.{ReadsPlainly, lossy_none, has_own_label, HasNumber, lost_held, held_again, same_again}
 use Rattle.driver_exec.proofs.Completing.Sessions.{KnownCommand, attempted, MayGo, IsReadied, IsPrepared, again_readied, is_conn, reached_at, readied_at}
 
 module _ {A : Type 0} (known : KnownCommand A) where
@@ -152,7 +153,7 @@ module _ {A : Type 0} (known : KnownCommand A) where
         lossy_item none is = elim (gentle.items (length before.server.trace) (of_part is)) [
           | inl serves ↦
               let here = ready_answers (held_id sends.numbered) sends.number before.server step ready_here (subst (λ s. IsGentleItem does s.item) step_is serves) in
-              absurd (none_some here.reply (sym none ∙ here.is))
+              absurd (none_is_some here.reply (sym none ∙ here.is))
           | inr loses ↦ loses
         ]
 
