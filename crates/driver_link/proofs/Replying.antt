@@ -63,6 +63,11 @@ one_statement send plain server plan write = statement_at plan.results plan.fail
 abbrev pub one_reply : SendCommand → Plan → Server → PlacedWrite → Statement → Reply
 one_reply asks plan server write statement = write_reply asks plan.page plan.concern server.cursors (write ∷ []) (statement ∷ [])
 
+-- nothing follows it, whether the list goes on or not
+pub both_nothing : (b : Bool) → ◌≡◌ {A = List Statement} (if b then [] else []) []
+both_nothing true = refl
+both_nothing false = refl
+
 one_planned : {asks : SendCommand} (send : Send) (write : PlacedWrite) (one : IsOneWrite asks send write) (server : Server) (plan : Plan)
     → planned send one.plain server plan ≡ one_statement send one.plain server plan write ∷ []
 unfolding planned statements
@@ -71,10 +76,6 @@ one_planned {asks = asks} send write one server plan =
     ap (λ body. statements plan.results plan.fail (is_ordered body) kept 0 (body_writes body)) one.body
     ∙ ap (λ rest. statement_at plan.results plan.fail kept 0 write ∷ rest)
     (both_nothing (is_ordered (Write asks one.ordered (write ∷ [])) && is_failed (statement_at plan.results plan.fail kept 0 write)))
-  where
-    both_nothing : (b : Bool) → ◌≡◌ {A = List Statement} (if b then [] else []) []
-    both_nothing true = refl
-    both_nothing false = refl
 
 -- the reply to one write whose number is not below the greatest
 pub served_one : {asks : SendCommand} (send : Send) (write : PlacedWrite) (one : IsOneWrite asks send write) (server : Server) (plan : Plan)

@@ -1,7 +1,7 @@
 -- What the reply to a send of one write without a number says: it is an error, or it tells of the one statement,
 -- and a statement that did not fail stands in the log.
-use Rattle.std.proofs.Common.{◌≡◌, ℕ, Bool, true, false, List, [], ◌∷◌, refl, sym, ap, subst, ◌∙◌, inl, inr}
-use Rattle.std.specs.Prelude.{ℤ, ◌&&◌, Option, None, Some, ◌⊎◌, slice_get, if◌then◌else◌}
+use Rattle.std.proofs.Common.{◌≡◌, ℕ, Bool, false, List, [], ◌∷◌, refl, sym, ap, subst, ◌∙◌, inl, inr}
+use Rattle.std.specs.Prelude.{ℤ, ◌&&◌, Option, None, Some, ◌⊎◌, slice_get}
 use Rattle.std.specs.FinMap as finite
 use Rattle.std.specs.Ordering.{nat_cmp}
 use Rattle.std.proofs.lemmas.Bool.{cond-false}
@@ -26,7 +26,7 @@ use Rattle.driver_link.specs.Settled.{Has, IsUnnumbered}
 use Rattle.driver_link.specs.Statements.{code_at, counted, planned_at, statement_at, statement_of, statements, entry_of, is_failed, no_results}
 use Rattle.driver_link.proofs.Following.{entry_there}
 use Rattle.driver_link.proofs.Lists.{has_right, none_is_some, some_is_some}
-use Rattle.driver_link.proofs.Replying.{IsError, one_reply}
+use Rattle.driver_link.proofs.Replying.{IsError, both_nothing, one_reply}
 use Rattle.driver_link.proofs.Unnumbered.{RunsOnly, case_free, planned_only, results_free, served_free, served_runs_only}
 
 -- a send of one write by a command without a number
@@ -60,10 +60,6 @@ module _ {asks : SendCommand} (send : Send) (write : PlacedWrite) (one : IsOneUn
   only_planned plan =
       ap (λ body. statements plan.results plan.fail (is_ordered body) no_results 0 (body_writes body)) one.body
       ∙ ap (λ rest. only_statement plan write ∷ rest) (both_nothing (is_ordered (Write asks one.ordered (write ∷ [])) && is_failed (only_statement plan write)))
-    where
-      both_nothing : (b : Bool) → ◌≡◌ {A = List Statement} (if b then [] else []) []
-      both_nothing true = refl
-      both_nothing false = refl
 
   reply_free : (plan : Plan) → served_reply plan server send ≡ body_reply send.body plan server.cursors (planned_only send one.free server plan)
   unfolding served_reply reply_in planned_only

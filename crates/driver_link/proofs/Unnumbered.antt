@@ -130,7 +130,7 @@ unfolding case_as
 case_without None server send = refl
 case_without (Some id) server send = refl
 
-write_outside : (body : SendBody) → IsWrite body → unnumbered_case body ≡ outside
+pub write_outside : (body : SendBody) → IsWrite body → unnumbered_case body ≡ outside
 write_outside (Write command ordered writes) write = refl
 write_outside Commit write = absurd write
 write_outside Abort write = absurd write

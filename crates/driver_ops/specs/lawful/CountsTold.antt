@@ -28,6 +28,7 @@ use Rattle.driver_link.specs.Replies.{concern_field, done_field, error_reply, er
 use Rattle.driver_link.specs.Serving.{Plan}
 use Rattle.driver_link.proofs.Forms.{array_is, document_is}
 use Rattle.driver_link.proofs.Lists.{none_is_some, some_is_some}
+use Rattle.driver_link.proofs.Replying.{one_reply}
 use Rattle.driver_ops.specs.declared.delete.DeleteReply.{DeleteReply}
 use Rattle.driver_ops.specs.declared.failed_write.FailedWrite.{FailedWrite}
 use Rattle.driver_ops.specs.declared.update.UpdateReply.{UpdateReply}
@@ -35,7 +36,6 @@ use Rattle.driver_ops.specs.CountAnswers.{AnswersDelete, AnswersUpdate, delete_r
 use Rattle.driver_ops.specs.Inserts.{int_at, is_one}
 use Rattle.driver_ops.specs.Readings.{labels_in, natural, natural_of}
 use Rattle.driver_ops.specs.WriteReplies.{concern_in, indexed_error_of, indexed_errors, indexed_errors_of, write_errors_in}
-use Rattle.driver_ops.specs.lawful.OneTold.{reply_of_one}
 
 -- an error says that its command was not done
 pub error_not_one : (code : ℤ) (labels : List (List ℕ)) → is_one (int_at OK.now (error_reply code labels)) ≡ false
@@ -162,29 +162,29 @@ errors_fail reply value failed at read none =
 
 -- the reply to an update or a delete whose statement failed tells of a write error
 update_errors : (plan : Plan) (server : Server) (write : PlacedWrite) (code : ℤ)
-    → value_of WRITE_ERRORS.now (reply_of_one command.Update plan server write (Failed code)) ≡ Some (bson.Array (write_error 0 code ∷ []))
+    → value_of WRITE_ERRORS.now (one_reply command.Update plan server write (Failed code)) ≡ Some (bson.Array (write_error 0 code ∷ []))
 unfolding write_reply sum_of write_errors upserts
 update_errors plan server write code = refl
 
 delete_errors : (plan : Plan) (server : Server) (write : PlacedWrite) (code : ℤ)
-    → value_of WRITE_ERRORS.now (reply_of_one command.Delete plan server write (Failed code)) ≡ Some (bson.Array (write_error 0 code ∷ []))
+    → value_of WRITE_ERRORS.now (one_reply command.Delete plan server write (Failed code)) ≡ Some (bson.Array (write_error 0 code ∷ []))
 unfolding write_reply sum_of write_errors
 delete_errors plan server write code = refl
 
 -- so a statement whose reply tells of no failure has a result
 pub update_counts : (plan : Plan) (server : Server) (write : PlacedWrite) (statement : Statement) (failed : FailedWrite)
-    → failed_write_in (reply_of_one command.Update plan server write statement) ≡ Some failed → failed.failure ≡ None → (result : Counted) × (result_of statement ≡ Some result)
+    → failed_write_in (one_reply command.Update plan server write statement) ≡ Some failed → failed.failure ≡ None → (result : Counted) × (result_of statement ≡ Some result)
 update_counts plan server write (Kept result) failed read none = (result, refl)
 update_counts plan server write (Ran result) failed read none = (result, refl)
 update_counts plan server write (Failed code) failed read none =
-    absurd (errors_fail (reply_of_one command.Update plan server write (Failed code)) (write_error 0 code) failed (update_errors plan server write code) read none)
+    absurd (errors_fail (one_reply command.Update plan server write (Failed code)) (write_error 0 code) failed (update_errors plan server write code) read none)
 
 pub delete_counts : (plan : Plan) (server : Server) (write : PlacedWrite) (statement : Statement) (failed : FailedWrite)
-    → failed_write_in (reply_of_one command.Delete plan server write statement) ≡ Some failed → failed.failure ≡ None → (result : Counted) × (result_of statement ≡ Some result)
+    → failed_write_in (one_reply command.Delete plan server write statement) ≡ Some failed → failed.failure ≡ None → (result : Counted) × (result_of statement ≡ Some result)
 delete_counts plan server write (Kept result) failed read none = (result, refl)
 delete_counts plan server write (Ran result) failed read none = (result, refl)
 delete_counts plan server write (Failed code) failed read none =
-    absurd (errors_fail (reply_of_one command.Delete plan server write (Failed code)) (write_error 0 code) failed (delete_errors plan server write code) read none)
+    absurd (errors_fail (one_reply command.Delete plan server write (Failed code)) (write_error 0 code) failed (delete_errors plan server write code) read none)
 
 -- a number of a reply is read as it is
 pub reply_number_is : (n : ℤ) → int_of (reply_number n) ≡ Some n
@@ -232,7 +232,7 @@ counted_by concern found result output same read =
 
 -- what is read in the reply to an update whose statement has a result is what that counts
 pub update_by : (plan : Plan) (server : Server) (write : PlacedWrite) (statement : Statement) (result : Counted) (output : UpdateResult)
-    → result_of statement ≡ Some result → IsUpdateRead (reply_of_one command.Update plan server write statement) output → updated_by result ≡ Some output
+    → result_of statement ≡ Some result → IsUpdateRead (one_reply command.Update plan server write statement) output → updated_by result ≡ Some output
 unfolding write_reply sum_of write_errors upserts
 update_by plan server write (Kept found) result output counts read = counted_by plan.concern found result output (some_is_some _ _ counts) read
 update_by plan server write (Ran found) result output counts read = counted_by plan.concern found result output (some_is_some _ _ counts) read
@@ -249,7 +249,7 @@ taken_by concern found result output same read =
 
 -- the same of a delete
 pub delete_by : (plan : Plan) (server : Server) (write : PlacedWrite) (statement : Statement) (result : Counted) (output : DeleteResult)
-    → result_of statement ≡ Some result → IsDeleteRead (reply_of_one command.Delete plan server write statement) output → deleted_by result ≡ Some output
+    → result_of statement ≡ Some result → IsDeleteRead (one_reply command.Delete plan server write statement) output → deleted_by result ≡ Some output
 unfolding write_reply sum_of write_errors
 delete_by plan server write (Kept found) result output counts read = taken_by plan.concern found result output (some_is_some _ _ counts) read
 delete_by plan server write (Ran found) result output counts read = taken_by plan.concern found result output (some_is_some _ _ counts) read

@@ -25,12 +25,12 @@ use Rattle.driver_link.specs.Serving.{Plan}
 use Rattle.driver_link.specs.Values.{as_document}
 use Rattle.driver_link.proofs.Forms.{document_is}
 use Rattle.driver_link.proofs.Lists.{none_is_some, some_is_some}
+use Rattle.driver_link.proofs.Replying.{one_reply}
 use Rattle.driver_ops.specs.declared.failed_write.FailedWrite.{FailedWrite}
 use Rattle.driver_ops.specs.declared.find_and_modify.FindReply.{FindReply}
 use Rattle.driver_ops.specs.CountAnswers.{failed_write_in}
 use Rattle.driver_ops.specs.FoundAnswers.{AnswersFind, as_found, find_reply, found_by, found_of}
 use Rattle.driver_ops.specs.lawful.CountsTold.{errors_fail}
-use Rattle.driver_ops.specs.lawful.OneTold.{reply_of_one}
 
 -- a findAndModify that was read as done
 pub record IsFindRead (found : Reply) (output : Option (List (Pair Bson))) : Type 0 where
@@ -62,17 +62,17 @@ find_read reply output answers = find_read_by reply output (find_reply reply) re
 
 -- the reply to a findAndModify that failed tells of a write error
 find_errors : (plan : Plan) (server : Server) (write : PlacedWrite) (code : ℤ)
-    → value_of WRITE_ERRORS.now (reply_of_one command.FindAndModify plan server write (Failed code)) ≡ Some (bson.Array (write_error 0 code ∷ []))
+    → value_of WRITE_ERRORS.now (one_reply command.FindAndModify plan server write (Failed code)) ≡ Some (bson.Array (write_error 0 code ∷ []))
 unfolding write_reply write_errors
 find_errors plan server write code = refl
 
 -- so one whose reply tells of no failure has a result
 pub find_counts : (plan : Plan) (server : Server) (write : PlacedWrite) (statement : Statement) (failed : FailedWrite)
-    → failed_write_in (reply_of_one command.FindAndModify plan server write statement) ≡ Some failed → failed.failure ≡ None → (result : Counted) × (result_of statement ≡ Some result)
+    → failed_write_in (one_reply command.FindAndModify plan server write statement) ≡ Some failed → failed.failure ≡ None → (result : Counted) × (result_of statement ≡ Some result)
 find_counts plan server write (Kept result) failed read none = (result, refl)
 find_counts plan server write (Ran result) failed read none = (result, refl)
 find_counts plan server write (Failed code) failed read none =
-    absurd (errors_fail (reply_of_one command.FindAndModify plan server write (Failed code)) (write_error 0 code) failed (find_errors plan server write code) read none)
+    absurd (errors_fail (one_reply command.FindAndModify plan server write (Failed code)) (write_error 0 code) failed (find_errors plan server write code) read none)
 
 -- a value that is a document tells of it
 document_found : (layer : Bson-F Bson) (pairs : List (Pair Bson)) → as_document layer ≡ Some pairs → as_found layer ≡ Some (Some pairs)
@@ -97,7 +97,7 @@ found_told concern found result output same read = ap found_by (sym same) ∙ (s
 
 -- what is read in the reply to a findAndModify whose write has a result is what that found
 pub find_by : (plan : Plan) (server : Server) (write : PlacedWrite) (statement : Statement) (result : Counted) (output : Option (List (Pair Bson)))
-    → result_of statement ≡ Some result → IsFindRead (reply_of_one command.FindAndModify plan server write statement) output → found_by result ≡ Some output
+    → result_of statement ≡ Some result → IsFindRead (one_reply command.FindAndModify plan server write statement) output → found_by result ≡ Some output
 unfolding write_reply write_errors
 find_by plan server write (Kept found) result output counts read = found_told plan.concern found result output (some_is_some _ _ counts) read
 find_by plan server write (Ran found) result output counts read = found_told plan.concern found result output (some_is_some _ _ counts) read

@@ -1,7 +1,7 @@
 -- What the machine's reply to the insert of one document tells: its one statement, and where it is read as done that statement ran
 -- now or had its kept result.
 use Rattle.std.proofs.Common.{◌≡◌, ℕ, Bool, true, false, List, [], ◌∷◌, refl, sym, ap, subst, ◌∙◌, inl, inr}
-use Rattle.std.specs.Prelude.{ℤ, ◌&&◌, Option, None, Some, if◌then◌else◌}
+use Rattle.std.specs.Prelude.{ℤ, ◌&&◌, Some}
 use denote.Hole.Carrier.{out}
 use Rattle.bson_lite.specs.declared.bson.Bson.{Bson}
 use Rattle.bson_lite.specs.declared.bson.Bson as bson
@@ -26,7 +26,7 @@ use Rattle.driver_link.specs.Replies.{body_reply, error_reply, result_of, sum_of
 use Rattle.driver_link.specs.Serving.{Plan, done_in}
 use Rattle.driver_link.specs.Settled.{IsWrite}
 use Rattle.driver_link.specs.Statements.{Results, has_failed, is_failed, statement_at, statements}
-use Rattle.driver_link.proofs.Replying.{one_reply}
+use Rattle.driver_link.proofs.Replying.{both_nothing, one_reply}
 use Rattle.driver_link.specs.declared.write_options.InsertManyOptions.{InsertManyOptions}
 use Rattle.driver_ops.specs.declared.target.OperationTarget.{OperationTarget}
 use Rattle.driver_ops.specs.InsertSpec.{insert_spec}
@@ -34,6 +34,7 @@ use Rattle.driver_ops.specs.Inserts.{is_done_reply}
 use Rattle.driver_ops.specs.Operations.{ReadsOutput}
 use Rattle.driver_ops.specs.Served.{met_statements, statements_in}
 use Rattle.driver_ops.specs.lawful.InsertRead.{differ, output_done, spells_one}
+use Rattle.driver_ops.specs.lawful.OneTold.{counted_unfailed}
 use Rattle.driver_ops.specs.lawful.Statements.{TellsStatements, reply_of_writes, told_outside, told_reply}
 
 -- an error tells of no insert
@@ -59,10 +60,6 @@ unfolding statements
 one_done send write one plan kept =
     ap (done_in outside plan kept) one.body
     ∙ ap (λ rest. statement_at plan.results plan.fail kept 0 write ∷ rest) (both_nothing (one.ordered && is_failed (statement_at plan.results plan.fail kept 0 write)))
-  where
-    both_nothing : (b : Bool) → ◌≡◌ {A = List Statement} (if b then [] else []) []
-    both_nothing true = refl
-    both_nothing false = refl
 
 -- the reply to such a send tells of the one statement
 pub record IsOneTold (server : Server) (write : PlacedWrite) (item : Item) (done : List Statement) (found : Reply) : Type 0 where
@@ -96,12 +93,6 @@ pub done_counts : (plan : Plan) (server : Server) (write : PlacedWrite) (stateme
 done_counts plan server write (Kept result) done = (result, refl)
 done_counts plan server write (Ran result) done = (result, refl)
 done_counts plan server write (Failed code) done = absurd (differ (sym (failed_not_done plan server write code) ∙ done))
-
--- and did not fail
-pub counted_unfailed : (statement : Statement) (result : Counted) → result_of statement ≡ Some result → has_failed (statement ∷ []) ≡ false
-counted_unfailed (Kept found) result is = refl
-counted_unfailed (Ran found) result is = refl
-counted_unfailed (Failed code) result is = let e : ◌≡◌ {A = Option Counted} None (Some result) = is in cc
 
 -- one exchange of the insert of one document whose reply is read as done: its one statement is told, and has a result
 pub record IsReadDone (server : Server) (send : Send) (step : Scheduled) (write : PlacedWrite) (found : Reply) : Type 0 where

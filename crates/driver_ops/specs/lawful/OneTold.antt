@@ -1,6 +1,6 @@
 -- What the machine's reply to one write tells: its one statement.
-use Rattle.std.proofs.Common.{◌≡◌, Bool, true, false, List, [], ◌∷◌, refl, sym, ap, ◌∙◌}
-use Rattle.std.specs.Prelude.{◌&&◌, Option, None, Some, if◌then◌else◌}
+use Rattle.std.proofs.Common.{◌≡◌, true, false, List, [], ◌∷◌, refl, sym, ap, ◌∙◌}
+use Rattle.std.specs.Prelude.{◌&&◌, Option, None, Some}
 use Rattle.driver_link.specs.declared.machine.Counted.{Counted}
 use Rattle.driver_link.specs.declared.machine.Item.{Item}
 use Rattle.driver_link.specs.declared.machine.Item.TheVariants.{Serve}
@@ -15,9 +15,10 @@ use Rattle.driver_link.specs.declared.machine.Statement.TheVariants.{Kept, Ran, 
 use Rattle.driver_link.specs.Cases.{body_writes, is_ordered, outside, known_of, results_of}
 use Rattle.driver_link.specs.Cursors.{Reply}
 use Rattle.driver_link.specs.Exchange.{after_picks, reply, traced}
-use Rattle.driver_link.specs.Replies.{body_reply, result_of, write_reply}
+use Rattle.driver_link.specs.Replies.{body_reply, result_of}
 use Rattle.driver_link.specs.Serving.{Plan, done_in}
 use Rattle.driver_link.specs.Statements.{Results, entry_of, has_failed, is_failed, statement_at, statements}
+use Rattle.driver_link.proofs.Replying.{both_nothing, one_reply}
 use Rattle.driver_ops.specs.Served.{RanOrKept, entries_counted, entry_counted, met_statements, statements_in}
 use Rattle.driver_ops.specs.lawful.Statements.{told_outside, told_reply}
 
@@ -25,10 +26,6 @@ use Rattle.driver_ops.specs.lawful.Statements.{told_outside, told_reply}
 pub record IsOneOf (does : SendCommand) (send : Send) (write : PlacedWrite) : Type 0 where
   pub out : send.in_transaction ≡ false
   pub body : send.body ≡ Write does true (write ∷ [])
-
--- the reply that tells of one statement
-abbrev pub reply_of_one : SendCommand → Plan → Server → PlacedWrite → Statement → Reply
-reply_of_one does plan server write statement = write_reply does plan.page plan.concern server.cursors (write ∷ []) (statement ∷ [])
 
 -- its one statement
 one_done : (does : SendCommand) (send : Send) (write : PlacedWrite) → IsOneOf does send write → (plan : Plan) (kept : Results)
@@ -38,10 +35,6 @@ one_done does send write one plan kept =
     ap (done_in outside plan kept) one.body
     ∙ ap (λ rest. statement_at plan.results plan.fail kept 0 write ∷ rest)
     (both_nothing (is_ordered (Write does true (write ∷ [])) && is_failed (statement_at plan.results plan.fail kept 0 write)))
-  where
-    both_nothing : (b : Bool) → ◌≡◌ {A = List Statement} (if b then [] else []) []
-    both_nothing true = refl
-    both_nothing false = refl
 
 -- the reply to such a send tells of the one statement
 pub record IsOneTold (does : SendCommand) (server : Server) (write : PlacedWrite) (item : Item) (done : List Statement) (found : Reply) : Type 0 where
@@ -49,7 +42,7 @@ pub record IsOneTold (does : SendCommand) (server : Server) (write : PlacedWrite
   pub item_is : item ≡ Serve plan.results plan.fail plan.concern plan.page
   pub statement : Statement
   pub alone : done ≡ statement ∷ []
-  pub is : found ≡ reply_of_one does plan server write statement
+  pub is : found ≡ one_reply does plan server write statement
 
 -- where its statements are told it is one, of which the reply tells
 pub one_told : (does : SendCommand) (server : Server) (send : Send) (write : PlacedWrite) → IsOneOf does send write → (item : Item) (done : List Statement) (found : Reply)

@@ -6,11 +6,9 @@ use Rattle.std.proofs.lemmas.Bool.{cond-true, cond-false}
 use Rattle.driver_link.specs.declared.machine.Item.{Item}
 use Rattle.driver_link.specs.declared.machine.Item.TheVariants.{Serve, Lost, Late, ReplyLost, Interrupted, Refused, Reauthenticate}
 use Rattle.driver_link.specs.declared.machine.Send.{Send}
-use Rattle.driver_link.specs.declared.machine.SendBody.{SendBody}
-use Rattle.driver_link.specs.declared.machine.SendBody.TheVariants.{Write, Commit, Abort, More, Kill}
 use Rattle.driver_link.specs.declared.machine.Server.{Server}
 use Rattle.driver_link.specs.declared.machine.Statement.{Statement}
-use Rattle.driver_link.specs.Cases.{Case, too_old, outside, case_as, case_of, case_under, known_of, known_under, results_of, numbered_case, unnumbered_case, is_decided}
+use Rattle.driver_link.specs.Cases.{Case, too_old, outside, case_as, case_of, case_under, known_of, known_under, results_of, numbered_case, is_decided}
 use Rattle.driver_link.specs.Cursors.{Reply}
 use Rattle.driver_link.specs.Exchange.{interrupted_labels, interrupted_reply, plan_of, reauthentication_required, refused_labels, reply}
 use Rattle.driver_link.specs.Replies.{body_reply, error_reply, reply_in, served_reply, transaction_too_old}
@@ -20,15 +18,8 @@ use Rattle.driver_link.specs.Settled.{IsWrite}
 use Rattle.driver_link.proofs.Lists.{none_is_some, some_is_some}
 use Rattle.driver_link.proofs.Plain.{case_is}
 use Rattle.driver_link.proofs.Replying.{IsError}
+use Rattle.driver_link.proofs.Unnumbered.{write_outside}
 use Rattle.driver_ops.specs.Served.{case_statements, met_statements}
-
--- without a number a write is served outside transactions
-write_outside : (body : SendBody) → IsWrite body → unnumbered_case body ≡ outside
-write_outside (Write command ordered writes) write = refl
-write_outside Commit write = absurd write
-write_outside Abort write = absurd write
-write_outside (More cursor) write = absurd write
-write_outside (Kill cursor) write = absurd write
 
 -- a send of writes outside transactions is too old, or is served outside them
 module _ (server : Server) (send : Send) (out : send.in_transaction ≡ false) (write : IsWrite send.body) where
