@@ -1,7 +1,7 @@
 -- What stands in a log at a place, and what stays of it as the log grows.
 use Rattle.std.proofs.Common.{◌≡◌, ◌≢◌, ℕ, Bool, true, false, cond, List, [], ◌∷◌, ◌++◌, refl, sym, ap, ◌∙◌, inl, inr}
 use Rattle.std.specs.Prelude.{Option, None, Some, ◌==◌, ◌&&◌}
-use Rattle.std.proofs.lemmas.Bool.{cond-true, cond-false, false_from_ne_true}
+use Rattle.std.proofs.lemmas.Bool.{and_parts, cond-true, cond-false, false_from_ne_true}
 use Rattle.std.proofs.lemmas.Bool.Decides.{Decides-eqb}
 use Rattle.driver_link.specs.declared.machine.Entry.{Entry}
 use Rattle.driver_link.specs.declared.machine.Place.{Place}
@@ -19,16 +19,6 @@ stands_left place (entry ∷ log) more stands = elim stands [ inl at ↦ inl at 
 pub done_left : (calls : List Call) (call : ℕ) (log more : List Entry) → Done calls call log → Done calls call (log ++ more)
 done_left calls call log more done = λ index given. stands_left (record { call = call; index = index }) log more (done index given)
 
--- of two that are true the first is
-left_true : (a b : Bool) → (a && b) ≡ true → a ≡ true
-left_true true b both = refl
-left_true false b both = both
-
--- and the second
-right_true : (a b : Bool) → (a && b) ≡ true → b ≡ true
-right_true true b both = both
-right_true false b both = absurd (let e : ◌≡◌ {A = Bool} false true = both in cc)
-
 -- equal places are found to be the same
 is_same : (a b : Place) → a ≡ b → same_place a b ≡ true
 is_same a b at =
@@ -43,8 +33,8 @@ not_same a b differs = false_from_ne_true (same_place a b) (λ same. differs (pl
     -- places that are found to be the same are equal
     places_equal : (a b : Place) → same_place a b ≡ true → a ≡ b
     places_equal a b same =
-        let call : a.call ≡ b.call = (Decides-eqb a.call b.call).0 (left_true (a.call == b.call) (a.index == b.index) same) in
-        let index : a.index ≡ b.index = (Decides-eqb a.index b.index).0 (right_true (a.call == b.call) (a.index == b.index) same) in
+        let call : a.call ≡ b.call = (Decides-eqb a.call b.call).0 (and_parts (a.call == b.call) (a.index == b.index) same).0 in
+        let index : a.index ≡ b.index = (Decides-eqb a.index b.index).0 (and_parts (a.call == b.call) (a.index == b.index) same).1 in
         λ i. record { call = call i; index = index i }
 
 -- an entry that was found stays the one that is found

@@ -1,6 +1,7 @@
 -- The attempts of an operation one after another: what is kept of their failures, and how they end.
 use Rattle.std.proofs.Common.{◌≡◌, ℕ, ◌+◌, ◌-◌, ◌<◌, ◌≤◌, List, [], ◌∷◌, refl, sym, ap, subst, ◌∙◌, inl, inr, arith}
 use Rattle.std.specs.Prelude.{Bool, true, false, if◌then◌else◌, Option, None, Some, Result, Ok, Err}
+use Rattle.std.proofs.lemmas.Bool.{and_parts}
 use Rattle.driver_error.specs.declared.error.Error.{Error}
 use Rattle.driver_error.specs.declared.labels.TheConstants.{RETRYABLE_WRITE_ERROR}
 use Rattle.driver_error.specs.Error.{labels_of}
@@ -21,7 +22,6 @@ use Rattle.driver_exec.specs.Executing.{EndsWith, Attempts, limit_reached}
 use Rattle.driver_exec.specs.Retry.{Decides, RetryState, after, after_first, after_further, avoiding, decide, decide_reworded, may_be_retried, may_be_sent, one_more, reworded_failure}
 use Rattle.driver_exec.specs.inside.Executing.{FailureOf, IsLastError, MayAnswer, Reaches}
 use Rattle.driver_exec.proofs.RetryFold.{attempts_of}
-use Rattle.driver_exec.proofs.OneAttempt.{both_true}
 
 -- an attempt that did not fail is its end
 end_is : {A : Type 0} (attempt end : AttemptEnd A) → FailureOf attempt (Err end) → end ≡ attempt
@@ -195,7 +195,7 @@ decided_fewer failure retryability sharded kept retry once goes_on is = reworded
 -- a failure that may be followed by another attempt may be sent
 retried_sent : (failure : AttemptFailure) (retryability : Retryability) → may_be_retried failure retryability ≡ true → may_be_sent failure.phase failure.number ≡ true
 unfolding may_be_retried
-retried_sent failure may.Write is = (both_true (has_label (labels_of failure.error) RETRYABLE_WRITE_ERROR.now) (may_be_sent failure.phase failure.number) is).1
+retried_sent failure may.Write is = (and_parts (has_label (labels_of failure.error) RETRYABLE_WRITE_ERROR.now) (may_be_sent failure.phase failure.number) is).1
 retried_sent failure may.Read is = absurd (let e : false ≡ true = is in cc)
 retried_sent failure may.None is = absurd (let e : false ≡ true = is in cc)
 

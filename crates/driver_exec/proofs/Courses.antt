@@ -2,6 +2,7 @@
 use Rattle.std.proofs.Common.{◌≡◌, ℕ, suc, ◌≤◌, List, refl, sym, ap, subst, ◌∙◌, inl, inr, arith}
 use Rattle.std.specs.Prelude.{ℤ, pos, ◌+ℤ◌, Bool, true, false, ◌&&◌, Option, None, Some, is_none, Result, Ok, Err, if◌then◌else◌}
 use Rattle.std.specs.Option.{option_map}
+use Rattle.std.proofs.lemmas.Bool.{and_parts}
 use Rattle.driver_error.specs.declared.error.Error.{Error}
 use Rattle.driver_link.specs.declared.concerns.WriteConcern.{WriteConcern}
 use Rattle.driver_link.specs.declared.fault.LinkError.{LinkError}
@@ -26,7 +27,6 @@ use Rattle.driver_exec.specs.Attempting.{Exchanges, held_after}
 use Rattle.driver_exec.specs.Holding.{DrawsNumber, DrawsSession, GivesNumber, ExecutionSession, HoldsSession, dirty_session, held_id, needs_session}
 use Rattle.driver_exec.specs.Resending.{AnsweredLast, IsNumbered, SentTimes, SentWithin}
 use Rattle.driver_exec.proofs.Attempts.{raises, stays}
-use Rattle.driver_exec.proofs.OneAttempt.{both_true}
 use Rattle.driver_exec.proofs.SendRelations.{answered_last, begins_unsent, none_sent, sent_answered, sent_counted, sent_lost, sent_maybe}
 use Rattle.driver_exec.proofs.BorrowedSession.{CountFits, HeldFrom, HoldsFrom, HoldsLast, MayGoOn, NumberFits, Unnumbered, id_of, lends_then_stays, number_of}
 
@@ -112,8 +112,8 @@ module _ {A : Type 0} (spec : OperationSpec A) (batch : Batch) (store : StoreTel
       by_need : (needed : Bool) → needs_session asked held ≡ needed → HoldsSession needed store_mid store_now held ready (Ok tt) → Course most store_now link_now ready.session ready.sent
       by_need false is holds = subst (λ s. Course most s link_now ready.session ready.sent) (sym holds.0) (kept ready holds.1 course)
       by_need true is holds =
-          let both = both_true (asked && is_none held.session) (is_none held.sent) is in
-          let first = both_true asked (is_none held.session) both.0 in
+          let both = and_parts (asked && is_none held.session) (is_none held.sent) is in
+          let first = and_parts asked (is_none held.session) both.0 in
           let none = none_of held.session first.1 in
           let unsent = none_of held.sent both.1 in
           let bare : Course most store_mid link_now None None

@@ -3,6 +3,7 @@
 use Rattle.std.proofs.Common.{◌≡◌, ℕ, List, [], ◌∷◌, refl, sym, ap, subst, ◌∙◌, inl, inr}
 use Rattle.std.specs.Prelude.{ℤ, Bool, true, false, ◌&&◌, Option, None, Some, is_none, is_some, ◌⊎◌, Result, Ok, Err, if◌then◌else◌}
 use Rattle.std.specs.Option.{option_map}
+use Rattle.std.proofs.lemmas.Bool.{and_parts}
 use Rattle.driver_error.specs.declared.error.Error.{Error}
 use Rattle.driver_error.specs.declared.kind.ErrorKind.TheVariants as kind
 use Rattle.driver_error.specs.Error.{IsAlone, kind_of}
@@ -29,11 +30,6 @@ use Rattle.driver_exec.specs.OperationCauses.{DrawsNumbers}
 -- what is true is not false
 pub not_both : true ≡ false → ⊥
 not_both same = cc
-
--- where two things hold together each does
-both_true : (a b : Bool) → (a && b) ≡ true → (a ≡ true) × (b ≡ true)
-both_true true b is = (refl, is)
-both_true false b is = absurd (not_both (sym is))
 
 -- without a session the store is as it was
 abbrev pub IsUntouched : Option Session → StoreTells → StoreTells → Type 0
@@ -132,9 +128,9 @@ module _ (store : StoreTells) (setup : Option Setup) where
         by_need false needs holds =
             subst (λ h. HeldSoFar store setup now h.session h.sent) (sym holds.1) (subst (λ s. HeldSoFar store setup s held.session held.sent) (sym holds.0) held_so_far)
         by_need true needs holds =
-            let both = both_true (asks_session sessions description && is_none held.session) (is_none held.sent) needs in
-            let first = both_true (asks_session sessions description) (is_none held.session) both.0 in
-            let supports = (both_true sessions description.supports_sessions first.0).1 in
+            let both = and_parts (asks_session sessions description && is_none held.session) (is_none held.sent) needs in
+            let first = and_parts (asks_session sessions description) (is_none held.session) both.0 in
+            let supports = (and_parts sessions description.supports_sessions first.0).1 in
             let same : mid ≡ store = subst (λ s. IsUntouched s store mid) (none_of held.session first.1) held_so_far.untouched in
             let fits = subst (λ s. FitsNumber (next_number s) holds.session.number) same (lent_fits mid now holds.at holds.session holds.lends) in
             subst (λ h. HeldSoFar store setup now h.session h.sent) (sym holds.is)

@@ -1,6 +1,7 @@
 -- One attempt of an operation, from the calls in which it was made.
 use Rattle.std.proofs.Common.{◌≡◌, ℕ, ◌≤◌, List, [], ◌∷◌, refl, sym, ap, subst, ◌∙◌, inl, inr, arith}
-use Rattle.std.specs.Prelude.{ℤ, Bool, true, false, ◌&&◌, Option, None, Some, is_some, Result, Ok, Err}
+use Rattle.std.specs.Prelude.{ℤ, Bool, true, false, Option, None, Some, is_some, Result, Ok, Err}
+use Rattle.std.proofs.lemmas.Bool.{and_parts}
 use Rattle.driver_error.specs.declared.error.Error.{Error}
 use Rattle.driver_error.specs.declared.kind.ErrorKind.TheVariants as kind
 use Rattle.driver_error.specs.Error.{IsAlone}
@@ -51,14 +52,6 @@ pub record OnlyCounted (link now : LinkState) : Type 0 where
   pub notes : GainsAll link.answers now.answers items
   pub early : AllEarly items
   pub later : link.faults ≤ now.faults
-
--- both of two hold
-pub both_true : (a b : Bool) → (a && b) ≡ true → (a ≡ true) × (b ≡ true)
-both_true true b is = (refl, is)
-both_true false b is = absurd (false≢true is)
-  where
-    false≢true : false ≡ true → ⊥
-    false≢true same = cc
 
 pub later_of : {B : Type 0} (before now : ℕ) (result : Result B LinkError) → HasLinkCause before now result → before ≤ now
 later_of before now (Ok given) cause = cause
@@ -449,7 +442,7 @@ module _ {A : Type 0} (spec : OperationSpec A) (batch : Batch) (which : SendKind
             })))
             | inr more ↦ elim more [
               | inl unfit ↦ subst (λ a. MakesAttempt op past began came a) (sym unfit.ends) (
-                (both_true (is_some past) (is_some ready.sent) unfit.again_is).0,
+                (and_parts (is_some past) (is_some ready.sent) unfit.again_is).0,
                 record {
                   ready = attempt_state store_now link clock_now ready count;
                   address = address;

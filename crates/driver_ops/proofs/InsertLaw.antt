@@ -1,8 +1,9 @@
 -- Over the machine's own reply the insert of one document is read as done exactly where its statement counts one document.
 use Rattle.std.proofs.Common.{◌≡◌, ℕ, Bool, true, false, List, [], ◌∷◌, refl, sym, ap, subst, ◌∙◌}
-use Rattle.std.specs.Prelude.{ℤ, pos, ◌&&◌, Option, None, Some}
+use Rattle.std.specs.Prelude.{ℤ, pos, Option, None, Some}
 use Rattle.std.specs.Option.{option_map}
 use Rattle.std.specs.Ordering.{int_eq}
+use Rattle.std.proofs.lemmas.Bool.{and_parts}
 use Rattle.std.proofs.lemmas.Bool.Decides.{Decides-int_eq}
 use Rattle.bson_lite.specs.declared.bson.Bson.{Bson}
 use Rattle.bson_lite.specs.Spelling.{Spells}
@@ -59,13 +60,9 @@ done_one : (plan : Plan) (server : Server) (write : PlacedWrite) (statement : St
 unfolding is_done_reply
 done_one plan server write statement done =
     let found = one_reply command.Insert plan server write statement in
-    let one : is_one (int_at N.now found) ≡ true = second (is_one (int_at OK.now found)) (is_one (int_at N.now found)) done in
+    let one : is_one (int_at N.now found) ≡ true = (and_parts (is_one (int_at OK.now found)) (is_one (int_at N.now found)) done).1 in
     let equal : int_eq (sum_in (statement ∷ [])) (pos 1) ≡ true = sym (ap is_one (n_told plan server write statement)) ∙ one in
     (Decides-int_eq (sum_in (statement ∷ [])) (pos 1)).0 equal
-  where
-    second : (a b : Bool) → (a && b) ≡ true → b ≡ true
-    second true b both = both
-    second false b both = absurd (differ both)
 
 -- a value that is there is not read as a missing one
 not_missing : (value : Bson) → optional_value concern_error_of (Some value) ≡ Some None → ⊥

@@ -1,5 +1,6 @@
 -- What a script plans for a send that is served is what a model server takes.
 use Rattle.std.proofs.Common.{◌≡◌, ℕ, suc, ◌^◌, ◌<◌, ◌≤◌, ℤ, Bool, true, false, List, [], ◌∷◌, length, refl, ap, subst, ◌∙◌, arith}
+use Rattle.std.proofs.lemmas.Bool.{and_parts}
 use Rattle.std.proofs.lemmas.Bool.Decides.{nat_tests}
 use Rattle.std.proofs.lemmas.Int.{ints}
 use Rattle.std.specs.Prelude.{◌≢◌, ◌≤ℤ◌, pos, max, nat_lt, ◌&&◌, not, Option, None, Some, IfSome, is_some, if◌then◌else◌}
@@ -25,7 +26,7 @@ use Rattle.driver_script.specs.declared.keys.TheConstants.{CODE, FAIL, MESSAGE, 
 use Rattle.driver_script.specs.Json.{has_only, list_of, needed_part, optional_part}
 use Rattle.driver_script.specs.Plans.{built_code, built_plan, concern_error_in, concern_error_of, concern_error_with, failing_in, failing_of, failing_with, is_built_code, is_spelled_within, may_be_found, may_be_upserted, plan_in, plan_with, planned_of, serve_in, serve_of, serve_with}
 use Rattle.driver_script.specs.Values.{code_of, count_of, document_of, item_of, small_of, text_of, value_of}
-use Rattle.driver_script.proofs.Readings.{chained, either, first_holds, list_optional, mapped, none_told, optional_holds, second_holds, where_so}
+use Rattle.driver_script.proofs.Readings.{chained, either, list_optional, mapped, none_told, optional_holds, where_so}
 
 -- a code other than that which asks for another authentication
 abbrev IsOtherCode : ℤ → Type 0
@@ -144,8 +145,8 @@ built_plan_well planned n modified found is =
     (λ both x here. subst IsPlan (some_is_some planned x here) (record {
       n = n;
       modified = modified;
-      upserted = upserted_well planned.upserted (first_holds (may_be_upserted planned.upserted) (may_be_found planned.value) both);
-      value = found_well planned.value (second_holds (may_be_upserted planned.upserted) (may_be_found planned.value) both);
+      upserted = upserted_well planned.upserted (and_parts (may_be_upserted planned.upserted) (may_be_found planned.value) both).0;
+      value = found_well planned.value (and_parts (may_be_upserted planned.upserted) (may_be_found planned.value) both).1;
     })) found is
 
 plan_in_well : (d : Data) (planned : Planned) → plan_in d ≡ Some planned → IsPlan planned

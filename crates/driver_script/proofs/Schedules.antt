@@ -1,5 +1,6 @@
 -- The schedule of a script is one that a model server takes.
 use Rattle.std.proofs.Common.{◌≡◌, ℕ, true, List, [], ◌∷◌, subst}
+use Rattle.std.proofs.lemmas.Bool.{and_parts}
 use Rattle.std.proofs.lemmas.List.Elements.{All-nil}
 use Rattle.std.specs.Prelude.{◌&&◌, Option, Some, bytes_eq}
 use Rattle.std.specs.List.{list_all}
@@ -24,7 +25,7 @@ use Rattle.driver_script.specs.ScheduleSteps.{built_reply, delivering_of, faults
 use Rattle.driver_script.specs.Script.{script_around, script_of, script_with}
 use Rattle.driver_script.specs.Values.{code_of, count_of, text_of}
 use Rattle.driver_script.proofs.PlannedResults.{IsOther, other_code, serve_well}
-use Rattle.driver_script.proofs.Readings.{chained, either, first_holds, list_optional, mapped, needed_holds, where_so}
+use Rattle.driver_script.proofs.Readings.{chained, either, list_optional, mapped, needed_holds, where_so}
 
 -- a step of a schedule that may be scheduled
 abbrev IsStep : Scheduled → Type 0
@@ -42,7 +43,7 @@ built_well : (reply found : ErrorReply) → built_reply reply ≡ Some found →
 unfolding built_reply
 built_well reply found is =
     where_so IsBuilt (is_built_code reply.code && list_all is_built_label reply.labels) (Some reply)
-    (λ both x here. subst IsBuilt (some_is_some reply x here) (first_holds (is_built_code reply.code) (list_all is_built_label reply.labels) both)) found is
+    (λ both x here. subst IsBuilt (some_is_some reply x here) (and_parts (is_built_code reply.code) (list_all is_built_label reply.labels) both).0) found is
 
 reply_well : (d : Data) (found : ErrorReply) → reply_of d ≡ Some found → IsBuilt found
 unfolding reply_of

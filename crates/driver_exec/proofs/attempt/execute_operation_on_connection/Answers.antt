@@ -1,12 +1,13 @@
 -- Where there is no session, or nothing may be repeated, the attempt ends so; else its command goes out.
 use Rattle.std.proofs.Common.{ap, subst, ◌∙◌, sym}
 use Rattle.std.specs.Prelude.{Ok, Err}
+use Rattle.std.proofs.lemmas.Bool.{and_parts}
 use Rattle.driver_ops.specs.Operations.{batch_of}
 use Rattle.driver_exec.specs.Attempting.{asks_session, besides_out, is_nothing, on_connection, stops}
 use Rattle.driver_exec.specs.Client.{options_of, store_of}
 use Rattle.driver_exec.specs.Concerns.{concern_of}
 use Rattle.driver_exec.specs.inside.Attempting.{Sending}
-use Rattle.driver_exec.proofs.OneAttempt.{both_true, holds_asked, sent_attempt_made, sessionless_attempt_made, stopped_attempt_made, unready_attempt_made}
+use Rattle.driver_exec.proofs.OneAttempt.{holds_asked, sent_attempt_made, sessionless_attempt_made, stopped_attempt_made, unready_attempt_made}
 use Rattle.driver_exec.proofs.attempt.execute_operation_on_connection.Goals as goal
 
 pub returns-in-Err-clause-makes : goal.returns-in-Err-clause-makes
@@ -37,7 +38,7 @@ returns-then-stops-clause-makes g c = λ statements fixed retryability retryabil
     let clock = g.K.Clock.tells c.args.outside.now.clock in
     let clock_now = g.K.Clock.tells c.check_out_session-held.new.clock in
     let asked = c.asks_session-asked.ensures ∙ ap (λ sessions. asks_session sessions c.args.on.now.conn.now.description) c.supports_sessions.ensures in
-    let both = both_true c.args.on.now.again (is_nothing c.args.on.now.connection_retryability) (sym c.stops.ensures ∙ c.if-stops.true) in
+    let both = and_parts c.args.on.now.again (is_nothing c.args.on.now.connection_retryability) (sym c.stops.ensures ∙ c.if-stops.true) in
     stopped_attempt_made spec batch which retryability concern kept store store_now before link clock clock_now c.args.held c.check_out_session-held.result.0 c.args.sends.now c.args.address c.args.on.now.conn.now connects
     (holds_asked spec batch which retryability concern kept store store_now before link clock clock_now c.args.held c.check_out_session-held.result.0 c.args.sends.now c.args.address c.args.on.now.conn.now connects
     c.asks_session-asked.result c.check_out_session-held.result.1 (Ok tt) asked c.in-Ok.is c.check_out_session-held.ensures.holds)
