@@ -15,6 +15,7 @@ use Rattle.driver_link.specs.Counting.{OnlyCounts}
 use Rattle.driver_link.specs.ServerRun.{ServerRun, TakesStep}
 use Rattle.driver_link.specs.LinkState.{LinkState, server_run}
 use Rattle.driver_link.specs.Failures.{is_network}
+use Rattle.driver_link.proofs.Lists.{none_told}
 use Rattle.driver_session.specs.declared.retryability.Retryability.{Retryability}
 use Rattle.driver_session.specs.declared.retryability.Retryability.TheVariants as may
 use Rattle.driver_session.specs.StoreTells.{LendsSession, StoreTells}
@@ -105,17 +106,13 @@ module _ {A : Type 0} (spec : OperationSpec A) (batch : Batch) (store : StoreTel
       kept : (now : ExecutionSession) → now ≡ held → Course most store_mid link_now held.session held.sent → Course most store_mid link_now now.session now.sent
       kept now is course = subst (λ h. Course most store_mid link_now h.session h.sent) (sym is) course
 
-      none_of : {B : Type 0} (o : Option B) → is_none o ≡ true → o ≡ None
-      none_of None is = refl
-      none_of (Some b) is = absurd (let e : false ≡ true = is in cc)
-
       by_need : (needed : Bool) → needs_session asked held ≡ needed → HoldsSession needed store_mid store_now held ready (Ok tt) → Course most store_now link_now ready.session ready.sent
       by_need false is holds = subst (λ s. Course most s link_now ready.session ready.sent) (sym holds.0) (kept ready holds.1 course)
       by_need true is holds =
           let both = and_parts (asked && is_none held.session) (is_none held.sent) is in
           let first = and_parts asked (is_none held.session) both.0 in
-          let none = none_of held.session first.1 in
-          let unsent = none_of held.sent both.1 in
+          let none = none_told held.session first.1 in
+          let unsent = none_told held.sent both.1 in
           let bare : Course most store_mid link_now None None
           = subst (λ s. Course most store_mid link_now s None) none (subst (λ s. Course most store_mid link_now held.session s) unsent course) in
           let lent = lent_now most store_mid store_now link_now holds.at holds.session holds.lends bare in

@@ -16,6 +16,7 @@ use Rattle.driver_link.specs.declared.options.Conn.{Conn}
 use Rattle.driver_link.specs.declared.options.Description.{Description}
 use Rattle.driver_link.specs.LinkCalls.{IsTo}
 use Rattle.driver_link.specs.Failures.{is_network}
+use Rattle.driver_link.proofs.Lists.{none_told}
 use Rattle.driver_session.specs.declared.pool.IdleSession.{IdleSession}
 use Rattle.driver_session.specs.declared.retryability.Retryability.{Retryability}
 use Rattle.driver_session.specs.declared.retryability.Retryability.TheVariants as may
@@ -92,11 +93,6 @@ pub may_be_last : (next : Option ℤ) (number : ℤ) → FitsNumber next number 
 may_be_last None number fits last = tt
 may_be_last (Some next) number fits last = sym fits ∙ last
 
--- no value
-none_of : {B : Type 0} (o : Option B) → is_none o ≡ true → o ≡ None
-none_of None is = refl
-none_of (Some b) is = absurd (not_both (sym is))
-
 -- some value
 some_of : {B : Type 0} (o : Option B) → is_none o ≡ false → is_some o ≡ true
 some_of None is = absurd (not_both is)
@@ -131,7 +127,7 @@ module _ (store : StoreTells) (setup : Option Setup) where
             let both = and_parts (asks_session sessions description && is_none held.session) (is_none held.sent) needs in
             let first = and_parts (asks_session sessions description) (is_none held.session) both.0 in
             let supports = (and_parts sessions description.supports_sessions first.0).1 in
-            let same : mid ≡ store = subst (λ s. IsUntouched s store mid) (none_of held.session first.1) held_so_far.untouched in
+            let same : mid ≡ store = subst (λ s. IsUntouched s store mid) (none_told held.session first.1) held_so_far.untouched in
             let fits = subst (λ s. FitsNumber (next_number s) holds.session.number) same (lent_fits mid now holds.at holds.session holds.lends) in
             subst (λ h. HeldSoFar store setup now h.session h.sent) (sym holds.is)
             (record { untouched = tt; first = first_lent holds.session held.sent fits; takes = takes_asked holds.session setup is supports })

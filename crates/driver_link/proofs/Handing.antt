@@ -1,17 +1,12 @@
 -- The connections that are out, once the newest of a number was handed back.
-use Rattle.std.proofs.Common.{◌≡◌, ℕ, suc, ◌+◌, ◌<◌, Bool, true, false, List, [], ◌∷◌, ◌++◌, length, take, drop, refl, sym, ap, ◌∙◌, arith}
+use Rattle.std.proofs.Common.{◌≡◌, ℕ, suc, ◌+◌, ◌<◌, true, false, List, [], ◌∷◌, ◌++◌, length, take, drop, refl, sym, ap, ◌∙◌, arith}
 use Rattle.std.specs.Prelude.{◌==◌, ◌||◌}
-use Rattle.std.proofs.lemmas.Bool.{cond-true, cond-false}
+use Rattle.std.proofs.lemmas.Bool.{cond-true, cond-false, or_parts, or_right}
 use Rattle.std.proofs.lemmas.Bool.Decides.{nat_tests}
 use Rattle.std.proofs.Common.{drop-cons, get_or}
 use Rattle.std.proofs.lemmas.List.{append-nil, take-append-drop}
 use Rattle.driver_link.specs.declared.options.Conn.{Conn}
 use Rattle.driver_link.specs.LinkState.{has_number, without_newest}
-
--- a disjunction that is false has two false parts
-both_false : (a b : Bool) → (a || b) ≡ false → (a ≡ false) × (b ≡ false)
-both_false true b is = absurd (let e : ◌≡◌ {A = Bool} true false = is in cc)
-both_false false b is = (refl, is)
 
 -- equal numbers are told to be equal
 pub same_number : (a b : ℕ) → a ≡ b → (a == b) ≡ true
@@ -21,17 +16,13 @@ same_number a b same = grind (arith, nat_tests)
 pub none_newest : (number : ℕ) (out : List Conn) → has_number number out ≡ false → without_newest number out ≡ out
 none_newest number [] none = refl
 none_newest number (conn ∷ out) none =
-    let parts = both_false (conn.number == number) (has_number number out) none in
+    let parts = or_parts (conn.number == number) (has_number number out) none in
     cond-false (has_number number out) _ _ parts.1 ∙ cond-false (conn.number == number) _ _ parts.0
 
 -- where one has it, one has it among more
 has_later : (number : ℕ) (front rest : List Conn) → has_number number rest ≡ true → has_number number (front ++ rest) ≡ true
 has_later number [] rest there = there
-has_later number (conn ∷ front) rest there = ap (λ b. (conn.number == number) || b) (has_later number front rest there) ∙ or_true (conn.number == number)
-  where
-    or_true : (b : Bool) → (b || true) ≡ true
-    or_true true = refl
-    or_true false = refl
+has_later number (conn ∷ front) rest there = ap (λ b. (conn.number == number) || b) (has_later number front rest there) ∙ or_right (conn.number == number) true refl
 
 -- the newest of a number stands before others alone
 pub newest_between : (number : ℕ) (front rest : List Conn) (conn : Conn) → (conn.number == number) ≡ true → has_number number rest ≡ false

@@ -1,6 +1,6 @@
 -- Elements and positions of lists.
 use Rattle.std.proofs.Common.{◌≡◌, ℕ, zero, suc, ◌≤◌, List, [], ◌∷◌, ◌++◌, length, refl, ap, inl, inr, arith}
-use Rattle.std.specs.Prelude.{Option, None, Some, ◌⊎◌, slice_get, slice_set}
+use Rattle.std.specs.Prelude.{true, false, Option, None, Some, is_none, ◌⊎◌, slice_get, slice_set}
 use Rattle.driver_link.specs.Settled.{Has}
 
 pub has_left : {A : Type 0} (xs more : List A) (x : A) → Has xs x → Has (xs ++ more) x
@@ -27,6 +27,11 @@ none_is_some x is = cc
 
 pub some_is_some : {A : Type 0} (x y : A) → ◌≡◌ {A = Option A} (Some x) (Some y) → x ≡ y
 some_is_some x y is = cc
+
+-- what is told to be none
+pub none_told : {A : Type 0} (found : Option A) → is_none found ≡ true → found ≡ None
+none_told None is = refl
+none_told (Some x) is = absurd (let denied : false ≡ true = is in cc)
 
 pub get_left : {A : Type 0} (xs more : List A) (at : ℕ) (x : A) → slice_get xs at ≡ Some x → slice_get (xs ++ more) at ≡ Some x
 get_left [] more at x is = absurd (none_is_some x is)

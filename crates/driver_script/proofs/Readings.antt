@@ -1,7 +1,7 @@
 -- What holds of what a script is read as.
 use Rattle.std.proofs.Common.{◌≡◌, ℕ, Bool, true, false, List, [], ◌∷◌, refl, subst}
 use Rattle.std.proofs.lemmas.List.Elements.{All-cons, All-nil}
-use Rattle.std.specs.Prelude.{All, Option, None, Some, IfSome, is_none, unwrap_or, if◌then◌else◌}
+use Rattle.std.specs.Prelude.{All, Option, None, Some, IfSome, unwrap_or, if◌then◌else◌}
 use Rattle.std.specs.Option.{option_and_then, option_map}
 use Rattle.serde_json.specs.Data.{Data, null, boolean, number, string, array, object, Items, no_items, item}
 use Rattle.serde_json.specs.Find.{get}
@@ -29,11 +29,6 @@ pub either : {A : Type 0} (P : A → Type 0) (test : Bool) (first second : Optio
     → ((x : A) → second ≡ Some x → P x) → (x : A) → (if test then first else second) ≡ Some x → P x
 either P true first second one other x is = one x is
 either P false first second one other x is = other x is
-
--- what is told to be none
-pub none_told : {A : Type 0} (found : Option A) → is_none found ≡ true → found ≡ None
-none_told None is = refl
-none_told (Some x) is = absurd (let denied : false ≡ true = is in cc)
 
 -- what holds of each thing that is left out or found, and of each of a list
 abbrev pub AllOf : {A : Type 0} → (A → Type 0) → Option (List A) → Type 0

@@ -2,7 +2,7 @@
 use Rattle.std.proofs.Common.{◌≡◌, ℕ, ◌+◌, Bool, true, false, ◌||◌, List, [], ◌∷◌, ◌++◌, refl, sym, ap, subst, ◌∙◌, arith}
 use Rattle.std.specs.Prelude.{Option, None, Some, if◌then◌else◌}
 use Rattle.std.specs.Str.{bytes_eq}
-use Rattle.std.proofs.lemmas.Bool.{cond-true}
+use Rattle.std.proofs.lemmas.Bool.{cond-true, or_right}
 use Rattle.std.proofs.lemmas.Slice.Eq.{bytes_eq-Decides}
 use Rattle.bson_lite.proofs.Numbers.{bytes_eq-same}
 use Rattle.driver_session.specs.Pool.{Pool, times_lent, is_lent, without_first, lent_out, taken_back, session_out}
@@ -39,11 +39,7 @@ times_without q id (other ∷ lent) there = times_first q id other lent (without
 -- an id at the end is lent
 is_lent_last : (id : List ℕ) (lent : List (List ℕ)) → is_lent id (lent ++ id ∷ []) ≡ true
 is_lent_last id [] = ap (λ b. b || false) (bytes_eq-same id)
-is_lent_last id (other ∷ lent) = ap (λ b. bytes_eq other id || b) (is_lent_last id lent) ∙ or_true (bytes_eq other id)
-  where
-    or_true : (b : Bool) → (b || true) ≡ true
-    or_true true = refl
-    or_true false = refl
+is_lent_last id (other ∷ lent) = ap (λ b. bytes_eq other id || b) (is_lent_last id lent) ∙ or_right (bytes_eq other id) true refl
 
 -- what is lent after a check-out
 lent_is : (caller : ℕ) (next : List ℕ) (moment : ℕ) (pool : Pool)

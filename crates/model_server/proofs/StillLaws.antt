@@ -1,8 +1,9 @@
 -- Whether a transaction can be called transient once its send was interrupted.
-use Rattle.std.proofs.Common.{◌≡◌, ℕ, ℤ, ◌&&◌, ◌||◌, ◌==◌, Bool, true, false, List, Option, None, Some, refl, sym, ap, ◌∙◌, if◌then◌else◌}
+use Rattle.std.proofs.Common.{◌≡◌, ℕ, ℤ, ◌&&◌, ◌==◌, Bool, true, false, List, Option, None, Some, refl, sym, ap, ◌∙◌, if◌then◌else◌}
 use Rattle.std.specs.Prelude.{int_lt}
 use Rattle.std.specs.Cmp.Lexicographic.{nat_list_cmp_total}
 use Rattle.std.specs.FinMap as finite
+use Rattle.std.proofs.lemmas.Bool.{or_right}
 use Rattle.bson_lite.proofs.FinMaps.{get_inserted}
 use Rattle.driver_link.specs.Cases.{Case, is_end, unnumbered_case, write_case, case_as, case_of, case_under, is_decided, is_in_transaction, known_under, numbered_case, too_old, outside, gathers, commits, aborts, of_cursor, nothing, denied, writes_of}
 use Rattle.driver_link.specs.Honesty.{can_be_transient}
@@ -83,10 +84,6 @@ unnumbered_commits Commit = refl
 unnumbered_commits Abort = refl
 unnumbered_commits (More cursor) = refl
 unnumbered_commits (Kill cursor) = refl
-
-or_true : (a b : Bool) → b ≡ true → a || b ≡ true
-or_true true b is = refl
-or_true false b is = is
 
 -- whether a session's transaction can be called transient
 free : Bool → ServerTransaction → Bool
@@ -177,7 +174,7 @@ open_above number id server send undecided = by_test (is_below number (finite.ge
 commits_inside : (id : List ℕ) (number : ℤ) (server : Server) (send : Send) → is_commits (case_under id number server send) ≡ true → is_in_transaction send ≡ true
 unfolding case_under is_commits
 commits_inside id number server send is =
-    or_true send.in_transaction (is_end send.body) (by_test (is_below number (finite.get server.sessions id)) is)
+    or_right send.in_transaction (is_end send.body) (by_test (is_below number (finite.get server.sessions id)) is)
   where
     by_test : (b : Bool)
         → is_commits (if b then too_old else numbered_case (known_under id number server send) (is_new number (finite.get server.sessions id)) send send.body) ≡ true
