@@ -1,5 +1,5 @@
 -- The frame of a command that ends a transaction reads as a send.
-use Rattle.std.proofs.Common.{◌≡◌, ℕ, List, [], refl}
+use Rattle.std.proofs.Common.{◌≡◌, [], refl}
 use Rattle.std.specs.Prelude.{ℤ, pos, true, Some}
 use denote.Hole.Carrier.{out}
 use Rattle.bson_lite.specs.declared.bson.Bson.{Bson}
@@ -13,11 +13,8 @@ use Rattle.driver_link.specs.Commands.{flag_value, goes_to, needed, optional_val
 use Rattle.link_tests.specs.AbortFrame.{abort_body, abort_send}
 use Rattle.driver_link.specs.Framed.{Framed}
 use Rattle.driver_link.specs.Reads.{Reads}
-use Rattle.driver_link.specs.Values.{int32_of, text_of}
-
-text_is : (text : List ℕ) → text_of (bson.String text) ≡ Some text
-unfolding bson.out-Bson out
-text_is text = refl
+use Rattle.driver_link.specs.Values.{int32_of}
+use Rattle.driver_link.proofs.Forms.{text_is}
 
 int_is : (number : ℤ) → int32_of (bson.Int32 number) ≡ Some number
 unfolding bson.out-Bson out
