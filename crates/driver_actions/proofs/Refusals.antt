@@ -13,6 +13,7 @@ use Rattle.bson_lite.specs.declared.fault.EncodeFault.{EncodeFault}
 use Rattle.bson_lite.specs.declared.fault.EncodeFault.TheVariants.{TooDeep, ZeroByte, TooLong}
 use Rattle.bson_lite.specs.Fields.{begins_with_operator, value_of, id_key, with_id}
 use Rattle.bson_lite.specs.Spelling.{refusal, refusal_within, nesting, zero_in, spelling, spelled, depth, zero_within, deepest_pair, on_value, body_of, framed, element}
+use Rattle.bson_lite.proofs.Nested.{length-framed}
 use Rattle.driver_error.specs.declared.kind.ErrorKind.TheVariants as kind
 use Rattle.driver_error.specs.declared.error.Error.{Error}
 use Rattle.driver_error.specs.Conversions.{IsMade}
@@ -27,7 +28,7 @@ use Rattle.driver_actions.specs.Causes.{RefusesFirst, TellsOwnRefusal}
 use Rattle.driver_actions.specs.Forms.{WriteForm, command_body, deletes, finds, inserts, namespace_in, updates}
 use Rattle.driver_actions.specs.Inputs.{InputRefused, IsAccepted, JudgesInput, RefusesValues, TellsInput, argument_refusal, change_refusal, dotted_text, else_text, has_dot, is_long, name_refusal, operator_refusal, replacement_text, update_text, value_list}
 use Rattle.driver_actions.specs.inside.Faults.{ErrorOfFault, IsArgumentError, RefusesDocument, first_of, length_fault, values_fault}
-use Rattle.driver_actions.proofs.InputFaults.{document_first, document_taken}
+use Rattle.driver_actions.proofs.InputFaults.{by_tests, document_first, document_taken}
 
 -- the pair of an id
 abbrev pub id_pair : ObjectId → Pair Bson
@@ -53,16 +54,13 @@ nesting_named id document =
 zero_named : (id : ObjectId) (document : List (Pair Bson)) → zero_in (id_pair id ∷ document) ≡ zero_in document
 zero_named id document = ap (λ b. (false || b) || zero_in document) (zero_of_id id)
 
-length_framed : (body : List ℕ) → length (framed body) ≡ length body + 5
-length_framed body = omega (arith, length-append body (0 ∷ []))
-
 length_named : (id : ObjectId) (document : List (Pair Bson)) → length id.bytes ≡ 12 → length (spelling (id_pair id ∷ document)) ≡ length (spelling document) + 17
 length_named id document twelve =
     let body : body_of (id_pair id ∷ document) ≡ element id_key (7, id.bytes) ++ body_of document
     = ap (λ value. element id_key value ++ body_of document) (spelled_id id) in
     let parts = length-append (element id_key (7, id.bytes)) (body_of document) in
-    ap (λ b. length (framed b)) body ∙ length_framed (element id_key (7, id.bytes) ++ body_of document)
-    ∙ omega (arith, parts, twelve, length_framed (body_of document))
+    ap (λ b. length (framed b)) body ∙ length-framed (element id_key (7, id.bytes) ++ body_of document)
+    ∙ omega (arith, parts, twelve, length-framed (body_of document))
 
 -- the refusal by depth, zero bytes and length
 abbrev refused_by : ℕ → Bool → ℕ → Option EncodeFault
@@ -103,10 +101,6 @@ by_length long = if long then Some TooLong else None
 longer_length : (long : ℕ) (fault : EncodeFault) (b : Bool) → nat_lt 2147483647 long ≡ b → by_length b ≡ Some fault → by_length (nat_lt 2147483647 (long + 17)) ≡ Some fault
 longer_length long fault true at is = ap by_length (lt_longer long at) ∙ is
 longer_length long fault false at is = absurd (let e : ◌≡◌ {A = Option EncodeFault} None (Some fault) = is in cc)
-
--- the refusal by what was tested
-abbrev by_tests : Bool → Bool → Bool → Option EncodeFault
-by_tests deep zero long = if deep then Some TooDeep else (if zero then Some ZeroByte else by_length long)
 
 longer_tests : (deep zero : Bool) (long : ℕ) (fault : EncodeFault) → by_tests deep zero (nat_lt 2147483647 long) ≡ Some fault
     → by_tests deep zero (nat_lt 2147483647 (long + 17)) ≡ Some fault

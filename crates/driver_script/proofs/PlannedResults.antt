@@ -1,5 +1,5 @@
 -- What a script plans for a send that is served is what a model server takes.
-use Rattle.std.proofs.Common.{◌≡◌, ℕ, suc, ◌^◌, ◌<◌, ◌≤◌, ℤ, Bool, true, false, List, [], ◌∷◌, length, refl, ap, subst, ◌∙◌, arith}
+use Rattle.std.proofs.Common.{◌≡◌, ℕ, suc, ◌^◌, ◌<◌, ◌≤◌, ℤ, Bool, true, false, List, [], ◌∷◌, refl, ap, subst, ◌∙◌, arith}
 use Rattle.std.proofs.lemmas.Bool.{and_parts}
 use Rattle.std.proofs.lemmas.Bool.Decides.{nat_tests}
 use Rattle.std.proofs.lemmas.Int.{ints}
@@ -10,7 +10,7 @@ use Rattle.bson_lite.specs.declared.bson.Bson.{Bson}
 use Rattle.bson_lite.specs.declared.document.Pair.{Pair}
 use Rattle.bson_lite.specs.declared.fault.EncodeFault.{EncodeFault}
 use Rattle.bson_lite.specs.declared.fault.EncodeFault.TheVariants.{TooDeep}
-use Rattle.bson_lite.specs.Spelling.{depth, nesting, refusal_within, spelling, zero_in}
+use Rattle.bson_lite.specs.Spelling.{depth, nesting, refusal_within, zero_in}
 use Rattle.serde_json.specs.Data.{Data, null, boolean, number, string, array, object}
 use Rattle.serde_json.specs.Find.{as_u64, at}
 use Rattle.driver_link.specs.declared.machine.Failing.{Failing}
@@ -21,6 +21,7 @@ use Rattle.driver_link.specs.Exchange.{reauthentication_required}
 use Rattle.driver_link.specs.Numbers.{field}
 use Rattle.driver_link.specs.WellFormed.{IsCount, IsItem, IsPlan, IsShallow, IsShallowValue}
 use Rattle.driver_link.proofs.Lists.{none_is_some, none_told, some_is_some}
+use Rattle.driver_actions.specs.Inputs.{is_long}
 use Rattle.driver_actions.proofs.InputFaults.{by_tests}
 use Rattle.driver_script.specs.declared.keys.TheConstants.{CODE, FAIL, MESSAGE, MODIFIED, N, RESULTS, UPSERTED, VALUE, WRITE_CONCERN_ERROR}
 use Rattle.driver_script.specs.Json.{has_only, list_of, needed_part, optional_part}
@@ -97,10 +98,6 @@ less_deep n within = grind (arith, nat_tests)
 
 depth_within : (n : ℕ) → nat_lt 95 n ≡ false → n ≤ 95
 depth_within n within = grind (arith, nat_tests)
-
--- a spelling would be too long
-abbrev is_long : List (Pair Bson) → Bool
-is_long document = nat_lt 2147483647 (length (spelling document))
 
 shallow : (document : List (Pair Bson)) → refusal_within 95 document ≡ None → IsShallow document
 shallow document is =
