@@ -39,11 +39,11 @@ use Rattle.driver_ops.proofs.StatementLaw.{delete_plain, update_plain}
 use Rattle.driver_exec.specs.Attempting.{besides_out}
 use Rattle.driver_exec.specs.BetweenCalls.{Between, NumbersWithin, Sound}
 use Rattle.driver_exec.specs.Concerns.{concern_of, concern_refusal, effective_concern, else_concern}
-use Rattle.driver_exec.specs.Gentle.{IsGentlePart, IsGentleTold}
+use Rattle.driver_exec.specs.Gentle.{EndsWell, IsGentlePart, IsGentleTold}
 use Rattle.driver_exec.specs.Moment.{Moment}
 use Rattle.driver_exec.specs.OperationCauses.{DrawsNumbers}
 use Rattle.driver_exec.proofs.Completing.Course.{gentle_ends}
-use Rattle.driver_exec.proofs.Completing.Ends.{AnswersPlainly, EndsQuietly}
+use Rattle.driver_exec.proofs.Completing.Ends.{AnswersPlainly}
 use Rattle.driver_exec.proofs.Completing.Sessions.{KnownCommand}
 use Rattle.driver_exec.proofs.Numbering.{lent_within}
 use Rattle.driver_actions.specs.declared.call.Answer.{Answer}
@@ -56,7 +56,7 @@ use Rattle.driver_actions.specs.declared.call.SingleWrite.{SingleWrite}
 use Rattle.driver_actions.specs.CallByCall.{CallCaused, with_clock}
 use Rattle.driver_actions.specs.Forms.{WriteForm, asked_in, body_in, command_body, command_in, concern_in, deletes, finds, form_of, inserts, kind_in, namespace_in, repeats_in, send_in, updates}
 use Rattle.driver_actions.specs.Inputs.{IsAccepted, TellsInput}
-use Rattle.driver_actions.specs.MainTheorem.{CallCompletes, CallEnds, EndsWell, IsValidWrite}
+use Rattle.driver_actions.specs.MainTheorem.{CallCompletes, CallEnds, IsValidWrite}
 use Rattle.driver_actions.specs.SingleCompleteness.{CompletesSingle, MayCompleteTold}
 use Rattle.driver_actions.specs.SingleEntries.{IsNewPlace}
 use Rattle.driver_actions.specs.Singles.{BecomesSingle}
@@ -78,8 +78,8 @@ accepted_memory form error accepted tells = elim tells [
 ]
 
 -- the form of an error of a single write
-single_quiet : {A : Type 0} (executed result : Result A Error) → BecomesSingle executed result → EndsQuietly executed → EndsQuietly result
-single_quiet (Ok output) result becomes quiet = subst EndsQuietly (sym becomes) tt
+single_quiet : {A : Type 0} (executed result : Result A Error) → BecomesSingle executed result → EndsWell executed → EndsWell result
+single_quiet (Ok output) result becomes quiet = subst EndsWell (sym becomes) tt
 single_quiet (Err error) (Ok output) becomes quiet = absurd becomes
 single_quiet (Err error) (Err now) becomes memory =
     let same : now ≡ error = subst (λ why. ConvertsKind why error now) memory becomes in ap kind_of same ∙ memory
@@ -190,7 +190,7 @@ module _ (made : ℕ) (place : Place) (before now : Moment) (form : WriteForm) (
           }
 
           -- so it ends well
-          ended_quietly : EndsQuietly ended
+          ended_quietly : EndsWell ended
           unfolding known
           ended_quietly =
               single_quiet runs.executed ended runs.becomes
@@ -200,7 +200,7 @@ module _ (made : ℕ) (place : Place) (before now : Moment) (form : WriteForm) (
           ends_well : (answers : A → SingleAnswer) (error : Error) → Tells answers ended (Err error) → kind_of error ≡ kind.Memory
           ends_well answers error tells = by_ended ended ended_quietly tells
             where
-              by_ended : (ended : Result A Error) → EndsQuietly ended → Tells answers ended (Err error) → kind_of error ≡ kind.Memory
+              by_ended : (ended : Result A Error) → EndsWell ended → Tells answers ended (Err error) → kind_of error ≡ kind.Memory
               by_ended (Ok done) quiet tells = absurd tells
               by_ended (Err failed) quiet tells = let same : error ≡ failed = cc tells in ap kind_of same ∙ quiet
 

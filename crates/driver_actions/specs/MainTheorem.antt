@@ -1,13 +1,11 @@
 -- The main theorem for one list of calls: one outcome per call, no write twice in the log and every
 -- entry the caller's own, late arrivals included, and an Ok call's writes there once with the answer
 -- that the log spells.
-use Rattle.std.specs.Prelude.{◌≡◌, ℕ, ◌≤◌, pos, ◌<ℤ◌, true, List, [], ◌∷◌, length, Option, None, Some, Result, Ok, Err, ◌⊎◌, slice_get}
+use Rattle.std.specs.Prelude.{◌≡◌, ℕ, ◌≤◌, pos, ◌<ℤ◌, true, List, [], ◌∷◌, length, Option, None, Some, Result, ◌⊎◌, slice_get}
 use Rattle.std.specs.Option.{option_and_then}
 use Rattle.std.specs.Result.{result_ok}
 use Rattle.bson_lite.specs.Spelling.{refusal}
 use Rattle.driver_error.specs.declared.error.Error.{Error}
-use Rattle.driver_error.specs.declared.kind.ErrorKind.TheVariants as kind
-use Rattle.driver_error.specs.Error.{kind_of}
 use Rattle.driver_link.specs.declared.machine.PlacedWrite.{PlacedWrite}
 use Rattle.driver_link.specs.declared.machine.Send.{Send}
 use Rattle.driver_link.specs.declared.machine.Server.{Server}
@@ -22,7 +20,7 @@ use Rattle.driver_session.specs.Session.{last_number}
 use Rattle.driver_session.specs.StoreTells.{DrawnApart, IsNewStore}
 use Rattle.driver_ops.specs.Fields.{IsSixteen, SendContext}
 use Rattle.driver_exec.specs.Concerns.{concern_refusal}
-use Rattle.driver_exec.specs.Gentle.{IsGentleTold}
+use Rattle.driver_exec.specs.Gentle.{EndsWell, IsGentleTold}
 use Rattle.driver_exec.specs.Moment.{Moment}
 use Rattle.driver_exec.specs.OperationCauses.{DrawsNumbers}
 use Rattle.driver_actions.specs.declared.call.Answer.{Answer}
@@ -45,11 +43,6 @@ pub record MainTheorem (calls : List Call) (outcomes : List Outcome) (server : S
   pub mine : (picks : List ℕ) → Mine calls (after_picks server picks).log
   pub done : (call : ℕ) (answer : Answer) → answer_at outcomes call ≡ Some answer → Done calls call server.log
   pub result : (call : ℕ) (answer : Answer) → answer_at outcomes call ≡ Some answer → call_result calls call server.log ≡ Some answer
-
--- a call ended with an answer, or with want of memory
-abbrev pub EndsWell : {A : Type 0} → Result A Error → Type 0
-EndsWell (Ok given) = Unit {0}
-EndsWell (Err error) = kind_of error ≡ kind.Memory
 
 -- a write is valid as the call of a number, under a client's options: its input is accepted, its write concern is not refused, its
 -- command has a spelling with that concern under any session and number or none, and fewer calls came before it than a session

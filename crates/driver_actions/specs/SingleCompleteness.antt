@@ -6,12 +6,12 @@ use Rattle.driver_link.specs.LinkState.{server_run, setup_of}
 use Rattle.driver_link.specs.ServerRun.{ServerRun}
 use Rattle.driver_session.specs.Pool.{Pool}
 use Rattle.driver_exec.specs.BetweenCalls.{NumbersWithin}
-use Rattle.driver_exec.specs.Gentle.{IsGentleTold}
+use Rattle.driver_exec.specs.Gentle.{EndsWell, IsGentleTold}
 use Rattle.driver_exec.specs.Moment.{Moment}
 use Rattle.driver_exec.specs.OperationCauses.{DrawsNumbers}
 use Rattle.driver_actions.specs.declared.call.SingleAnswer.{SingleAnswer}
 use Rattle.driver_actions.specs.Forms.{WriteForm, kind_in, repeats_in}
-use Rattle.driver_actions.specs.MainTheorem.{EndsWell, IsValidWrite}
+use Rattle.driver_actions.specs.MainTheorem.{IsValidWrite}
 use Rattle.driver_actions.specs.SingleEntries.{MayWrite}
 
 -- the numbers of idle sessions rise by one at most, where the pool is told

@@ -1,6 +1,9 @@
 -- Which part of a schedule is gentle: in it no selection and no check-out fails, and each send is served as usual; where the
 -- sends of a command have a number, one of them may get no reply instead.
-use Rattle.std.specs.Prelude.{◌≡◌, ℕ, ◌-◌, ◌^◌, ◌<◌, ◌≤◌, min, false, List, length, Option, None, Some, ◌⊎◌}
+use Rattle.std.specs.Prelude.{◌≡◌, ℕ, ◌-◌, ◌^◌, ◌<◌, ◌≤◌, min, false, List, length, Option, None, Some, Result, Ok, Err, ◌⊎◌}
+use Rattle.driver_error.specs.declared.error.Error.{Error}
+use Rattle.driver_error.specs.declared.kind.ErrorKind.TheVariants as kind
+use Rattle.driver_error.specs.Error.{kind_of}
 use Rattle.driver_link.specs.declared.machine.Item.{Item}
 use Rattle.driver_link.specs.declared.machine.Item.TheVariants.{Lost, Late, ReplyLost}
 use Rattle.driver_link.specs.declared.machine.WriteKind.{WriteKind}
@@ -41,3 +44,8 @@ abbrev pub IsGentleTold : WriteKind → Type 0 → Option ServerRun → Option S
 IsGentleTold does repeats None now = ⊥
 IsGentleTold does repeats (Some told) None = ⊥
 IsGentleTold does repeats (Some told) (Some now) = IsGentlePart does repeats told now
+
+-- a call ended with an answer, or with want of memory
+abbrev pub EndsWell : {A : Type 0} → Result A Error → Type 0
+EndsWell (Ok given) = Unit {0}
+EndsWell (Err error) = kind_of error ≡ kind.Memory

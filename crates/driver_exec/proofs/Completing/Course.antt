@@ -19,7 +19,7 @@ use Rattle.driver_exec.specs.declared.failure.FailurePhase.{FailurePhase}
 use Rattle.driver_exec.specs.Attempting.{AttemptState, EndsAtOnce, FailsIn, MakesAttempt, Stops, attempted_operation, besides_out, is_nothing}
 use Rattle.driver_exec.specs.Concerns.{concern_of, concern_refusal}
 use Rattle.driver_exec.specs.Executing.{Attempts, Ends, EndsWith, Executes, Proceeds, first_state, limit_reached}
-use Rattle.driver_exec.specs.Gentle.{IsGentlePart}
+use Rattle.driver_exec.specs.Gentle.{EndsWell, IsGentlePart}
 use Rattle.driver_exec.specs.Holding.{number_before}
 use Rattle.driver_exec.specs.Moment.{Moment}
 use Rattle.driver_exec.specs.OldDeployment.{reworded}
@@ -31,7 +31,7 @@ use Rattle.driver_exec.proofs.RetryFold.{came_of}
 use Rattle.driver_exec.proofs.HeldSessions.{draws_on, not_both}
 use Rattle.driver_exec.proofs.Moments.{IsBefore, Leads, before_refl, before_twice, connects_lead, fails_lead, leads_same, leads_twice, one_moment, selects_lead}
 use Rattle.driver_exec.proofs.StoreDraws.{back_apart, ends_apart, fails_apart}
-use Rattle.driver_exec.proofs.Completing.Ends.{EndsQuietly, ok_err, allows, draws_write}
+use Rattle.driver_exec.proofs.Completing.Ends.{ok_err, allows, draws_write}
 use Rattle.driver_exec.proofs.Completing.Sessions.{KnownCommand, attempted, IsPrepared, first_prepared, is_conn, refused_memory}
 use Rattle.driver_exec.proofs.Completing.Losses.{Lost, again_prepared, unselected_none, LosesWell, fails_well}
 
@@ -148,8 +148,8 @@ module _ {A : Type 0} (known : KnownCommand A) where
             by_kept (Some retry) far = record { moment = far.lost.moment; prepared = again_prepared known told_now gentle told mid far.lost }
 
         -- want of memory is a quiet end
-        quiet_memory : (error : Error) (result : Result A Error) → result ≡ Err error → kind_of error ≡ kind.Memory → EndsQuietly result
-        quiet_memory error result is memory = subst EndsQuietly (sym is) memory
+        quiet_memory : (error : Error) (result : Result A Error) → result ≡ Err error → kind_of error ≡ kind.Memory → EndsWell result
+        quiet_memory error result is memory = subst EndsWell (sym is) memory
 
         -- it may be repeated on a further connection
         stops_none : {past : Option RetryState} (retry : RetryState) → LostOnce retry mid → Stops (attempted known) past mid now → ⊥
@@ -160,12 +160,12 @@ module _ {A : Type 0} (known : KnownCommand A) where
             not_both (sym stops.nothing ∙ ap is_nothing takes.1)
 
         -- so the attempt does not stop
-        stopped_quiet : {past : Option RetryState} (result : Result A Error) → Stops (attempted known) past mid now → EndsWith kept Stopped result → EndsQuietly result
+        stopped_quiet : {past : Option RetryState} (result : Result A Error) → Stops (attempted known) past mid now → EndsWith kept Stopped result → EndsWell result
         stopped_quiet result stops ends =
             let more = (connects_lead came_last.moment mid.link now.link stops.address stops.conn came_last.is stops.readies.connects).leads in
             by_kept kept (far_last more) ends
           where
-            by_kept : (found : Option RetryState) → SoFar found mid → EndsWith found Stopped result → EndsQuietly result
+            by_kept : (found : Option RetryState) → SoFar found mid → EndsWith found Stopped result → EndsWell result
             by_kept None far ends = absurd ends
             by_kept (Some retry) far ends = absurd (stops_none retry far stops)
 
@@ -183,8 +183,8 @@ module _ {A : Type 0} (known : KnownCommand A) where
         ]
 
         -- each end of the last attempt is quiet
-        last_quiet : (past : Option RetryState) (attempt : AttemptEnd A) (result : Result A Error) → MakesAttempt (attempted known) past mid now attempt → EndsWith kept attempt result → EndsQuietly result
-        last_quiet past (Done output) result makes ends = subst EndsQuietly (sym ends) tt
+        last_quiet : (past : Option RetryState) (attempt : AttemptEnd A) (result : Result A Error) → MakesAttempt (attempted known) past mid now attempt → EndsWith kept attempt result → EndsWell result
+        last_quiet past (Done output) result makes ends = subst EndsWell (sym ends) tt
         last_quiet past (Failed failure) result makes ends = absurd ends
         last_quiet past (Unselected error) result makes ends =
             let here = prepares (selects_lead came_last.moment mid.link now.link (Err (Fault makes.fault makes.labels)) came_last.is makes.selects.calls).leads in
@@ -215,7 +215,7 @@ module _ {A : Type 0} (known : KnownCommand A) where
                 again_none retry mid far now told_now now_is (before_refl told_now) apart failure.address failure.phase failure.error fails
 
         -- so is each end of the operation
-        ends_quietly : (result : Result A Error) → Ends (attempted known) sharded kept mid now result → EndsQuietly result
+        ends_quietly : (result : Result A Error) → Ends (attempted known) sharded kept mid now result → EndsWell result
         ends_quietly result ends = elim ends [
           | inl last ↦ last_quiet kept last.attempt result last.makes last.ends
           | inr other ↦ elim other [
@@ -229,7 +229,7 @@ module _ {A : Type 0} (known : KnownCommand A) where
 
   -- the attempts of an operation whose part of the schedule is gentle end well
   gentle_attempts : (clock : ClockTells) (count : ℕ) (told_now : ServerRun) (gentle : IsGentlePart does (DrawsNumbers true retryability (setup_of link)) told told_now) (sharded : Bool) (last : AttemptState)
-      → server_run last.link ≡ Some told_now → DrawnApart last.store → (result : Result A Error) → Attempts (attempted known) sharded (first_state store link clock count) last result → EndsQuietly result
+      → server_run last.link ≡ Some told_now → DrawnApart last.store → (result : Result A Error) → Attempts (attempted known) sharded (first_state store link clock count) last result → EndsWell result
   gentle_attempts clock count told_now gentle sharded last last_is apart result attempts =
       let apart_mid = ends_apart (attempted known) attempts.mid last sharded attempts.kept result attempts.ends apart in
       let came = came_of (attempted known) sharded (first_state store link clock count) last result attempts in
@@ -240,7 +240,7 @@ gentle_proceeds : {A : Type 0} (known : KnownCommand A) (before now : Moment) (t
     → known.retryability ≡ known.spec.retryability before.client.options → known.concern ≡ concern_of known.spec known.which before.client.options
     → server_run now.link ≡ Some told_now → DrawnApart now.store
     → IsGentlePart known.does (DrawsNumbers true known.retryability (setup_of known.link)) known.told told_now → (count count_now : ℕ) (result : Result A Error)
-    → Proceeds known.spec known.batch known.which before now count count_now result → EndsQuietly result
+    → Proceeds known.spec known.batch known.which before now count count_now result → EndsWell result
 gentle_proceeds known before now told_now store_is link_is retryability_is concern_is now_is drawn gentle count count_now result executes =
     let last = executes.last in
     let last_is = ap server_run (sym executes.link_is) ∙ now_is in
@@ -257,7 +257,7 @@ pub gentle_ends : {A : Type 0} (known : KnownCommand A) (before now : Moment) (t
     → known.retryability ≡ known.spec.retryability before.client.options → known.concern ≡ concern_of known.spec known.which before.client.options
     → server_run now.link ≡ Some told_now → DrawnApart now.store
     → IsGentlePart known.does (DrawsNumbers true known.retryability (setup_of known.link)) known.told told_now → (count count_now : ℕ) (result : Result A Error)
-    → Executes known.spec known.batch known.which before now count count_now result → EndsQuietly result
+    → Executes known.spec known.batch known.which before now count count_now result → EndsWell result
 gentle_ends known before now told_now store_is link_is retryability_is concern_is now_is drawn gentle count count_now result executes = elim executes [
   | inl refuses ↦ absurd (let e : ◌≡◌ {A = Option (List ℕ)} None (Some refuses.is.text) = sym known.accepted ∙ ap concern_refusal concern_is ∙ refuses.is.refused in cc)
   | inr proceeds ↦ gentle_proceeds known before now told_now store_is link_is retryability_is concern_is now_is drawn gentle count count_now result proceeds

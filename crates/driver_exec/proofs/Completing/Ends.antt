@@ -38,11 +38,6 @@ use Rattle.driver_exec.specs.OldDeployment.{reworded}
 use Rattle.driver_exec.specs.OperationCauses.{DrawsNumbers}
 use Rattle.driver_exec.specs.Retry.{RetryState, after, after_first, avoiding, decide, may_be_retried, may_be_sent, reworded_failure}
 
--- an Ok, or want of memory
-abbrev pub EndsQuietly : {A : Type 0} → Result A Error → Type 0
-EndsQuietly (Ok output) = Unit {0}
-EndsQuietly (Err error) = kind_of error ≡ kind.Memory
-
 -- an operation reads no error in a reply, unless memory runs out
 abbrev pub ReadsPlainly : {A : Type 0} → OperationSpec A → Reply → Type 0
 ReadsPlainly spec reply = (bytes : List ℕ) → Spells reply bytes → (error : Error) → ReadsAnswer spec bytes (Err error) → kind_of error ≡ kind.Memory
