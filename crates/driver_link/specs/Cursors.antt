@@ -4,7 +4,8 @@ use Rattle.std.specs.Option.{option_and_then, option_map_or}
 use Rattle.bson_lite.specs.declared.bson.Bson.{Bson}
 use Rattle.bson_lite.specs.declared.bson.Bson as bson
 use Rattle.bson_lite.specs.declared.document.Pair.{Pair}
-use Rattle.driver_link.specs.declared.keys.TheConstants.{CODE, DOCUMENT_ID, ERROR_MESSAGE, N, N_MODIFIED, RESULT_INDEX, SCHEDULED, UPSERTED}
+use Rattle.bson_lite.specs.declared.fields.TheConstants.{ID_KEY}
+use Rattle.driver_link.specs.declared.keys.TheConstants.{CODE, ERROR_MESSAGE, N, N_MODIFIED, RESULT_INDEX, SCHEDULED, UPSERTED}
 use Rattle.driver_link.specs.declared.machine.Counted.{Counted}
 use Rattle.driver_link.specs.declared.machine.PlacedWrite.{PlacedWrite}
 use Rattle.driver_link.specs.declared.machine.SendBody.{SendBody}
@@ -24,7 +25,7 @@ Reply = List (Pair Bson)
 -- the field with the id of a document that an update inserted, where there is one
 abbrev pub upsert_of_row : Option Bson → Reply
 upsert_of_row None = []
-upsert_of_row (Some id) = field UPSERTED.now (bson.Document (field DOCUMENT_ID.now id ∷ [])) ∷ []
+upsert_of_row (Some id) = field UPSERTED.now (bson.Document (field ID_KEY.now id ∷ [])) ∷ []
 
 -- the field with how many documents an update changed
 abbrev pub modified_field : WriteKind → ℤ → Reply

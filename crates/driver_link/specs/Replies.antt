@@ -4,8 +4,9 @@ use Rattle.std.specs.Option.{option_map_or}
 use Rattle.bson_lite.specs.declared.bson.Bson.{Bson}
 use Rattle.bson_lite.specs.declared.bson.Bson as bson
 use Rattle.bson_lite.specs.declared.document.Pair.{Pair}
+use Rattle.bson_lite.specs.declared.fields.TheConstants.{ID_KEY}
 use Rattle.driver_error.specs.declared.labels.TheConstants.{TRANSIENT_TRANSACTION_ERROR}
-use Rattle.driver_link.specs.declared.keys.TheConstants.{BULK_NAMESPACE, CODE, CURSOR, CURSOR_ID, CURSOR_NAMESPACE, DOCUMENT_ID, ERROR_LABELS, ERROR_MESSAGE, FIRST_BATCH, INDEX, N, N_DELETED, N_ERRORS, N_INSERTED, N_MATCHED, N_MODIFIED, N_UPSERTED, NEXT_BATCH, OK, SCHEDULED, UPSERTED, VALUE, WRITE_CONCERN_ERROR, WRITE_ERRORS}
+use Rattle.driver_link.specs.declared.keys.TheConstants.{BULK_NAMESPACE, CODE, CURSOR, CURSOR_ID, CURSOR_NAMESPACE, ERROR_LABELS, ERROR_MESSAGE, FIRST_BATCH, INDEX, N, N_DELETED, N_ERRORS, N_INSERTED, N_MATCHED, N_MODIFIED, N_UPSERTED, NEXT_BATCH, OK, SCHEDULED, UPSERTED, VALUE, WRITE_CONCERN_ERROR, WRITE_ERRORS}
 use Rattle.driver_link.specs.declared.machine.Counted.{Counted}
 use Rattle.driver_link.specs.declared.machine.KnownSession.{KnownSession}
 use Rattle.driver_link.specs.declared.machine.PlacedWrite.{PlacedWrite}
@@ -118,7 +119,7 @@ concern_field (Some concern) =
 -- the document that an update inserted, with the position of its statement
 abbrev pub upserted_at : ℕ → Option Bson → List Bson → List Bson
 upserted_at at None rest = rest
-upserted_at at (Some id) rest = bson.Document (field INDEX.now (reply_count at) ∷ field DOCUMENT_ID.now id ∷ []) ∷ rest
+upserted_at at (Some id) rest = bson.Document (field INDEX.now (reply_count at) ∷ field ID_KEY.now id ∷ []) ∷ rest
 
 -- the same by what a statement counts
 abbrev pub upserted_by : ℕ → Option Counted → List Bson → List Bson

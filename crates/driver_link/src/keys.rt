@@ -36,8 +36,6 @@ pub const DELETES: &str = "deletes";
 
 pub const DOCUMENT: &str = "document";
 
-pub const DOCUMENT_ID: &str = "_id";
-
 pub const DOCUMENTS: &str = "documents";
 
 pub const ERROR_LABELS: &str = "errorLabels";

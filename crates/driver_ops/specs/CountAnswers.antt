@@ -3,6 +3,7 @@ use Rattle.std.specs.Prelude.{◌≡◌, ℕ, List, [], ◌∷◌, codes, Option
 use Rattle.std.specs.Option.{option_and_then, option_map}
 use Rattle.bson_lite.specs.declared.bson.Bson.{Bson}
 use Rattle.bson_lite.specs.declared.document.Pair.{Pair}
+use Rattle.bson_lite.specs.declared.fields.TheConstants.{ID_KEY}
 use Rattle.bson_lite.specs.Fields.{value_of}
 use Rattle.driver_error.specs.declared.error.Error.{Error}
 use Rattle.driver_error.specs.declared.kind.ErrorKind.TheVariants as kind
@@ -12,7 +13,7 @@ use Rattle.driver_error.specs.declared.write.WriteFailure.{WriteFailure}
 use Rattle.driver_error.specs.Conversions.{IsMade, IsNew, first_failure}
 use Rattle.driver_error.specs.Error.{kind_of}
 use Rattle.driver_error.specs.LabelTexts.{no_labels}
-use Rattle.driver_link.specs.declared.keys.TheConstants.{DOCUMENT_ID, N, N_MODIFIED, UPSERTED}
+use Rattle.driver_link.specs.declared.keys.TheConstants.{N, N_MODIFIED, UPSERTED}
 use Rattle.driver_link.specs.declared.machine.Counted.{Counted}
 use Rattle.driver_link.specs.declared.machine.Entry.{Entry}
 use Rattle.driver_link.specs.Commands.{needed}
@@ -36,7 +37,7 @@ failed_write_in reply =
 -- the id in the first of these values, where it is a document that has one
 abbrev pub first_id : List Bson → Option Bson
 first_id [] = None
-first_id (value ∷ values) = option_and_then (value_of DOCUMENT_ID.now) (document_of value)
+first_id (value ∷ values) = option_and_then (value_of ID_KEY.now) (document_of value)
 
 -- the id of the document that an update put in, where it did
 unfoldable pub upserted_in : List (Pair Bson) → Option Bson

@@ -6,7 +6,7 @@ ghost use Rattle.driver_ops.specs.inside.Readings.{Gives};
 
 use crate::reply_fields::{Unread, labels_at};
 use crate::write_reply::{concern_in, write_errors_in};
-use bson_lite::{Bson, Document, List, Text, TryClone};
+use bson_lite::{Bson, Document, ID_KEY, List, Text, TryClone};
 use driver_error::{
     Error, ErrorKind, IndexedWriteError, Result, WriteConcernError, WriteError, WriteFailure,
 };
@@ -89,7 +89,7 @@ fn first_id(alloc: Global, values: &[Bson]) -> std::result::Result<Option<Bson>,
     ensures { IfOk result (λ id. id ≡ first_id values.now) }
 {
     match values.first() {
-        Some(Bson::Document(document)) => match document.get(keys::DOCUMENT_ID) {
+        Some(Bson::Document(document)) => match document.get(ID_KEY) {
             Some(id) => Ok(Some(id.try_clone(alloc)?)),
             None => Ok(None),
         },

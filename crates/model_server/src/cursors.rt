@@ -4,10 +4,8 @@ ghost use Rattle.std.specs.Option.{option_copied};
 ghost use Rattle.driver_link.specs.Cursors.{upsert_of_row, modified_field, result_row as row_of_result, failure_row as row_of_failure, row as row_of, rows as all_rows, first_page as page_first, pages_left as pages_rest, cursor_number as number_of, place_of as cursor_place, results_left as rest_of};
 
 use crate::fields::{count, number};
-use bson_lite::{Bson, Document, List, Text, TryClone};
-use driver_link::keys::{
-    CODE, DOCUMENT_ID, ERROR_MESSAGE, N, N_MODIFIED, RESULT_INDEX, SCHEDULED, UPSERTED,
-};
+use bson_lite::{Bson, Document, ID_KEY, List, Text, TryClone};
+use driver_link::keys::{CODE, ERROR_MESSAGE, N, N_MODIFIED, RESULT_INDEX, SCHEDULED, UPSERTED};
 use driver_link::{Counted, PlacedWrite, Statement, WriteKind};
 use std::alloc::{AllocError, Global};
 
@@ -28,7 +26,7 @@ fn push_upserted(alloc: Global, row: &mut Document, counts: &Counted) -> Result<
     match &counts.upserted {
         Some(id) => {
             let mut inserted = Document::new(alloc);
-            inserted.push(DOCUMENT_ID, id.try_clone(alloc)?)?;
+            inserted.push(ID_KEY, id.try_clone(alloc)?)?;
             row.push(UPSERTED, Bson::Document(inserted))
         }
         None => Ok(()),

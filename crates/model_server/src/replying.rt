@@ -8,12 +8,12 @@ ghost use Rattle.model_server.specs.SomeField.{some_field, upsert_value};
 
 use crate::fields::{count, number};
 use crate::{counts, cursors};
-use bson_lite::{Bson, Document, List, Text, TryClone};
+use bson_lite::{Bson, Document, ID_KEY, List, Text, TryClone};
 use driver_error::TRANSIENT_TRANSACTION_ERROR;
 use driver_link::keys::{
-    BULK_NAMESPACE, CODE, CURSOR, CURSOR_ID, CURSOR_NAMESPACE, DOCUMENT_ID, ERROR_LABELS,
-    ERROR_MESSAGE, FIRST_BATCH, INDEX, N, N_DELETED, N_ERRORS, N_INSERTED, N_MATCHED, N_MODIFIED,
-    N_UPSERTED, NEXT_BATCH, OK, SCHEDULED, UPSERTED, VALUE, WRITE_CONCERN_ERROR, WRITE_ERRORS,
+    BULK_NAMESPACE, CODE, CURSOR, CURSOR_ID, CURSOR_NAMESPACE, ERROR_LABELS, ERROR_MESSAGE,
+    FIRST_BATCH, INDEX, N, N_DELETED, N_ERRORS, N_INSERTED, N_MATCHED, N_MODIFIED, N_UPSERTED,
+    NEXT_BATCH, OK, SCHEDULED, UPSERTED, VALUE, WRITE_CONCERN_ERROR, WRITE_ERRORS,
 };
 use driver_link::{
     PlacedWrite, PlannedConcern, SendBody, SendCommand, ServerTransaction, Statement, WriteKind,
@@ -123,7 +123,7 @@ fn upsert(alloc: Global, at: usize, id: &Bson) -> Result<Bson, AllocError>
 {
     let mut upsert = Document::new(alloc);
     upsert.push(INDEX, count(at)?)?;
-    upsert.push(DOCUMENT_ID, id.try_clone(alloc)?)?;
+    upsert.push(ID_KEY, id.try_clone(alloc)?)?;
     Ok(Bson::Document(upsert))
 }
 

@@ -7,13 +7,14 @@ use Rattle.std.proofs.Math.IntN.{+ℤ_idr}
 use denote.Hole.Carrier.{out}
 use Rattle.bson_lite.specs.declared.bson.Bson.{Bson}
 use Rattle.bson_lite.specs.declared.bson.Bson as bson
+use Rattle.bson_lite.specs.declared.fields.TheConstants.{ID_KEY}
 use Rattle.bson_lite.specs.Fields.{int_of, value_of}
 use Rattle.driver_error.specs.declared.results.DeleteResult.{DeleteResult}
 use Rattle.driver_error.specs.declared.results.UpdateResult.{UpdateResult}
 use Rattle.driver_error.specs.declared.write.IndexedWriteError.{IndexedWriteError}
 use Rattle.driver_error.specs.declared.write.WriteConcernError.{WriteConcernError}
 use Rattle.driver_error.specs.Conversions.{first_failure}
-use Rattle.driver_link.specs.declared.keys.TheConstants.{DOCUMENT_ID, INDEX, N, N_MODIFIED, OK, WRITE_ERRORS}
+use Rattle.driver_link.specs.declared.keys.TheConstants.{INDEX, N, N_MODIFIED, OK, WRITE_ERRORS}
 use Rattle.driver_link.specs.declared.machine.Counted.{Counted}
 use Rattle.driver_link.specs.declared.machine.PlacedWrite.{PlacedWrite}
 use Rattle.driver_link.specs.declared.machine.PlannedConcern.{PlannedConcern}
@@ -202,8 +203,8 @@ unfolding natural_of
 count_read n count is = sym (ap (option_and_then natural) (reply_number_is (n +ℤ pos 0)) ∙ ap natural (plus_nothing n)) ∙ is
 
 -- the id of a document that was put in is read in the reply
-id_read : (id : Bson) → first_id (bson.Document (field INDEX.now (reply_count 0) ∷ field DOCUMENT_ID.now id ∷ []) ∷ []) ≡ Some id
-id_read id = ap (option_and_then (value_of DOCUMENT_ID.now)) (document_is (field INDEX.now (reply_count 0) ∷ field DOCUMENT_ID.now id ∷ []))
+id_read : (id : Bson) → first_id (bson.Document (field INDEX.now (reply_count 0) ∷ field ID_KEY.now id ∷ []) ∷ []) ≡ Some id
+id_read id = ap (option_and_then (value_of ID_KEY.now)) (document_is (field INDEX.now (reply_count 0) ∷ field ID_KEY.now id ∷ []))
 
 pub upserted_read : (concern : Option PlannedConcern) (n modified : Bson) (upserted : Option Bson)
     → upserted_in (done_field ∷ ((field N.now n ∷ field N_MODIFIED.now modified ∷ (upserted_field (upserted_at 0 upserted []) ++ errors_field [])) ++ concern_field concern)) ≡ upserted
@@ -211,7 +212,7 @@ unfolding upserted_in
 upserted_read None n modified None = refl
 upserted_read (Some concern) n modified None = refl
 upserted_read concern n modified (Some id) =
-    ap (option_and_then first_id) (array_is (bson.Document (field INDEX.now (reply_count 0) ∷ field DOCUMENT_ID.now id ∷ []) ∷ [])) ∙ id_read id
+    ap (option_and_then first_id) (array_is (bson.Document (field INDEX.now (reply_count 0) ∷ field ID_KEY.now id ∷ []) ∷ [])) ∙ id_read id
 
 -- the reply to an update whose statement has a result
 abbrev pub reply_counted : Option PlannedConcern → Counted → Reply
