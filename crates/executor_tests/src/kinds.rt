@@ -6,7 +6,6 @@
 ghost use Rattle.std.specs.Prelude.{IfOk};
 ghost use Rattle.driver_link.specs.WellFormed.{IsWellFormed};
 
-use crate::inserting::SERVER;
 use crate::meeting::{Meets, items};
 use crate::schedules::{deliver, order, orders, times};
 use crate::writes::{KINDS, Kind, number, operators, usual, write_of};
@@ -15,11 +14,11 @@ use driver_actions::{Answer, Call, Outcome, SingleAnswer, run_calls};
 use driver_error::{DeleteResult, Error, ErrorKind, IoKind, RETRYABLE_WRITE_ERROR, UpdateResult};
 use driver_exec::{Client, Outside};
 use driver_link::{
-    ClientOptions, Counted, CountingIds, Entry, MemClock, Schedule, Send, Server, Setup, WriteKind,
+    ClientOptions, Counted, CountingIds, Entry, MemClock, Schedule, Send, Server, WriteKind,
     Written,
 };
 use driver_session::PlainStore;
-use model_server::ModelServer;
+use model_server::{ModelServer, USUAL_SETUP};
 use rand_core::SeedableRng;
 use rand_pcg::Pcg32;
 use std::alloc::{AllocError, Global};
@@ -92,14 +91,9 @@ fn calls(alloc: Global, kind: Kind) -> Result<List<Call>, AllocError> {
 fn run(alloc: Global, tried: Tried) -> Result<(List<Outcome>, ModelServer), AllocError> {
     let calls = calls(alloc, tried.kind)?;
     let schedule = schedule(alloc, tried)?;
-    let setup = Setup {
-        description: SERVER,
-        transactions: true,
-        timeout_ms: Some(1_800_000),
-    };
     let mut client = Client::new(options(tried), PlainStore::new(alloc, CountingIds::new()));
     let mut outside = Outside {
-        link: ModelServer::new(alloc, setup, schedule),
+        link: ModelServer::new(alloc, USUAL_SETUP, schedule),
         clock: MemClock::new(0, 0),
         words: Pcg32::seed_from_u64(1),
         call: 0,

@@ -2,12 +2,12 @@
 ghost use Rattle.std.specs.Prelude.{IfOk};
 ghost use Rattle.driver_link.specs.WellFormed.{IsWellFormed};
 
-use crate::inserting::{Ended, SERVER, Seen, insert};
+use crate::inserting::{Ended, Seen, insert};
 use crate::meeting::{Meets, items};
 use bson_lite::List;
 use driver_error::IoKind;
-use driver_link::{Schedule, Server, Setup};
-use model_server::ModelServer;
+use driver_link::{Schedule, Server};
+use model_server::{ModelServer, USUAL_SETUP};
 use std::alloc::{AllocError, Global};
 
 /// A schedule, with how the insert ends, whether its error has the label of a retryable write alone or none,
@@ -150,13 +150,8 @@ fn is_left(server: &Server, row: &Row) -> bool {
 
 /// The link of a row, or none where there is no memory.
 fn link(alloc: Global, row: &Row) -> Option<ModelServer> {
-    let setup = Setup {
-        description: SERVER,
-        transactions: true,
-        timeout_ms: Some(1_800_000),
-    };
     match schedule(alloc, row) {
-        Ok(schedule) => Some(ModelServer::new(alloc, setup, schedule)),
+        Ok(schedule) => Some(ModelServer::new(alloc, USUAL_SETUP, schedule)),
         Err(_refused) => None,
     }
 }

@@ -3,17 +3,16 @@
 ghost use Rattle.std.specs.Prelude.{All, IfOk};
 ghost use Rattle.driver_link.specs.WellFormed.{IsItem, IsWellFormed};
 
-use crate::inserting::SERVER;
 use bson_lite::{Bson, Document, List, Namespace, Text};
 use driver_actions::{Answer, Call, Outcome, SingleAnswer, SingleWrite, run_calls};
 use driver_error::{Error, ErrorKind, IoKind, RETRYABLE_WRITE_ERROR};
 use driver_exec::{Client, Outside};
 use driver_link::{
     ClientOptions, CountingIds, Entry, InsertManyOptions, Item, MemClock, Schedule, Scheduled,
-    Server, Setup, WriteKind, Written,
+    Server, WriteKind, Written,
 };
 use driver_session::PlainStore;
-use model_server::ModelServer;
+use model_server::{ModelServer, USUAL_SETUP};
 use rand_core::SeedableRng;
 use rand_pcg::Pcg32;
 use std::alloc::{AllocError, Global};
@@ -101,18 +100,13 @@ fn run(
 ) -> Result<(List<Outcome>, ModelServer), AllocError> {
     let calls = calls(alloc, count)?;
     let schedule = schedule(alloc, code, length)?;
-    let setup = Setup {
-        description: SERVER,
-        transactions: true,
-        timeout_ms: Some(1_800_000),
-    };
     let options = ClientOptions {
         client_number: 1,
         ..ClientOptions::default()
     };
     let mut client = Client::new(options, PlainStore::new(alloc, CountingIds::new()));
     let mut outside = Outside {
-        link: ModelServer::new(alloc, setup, schedule),
+        link: ModelServer::new(alloc, USUAL_SETUP, schedule),
         clock: MemClock::new(0, 0),
         words: Pcg32::seed_from_u64(1),
         call: 0,

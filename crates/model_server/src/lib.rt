@@ -29,7 +29,9 @@ pub mod serving;
 pub mod statements;
 mod stepping;
 pub mod undoing;
+pub mod usual;
 pub mod writing;
 
 pub use exchange::new_server;
 pub use server::ModelServer;
+pub use usual::USUAL_SETUP;

@@ -1,25 +1,9 @@
 //! A link that answers from memory and keeps nothing, so that what is timed is the driver.
 use bson_lite::{Bytes, Text, TryClone};
 use driver_error::Error;
-use driver_link::{
-    Address, Conn, Description, Frame, Link, LinkError, Place, SelectionCriteria, Setup,
-};
+use driver_link::{Address, Conn, Frame, Link, LinkError, Place, SelectionCriteria};
+use model_server::USUAL_SETUP;
 use std::alloc::{AllocError, Global};
-
-/// How the server of either link describes itself.
-pub const SETUP: Setup = Setup {
-    description: Description {
-        max_wire_version: Some(25),
-        max_bson_object_size: 16_777_216,
-        max_message_size_bytes: 48_000_000,
-        max_write_batch_size: 100_000,
-        supports_sessions: true,
-        supports_retryable_writes: true,
-        sharded: false,
-    },
-    transactions: true,
-    timeout_ms: Some(1_800_000),
-};
 
 /// The reply `{ok: 1, n: 1}`.
 const DONE: &[u8] = b"\x14\0\0\0\x10ok\0\x01\0\0\0\x10n\0\x01\0\0\0\0";
@@ -66,21 +50,21 @@ impl Link for OneReply {
     }
 
     fn is_sharded(&self) -> bool {
-        SETUP.description.sharded
+        USUAL_SETUP.description.sharded
     }
 
     fn session_timeout_ms(&self) -> Option<u64> {
-        SETUP.timeout_ms
+        USUAL_SETUP.timeout_ms
     }
 
     fn transaction_support(&mut self, _alloc: Global) -> Result<bool, LinkError> {
-        Ok(SETUP.transactions)
+        Ok(USUAL_SETUP.transactions)
     }
 
     fn check_out(&mut self, alloc: Global, address: &Address) -> Result<Conn, LinkError> {
         Ok(Conn {
             address: address.try_clone(alloc)?,
-            description: SETUP.description,
+            description: USUAL_SETUP.description,
             number: 0,
         })
     }

@@ -1,12 +1,12 @@
 //! The two ways to make so many inserts, and what came out of them.
 use crate::inserts::{all_served, insert, insert_calls, new_client, outside_with};
-use crate::one_reply::{OneReply, SETUP};
+use crate::one_reply::OneReply;
 use bson_lite::List;
 use driver_actions::{Call, Outcome, SingleWrites, run_calls};
 use driver_error::Result;
 use driver_exec::Outside;
 use driver_link::MemClock;
-use model_server::ModelServer;
+use model_server::{ModelServer, USUAL_SETUP};
 use rand_pcg::Pcg32;
 use std::alloc::Global;
 
@@ -62,7 +62,7 @@ fn one_by_one(alloc: Global, count: u32) -> Result<String> {
 
 fn as_list(alloc: Global, count: u32) -> Result<String> {
     let calls = insert_calls(alloc, count)?;
-    let mut outside = outside_with(ModelServer::new(alloc, SETUP, all_served(alloc)));
+    let mut outside = outside_with(ModelServer::new(alloc, USUAL_SETUP, all_served(alloc)));
     let made = make(alloc, &mut outside, calls.as_slice());
     let entries = outside.link.server().log.len();
     drop(calls);

@@ -2,22 +2,8 @@
 ghost use Rattle.std.specs.Prelude.{◌≡◌, [], IfOk};
 
 use super::*;
-use driver_link::{Address, Conn, Description, Link, Schedule, Setup};
-use model_server::ModelServer;
-
-const SETUP: Setup = Setup {
-    description: Description {
-        max_wire_version: Some(25),
-        max_bson_object_size: 16777216,
-        max_message_size_bytes: 48000000,
-        max_write_batch_size: 100000,
-        supports_sessions: true,
-        supports_retryable_writes: true,
-        sharded: false,
-    },
-    transactions: true,
-    timeout_ms: Some(1800000),
-};
+use driver_link::{Address, Conn, Link, Schedule};
+use model_server::{ModelServer, USUAL_SETUP};
 
 /// A list of one number.
 fn one(alloc: Global, number: u64) -> Result<List<u64>, AllocError> {
@@ -94,7 +80,7 @@ fn rounds(alloc: Global, model: &mut ModelServer) -> Result<bool, AllocError> {
 #[test]
 fn listed_calls_fail(rt: HostRuntime) -> Result<(), Fail> {
     let alloc = rt.alloc();
-    let mut model = ModelServer::new(alloc, SETUP, first_calls_fail(alloc)?);
+    let mut model = ModelServer::new(alloc, USUAL_SETUP, first_calls_fail(alloc)?);
     let done = rounds(alloc, &mut model);
     let answered = model.answered().len();
     drop(model);
