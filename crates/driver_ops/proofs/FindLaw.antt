@@ -35,7 +35,7 @@ use Rattle.driver_ops.specs.declared.failed_write.FailedWrite.{FailedWrite}
 use Rattle.driver_ops.specs.declared.find_and_modify.FindReply.{FindReply}
 use Rattle.driver_ops.specs.declared.target.OperationTarget.{OperationTarget}
 use Rattle.driver_ops.specs.CountAnswers.{failed_write_in}
-use Rattle.driver_ops.specs.FindLawful.{find_lawful, told_by_reading}
+use Rattle.driver_ops.specs.FindLawful.{find_lawful, find_reading}
 use Rattle.driver_ops.specs.FindingAndModifying.{find_command}
 use Rattle.driver_ops.specs.FoundAnswers.{AnswersFind, ReadsFind, find_reply, found_by}
 use Rattle.driver_ops.specs.OperationLaw.{TellsOutput}
@@ -48,6 +48,7 @@ use Rattle.driver_ops.specs.Targets.{namespace_of}
 use Rattle.driver_ops.specs.WriteReplies.{concern_error_of, write_errors_in}
 use Rattle.driver_ops.specs.lawful.FoundTold.{reply_found, value_read}
 use Rattle.driver_ops.specs.lawful.OneTold.{IsOneOf}
+use Rattle.driver_ops.specs.lawful.StatementTold.{told_by_reading}
 use Rattle.driver_ops.proofs.PlainReading.{may_be_done, only_memory}
 use Rattle.driver_ops.proofs.StatementLaw.{concern_is_failure, counts_one, told_reply, unfailed}
 
@@ -134,7 +135,7 @@ module _ (target : OperationTarget) (filter : List (Pair Bson)) (modification : 
     -- and is what the write found
     only_counted : (output : Option (List (Pair Bson))) → ReadsOutput spec reply output → (result : Counted) × (CountsStatement server send step result × (found_by result ≡ Some output))
     only_counted output reads =
-        let told = told_by_reading target filter modification options server send step write made.found one made.answer reply made.spelled output reads in
+        let told = told_by_reading (find_reading target filter modification options) server send step write made.found one made.answer reply made.spelled output reads in
         let plan = told.one.alone.plan in
         let before = traced (after_picks server step.deliver) send in
         let is = told.one.alone.is ∙ find_is plan.page plan.concern before.cursors write told.one.alone.statement told.one.result told.one.counts in

@@ -46,8 +46,7 @@ use Rattle.driver_ops.specs.declared.operation.Reading.TheVariants as read
 use Rattle.driver_ops.specs.declared.target.OperationTarget.{OperationTarget}
 use Rattle.driver_ops.specs.declared.update.UpdateReply.{UpdateReply}
 use Rattle.driver_ops.specs.CountAnswers.{AnswersDelete, AnswersUpdate, ReadsDelete, ReadsUpdate, delete_reply, delete_result, deleted_by, failed_write_in, update_reply, update_result, updated_by, upserted_in}
-use Rattle.driver_ops.specs.DeleteLawful as deleting
-use Rattle.driver_ops.specs.DeleteLawful.{delete_lawful}
+use Rattle.driver_ops.specs.DeleteLawful.{delete_lawful, delete_reading}
 use Rattle.driver_ops.specs.Deleting.{delete_statement}
 use Rattle.driver_ops.specs.InsertLaw.{concern_of}
 use Rattle.driver_ops.specs.OperationLaw.{TellsOutput}
@@ -58,12 +57,12 @@ use Rattle.driver_ops.specs.Served.{statements_in}
 use Rattle.driver_ops.specs.StatementLaw.{CountsStatement, ExchangesStatement, IsReadAsCounted}
 use Rattle.driver_ops.specs.StatementSpec.{delete_spec, statement_write, update_spec}
 use Rattle.driver_ops.specs.Targets.{namespace_of}
-use Rattle.driver_ops.specs.UpdateLawful as updating
-use Rattle.driver_ops.specs.UpdateLawful.{update_lawful}
+use Rattle.driver_ops.specs.UpdateLawful.{update_lawful, update_reading}
 use Rattle.driver_ops.specs.Updating.{update_statement}
 use Rattle.driver_ops.specs.WriteReplies.{concern_error_of, write_errors_in}
 use Rattle.driver_ops.specs.lawful.CountsTold.{plus_nothing, reply_counted, reply_number_is, reply_taken, upserted_read}
 use Rattle.driver_ops.specs.lawful.OneTold.{IsOneCounted, IsOneOf, counted_unfailed, one_told}
+use Rattle.driver_ops.specs.lawful.StatementTold.{told_by_reading}
 use Rattle.driver_ops.proofs.PlainReading.{may_be_done, only_memory}
 
 -- a number of a reply is read as the count that it is
@@ -303,7 +302,7 @@ module _ (target : OperationTarget) (filter : List (Pair Bson)) (change : Update
     -- and is what the statement counts
     only_counted : (output : UpdateResult) → ReadsOutput spec reply output → (result : Counted) × (CountsStatement server send step result × (updated_by result ≡ Some output))
     only_counted output reads =
-        let told = updating.told_by_reading target filter change multi options server send step write made.found one made.answer reply made.spelled output reads in
+        let told = told_by_reading (update_reading target filter change multi options) server send step write made.found one made.answer reply made.spelled output reads in
         let plan = told.one.alone.plan in
         let before = traced (after_picks server step.deliver) send in
         let is = told.one.alone.is ∙ update_is plan.page plan.concern before.cursors write told.one.alone.statement told.one.result told.one.counts in
@@ -356,7 +355,7 @@ module _ (target : OperationTarget) (filter : List (Pair Bson)) (multi : Bool) (
 
     delete_counted : (output : DeleteResult) → ReadsOutput delete_tells reply output → (result : Counted) × (CountsStatement server send step result × (deleted_by result ≡ Some output))
     delete_counted output reads =
-        let told = deleting.told_by_reading target filter multi options server send step deleted made.found one_delete made.answer reply made.spelled output reads in
+        let told = told_by_reading (delete_reading target filter multi options) server send step deleted made.found one_delete made.answer reply made.spelled output reads in
         let plan = told.one.alone.plan in
         let before = traced (after_picks server step.deliver) send in
         let is = told.one.alone.is ∙ delete_is plan.page plan.concern before.cursors deleted told.one.alone.statement told.one.result told.one.counts in
