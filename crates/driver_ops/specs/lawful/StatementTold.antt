@@ -23,7 +23,7 @@ use Rattle.driver_link.specs.Settled.{IsWrite}
 use Rattle.driver_link.specs.Statements.{entry_of}
 use Rattle.driver_ops.specs.declared.operation.Reading.TheVariants.{Done}
 use Rattle.driver_ops.specs.Inserts.{int_at, is_one}
-use Rattle.driver_ops.specs.OperationLaw.{IsLawful}
+use Rattle.driver_ops.specs.OperationLaw.{IsLawful, TellsOutput}
 use Rattle.driver_ops.specs.Operations.{OperationSpec, ReadsOutput, send_of}
 use Rattle.driver_ops.specs.Served.{statements_in}
 use Rattle.driver_ops.specs.lawful.CountsTold.{error_not_one}
@@ -31,8 +31,8 @@ use Rattle.driver_ops.specs.lawful.InsertRead.{differ, ok_is_one, spells_one}
 use Rattle.driver_ops.specs.lawful.OneTold.{IsOneCounted, IsOneOf, one_stands, one_told, reply_of_one}
 use Rattle.driver_ops.specs.lawful.Statements.{TellsStatements, reply_of_writes}
 
--- how an operation of one statement reads: it asks for one write; what it reads as its output in a reply is read so; a statement whose
--- reply is read so has a result, which counts the output; and an entry with such a result tells it
+-- how an operation of one statement reads: it asks for one write; what it reads as its output in a reply is read so (`IsRead`); a
+-- statement whose reply is read so has a result, and that counts the output (`counted_by`); and an entry with such a result tells it
 pub record ReadsStatement {A : Type 0} (does : SendCommand) (spec : OperationSpec A) (IsRead : Reply → A → Type 0) (counted_by : Counted → Option A) : Type 0 where
   pub asks : (statements : ℕ) (places : List Place) (body : SendBody) → spec.bodies statements places body → (write : PlacedWrite) × (body ≡ Write does true (write ∷ []))
   pub reads : (reply : Reply) (output : A) → spec.reads (Ok reply ∷ []) (Ok (Done output)) → IsRead reply output
@@ -87,17 +87,23 @@ module _ {A : Type 0} {does : SendCommand} {spec : OperationSpec A} {IsRead : Re
       let read = subst (λ reply. IsRead reply output) same (reading.reads reads.response.body output reads.reads) in
       told server send step write found output one answer done read
 
-  -- over the machine's own reply the output of an operation of one statement is told by the entry of its write
+  -- its output is told by the entry of its write
+  pub output_told : (server : Server) (send : Send) (step : Scheduled) (write : PlacedWrite) (found : Reply)
+      → IsOneOf does send write → answered server send step ≡ Some found → (bytes : List ℕ) → Spells found bytes → (output : A)
+      → ReadsOutput spec bytes output → TellsOutput spec server send step output
+  output_told server send step write found one answer bytes spelled output reads =
+      let is = told_by_reading server send step write found one answer bytes spelled output reads in
+      record {
+        entries = entry_of send.session send.number write is.one.result ∷ [];
+        stand = one_stands does server send step write found one is.one;
+        told = reading.tells (entry_of send.session send.number write is.one.result) output is.counts;
+      }
+
+  -- so over the machine's own reply an operation of one statement keeps the law
   pub statement_lawful : IsLawful spec
   statement_lawful = record {
     reads_own = λ statements places body asks writes context server step reply answer came spelled output reads.
-        let send = send_of context body in
         let asked = reading.asks statements places body asks in
-        let one : IsOneOf does send asked.0 = record { out = refl; body = asked.1 } in
-        let is = told_by_reading server send step asked.0 reply one answer came spelled output reads in
-        record {
-          entries = entry_of context.session context.number asked.0 is.one.result ∷ [];
-          stand = one_stands does server send step asked.0 reply one is.one;
-          told = reading.tells (entry_of context.session context.number asked.0 is.one.result) output is.counts;
-        };
+        let one : IsOneOf does (send_of context body) asked.0 = record { out = refl; body = asked.1 } in
+        output_told server (send_of context body) step asked.0 reply one answer came spelled output reads;
   }
