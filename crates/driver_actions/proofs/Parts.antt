@@ -1,6 +1,6 @@
 -- One call of a single write, from its parts.
 use Rattle.std.proofs.Common.{◌≡◌, ℕ, List, refl, ap, subst, inl, inr}
-use Rattle.std.specs.Prelude.{IsSome, Some, Result, Err}
+use Rattle.std.specs.Prelude.{IsErrAnd, IsSome, Some, Result, Ok, Err}
 use Rattle.bson_lite.specs.declared.bson.Bson.{Bson}
 use Rattle.bson_lite.specs.declared.document.Pair.{Pair}
 use Rattle.bson_lite.specs.declared.namespace.Namespace.{Namespace}
@@ -10,7 +10,8 @@ use Rattle.driver_error.specs.declared.error.Error.{Error}
 use Rattle.driver_error.specs.declared.kind.ErrorKind.TheVariants as kind
 use Rattle.driver_error.specs.declared.results.InsertManyResult.{InsertManyResult}
 use Rattle.driver_error.specs.declared.results.InsertOneResult.{InsertOneResult}
-use Rattle.driver_error.specs.Error.{kind_of}
+use Rattle.driver_error.specs.Error.{IsAlone, kind_of}
+use Rattle.driver_error.specs.LabelTexts.{no_labels}
 use Rattle.driver_link.specs.Clock.{ClockTells, ReadsClock}
 use Rattle.driver_link.specs.declared.machine.Place.{Place}
 use Rattle.driver_link.specs.declared.machine.SendBody.{SendBody}
@@ -92,6 +93,12 @@ unmade_input before form place error why = inl (record { draws = drew_nothing fo
 
 pub unmade_early : (before : Moment) (form : WriteForm) (place : Place) (error : Error) → kind_of error ≡ kind.Memory → Makes before before form place (Err error)
 unmade_early before form place error memory = unmade_input before form place error (inl memory)
+
+-- the same of what the exit of a `?` returns
+pub unmade_exit : (before : Moment) (form : WriteForm) (place : Place) (result : Result SingleAnswer Error) → IsErrAnd result (λ error. IsAlone kind.Memory no_labels error)
+    → Makes before before form place result
+unmade_exit before form place (Ok given) exits = absurd exits
+unmade_exit before form place (Err error) exits = unmade_early before form place error exits.kind_is
 
 -- an insert for which there was no memory
 pub unmade_memory : (before now : Moment) (namespace : Namespace) (document : List (Pair Bson)) (options : InsertManyOptions) (place : Place) (error : Error) → MayDrawId before now document

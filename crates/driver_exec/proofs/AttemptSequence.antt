@@ -8,6 +8,7 @@ use Rattle.driver_error.specs.Error.{labels_of}
 use Rattle.driver_error.specs.LabelTexts.{has_label}
 use Rattle.driver_link.specs.declared.concerns.WriteConcern.{WriteConcern}
 use Rattle.driver_link.specs.declared.options.Address.{Address}
+use Rattle.driver_link.specs.declared.options.ClientOptions.{ClientOptions}
 use Rattle.driver_session.specs.declared.retryability.Retryability.{Retryability}
 use Rattle.driver_session.specs.declared.retryability.Retryability.TheVariants as may
 use Rattle.driver_ops.specs.Operations.{Batch, OperationSpec, SameSpec}
@@ -16,6 +17,8 @@ use Rattle.driver_exec.specs.declared.attempt_end.AttemptEnd.{AttemptEnd}
 use Rattle.driver_exec.specs.declared.attempt_end.AttemptEnd.TheVariants.{Done, Ended, Failed, Stopped, Unfit, Unselected}
 use Rattle.driver_exec.specs.declared.failure.AttemptFailure.{AttemptFailure}
 use Rattle.driver_exec.specs.Attempting.{AttemptState, AttemptedOperation, MakesAttempt, attempted_operation}
+use Rattle.driver_exec.specs.Concerns.{concern_of}
+use Rattle.driver_exec.proofs.CommandParts.{concern_same}
 use Rattle.driver_exec.proofs.Sameness.{attempt_same}
 use borrow.Author.Tests.{ltb-false}
 use Rattle.driver_exec.specs.Executing.{EndsWith, Attempts, limit_reached}
@@ -98,7 +101,7 @@ module _ {A : Type 0} (op : AttemptedOperation A) (sharded : Bool) (before : Att
       }
 
 -- one attempt, of the operation as it was
-pub attempt_as_it_was : {A : Type 0} (old now : OperationSpec A) (same : SameSpec old now) (batch : Batch) (which seen_kind : SendKind) (found retryability : Retryability) (found_concern concern : Option WriteConcern) (seen past : Option RetryState)
+attempt_as_it_was : {A : Type 0} (old now : OperationSpec A) (same : SameSpec old now) (batch : Batch) (which seen_kind : SendKind) (found retryability : Retryability) (found_concern concern : Option WriteConcern) (seen past : Option RetryState)
     (before after : AttemptState) (given attempt : AttemptEnd A) → seen_kind ≡ which → found ≡ retryability → found_concern ≡ concern → seen ≡ past → given ≡ attempt
     → MakesAttempt (attempted_operation now batch seen_kind found found_concern) seen before after given → MakesAttempt (attempted_operation old batch which retryability concern) past before after attempt
 attempt_as_it_was old now same batch which seen_kind found retryability found_concern concern seen past before after given attempt is_kind is_retryability is_concern is_again is_attempt makes =
@@ -108,6 +111,20 @@ attempt_as_it_was old now same batch which seen_kind found retryability found_co
     (subst (λ c. MakesAttempt (attempted_operation now batch which retryability c) seen before after given) is_concern
     (subst (λ o. MakesAttempt (attempted_operation now batch which o found_concern) seen before after given) is_retryability
     (subst (λ k. MakesAttempt (attempted_operation now batch k found found_concern) seen before after given) is_kind makes)))))
+
+-- an operation, with what its client's options let it repeat, and with the write concern that it goes out with under them
+abbrev pub attempted_under : {A : Type 0} → OperationSpec A → Batch → SendKind → ClientOptions → AttemptedOperation A
+attempted_under spec batch which options = attempted_operation spec batch which (spec.retryability options) (concern_of spec which options)
+
+-- one attempt, of the operation as it was, under the options as they were
+pub attempt_under_options : {A : Type 0} (old now : OperationSpec A) (same : SameSpec old now) (batch : Batch) (which seen_kind : SendKind) (options seen_options : ClientOptions) (seen past : Option RetryState)
+    (before after : AttemptState) (given attempt : AttemptEnd A) → seen_kind ≡ which → seen_options ≡ options → seen ≡ past → given ≡ attempt
+    → MakesAttempt (attempted_under now batch seen_kind seen_options) seen before after given → MakesAttempt (attempted_under old batch which options) past before after attempt
+attempt_under_options old now same batch which seen_kind options seen_options seen past before after given attempt is_kind is_options is_again is_attempt makes =
+    let is_retryability : now.retryability seen_options ≡ old.retryability options = same.retryability seen_options ∙ ap (λ o. old.retryability o) is_options in
+    let is_concern : concern_of now seen_kind seen_options ≡ concern_of old which options = ap (λ o. concern_of now seen_kind o) is_options ∙ concern_same old now same which seen_kind options is_kind in
+    attempt_as_it_was old now same batch which seen_kind (now.retryability seen_options) (old.retryability options) (concern_of now seen_kind seen_options) (concern_of old which options) seen past before after given attempt
+    is_kind is_retryability is_concern is_again is_attempt makes
 
 -- an operation that tells the same twice
 pub same_twice : {A : Type 0} (a b c : OperationSpec A) → SameSpec a b → SameSpec b c → SameSpec a c

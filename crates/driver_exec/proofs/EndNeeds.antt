@@ -1,7 +1,7 @@
 -- What an end needs, once the link had answered before it, or answers more.
 use Rattle.std.proofs.Common.{◌≡◌, ℕ, ◌≤◌, List, [], ◌∷◌, ◌++◌, subst, inl, inr, arith}
 use Rattle.std.proofs.lemmas.List.{append_assoc}
-use Rattle.std.specs.Prelude.{Option, None, Some}
+use Rattle.std.specs.Prelude.{◌⊎◌, Option, None, Some}
 use Rattle.driver_error.specs.declared.kind.ErrorKind.TheVariants as kind
 use Rattle.driver_error.specs.Error.{ErrorKind}
 use Rattle.driver_error.specs.LabelTexts.{LabelSet}
@@ -23,20 +23,14 @@ notes_twice None b c items more first second = subst (λ told. GainsAll told c m
 notes_twice (Some told) b c items more first second = subst (λ all. c ≡ Some all) (append_assoc told items more) (subst (λ told. GainsAll told c more) first second)
 
 module _ (P : List ℕ → Type 0) (more : List Answered) where
-  -- a reply that was there
-  pub reply_before : (items : List Answered) → HasReply P items → HasReply P (items ++ more)
-  reply_before [] has = absurd has
-  reply_before (answer.Reply bytes ∷ items) has = elim has [
-    | inl here ↦ inl here
-    | inr later ↦ inr (reply_before items later)
+  -- a reply that was there, or was added
+  reply_among : (items : List Answered) → HasReply P items ⊎ HasReply P more → HasReply P (items ++ more)
+  reply_among [] has = elim has [ inl none ↦ absurd none | inr added ↦ added ]
+  reply_among (answer.Reply bytes ∷ items) has = elim has [
+    | inl there ↦ elim there [ inl here ↦ inl here | inr later ↦ inr (reply_among items (inl later)) ]
+    | inr added ↦ inr (reply_among items (inr added))
   ]
-  reply_before (answer.Fault which found given ∷ items) has = reply_before items has
-
-  -- a reply that was added
-  pub reply_after : (items : List Answered) → HasReply P more → HasReply P (items ++ more)
-  reply_after [] has = has
-  reply_after (answer.Reply bytes ∷ items) has = inr (reply_after items has)
-  reply_after (answer.Fault which found given ∷ items) has = reply_after items has
+  reply_among (answer.Fault which found given ∷ items) has = reply_among items has
 
 -- nothing was exchanged twice
 pub early_twice : (items more : List Answered) → AllEarly items → AllEarly more → AllEarly (items ++ more)
@@ -46,20 +40,14 @@ early_twice (answer.Fault call.Exchange found given ∷ items) more first second
 early_twice (answer.Fault which found given ∷ items) more first second = early_twice items more first second
 
 module _ (retryability : Retryability) (setup : Option Setup) (found : LinkFault) (labels : LabelSet) (more : List Answered) where
-  -- a fault that was there
-  fault_before : (items : List Answered) → HasFault retryability setup found labels items → HasFault retryability setup found labels (items ++ more)
-  fault_before [] has = absurd has
-  fault_before (answer.Reply bytes ∷ items) has = fault_before items has
-  fault_before (answer.Fault which other given ∷ items) has = elim has [
-    | inl here ↦ inl here
-    | inr later ↦ inr (fault_before items later)
+  -- a fault that was there, or was added
+  fault_among : (items : List Answered) → HasFault retryability setup found labels items ⊎ HasFault retryability setup found labels more → HasFault retryability setup found labels (items ++ more)
+  fault_among [] has = elim has [ inl none ↦ absurd none | inr added ↦ added ]
+  fault_among (answer.Reply bytes ∷ items) has = fault_among items has
+  fault_among (answer.Fault which other given ∷ items) has = elim has [
+    | inl there ↦ elim there [ inl here ↦ inl here | inr later ↦ inr (fault_among items (inl later)) ]
+    | inr added ↦ inr (fault_among items (inr added))
   ]
-
-  -- a fault that was added
-  fault_after : (items : List Answered) → HasFault retryability setup found labels more → HasFault retryability setup found labels (items ++ more)
-  fault_after [] has = has
-  fault_after (answer.Reply bytes ∷ items) has = fault_after items has
-  fault_after (answer.Fault which other given ∷ items) has = inr (fault_after items has)
 
 -- what an end needs stands elsewhere too, where the count of faults rose there, and where its faults and replies are there
 module _ {A : Type 0} (on : Grounds A) (before now from to : ℕ) (items all : List Answered) (rises : Rose before now → Rose from to)
@@ -90,14 +78,14 @@ module _ {A : Type 0} (on : Grounds A) (items more : List Answered) where
   -- what an end needs stands where the link answers more
   pub end_before : (before mid now : ℕ) (ended : Option ErrorOutline) → mid ≤ now → EndNeeds on before mid items ended → EndNeeds on before now (items ++ more) ended
   end_before before mid now ended later =
-      end_elsewhere on before mid before now items (items ++ more) (λ rose. omega (arith, rose)) (λ found labels. fault_before on.retryability on.setup found labels more items)
-      (λ P. reply_before P more items) ended
+      end_elsewhere on before mid before now items (items ++ more) (λ rose. omega (arith, rose)) (λ found labels has. fault_among on.retryability on.setup found labels more items (inl has))
+      (λ P has. reply_among P more items (inl has)) ended
 
   -- and where it had answered before
   pub end_after : (before mid now : ℕ) (ended : Option ErrorOutline) → before ≤ mid → EndNeeds on mid now more ended → EndNeeds on before now (items ++ more) ended
   end_after before mid now ended later =
-      end_elsewhere on mid now before now more (items ++ more) (λ rose. omega (arith, rose)) (λ found labels. fault_after on.retryability on.setup found labels more items)
-      (λ P. reply_after P more items) ended
+      end_elsewhere on mid now before now more (items ++ more) (λ rose. omega (arith, rose)) (λ found labels has. fault_among on.retryability on.setup found labels more items (inr has))
+      (λ P has. reply_among P more items (inr has)) ended
 
   -- so does what an end needs where the numbers are at their end
   pub last_after : (ended : Option ErrorOutline) → AllEarly items → EndAtLast on more ended → EndAtLast on (items ++ more) ended

@@ -310,19 +310,20 @@ module _ {A : Type 0} (spec : OperationSpec A) (batch : Batch) (which : SendKind
   unconnected_attempt_made store link mid now clock held count address (Fault fault labels) _ selects checks ends = absurd ends
   unconnected_attempt_made store link mid now clock held count address Memory _ selects checks ends = absurd ends
 
-  module _ (store store_now : StoreTells) (before link : LinkState) (clock clock_now : ClockTells) (held ready : ExecutionSession) (count : ℕ) (address : Address) (conn : Conn) (connects : Connects (avoided past) (besides_out before) (besides_out link) address conn) where
+  module _ (store store_now : StoreTells) (before link : LinkState) (clock clock_now : ClockTells) (held ready : ExecutionSession) (count : ℕ) (address : Address) (conn : Conn) (connects : Connects (avoided past) (besides_out before) (besides_out link) address conn)
+      (asked sessions : Bool) (sessions_is : sessions ≡ spec.sessions) (asked_is : asked ≡ asks_session sessions conn.description) (given : Result (Unit {0}) Error)
+      (lent : HoldsAt (needs_session asked held) store store_now clock clock_now held ready given) where
     -- a session was asked for where both sides take one
-    pub holds_asked : (asked : Bool) (given result : Result (Unit {0}) Error) → asked ≡ asks_session spec.sessions conn.description → given ≡ result
-        → HoldsAt (needs_session asked held) store store_now clock clock_now held ready given
-        → HoldsAt (needs_session (asks_session spec.sessions conn.description) held) store store_now clock clock_now held ready result
-    holds_asked asked given result is_asked is_given holds =
+    holds_asked : (result : Result (Unit {0}) Error) → given ≡ result → HoldsAt (needs_session (asks_session spec.sessions conn.description) held) store store_now clock clock_now held ready result
+    holds_asked result is_given =
+        let is_asked : asked ≡ asks_session spec.sessions conn.description = asked_is ∙ ap (λ s. asks_session s conn.description) sessions_is in
         subst (λ a. HoldsAt (needs_session a held) store store_now clock clock_now held ready result) is_asked
-        (subst (λ r. HoldsAt (needs_session asked held) store store_now clock clock_now held ready r) is_given holds)
+        (subst (λ r. HoldsAt (needs_session asked held) store store_now clock clock_now held ready r) is_given lent)
 
     -- there was no memory for a session
-    pub unready_attempt_made : (error : Error) → HoldsAt (needs_session (asks_session spec.sessions conn.description) held) store store_now clock clock_now held ready (Err error)
+    pub unready_attempt_made : (error : Error) → given ≡ Err error
         → MakesAttempt op past (attempt_state store before clock held count) (attempt_state store_now link clock_now ready count) (Ended error)
-    unready_attempt_made error holds = by_need (needs_session (asks_session spec.sessions conn.description) held) holds
+    unready_attempt_made error is_given = by_need (needs_session (asks_session spec.sessions conn.description) held) (holds_asked (Err error) is_given)
       where
         ok_err : ◌≡◌ {A = Result (Unit {0}) Error} (Ok tt) (Err error) → ⊥
         ok_err same = cc
@@ -331,7 +332,10 @@ module _ {A : Type 0} (spec : OperationSpec A) (batch : Batch) (which : SendKind
         by_need false holds = absurd (ok_err (sym holds.holds.2))
         by_need true holds = inl (record { asks = asks_connection (avoided past) (besides_out before) connects.mid (besides_out link) address (Ok conn) connects.selects connects.checks_out; store = holds.holds.0; clock = inr holds.lent_at; held = holds.holds.1; count = refl; why = holds.holds.2 })
 
-    module _ (holds : HoldsAt (needs_session (asks_session spec.sessions conn.description) held) store store_now clock clock_now held ready (Ok tt)) where
+    module _ (is_given : given ≡ Ok tt) where
+      holds : HoldsAt (needs_session (asks_session spec.sessions conn.description) held) store store_now clock clock_now held ready (Ok tt)
+      holds = holds_asked (Ok tt) is_given
+
       readied : Readies op past (attempt_state store before clock held count) (attempt_state store_now link clock_now ready count) address conn
       readied = record { connects = connects; holds = holds.holds; lent_at = holds.lent_at; count = refl }
 

@@ -25,17 +25,16 @@ use Rattle.driver_link.specs.declared.machine.WriteKind.TheVariants as write_kin
 use Rattle.driver_link.specs.declared.updates.Modification.{Modification}
 use Rattle.driver_link.specs.Commands.{needed, optional_value}
 use Rattle.driver_link.specs.Cursors.{Reply}
-use Rattle.driver_link.specs.Exchange.{after_picks, answered, traced}
+use Rattle.driver_link.specs.Exchange.{after_picks, traced}
 use Rattle.driver_link.specs.Numbers.{field, reply_number}
 use Rattle.driver_link.specs.Replies.{concern_field, done_field, errors_field, result_of, write_errors, write_reply}
 use Rattle.driver_link.specs.Retried.{IsDoneReply}
-use Rattle.driver_link.specs.Settled.{IsWrite}
 use Rattle.driver_link.proofs.Lists.{none_is_some, some_is_some}
 use Rattle.driver_ops.specs.declared.failed_write.FailedWrite.{FailedWrite}
 use Rattle.driver_ops.specs.declared.find_and_modify.FindReply.{FindReply}
 use Rattle.driver_ops.specs.declared.target.OperationTarget.{OperationTarget}
 use Rattle.driver_ops.specs.CountAnswers.{failed_write_in}
-use Rattle.driver_ops.specs.FindLawful.{find_lawful, told_by_reading}
+use Rattle.driver_ops.specs.FindLawful.{find_reading}
 use Rattle.driver_ops.specs.FindingAndModifying.{find_command}
 use Rattle.driver_ops.specs.FoundAnswers.{AnswersFind, ReadsFind, find_reply, found_by}
 use Rattle.driver_ops.specs.OperationLaw.{TellsOutput}
@@ -48,6 +47,7 @@ use Rattle.driver_ops.specs.Targets.{namespace_of}
 use Rattle.driver_ops.specs.WriteReplies.{concern_error_of, write_errors_in}
 use Rattle.driver_ops.specs.lawful.FoundTold.{reply_found, value_read}
 use Rattle.driver_ops.specs.lawful.OneTold.{IsOneOf}
+use Rattle.driver_ops.specs.lawful.StatementTold.{output_told, told_by_reading}
 use Rattle.driver_ops.proofs.PlainReading.{may_be_done, only_memory}
 use Rattle.driver_ops.proofs.StatementLaw.{concern_is_failure, counts_one, told_reply, unfailed}
 
@@ -126,15 +126,12 @@ module _ (target : OperationTarget) (filter : List (Pair Bson)) (modification : 
 
     -- an output that is read is told by the entry
     only_told : (output : Option (List (Pair Bson))) → ReadsOutput spec reply output → TellsOutput spec server send step output
-    only_told output reads =
-        subst (λ s. TellsOutput spec server s step output) (sym made.send_is)
-        ((find_lawful target filter modification options).reads_own made.statements made.places made.body made.asked (subst IsWrite (sym made.asked.is) tt) made.context server step made.found
-        (ap (λ s. answered server s step) (sym made.send_is) ∙ made.answer) reply made.spelled output reads)
+    only_told output reads = output_told (find_reading target filter modification options) server send step write made.found one made.answer reply made.spelled output reads
 
     -- and is what the write found
     only_counted : (output : Option (List (Pair Bson))) → ReadsOutput spec reply output → (result : Counted) × (CountsStatement server send step result × (found_by result ≡ Some output))
     only_counted output reads =
-        let told = told_by_reading target filter modification options server send step write made.found one made.answer reply made.spelled output reads in
+        let told = told_by_reading (find_reading target filter modification options) server send step write made.found one made.answer reply made.spelled output reads in
         let plan = told.one.alone.plan in
         let before = traced (after_picks server step.deliver) send in
         let is = told.one.alone.is ∙ find_is plan.page plan.concern before.cursors write told.one.alone.statement told.one.result told.one.counts in

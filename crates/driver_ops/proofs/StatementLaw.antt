@@ -37,17 +37,14 @@ use Rattle.driver_link.specs.Exchange.{after_picks, answered, traced}
 use Rattle.driver_link.specs.Numbers.{field, reply_number}
 use Rattle.driver_link.specs.Replies.{concern_field, done_field, errors_field, result_of, results_in, sum_of, upserted_at, upserted_field, upserts, write_errors, write_reply}
 use Rattle.driver_link.specs.Retried.{IsDoneReply}
-use Rattle.driver_link.specs.Settled.{IsWrite}
 use Rattle.driver_link.specs.Statements.{has_failed}
 use Rattle.driver_link.proofs.Lists.{none_is_some, some_is_some}
 use Rattle.driver_ops.specs.declared.delete.DeleteReply.{DeleteReply}
 use Rattle.driver_ops.specs.declared.failed_write.FailedWrite.{FailedWrite}
-use Rattle.driver_ops.specs.declared.operation.Reading.TheVariants as read
 use Rattle.driver_ops.specs.declared.target.OperationTarget.{OperationTarget}
 use Rattle.driver_ops.specs.declared.update.UpdateReply.{UpdateReply}
 use Rattle.driver_ops.specs.CountAnswers.{AnswersDelete, AnswersUpdate, ReadsDelete, ReadsUpdate, delete_reply, delete_result, deleted_by, failed_write_in, update_reply, update_result, updated_by, upserted_in}
-use Rattle.driver_ops.specs.DeleteLawful as deleting
-use Rattle.driver_ops.specs.DeleteLawful.{delete_lawful}
+use Rattle.driver_ops.specs.DeleteLawful.{delete_reading}
 use Rattle.driver_ops.specs.Deleting.{delete_statement}
 use Rattle.driver_ops.specs.InsertLaw.{concern_of}
 use Rattle.driver_ops.specs.OperationLaw.{TellsOutput}
@@ -58,12 +55,12 @@ use Rattle.driver_ops.specs.Served.{statements_in}
 use Rattle.driver_ops.specs.StatementLaw.{CountsStatement, ExchangesStatement, IsReadAsCounted}
 use Rattle.driver_ops.specs.StatementSpec.{delete_spec, statement_write, update_spec}
 use Rattle.driver_ops.specs.Targets.{namespace_of}
-use Rattle.driver_ops.specs.UpdateLawful as updating
-use Rattle.driver_ops.specs.UpdateLawful.{update_lawful}
+use Rattle.driver_ops.specs.UpdateLawful.{update_reading}
 use Rattle.driver_ops.specs.Updating.{update_statement}
 use Rattle.driver_ops.specs.WriteReplies.{concern_error_of, write_errors_in}
 use Rattle.driver_ops.specs.lawful.CountsTold.{plus_nothing, reply_counted, reply_number_is, reply_taken, upserted_read}
 use Rattle.driver_ops.specs.lawful.OneTold.{IsOneCounted, IsOneOf, counted_unfailed, one_told}
+use Rattle.driver_ops.specs.lawful.StatementTold.{output_told, told_by_reading}
 use Rattle.driver_ops.proofs.PlainReading.{may_be_done, only_memory}
 
 -- a number of a reply is read as the count that it is
@@ -295,15 +292,12 @@ module _ (target : OperationTarget) (filter : List (Pair Bson)) (change : Update
 
     -- an output that is read is told by the entry
     only_told : (output : UpdateResult) → ReadsOutput spec reply output → TellsOutput spec server send step output
-    only_told output reads =
-        subst (λ s. TellsOutput spec server s step output) (sym made.send_is)
-        ((update_lawful target filter change multi options).reads_own made.statements made.places made.body made.asked (subst IsWrite (sym made.asked.is) tt) made.context server step made.found
-        (ap (λ s. answered server s step) (sym made.send_is) ∙ made.answer) reply made.spelled output reads)
+    only_told output reads = output_told (update_reading target filter change multi options) server send step write made.found one made.answer reply made.spelled output reads
 
     -- and is what the statement counts
     only_counted : (output : UpdateResult) → ReadsOutput spec reply output → (result : Counted) × (CountsStatement server send step result × (updated_by result ≡ Some output))
     only_counted output reads =
-        let told = updating.told_by_reading target filter change multi options server send step write made.found one made.answer reply made.spelled output reads in
+        let told = told_by_reading (update_reading target filter change multi options) server send step write made.found one made.answer reply made.spelled output reads in
         let plan = told.one.alone.plan in
         let before = traced (after_picks server step.deliver) send in
         let is = told.one.alone.is ∙ update_is plan.page plan.concern before.cursors write told.one.alone.statement told.one.result told.one.counts in
@@ -349,14 +343,11 @@ module _ (target : OperationTarget) (filter : List (Pair Bson)) (multi : Bool) (
     one_delete = record { out = ap (λ s. s.in_transaction) made.send_is; body = ap (λ s. s.body) made.send_is ∙ made.asked.is }
 
     delete_told : (output : DeleteResult) → ReadsOutput delete_tells reply output → TellsOutput delete_tells server send step output
-    delete_told output reads =
-        subst (λ s. TellsOutput delete_tells server s step output) (sym made.send_is)
-        ((delete_lawful target filter multi options).reads_own made.statements made.places made.body made.asked (subst IsWrite (sym made.asked.is) tt) made.context server step made.found
-        (ap (λ s. answered server s step) (sym made.send_is) ∙ made.answer) reply made.spelled output reads)
+    delete_told output reads = output_told (delete_reading target filter multi options) server send step deleted made.found one_delete made.answer reply made.spelled output reads
 
     delete_counted : (output : DeleteResult) → ReadsOutput delete_tells reply output → (result : Counted) × (CountsStatement server send step result × (deleted_by result ≡ Some output))
     delete_counted output reads =
-        let told = deleting.told_by_reading target filter multi options server send step deleted made.found one_delete made.answer reply made.spelled output reads in
+        let told = told_by_reading (delete_reading target filter multi options) server send step deleted made.found one_delete made.answer reply made.spelled output reads in
         let plan = told.one.alone.plan in
         let before = traced (after_picks server step.deliver) send in
         let is = told.one.alone.is ∙ delete_is plan.page plan.concern before.cursors deleted told.one.alone.statement told.one.result told.one.counts in

@@ -1,90 +1,30 @@
 -- A delete of one statement keeps the law of operations.
-use Rattle.std.proofs.Common.{◌≡◌, ℕ, Bool, true, List, [], ◌∷◌, refl, sym, ap, subst, ◌∙◌, inl, inr}
-use Rattle.std.specs.Prelude.{Some}
+use Rattle.std.specs.Prelude.{Bool, List}
 use Rattle.bson_lite.specs.declared.bson.Bson.{Bson}
 use Rattle.bson_lite.specs.declared.document.Pair.{Pair}
-use Rattle.bson_lite.specs.Spelling.{Spells}
-use Rattle.driver_error.specs.declared.results.DeleteResult.{DeleteResult}
-use Rattle.driver_link.specs.declared.keys.TheConstants.{OK}
-use Rattle.driver_link.specs.declared.machine.PlacedWrite.{PlacedWrite}
-use Rattle.driver_link.specs.declared.machine.Scheduled.{Scheduled}
-use Rattle.driver_link.specs.declared.machine.Send.{Send}
 use Rattle.driver_link.specs.declared.machine.SendCommand.TheVariants as command
-use Rattle.driver_link.specs.declared.machine.Server.{Server}
 use Rattle.driver_link.specs.declared.machine.WriteKind.TheVariants as kind
 use Rattle.driver_link.specs.declared.write_options.DeleteOptions.{DeleteOptions}
-use Rattle.driver_link.specs.Cursors.{Reply}
-use Rattle.driver_link.specs.Exchange.{after_picks, answered, traced}
-use Rattle.driver_link.specs.Settled.{IsWrite}
-use Rattle.driver_link.specs.Statements.{entry_of}
 use Rattle.driver_ops.specs.declared.target.OperationTarget.{OperationTarget}
 use Rattle.driver_ops.specs.CountAnswers.{deleted_by}
 use Rattle.driver_ops.specs.Deleting.{delete_statement}
-use Rattle.driver_ops.specs.Inserts.{int_at, is_one}
 use Rattle.driver_ops.specs.OperationLaw.{IsLawful}
-use Rattle.driver_ops.specs.Operations.{ReadsOutput, send_of}
-use Rattle.driver_ops.specs.Served.{statements_in}
-use Rattle.driver_ops.specs.StatementSpec.{statement_write, delete_spec}
+use Rattle.driver_ops.specs.StatementSpec.{delete_spec, statement_write}
 use Rattle.driver_ops.specs.Targets.{namespace_of}
-use Rattle.driver_ops.specs.lawful.CountsTold.{IsDeleteRead, error_not_one, delete_by, delete_counts, delete_read}
-use Rattle.driver_ops.specs.lawful.InsertRead.{differ, ok_is_one, spells_one}
-use Rattle.driver_ops.specs.lawful.OneTold.{IsOneCounted, IsOneOf, one_stands, one_told}
-use Rattle.driver_ops.specs.lawful.Statements.{TellsStatements, reply_of_writes}
+use Rattle.driver_ops.specs.lawful.CountsTold.{IsDeleteRead, delete_by, delete_counts, delete_read}
+use Rattle.driver_ops.specs.lawful.StatementTold.{ReadsStatement, statement_lawful}
 
--- a delete whose reply is read as done: its one statement is told, and its counts are those that are read
-pub record IsTold (server : Server) (send : Send) (step : Scheduled) (write : PlacedWrite) (found : Reply) (output : DeleteResult) : Type 0 where
-  pub one : IsOneCounted command.Delete server send step write found
-  pub read : IsDeleteRead found output
-  pub counts : deleted_by one.result ≡ Some output
-
--- by what its reply tells
-told_by : (server : Server) (send : Send) (step : Scheduled) (write : PlacedWrite) (found : Reply) (output : DeleteResult) → IsOneOf command.Delete send write
-    → answered server send step ≡ Some found → IsDeleteRead found output
-    → TellsStatements (traced (after_picks server step.deliver) send) send step.item found → IsTold server send step write found output
-unfolding statements_in answered
-told_by server send step write found output one answer read tells =
-    let before = traced (after_picks server step.deliver) send in
-    let alone = one_told command.Delete before send write one step.item tells.done found tells.told answer in
-    let here = subst (λ reply. IsDeleteRead reply output) alone.is read in
-    let counted = delete_counts alone.plan before write alone.statement here.failed here.failed_is here.none in
-    record {
-      read = read;
-      one = record { done = tells.done; told = tells.told; alone = alone; result = counted.0; counts = counted.1 };
-      counts = delete_by alone.plan before write alone.statement counted.0 output counted.1 here;
-    }
-
--- a reply that is read as done is none that spells an error
-told : (server : Server) (send : Send) (step : Scheduled) (write : PlacedWrite) (found : Reply) (output : DeleteResult) → IsOneOf command.Delete send write
-    → answered server send step ≡ Some found → is_one (int_at OK.now found) ≡ true → IsDeleteRead found output → IsTold server send step write found output
-unfolding answered
-told server send step write found output one answer done read =
-    let before = traced (after_picks server step.deliver) send in
-    elim (reply_of_writes before send step.item found one.out (subst IsWrite (sym one.body) tt) answer) [
-      | inl error ↦ absurd (differ (sym (ap (λ reply. is_one (int_at OK.now reply)) error.is ∙ error_not_one error.code error.labels) ∙ done))
-      | inr tells ↦ told_by server send step write found output one answer read tells
-    ]
-
--- an exchange whose reply is read as done
-pub told_by_reading : (target : OperationTarget) (filter : List (Pair Bson)) (multi : Bool) (options : DeleteOptions) (server : Server) (send : Send) (step : Scheduled) (write : PlacedWrite) (found : Reply)
-    → IsOneOf command.Delete send write → answered server send step ≡ Some found → (bytes : List ℕ) → Spells found bytes → (output : DeleteResult)
-    → ReadsOutput (delete_spec target filter multi options) bytes output → IsTold server send step write found output
-told_by_reading target filter multi options server send step write found one answer bytes spelled output reads =
-    let same = spells_one reads.response.body found bytes reads.done.spelled spelled in
-    let done = subst (λ reply. is_one (int_at OK.now reply) ≡ true) same (ok_is_one reads.response.body reads.done.is) in
-    let read = subst (λ reply. IsDeleteRead reply output) same (delete_read reads.response.body output reads.reads) in
-    told server send step write found output one answer done read
+-- a delete reads the count of its one statement
+pub delete_reading : (target : OperationTarget) (filter : List (Pair Bson)) (multi : Bool) (options : DeleteOptions)
+    → ReadsStatement command.Delete (delete_spec target filter multi options) IsDeleteRead deleted_by
+delete_reading target filter multi options = record {
+  asks = λ statements places body asked. (statement_write kind.Delete (namespace_of target) (delete_statement filter multi options) asked.place, asked.is);
+  reads = λ reply output answers. delete_read reply output answers;
+  has_result = λ plan server write statement output read. delete_counts plan server write statement read.failed read.failed_is read.none;
+  counts = delete_by;
+  tells = λ entry output is. is;
+}
 
 -- over the machine's own reply its output is told by the entry of its write
 pub delete_lawful : (target : OperationTarget) (filter : List (Pair Bson)) (multi : Bool) (options : DeleteOptions) → IsLawful (delete_spec target filter multi options)
-delete_lawful target filter multi options = record {
-  reads_own = λ statements places body asks writes context server step reply answer came spelled output reads.
-      let send = send_of context body in
-      let write = statement_write kind.Delete (namespace_of target) (delete_statement filter multi options) asks.place in
-      let one : IsOneOf command.Delete send write = record { out = refl; body = asks.is } in
-      let is = told_by_reading target filter multi options server send step write reply one answer came spelled output reads in
-      record {
-        entries = entry_of context.session context.number write is.one.result ∷ [];
-        stand = one_stands command.Delete server send step write reply one is.one;
-        told = is.counts;
-      };
-}
+delete_lawful target filter multi options = statement_lawful (delete_reading target filter multi options)

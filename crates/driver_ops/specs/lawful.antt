@@ -4,4 +4,5 @@ pub mod FoundTold
 pub mod InsertRead
 pub mod InsertTold
 pub mod OneTold
+pub mod StatementTold
 pub mod Statements

@@ -131,23 +131,23 @@ module _ (namespace : Namespace) (filter : List (Pair Bson)) (change : UpdateOrR
   update_bodies = λ which statements command is.
       (update_asked, subst (λ n. AsksFor (update_spec (in_collection namespace) filter change multi options) (batch_of (place ∷ []) n) update_asked) (sym is.one) update_asks)
 
-  -- so it was made where it was run
-  pub update_made : IsAccepted (updates namespace filter change multi options) → (before now : Moment) (ended : Result UpdateResult Error) (result : Result SingleAnswer Error)
-      → Runs (update_spec (in_collection namespace) filter change multi options) update_asked place before now ended → Tells (λ output. Updated output) ended result
-      → Made before now (updates namespace filter change multi options) place result
-  update_made accepted before now ended result runs tells =
-      record { accepted = accepted; sent = written_in (updates namespace filter change multi options); mid = before; runs = record { same = refl; sent_is = refl; ended = ended; runs = runs; tells = tells } }
-
   -- the same of one that was made of these parts
   module _ {made : OperationTarget} {held : List (Pair Bson)} {kept : UpdateOrReplace} {all : Bool} {had : UpdateOptions} (is_target : made ≡ in_collection namespace) (is_filter : held ≡ filter) (is_change : kept ≡ change) (is_multi : all ≡ multi) (is_options : had ≡ options) where
     pub update_has : HasBodies (update_spec made held kept all had) (place ∷ [])
     update_has = of_update (λ t f c m o. HasBodies (update_spec t f c m o) (place ∷ [])) (sym is_target) (sym is_filter) (sym is_change) (sym is_multi) (sym is_options) update_bodies
 
-    pub update_ran : (before now : Moment) (ended : Result UpdateResult Error)
+    update_ran : (before now : Moment) (ended : Result UpdateResult Error)
         → ((asked : SendBody) → AsksFor (update_spec made held kept all had) (batch_of (place ∷ []) 1) asked → Runs (update_spec made held kept all had) asked place before now ended)
         → Runs (update_spec (in_collection namespace) filter change multi options) update_asked place before now ended
     update_ran before now ended runs =
         of_update (λ t f c m o. (asked : SendBody) → AsksFor (update_spec t f c m o) (batch_of (place ∷ []) 1) asked → Runs (update_spec t f c m o) asked place before now ended) is_target is_filter is_change is_multi is_options runs update_asked update_asks
+
+    -- so it was made where it was run
+    pub update_made : IsAccepted (updates namespace filter change multi options) → (before now : Moment) (ended : Result UpdateResult Error) (result : Result SingleAnswer Error)
+        → ((asked : SendBody) → AsksFor (update_spec made held kept all had) (batch_of (place ∷ []) 1) asked → Runs (update_spec made held kept all had) asked place before now ended)
+        → Tells (λ output. Updated output) ended result → Made before now (updates namespace filter change multi options) place result
+    update_made accepted before now ended result runs tells =
+        record { accepted = accepted; sent = written_in (updates namespace filter change multi options); mid = before; runs = record { same = refl; sent_is = refl; ended = ended; runs = update_ran before now ended runs; tells = tells } }
 
 -- a delete
 module _ (namespace : Namespace) (filter : List (Pair Bson)) (multi : Bool) (options : DeleteOptions) (place : Place) where
@@ -161,22 +161,23 @@ module _ (namespace : Namespace) (filter : List (Pair Bson)) (multi : Bool) (opt
   delete_bodies = λ which statements command is.
       (delete_asked, subst (λ n. AsksFor (delete_spec (in_collection namespace) filter multi options) (batch_of (place ∷ []) n) delete_asked) (sym is.one) delete_asks)
 
-  pub delete_made : IsAccepted (deletes namespace filter multi options) → (before now : Moment) (ended : Result DeleteResult Error) (result : Result SingleAnswer Error)
-      → Runs (delete_spec (in_collection namespace) filter multi options) delete_asked place before now ended → Tells (λ output. Deleted output) ended result
-      → Made before now (deletes namespace filter multi options) place result
-  delete_made accepted before now ended result runs tells =
-      record { accepted = accepted; sent = written_in (deletes namespace filter multi options); mid = before; runs = record { same = refl; sent_is = refl; ended = ended; runs = runs; tells = tells } }
-
   -- the same of one that was made of these parts
   module _ {made : OperationTarget} {held : List (Pair Bson)} {all : Bool} {had : DeleteOptions} (is_target : made ≡ in_collection namespace) (is_filter : held ≡ filter) (is_multi : all ≡ multi) (is_options : had ≡ options) where
     pub delete_has : HasBodies (delete_spec made held all had) (place ∷ [])
     delete_has = of_delete (λ t f m o. HasBodies (delete_spec t f m o) (place ∷ [])) (sym is_target) (sym is_filter) (sym is_multi) (sym is_options) delete_bodies
 
-    pub delete_ran : (before now : Moment) (ended : Result DeleteResult Error)
+    delete_ran : (before now : Moment) (ended : Result DeleteResult Error)
         → ((asked : SendBody) → AsksFor (delete_spec made held all had) (batch_of (place ∷ []) 1) asked → Runs (delete_spec made held all had) asked place before now ended)
         → Runs (delete_spec (in_collection namespace) filter multi options) delete_asked place before now ended
     delete_ran before now ended runs =
         of_delete (λ t f m o. (asked : SendBody) → AsksFor (delete_spec t f m o) (batch_of (place ∷ []) 1) asked → Runs (delete_spec t f m o) asked place before now ended) is_target is_filter is_multi is_options runs delete_asked delete_asks
+
+    -- so it was made where it was run
+    pub delete_made : IsAccepted (deletes namespace filter multi options) → (before now : Moment) (ended : Result DeleteResult Error) (result : Result SingleAnswer Error)
+        → ((asked : SendBody) → AsksFor (delete_spec made held all had) (batch_of (place ∷ []) 1) asked → Runs (delete_spec made held all had) asked place before now ended)
+        → Tells (λ output. Deleted output) ended result → Made before now (deletes namespace filter multi options) place result
+    delete_made accepted before now ended result runs tells =
+        record { accepted = accepted; sent = written_in (deletes namespace filter multi options); mid = before; runs = record { same = refl; sent_is = refl; ended = ended; runs = delete_ran before now ended runs; tells = tells } }
 
 -- and a findAndModify that of its body
 module _ (namespace : Namespace) (filter : List (Pair Bson)) (modification : Modification) (options : FindAndModifyOptions) (place : Place) where
@@ -190,19 +191,20 @@ module _ (namespace : Namespace) (filter : List (Pair Bson)) (modification : Mod
   find_bodies = λ which statements command is.
       (find_asked, subst (λ n. AsksFor (find_spec (in_collection namespace) filter modification options) (batch_of (place ∷ []) n) find_asked) (sym is.one) find_asks)
 
-  pub find_made : IsAccepted (finds namespace filter modification options) → (before now : Moment) (ended : Result (Option (List (Pair Bson))) Error) (result : Result SingleAnswer Error)
-      → Runs (find_spec (in_collection namespace) filter modification options) find_asked place before now ended → Tells (λ output. Found output) ended result
-      → Made before now (finds namespace filter modification options) place result
-  find_made accepted before now ended result runs tells =
-      record { accepted = accepted; sent = written_in (finds namespace filter modification options); mid = before; runs = record { same = refl; sent_is = refl; ended = ended; runs = runs; tells = tells } }
-
   -- the same of one that was made of these parts
   module _ {made : OperationTarget} {held : List (Pair Bson)} {kept : Modification} {had : FindAndModifyOptions} (is_target : made ≡ in_collection namespace) (is_filter : held ≡ filter) (is_modification : kept ≡ modification) (is_options : had ≡ options) where
     pub find_has : HasBodies (find_spec made held kept had) (place ∷ [])
     find_has = of_find (λ t f m o. HasBodies (find_spec t f m o) (place ∷ [])) (sym is_target) (sym is_filter) (sym is_modification) (sym is_options) find_bodies
 
-    pub find_ran : (before now : Moment) (ended : Result (Option (List (Pair Bson))) Error)
+    find_ran : (before now : Moment) (ended : Result (Option (List (Pair Bson))) Error)
         → ((asked : SendBody) → AsksFor (find_spec made held kept had) (batch_of (place ∷ []) 1) asked → Runs (find_spec made held kept had) asked place before now ended)
         → Runs (find_spec (in_collection namespace) filter modification options) find_asked place before now ended
     find_ran before now ended runs =
         of_find (λ t f m o. (asked : SendBody) → AsksFor (find_spec t f m o) (batch_of (place ∷ []) 1) asked → Runs (find_spec t f m o) asked place before now ended) is_target is_filter is_modification is_options runs find_asked find_asks
+
+    -- so it was made where it was run
+    pub find_made : IsAccepted (finds namespace filter modification options) → (before now : Moment) (ended : Result (Option (List (Pair Bson))) Error) (result : Result SingleAnswer Error)
+        → ((asked : SendBody) → AsksFor (find_spec made held kept had) (batch_of (place ∷ []) 1) asked → Runs (find_spec made held kept had) asked place before now ended)
+        → Tells (λ output. Found output) ended result → Made before now (finds namespace filter modification options) place result
+    find_made accepted before now ended result runs tells =
+        record { accepted = accepted; sent = written_in (finds namespace filter modification options); mid = before; runs = record { same = refl; sent_is = refl; ended = ended; runs = find_ran before now ended runs; tells = tells } }

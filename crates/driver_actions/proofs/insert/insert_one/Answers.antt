@@ -1,12 +1,12 @@
 -- The insert is refused for its input, or its operation is run once its document has an id.
-use Rattle.std.proofs.Common.{◌∙◌, refl, ap, inl, inr}
+use Rattle.std.proofs.Common.{◌∙◌, refl, ap, inr}
 use Rattle.std.specs.Prelude.{Ok, Err}
 use Rattle.std.proofs.lemmas.Result.{err_from_is_err_and}
 use Rattle.driver_exec.specs.Moment.{moment_of}
 use Rattle.driver_ops.specs.Targets.{in_collection}
 use Rattle.driver_actions.specs.Forms.{inserts}
-use Rattle.driver_actions.proofs.Causes.{caused_input, caused_memory, made_caused}
-use Rattle.driver_actions.proofs.Parts.{insert_made, may_draw, unmade_early, unmade_input, unmade_memory}
+use Rattle.driver_actions.proofs.Causes.{caused_exit, caused_input, caused_memory, made_caused}
+use Rattle.driver_actions.proofs.Parts.{insert_made, may_draw, unmade_exit, unmade_input, unmade_memory}
 use Rattle.driver_actions.proofs.Refusals.{own_memory}
 use Rattle.driver_actions.proofs.SingleWrites.WriteOperations.{insert_has, insert_ran}
 use Rattle.driver_actions.proofs.insert.insert_one.Goals as goal
@@ -24,26 +24,22 @@ returns-in-Some-clause-cause g c =
 pub returns-in_err-namespace-clause-makes : goal.returns-in_err-namespace-clause-makes
 returns-in_err-namespace-clause-makes g c =
     let before = moment_of g.S.SessionStore.tells g.L.Link.tells g.K.Clock.tells g.R.Rng.stream c.args.client.now c.args.outside.now in
-    let p = err_from_is_err_and c.from_residual.result c.from_residual.ensures.1 in
-    rw p.1 (unmade_early before (inserts c.args.namespace.now c.args.document.now c.args.options.now) c.args.place p.0 p.2.kind_is)
+    unmade_exit before (inserts c.args.namespace.now c.args.document.now c.args.options.now) c.args.place c.from_residual.result c.from_residual.ensures.1
 
 pub returns-in_err-namespace-clause-cause : goal.returns-in_err-namespace-clause-cause
 returns-in_err-namespace-clause-cause g c =
     let before = moment_of g.S.SessionStore.tells g.L.Link.tells g.K.Clock.tells g.R.Rng.stream c.args.client.now c.args.outside.now in
-    let p = err_from_is_err_and c.from_residual.result c.from_residual.ensures.1 in
-    rw p.1 (caused_input before (inserts c.args.namespace.now c.args.document.now c.args.options.now) p.0 (inl p.2.kind_is))
+    caused_exit before (inserts c.args.namespace.now c.args.document.now c.args.options.now) c.from_residual.result c.from_residual.ensures.1
 
 pub returns-in_err-options-clause-makes : goal.returns-in_err-options-clause-makes
 returns-in_err-options-clause-makes g c =
     let before = moment_of g.S.SessionStore.tells g.L.Link.tells g.K.Clock.tells g.R.Rng.stream c.args.client.now c.args.outside.now in
-    let p = err_from_is_err_and c.from_residual-in_err-options.result c.from_residual-in_err-options.ensures.1 in
-    rw p.1 (unmade_early before (inserts c.args.namespace.now c.args.document.now c.args.options.now) c.args.place p.0 p.2.kind_is)
+    unmade_exit before (inserts c.args.namespace.now c.args.document.now c.args.options.now) c.args.place c.from_residual-in_err-options.result c.from_residual-in_err-options.ensures.1
 
 pub returns-in_err-options-clause-cause : goal.returns-in_err-options-clause-cause
 returns-in_err-options-clause-cause g c =
     let before = moment_of g.S.SessionStore.tells g.L.Link.tells g.K.Clock.tells g.R.Rng.stream c.args.client.now c.args.outside.now in
-    let p = err_from_is_err_and c.from_residual-in_err-options.result c.from_residual-in_err-options.ensures.1 in
-    rw p.1 (caused_input before (inserts c.args.namespace.now c.args.document.now c.args.options.now) p.0 (inl p.2.kind_is))
+    caused_exit before (inserts c.args.namespace.now c.args.document.now c.args.options.now) c.from_residual-in_err-options.result c.from_residual-in_err-options.ensures.1
 
 pub returns-in_err-own-clause-makes : goal.returns-in_err-own-clause-makes
 returns-in_err-own-clause-makes g c =

@@ -1,13 +1,12 @@
 -- Where there is no session, or nothing may be repeated, the attempt ends so; else its command goes out.
 use Rattle.std.proofs.Common.{ap, subst, ◌∙◌, sym}
-use Rattle.std.specs.Prelude.{Ok, Err}
 use Rattle.std.proofs.lemmas.Bool.{and_parts}
 use Rattle.driver_ops.specs.Operations.{batch_of}
-use Rattle.driver_exec.specs.Attempting.{asks_session, besides_out, is_nothing, on_connection, stops}
+use Rattle.driver_exec.specs.Attempting.{besides_out, is_nothing, on_connection, stops}
 use Rattle.driver_exec.specs.Client.{options_of, store_of}
 use Rattle.driver_exec.specs.Concerns.{concern_of}
 use Rattle.driver_exec.specs.inside.Attempting.{Sending}
-use Rattle.driver_exec.proofs.OneAttempt.{holds_asked, sent_attempt_made, sessionless_attempt_made, stopped_attempt_made, unready_attempt_made}
+use Rattle.driver_exec.proofs.OneAttempt.{sent_attempt_made, sessionless_attempt_made, stopped_attempt_made, unready_attempt_made}
 use Rattle.driver_exec.proofs.attempt.execute_operation_on_connection.Goals as goal
 
 pub returns-in-Err-clause-makes : goal.returns-in-Err-clause-makes
@@ -21,10 +20,8 @@ returns-in-Err-clause-makes g c = λ statements fixed retryability retryability_
     let link = (g.L.Link.tells c.args.outside.now.link) in
     let clock = g.K.Clock.tells c.args.outside.now.clock in
     let clock_now = g.K.Clock.tells c.check_out_session-held.new.clock in
-    let asked = c.asks_session-asked.ensures ∙ ap (λ sessions. asks_session sessions c.args.on.now.conn.now.description) c.supports_sessions.ensures in
-    unready_attempt_made spec batch which retryability concern kept store store_now before link clock clock_now c.args.held c.check_out_session-held.result.0 c.args.sends.now c.args.address c.args.on.now.conn.now connects c.in-Err.error
-    (holds_asked spec batch which retryability concern kept store store_now before link clock clock_now c.args.held c.check_out_session-held.result.0 c.args.sends.now c.args.address c.args.on.now.conn.now connects
-    c.asks_session-asked.result c.check_out_session-held.result.1 (Err c.in-Err.error) asked c.in-Err.is c.check_out_session-held.ensures.holds)
+    unready_attempt_made spec batch which retryability concern kept store store_now before link clock clock_now c.args.held c.check_out_session-held.result.0 c.args.sends.now c.args.address c.args.on.now.conn.now connects
+    c.asks_session-asked.result _ c.supports_sessions.ensures c.asks_session-asked.ensures c.check_out_session-held.result.1 c.check_out_session-held.ensures.holds c.in-Err.error c.in-Err.is
 
 pub returns-then-stops-clause-makes : goal.returns-then-stops-clause-makes
 returns-then-stops-clause-makes g c = λ statements fixed retryability retryability_is kept again before connects.
@@ -37,11 +34,9 @@ returns-then-stops-clause-makes g c = λ statements fixed retryability retryabil
     let link = (g.L.Link.tells c.args.outside.now.link) in
     let clock = g.K.Clock.tells c.args.outside.now.clock in
     let clock_now = g.K.Clock.tells c.check_out_session-held.new.clock in
-    let asked = c.asks_session-asked.ensures ∙ ap (λ sessions. asks_session sessions c.args.on.now.conn.now.description) c.supports_sessions.ensures in
     let both = and_parts c.args.on.now.again (is_nothing c.args.on.now.connection_retryability) (sym c.stops.ensures ∙ c.if-stops.true) in
     stopped_attempt_made spec batch which retryability concern kept store store_now before link clock clock_now c.args.held c.check_out_session-held.result.0 c.args.sends.now c.args.address c.args.on.now.conn.now connects
-    (holds_asked spec batch which retryability concern kept store store_now before link clock clock_now c.args.held c.check_out_session-held.result.0 c.args.sends.now c.args.address c.args.on.now.conn.now connects
-    c.asks_session-asked.result c.check_out_session-held.result.1 (Ok tt) asked c.in-Ok.is c.check_out_session-held.ensures.holds)
+    c.asks_session-asked.result _ c.supports_sessions.ensures c.asks_session-asked.ensures c.check_out_session-held.result.1 c.check_out_session-held.ensures.holds c.in-Ok.is
     (sym again ∙ both.0) (sym c.may_use.ensures ∙ c.if-may_use.true) (sym (ap is_nothing retryability_is) ∙ both.1)
 
 pub returns-then-may_use-clause-makes : goal.returns-then-may_use-clause-makes
@@ -55,10 +50,8 @@ returns-then-may_use-clause-makes g c = λ statements fixed retryability retryab
     let link = (g.L.Link.tells c.args.outside.now.link) in
     let clock = g.K.Clock.tells c.args.outside.now.clock in
     let clock_now = g.K.Clock.tells c.check_out_session-held.new.clock in
-    let asked = c.asks_session-asked.ensures ∙ ap (λ sessions. asks_session sessions c.args.on.now.conn.now.description) c.supports_sessions.ensures in
     sent_attempt_made spec batch which retryability concern kept store store_now before link clock clock_now c.args.held c.check_out_session-held.result.0 c.args.sends.now c.args.address c.args.on.now.conn.now connects
-    (holds_asked spec batch which retryability concern kept store store_now before link clock clock_now c.args.held c.check_out_session-held.result.0 c.args.sends.now c.args.address c.args.on.now.conn.now connects
-    c.asks_session-asked.result c.check_out_session-held.result.1 (Ok tt) asked c.in-Ok.is c.check_out_session-held.ensures.holds)
+    c.asks_session-asked.result _ c.supports_sessions.ensures c.asks_session-asked.ensures c.check_out_session-held.result.1 c.check_out_session-held.ensures.holds c.in-Ok.is
     (sym c.may_use.ensures ∙ c.if-may_use.true) (ap (λ b. stops b (on_connection retryability c.args.on.now.conn.now.description)) (sym again) ∙ ap (λ t. stops c.args.on.now.again t) (sym retryability_is) ∙ sym c.stops.ensures ∙ c.if-stops.false) (g.L.Link.tells c.send.new.link) _ _ _ _ _ retryability_is again
     (subst (λ k. Sending spec which k batch c.args.on.now.again (besides_out link) (besides_out (g.L.Link.tells c.send.new.link)) c.args.on.now.connection_retryability c.args.on.now.conn.now c.args.address
     c.check_out_session-held.result.0 c.send.result.0 c.args.sends.now c.send.new.sends c.send.result.1)
@@ -75,8 +68,6 @@ returns-clause-makes g c = λ statements fixed retryability retryability_is kept
     let link = (g.L.Link.tells c.args.outside.now.link) in
     let clock = g.K.Clock.tells c.args.outside.now.clock in
     let clock_now = g.K.Clock.tells c.check_out_session-held.new.clock in
-    let asked = c.asks_session-asked.ensures ∙ ap (λ sessions. asks_session sessions c.args.on.now.conn.now.description) c.supports_sessions.ensures in
     sessionless_attempt_made spec batch which retryability concern kept store store_now before link clock clock_now c.args.held c.check_out_session-held.result.0 c.args.sends.now c.args.address c.args.on.now.conn.now connects
-    (holds_asked spec batch which retryability concern kept store store_now before link clock clock_now c.args.held c.check_out_session-held.result.0 c.args.sends.now c.args.address c.args.on.now.conn.now connects
-    c.asks_session-asked.result c.check_out_session-held.result.1 (Ok tt) asked c.in-Ok.is c.check_out_session-held.ensures.holds)
+    c.asks_session-asked.result _ c.supports_sessions.ensures c.asks_session-asked.ensures c.check_out_session-held.result.1 c.check_out_session-held.ensures.holds c.in-Ok.is
     c.from_kind-refused.result (sym c.may_use.ensures ∙ c.if-may_use.false) c.from_kind-refused.ensures
