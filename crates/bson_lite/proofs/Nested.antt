@@ -109,7 +109,7 @@ pub frame_read : {A : Type 0} (inside : ℕ → List ℕ → Result A ℕ) (end 
 unfolding framed_with inside_with
 frame_read inside end head body rest x e short read = rw (frame_again head body rest e short, read (end - length rest - 1)) refl
 
-pub length-framed : (body : List ℕ) → length (framed body) ≡ length body + 5
+length-framed : (body : List ℕ) → length (framed body) ≡ length body + 5
 length-framed body = omega (arith, length-append body (0 ∷ []))
 
 document_read : (levels : ℕ) → ((v : Bson) → Fit levels v → Again levels v) → (pairs : List (Pair Bson)) (end : ℕ) (rest : List ℕ)

@@ -12,14 +12,14 @@ use Rattle.driver_link.specs.ServerRun.{ServerRun}
 use Rattle.driver_link.proofs.Lists.{none_past}
 use Rattle.driver_session.specs.Pool.{Pool}
 use Rattle.driver_session.specs.StoreTells.{Draws, LendsAsBefore, LendsPoolAsBefore, MayDrawObjectId, StoreTells}
-use Rattle.driver_session.proofs.Drawing.{draws_object, draws_staying, draws_twice}
-use Rattle.driver_session.proofs.Lending.{lends_refl, lends_twice}
+use Rattle.driver_session.proofs.IdDraws.{draws_object, draws_staying, draws_twice}
+use Rattle.driver_session.proofs.LentSessions.{lends_refl, lends_twice}
 use Rattle.driver_session.proofs.PoolTells.{same_told}
 use Rattle.driver_exec.specs.BetweenCalls.{NumbersWithin}
 use Rattle.driver_exec.specs.Moment.{Moment}
 use Rattle.driver_exec.specs.Resending.{SentTimes}
 use Rattle.driver_exec.proofs.Moves.{keeps_fold, keeps_making, new_is}
-use Rattle.driver_exec.proofs.Numbering.{borrows_within, within_staying}
+use Rattle.driver_exec.proofs.SessionNumbers.{borrows_within, within_staying}
 use Rattle.driver_actions.specs.declared.call.Answer.{Answer}
 use Rattle.driver_actions.specs.declared.call.Answer.TheVariants as answer
 use Rattle.driver_actions.specs.declared.call.Call.{Call}
@@ -28,9 +28,9 @@ use Rattle.driver_actions.specs.declared.call.Outcome.{Outcome}
 use Rattle.driver_actions.specs.declared.call.SingleAnswer.{SingleAnswer}
 use Rattle.driver_actions.specs.CallByCall.{CallCaused, with_clock}
 use Rattle.driver_actions.specs.Forms.{WriteForm, form_of, send_in}
-use Rattle.driver_actions.specs.MainTheorem.{HasWriteOf, IsReplayed, IsReplayedTold, KeepsMaking, KeepsMakingTold, SendsOwn}
+use Rattle.driver_actions.specs.MainTheorem.{HasWriteOf, IsReplayed, IsReplayedWhereTold, KeepsMaking, KeepsMakingWhereTold, SendsOwn}
 use Rattle.driver_actions.specs.SingleCalls.{Made, Makes, MakesCall, first_place}
-use Rattle.driver_actions.specs.SingleCompleteness.{RaisesNumbers, RaisesTold}
+use Rattle.driver_actions.specs.SingleCompleteness.{RaisesNumbers, RaisesWhereTold}
 use Rattle.driver_actions.proofs.OwnIds.{OnlyDrew}
 use Rattle.driver_actions.proofs.ServerMaking.{told_refl}
 use Rattle.driver_actions.proofs.SingleWrites.WritesMade.{made_drew, made_left, unmade_drew_by}
@@ -90,14 +90,14 @@ by_call P before now (Single write) number (Err error) sends unsent sent = elim 
 ]
 
 -- a link's making, by the sends of an operation
-making_of : (link link_now : Option ServerRun) (send : Send) (count : ℕ) → SentTimes link link_now send count → KeepsMakingTold link link_now
+making_of : (link link_now : Option ServerRun) (send : Send) (count : ℕ) → SentTimes link link_now send count → KeepsMakingWhereTold link link_now
 making_of None link_now send count sent = sent
 making_of (Some told) None send count sent = absurd sent
 making_of (Some told) (Some now) send count sent = keeps_making told send count now sent
 
 -- the fold of a trace, by the sends of an operation
-fold_of : (link link_now : Option ServerRun) (send : Send) (count : ℕ) → SentTimes link link_now send count → IsReplayedTold link → IsReplayedTold link_now
-fold_of None link_now send count sent folds = subst IsReplayedTold (sym sent) tt
+fold_of : (link link_now : Option ServerRun) (send : Send) (count : ℕ) → SentTimes link link_now send count → IsReplayedWhereTold link → IsReplayedWhereTold link_now
+fold_of None link_now send count sent folds = subst IsReplayedWhereTold (sym sent) tt
 fold_of (Some told) None send count sent folds = absurd sent
 fold_of (Some told) (Some now) send count sent folds =
     subst (λ schedule. now.server ≡ replayed schedule empty_server now.server.trace) (sym (keeps_making told send count now sent).1) (keeps_fold told send count now sent folds)
@@ -136,20 +136,20 @@ module _ (before now : Moment) (call : Call) (number : ℕ) (result : Result Ans
   -- the making of the link stays
   pub sends_making : KeepsMaking before now
   sends_making = by_call (KeepsMaking before now) before now call number result sends
-      (λ none. subst (KeepsMakingTold (server_run before.link)) (sym (mid_run before now none)) (told_refl (server_run before.link)))
+      (λ none. subst (KeepsMakingWhereTold (server_run before.link)) (sym (mid_run before now none)) (told_refl (server_run before.link)))
       (λ form single made.
       let left = made_left form made in
-      subst (λ run. KeepsMakingTold run (server_run now.link)) (mid_run before made.mid (made_drew form made))
+      subst (λ run. KeepsMakingWhereTold run (server_run now.link)) (mid_run before made.mid (made_drew form made))
       (making_of (server_run made.mid.link) (server_run now.link) (send_in left.session left.number form (first_place number) made.sent) left.sends.count left.sends.sends))
 
   -- its server stays the fold over its trace
   pub sends_replayed : IsReplayed before → IsReplayed now
   sends_replayed folds = by_call (IsReplayed now) before now call number result sends
-      (λ none. subst IsReplayedTold (sym (mid_run before now none)) folds)
+      (λ none. subst IsReplayedWhereTold (sym (mid_run before now none)) folds)
       (λ form single made.
       let left = made_left form made in
       fold_of (server_run made.mid.link) (server_run now.link) (send_in left.session left.number form (first_place number) made.sent) left.sends.count left.sends.sends
-      (subst IsReplayedTold (sym (mid_run before made.mid (made_drew form made))) folds))
+      (subst IsReplayedWhereTold (sym (mid_run before made.mid (made_drew form made))) folds))
 
   -- all that it sent is its own
   pub sends_own : SendsOwn number (server_run before.link) (server_run now.link)
@@ -175,7 +175,7 @@ module _ (before now : Moment) (form : WriteForm) (place : Place) where
   made_raises : (result : Result SingleAnswer Error) → Made before now form place result → RaisesNumbers before now
   made_raises result made = of_told before.store.pool now.store.pool refl refl
     where
-      of_told : (store store_now : Option Pool) → before.store.pool ≡ store → now.store.pool ≡ store_now → RaisesTold store store_now
+      of_told : (store store_now : Option Pool) → before.store.pool ≡ store → now.store.pool ≡ store_now → RaisesWhereTold store store_now
       of_told None store_now is now_is = tt
       of_told (Some pool) None is now_is = tt
       of_told (Some pool) (Some pool_now) is now_is = λ most within.
@@ -186,7 +186,7 @@ module _ (before now : Moment) (form : WriteForm) (place : Place) where
   unmade_raises : OnlyDrew before now → RaisesNumbers before now
   unmade_raises none = of_told before.store.pool now.store.pool refl refl
     where
-      of_told : (store store_now : Option Pool) → before.store.pool ≡ store → now.store.pool ≡ store_now → RaisesTold store store_now
+      of_told : (store store_now : Option Pool) → before.store.pool ≡ store → now.store.pool ≡ store_now → RaisesWhereTold store store_now
       of_told None store_now is now_is = tt
       of_told (Some pool) None is now_is = tt
       of_told (Some pool) (Some pool_now) is now_is = λ most within.

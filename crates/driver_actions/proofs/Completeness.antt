@@ -20,7 +20,7 @@ use Rattle.driver_link.specs.Cursors.{Reply}
 use Rattle.driver_link.specs.Retried.{IsDoneReply, IsGentleItem, one_inserted}
 use Rattle.driver_link.specs.LinkState.{server_run, setup_of}
 use Rattle.driver_link.specs.ServerRun.{ServerRun}
-use Rattle.driver_link.proofs.Retrying.{inserted_is}
+use Rattle.driver_link.proofs.RetriedSends.{inserted_is}
 use Rattle.driver_session.specs.Pool.{Pool}
 use Rattle.driver_session.specs.Session.{Session, last_number}
 use Rattle.driver_session.specs.StoreTells.{DrawnApart, DrawnApartIn, LendsSession, StoreTells}
@@ -39,13 +39,13 @@ use Rattle.driver_ops.proofs.StatementLaw.{delete_plain, update_plain}
 use Rattle.driver_exec.specs.Attempting.{besides_out}
 use Rattle.driver_exec.specs.BetweenCalls.{Between, NumbersWithin, Sound}
 use Rattle.driver_exec.specs.Concerns.{concern_of, concern_refusal, effective_concern, else_concern}
-use Rattle.driver_exec.specs.Gentle.{EndsWell, IsGentlePart, IsGentleTold}
+use Rattle.driver_exec.specs.Gentle.{EndsWell, IsGentlePart, IsGentleWhereTold}
 use Rattle.driver_exec.specs.Moment.{Moment}
 use Rattle.driver_exec.specs.OperationCauses.{DrawsNumbers}
-use Rattle.driver_exec.proofs.Completing.Course.{gentle_ends}
-use Rattle.driver_exec.proofs.Completing.Ends.{AnswersPlainly}
-use Rattle.driver_exec.proofs.Completing.Sessions.{KnownCommand}
-use Rattle.driver_exec.proofs.Numbering.{lent_within}
+use Rattle.driver_exec.proofs.Completeness.Course.{gentle_ends}
+use Rattle.driver_exec.proofs.Completeness.Ends.{AnswersPlainly}
+use Rattle.driver_exec.proofs.Completeness.Sessions.{KnownCommand}
+use Rattle.driver_exec.proofs.SessionNumbers.{lent_within}
 use Rattle.driver_actions.specs.declared.call.Answer.{Answer}
 use Rattle.driver_actions.specs.declared.call.Call.{Call}
 use Rattle.driver_actions.specs.declared.call.Call.TheVariants.{Single}
@@ -57,10 +57,10 @@ use Rattle.driver_actions.specs.CallByCall.{CallCaused, with_clock}
 use Rattle.driver_actions.specs.Forms.{WriteForm, asked_in, body_in, command_body, command_in, concern_in, deletes, finds, form_of, inserts, kind_in, namespace_in, repeats_in, send_in, updates}
 use Rattle.driver_actions.specs.Inputs.{IsAccepted, TellsInput}
 use Rattle.driver_actions.specs.MainTheorem.{CallCompletes, CallEnds, IsValidWrite}
-use Rattle.driver_actions.specs.SingleCompleteness.{CompletesSingle, MayCompleteTold}
+use Rattle.driver_actions.specs.SingleCompleteness.{CompletesSingle, MayCompleteWhereTold}
 use Rattle.driver_actions.specs.SingleEntries.{IsNewPlace}
 use Rattle.driver_actions.specs.Singles.{BecomesSingle}
-use Rattle.driver_actions.specs.Standing.{AllBelow, LeavesTold, RunInvariant, RunState}
+use Rattle.driver_actions.specs.Standing.{AllBelow, LeavesWhereTold, RunInvariant, RunState}
 use Rattle.driver_actions.specs.SingleCalls.{Made, Makes, MakesCall, Runs, Tells, first_place}
 use Rattle.driver_actions.proofs.CallSends.{call_sends, pool_kept, sends_own}
 use Rattle.driver_actions.proofs.OwnIds.{OnlyDrew}
@@ -275,8 +275,8 @@ single_completes place before now form result makes most may valid gentle =
     of_told before.store.pool now.store.pool (server_run before.link) (server_run now.link) refl refl refl refl may gentle
   where
     of_told : (store store_now : Option Pool) (link link_now : Option ServerRun) → before.store.pool ≡ store → now.store.pool ≡ store_now → server_run before.link ≡ link
-        → server_run now.link ≡ link_now → MayCompleteTold most store store_now link place
-        → IsGentleTold (kind_in form) (DrawsNumbers true (repeats_in form before.client.options) (setup_of before.link)) link link_now → EndsWell result
+        → server_run now.link ≡ link_now → MayCompleteWhereTold most store store_now link place
+        → IsGentleWhereTold (kind_in form) (DrawsNumbers true (repeats_in form before.client.options) (setup_of before.link)) link link_now → EndsWell result
     of_told (Some pool) (Some pool_now) (Some told) (Some told_now) pool_is pool_now_is link_is now_is may gentle =
         let ready : Ready most place pool told = record { between = may.writes.between; sound = may.writes.sound; new = may.writes.new; numbers = may.numbers } in
         let apart : DrawnApart now.store = subst (λ p. DrawnApartIn p) (sym pool_now_is) may.writes.apart in
@@ -287,13 +287,13 @@ single_completes place before now form result makes most may valid gentle =
     of_told (Some pool) (Some pool_now) None link_now pool_is pool_now_is link_is now_is may gentle = absurd may
 
 -- the same of a run that stands
-module _ (run : RunState) (calls : List Call) (before now : Moment) (left : LeavesTold (take run.made calls) run.outcomes before.store.pool (server_run before.link))
+module _ (run : RunState) (calls : List Call) (before now : Moment) (left : LeavesWhereTold (take run.made calls) run.outcomes before.store.pool (server_run before.link))
     (count : length run.outcomes ≡ run.made) (apart : DrawnApart now.store) where
   -- by what is told
   by_told : (store : Option Pool) (link link_now : Option ServerRun) → before.store.pool ≡ store → server_run before.link ≡ link → server_run now.link ≡ link_now
-      → LeavesTold (take run.made calls) run.outcomes store link → (write : SingleWrite) (result : Result Answer Error)
+      → LeavesWhereTold (take run.made calls) run.outcomes store link → (write : SingleWrite) (result : Result Answer Error)
       → MakesCall before now (Single write) run.made result → IsValidWrite run.made before.client.options (form_of write)
-      → IsGentleTold (kind_in (form_of write)) (DrawsNumbers true (repeats_in (form_of write) before.client.options) (setup_of before.link)) link link_now → EndsWell result
+      → IsGentleWhereTold (kind_in (form_of write)) (DrawsNumbers true (repeats_in (form_of write) before.client.options) (setup_of before.link)) link link_now → EndsWell result
   by_told None link link_now pool_is link_is now_is leaves write result makes valid gentle = absurd leaves
   by_told (Some pool) None link_now pool_is link_is now_is leaves write result makes valid gentle = absurd leaves
   by_told (Some pool) (Some told) None pool_is link_is now_is leaves write result makes valid gentle = absurd gentle

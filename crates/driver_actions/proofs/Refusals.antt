@@ -13,7 +13,6 @@ use Rattle.bson_lite.specs.declared.fault.EncodeFault.{EncodeFault}
 use Rattle.bson_lite.specs.declared.fault.EncodeFault.TheVariants.{TooDeep, ZeroByte, TooLong}
 use Rattle.bson_lite.specs.Fields.{begins_with_operator, value_of, id_key, with_id}
 use Rattle.bson_lite.specs.Spelling.{refusal, refusal_within, nesting, zero_in, spelling, spelled, depth, zero_within, deepest_pair, on_value, body_of, framed, element}
-use Rattle.bson_lite.proofs.Nested.{length-framed}
 use Rattle.driver_error.specs.declared.kind.ErrorKind.TheVariants as kind
 use Rattle.driver_error.specs.declared.error.Error.{Error}
 use Rattle.driver_error.specs.Conversions.{IsMade}
@@ -54,13 +53,16 @@ nesting_named id document =
 zero_named : (id : ObjectId) (document : List (Pair Bson)) → zero_in (id_pair id ∷ document) ≡ zero_in document
 zero_named id document = ap (λ b. (false || b) || zero_in document) (zero_of_id id)
 
+length_framed : (body : List ℕ) → length (framed body) ≡ length body + 5
+length_framed body = omega (arith, length-append body (0 ∷ []))
+
 length_named : (id : ObjectId) (document : List (Pair Bson)) → length id.bytes ≡ 12 → length (spelling (id_pair id ∷ document)) ≡ length (spelling document) + 17
 length_named id document twelve =
     let body : body_of (id_pair id ∷ document) ≡ element id_key (7, id.bytes) ++ body_of document
     = ap (λ value. element id_key value ++ body_of document) (spelled_id id) in
     let parts = length-append (element id_key (7, id.bytes)) (body_of document) in
-    ap (λ b. length (framed b)) body ∙ length-framed (element id_key (7, id.bytes) ++ body_of document)
-    ∙ omega (arith, parts, twelve, length-framed (body_of document))
+    ap (λ b. length (framed b)) body ∙ length_framed (element id_key (7, id.bytes) ++ body_of document)
+    ∙ omega (arith, parts, twelve, length_framed (body_of document))
 
 -- the refusal by depth, zero bytes and length
 abbrev refused_by : ℕ → Bool → ℕ → Option EncodeFault

@@ -14,13 +14,13 @@ use Rattle.driver_link.specs.Once.{Once}
 use Rattle.driver_link.specs.Settled.{Has, IsFrom, IsSettled}
 use Rattle.driver_link.specs.LinkState.{server_run}
 use Rattle.driver_link.specs.ServerRun.{ServerRun}
-use Rattle.driver_link.proofs.Exchanged.{after_settled, empty_orderly, empty_settled, entry_is_from}
+use Rattle.driver_link.proofs.SettledExchanges.{after_settled, empty_orderly, empty_settled, entry_is_from}
 use Rattle.driver_link.specs.Apart.{AllApart}
 use Rattle.driver_session.specs.Pool.{Pool, empty_pool}
 use Rattle.driver_session.proofs.PoolTells.{same_told}
 use Rattle.driver_exec.specs.BetweenCalls.{Between, Sound}
 use Rattle.driver_exec.specs.Moment.{Moment}
-use Rattle.driver_exec.proofs.Keeping.Leaving.{Left, left_of}
+use Rattle.driver_exec.proofs.InvariantSteps.Leaving.{Left, left_of}
 use Rattle.driver_actions.specs.declared.call.Answer.{Answer}
 use Rattle.driver_actions.specs.declared.call.Answer.TheVariants as answer
 use Rattle.driver_actions.specs.declared.call.Call.{Call}

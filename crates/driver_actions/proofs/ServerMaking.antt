@@ -6,22 +6,22 @@ use Rattle.driver_link.specs.Exchange.{empty_server, replayed}
 use Rattle.driver_link.specs.LinkState.{server_run}
 use Rattle.driver_link.specs.ServerRun.{IsFresh, ServerRun}
 use Rattle.driver_exec.specs.Moment.{Moment}
-use Rattle.driver_actions.specs.MainTheorem.{IsReplayed, IsReplayedTold, KeepsMaking, KeepsMakingTold}
+use Rattle.driver_actions.specs.MainTheorem.{IsReplayed, IsReplayedWhereTold, KeepsMaking, KeepsMakingWhereTold}
 
 -- a making that stays twice stays
-told_twice : (a b c : Option ServerRun) → KeepsMakingTold a b → KeepsMakingTold b c → KeepsMakingTold a c
-told_twice None b c first second = subst (λ run. KeepsMakingTold run c) first second
+told_twice : (a b c : Option ServerRun) → KeepsMakingWhereTold a b → KeepsMakingWhereTold b c → KeepsMakingWhereTold a c
+told_twice None b c first second = subst (λ run. KeepsMakingWhereTold run c) first second
 told_twice (Some old) None c first second = absurd first
 told_twice (Some old) (Some mid) None first second = absurd second
 told_twice (Some old) (Some mid) (Some now) first second = (second.0 ∙ first.0, second.1 ∙ first.1)
 
 -- a making is the same as itself
-pub told_refl : (run : Option ServerRun) → KeepsMakingTold run run
+pub told_refl : (run : Option ServerRun) → KeepsMakingWhereTold run run
 told_refl None = refl
 told_refl (Some told) = (refl, refl)
 
 -- a server that has seen nothing is the fold of nothing
-told_fresh : (run : Option ServerRun) → IsFresh run → IsReplayedTold run
+told_fresh : (run : Option ServerRun) → IsFresh run → IsReplayedWhereTold run
 unfolding replayed
 told_fresh None fresh = tt
 told_fresh (Some told) fresh =
@@ -29,8 +29,8 @@ told_fresh (Some told) fresh =
     subst P (sym fresh.0) refl
 
 -- the same of moments
-pub keeps_twice : (a b c : Moment) → KeepsMaking a b → KeepsMaking b c → KeepsMaking a c
-keeps_twice a b c first second = told_twice (server_run a.link) (server_run b.link) (server_run c.link) first second
+pub keeps_making_twice : (a b c : Moment) → KeepsMaking a b → KeepsMaking b c → KeepsMaking a c
+keeps_making_twice a b c first second = told_twice (server_run a.link) (server_run b.link) (server_run c.link) first second
 
 -- at one moment the making is the same
 pub keeps_refl : (now : Moment) → KeepsMaking now now

@@ -16,8 +16,8 @@ use Rattle.driver_exec.specs.Moment.{Moment}
 use Rattle.driver_actions.specs.declared.call.Call.{Call}
 use Rattle.driver_actions.specs.declared.call.Outcome.{Outcome}
 use Rattle.driver_actions.specs.CallByCall.{CallCaused, with_clock}
-use Rattle.driver_actions.specs.MainTheorem.{KeepsMakingTold}
-use Rattle.driver_actions.specs.Standing.{Leaves, LeavesTold, RunInvariant, RunState, new_run, run_more}
+use Rattle.driver_actions.specs.MainTheorem.{KeepsMakingWhereTold}
+use Rattle.driver_actions.specs.Standing.{Leaves, LeavesWhereTold, RunInvariant, RunState, new_run, run_more}
 use Rattle.driver_actions.proofs.AppendedCalls.{ran_appended, take_next, take_none}
 use Rattle.driver_actions.proofs.CallSends.{SendsCall, call_sends, sends_draws, sends_making, sends_within}
 use Rattle.driver_actions.proofs.RunSteps.{Ran, ran_none, ran_more, ran_holds}
@@ -36,7 +36,7 @@ leaves_none pool run new fresh =
     }
 
 -- the same of what store and link tell
-leaves_none_told : (pool : Option Pool) (run : Option ServerRun) → pool ≡ Some empty_pool → IsFresh run → LeavesTold [] [] pool run
+leaves_none_told : (pool : Option Pool) (run : Option ServerRun) → pool ≡ Some empty_pool → IsFresh run → LeavesWhereTold [] [] pool run
 leaves_none_told None run new fresh = absurd (let e : ◌≡◌ {A = Option Pool} None (Some empty_pool) = new in cc)
 leaves_none_told (Some pool) None new fresh = absurd fresh
 leaves_none_told (Some pool) (Some run) new fresh = leaves_none pool run (same_told pool empty_pool new) fresh.0
@@ -81,8 +81,8 @@ module _ (calls : List Call) (call : Call) (outcomes : List Outcome) (last : Out
         }
 
     -- whatever store and link tell
-    leaves_more_told : DrawnApart now.store → LeavesTold calls outcomes before.store.pool (server_run before.link)
-        → LeavesTold (calls ++ call ∷ []) (outcomes ++ last ∷ []) now.store.pool (server_run now.link)
+    leaves_more_told : DrawnApart now.store → LeavesWhereTold calls outcomes before.store.pool (server_run before.link)
+        → LeavesWhereTold (calls ++ call ∷ []) (outcomes ++ last ∷ []) now.store.pool (server_run now.link)
     leaves_more_told apart leaves =
         let draws = sends_draws before now call (length outcomes) last.result sends in
         let making = sends_making before now call (length outcomes) last.result sends in
@@ -90,8 +90,8 @@ module _ (calls : List Call) (call : Call) (outcomes : List Outcome) (last : Out
       where
         -- by what is told
         of_told : (pool pool_now : Option Pool) (run run_now : Option ServerRun) → before.store.pool ≡ pool → now.store.pool ≡ pool_now → server_run before.link ≡ run
-            → server_run now.link ≡ run_now → (ids : List (List ℕ)) → GainsDrawn pool pool_now ids → KeepsMakingTold run run_now → DrawnApartIn pool_now
-            → LeavesTold calls outcomes pool run → LeavesTold (calls ++ call ∷ []) (outcomes ++ last ∷ []) pool_now run_now
+            → server_run now.link ≡ run_now → (ids : List (List ℕ)) → GainsDrawn pool pool_now ids → KeepsMakingWhereTold run run_now → DrawnApartIn pool_now
+            → LeavesWhereTold calls outcomes pool run → LeavesWhereTold (calls ++ call ∷ []) (outcomes ++ last ∷ []) pool_now run_now
         of_told None pool_now run run_now is now_is run_is run_now_is ids gains making apart leaves = absurd leaves
         of_told (Some pool) pool_now None run_now is now_is run_is run_now_is ids gains making apart leaves = absurd leaves
         of_told (Some pool) None (Some run) run_now is now_is run_is run_now_is ids gains making apart leaves = absurd gains
@@ -100,7 +100,7 @@ module _ (calls : List Call) (call : Call) (outcomes : List Outcome) (last : Out
             leaves_more pool pool_now run run_now is now_is run_is run_now_is apart leaves
 
 -- one outcome for each call
-left_count : (calls : List Call) (outcomes : List Outcome) (pool : Option Pool) (run : Option ServerRun) → LeavesTold calls outcomes pool run → length outcomes ≡ length calls
+left_count : (calls : List Call) (outcomes : List Outcome) (pool : Option Pool) (run : Option ServerRun) → LeavesWhereTold calls outcomes pool run → length outcomes ≡ length calls
 left_count calls outcomes None run leaves = absurd leaves
 left_count calls outcomes (Some pool) None leaves = absurd leaves
 left_count calls outcomes (Some pool) (Some run) leaves = leaves.holds.one_each
@@ -110,7 +110,7 @@ pub stands_none : (room : ℕ) (run : RunState) → run ≡ new_run room → (ca
     → RunInvariant run calls now
 stands_none room run is calls now new fresh = subst (λ r. RunInvariant r calls now) (sym is) (record {
   within = omega arith;
-  left = subst (λ made. LeavesTold made [] now.store.pool (server_run now.link)) (sym (take_none calls)) (leaves_none_told now.store.pool (server_run now.link) new fresh);
+  left = subst (λ made. LeavesWhereTold made [] now.store.pool (server_run now.link)) (sym (take_none calls)) (leaves_none_told now.store.pool (server_run now.link) new fresh);
   closed = refl;
 })
 
@@ -130,7 +130,7 @@ stands_sent run now calls call last before after is_more within next sends stand
     let left = leaves_more_told front call run.outcomes last before after sends_here apart stands.left in
     subst (λ r. RunInvariant r calls after) (sym is_more) (record {
       within = one_within run.made (length calls) within;
-      left = subst (λ made. LeavesTold made (run.outcomes ++ last ∷ []) after.store.pool (server_run after.link)) (sym step) left;
+      left = subst (λ made. LeavesWhereTold made (run.outcomes ++ last ∷ []) after.store.pool (server_run after.link)) (sym step) left;
       closed = stands.closed;
     })
   where
@@ -153,7 +153,7 @@ stands_more run now calls call last before after is_more within next caused stan
 pub stands_appended : (run : RunState) (calls more : List Call) (now : Moment) → RunInvariant run calls now → RunInvariant run (calls ++ more) now
 stands_appended run calls more now stands = record {
   within = omega (arith, stands.within, length-append calls more);
-  left = subst (λ made. LeavesTold made run.outcomes now.store.pool (server_run now.link)) (sym (take-append-le run.made calls more stands.within)) stands.left;
+  left = subst (λ made. LeavesWhereTold made run.outcomes now.store.pool (server_run now.link)) (sym (take-append-le run.made calls more stands.within)) stands.left;
   closed = stands.closed;
 }
 

@@ -27,7 +27,7 @@ use Rattle.driver_session.specs.declared.retryability.Retryability.{Retryability
 use Rattle.driver_ops.specs.Deleting.{delete_command, delete_statement}
 use Rattle.driver_ops.specs.Fields.{SendContext, executor_fields, under}
 use Rattle.driver_ops.specs.FindingAndModifying.{find_command}
-use Rattle.driver_ops.specs.Inserts.{insert_command, is_ordered}
+use Rattle.driver_ops.specs.Inserts.{insert_command, insert_is_ordered}
 use Rattle.driver_ops.specs.InsertSpec.{own_of_insert}
 use Rattle.driver_ops.specs.Operations.{send_of}
 use Rattle.driver_ops.specs.StatementSpec.{own_of_statement}
@@ -79,7 +79,7 @@ command_in (finds namespace filter modification options) = command.FindAndModify
 
 -- whether the send of its command stops at a failure
 abbrev pub ordered_in : WriteForm → Bool
-ordered_in (inserts namespace document options) = is_ordered options
+ordered_in (inserts namespace document options) = insert_is_ordered options
 ordered_in (updates namespace filter change multi options) = true
 ordered_in (deletes namespace filter multi options) = true
 ordered_in (finds namespace filter modification options) = true

@@ -20,7 +20,7 @@ use Rattle.driver_session.specs.Session.{last_number}
 use Rattle.driver_session.specs.StoreTells.{DrawnApart, IsNewStore}
 use Rattle.driver_ops.specs.Fields.{IsSixteen, SendContext}
 use Rattle.driver_exec.specs.Concerns.{concern_refusal}
-use Rattle.driver_exec.specs.Gentle.{EndsWell, IsGentleTold}
+use Rattle.driver_exec.specs.Gentle.{EndsWell, IsGentleWhereTold}
 use Rattle.driver_exec.specs.Moment.{Moment}
 use Rattle.driver_exec.specs.OperationCauses.{DrawsNumbers}
 use Rattle.driver_actions.specs.declared.call.Answer.{Answer}
@@ -74,7 +74,7 @@ kind_of_call (Single write) = kind_in (form_of write)
 -- the part of a schedule that a call takes is gentle: none of its selections and check-outs fails, and each of its sends is
 -- served as usual; where its sends have numbers one of them may get no reply instead
 abbrev pub IsGentle : Moment → Moment → Call → Type 0
-IsGentle before now call = IsGentleTold (kind_of_call call) (MayRepeat before call) (server_run before.link) (server_run now.link)
+IsGentle before now call = IsGentleWhereTold (kind_of_call call) (MayRepeat before call) (server_run before.link) (server_run now.link)
 
 -- completeness of a call: a valid one whose part of the schedule is gentle ends well, whatever came before it
 abbrev pub CallCompletes : ℕ → Moment → Moment → Call → Result Answer Error → Type 0
@@ -99,13 +99,13 @@ abbrev pub HaveEnded : List Call → List Outcome → Moment → Moment → Type
 HaveEnded calls outcomes before now = CallByCall CallEnds 0 calls outcomes before now
 
 -- the main theorem of a link that tells its server
-abbrev pub MainTheoremTold : List Call → List Outcome → Option ServerRun → Type 0
-MainTheoremTold calls outcomes None = ⊥
-MainTheoremTold calls outcomes (Some run) = MainTheorem calls outcomes run.server
+abbrev pub MainTheoremWhereTold : List Call → List Outcome → Option ServerRun → Type 0
+MainTheoremWhereTold calls outcomes None = ⊥
+MainTheoremWhereTold calls outcomes (Some run) = MainTheorem calls outcomes run.server
 
 -- the main theorem at a moment of a link that tells its server
 abbrev pub MeetsMainTheorem : List Call → List Outcome → Moment → Type 0
-MeetsMainTheorem calls outcomes now = MainTheoremTold calls outcomes (server_run now.link)
+MeetsMainTheorem calls outcomes now = MainTheoremWhereTold calls outcomes (server_run now.link)
 
 -- the premises: a client over a store that was not used, a link to a server that has seen nothing,
 -- and ids that were drawn apart
@@ -115,20 +115,20 @@ pub record Begins (before now : Moment) : Type 0 where
   pub apart : DrawnApart now.store
 
 -- a told server keeps the setup and the schedule of its making
-abbrev pub KeepsMakingTold : Option ServerRun → Option ServerRun → Type 0
-KeepsMakingTold None now = now ≡ None
-KeepsMakingTold (Some run) None = ⊥
-KeepsMakingTold (Some run) (Some now) = (now.setup ≡ run.setup) × (now.schedule ≡ run.schedule)
+abbrev pub KeepsMakingWhereTold : Option ServerRun → Option ServerRun → Type 0
+KeepsMakingWhereTold None now = now ≡ None
+KeepsMakingWhereTold (Some run) None = ⊥
+KeepsMakingWhereTold (Some run) (Some now) = (now.setup ≡ run.setup) × (now.schedule ≡ run.schedule)
 
 -- setup and schedule of a told server stay
 abbrev pub KeepsMaking : Moment → Moment → Type 0
-KeepsMaking before now = KeepsMakingTold (server_run before.link) (server_run now.link)
+KeepsMaking before now = KeepsMakingWhereTold (server_run before.link) (server_run now.link)
 
 -- a told server is the fold of the exchange over its trace
-abbrev pub IsReplayedTold : Option ServerRun → Type 0
-IsReplayedTold None = Unit {0}
-IsReplayedTold (Some run) = run.server ≡ replayed run.schedule empty_server run.server.trace
+abbrev pub IsReplayedWhereTold : Option ServerRun → Type 0
+IsReplayedWhereTold None = Unit {0}
+IsReplayedWhereTold (Some run) = run.server ≡ replayed run.schedule empty_server run.server.trace
 
 -- a told server is the fold of the exchange over its trace
 abbrev pub IsReplayed : Moment → Type 0
-IsReplayed now = IsReplayedTold (server_run now.link)
+IsReplayed now = IsReplayedWhereTold (server_run now.link)

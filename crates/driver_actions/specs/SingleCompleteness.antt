@@ -6,7 +6,7 @@ use Rattle.driver_link.specs.LinkState.{server_run, setup_of}
 use Rattle.driver_link.specs.ServerRun.{ServerRun}
 use Rattle.driver_session.specs.Pool.{Pool}
 use Rattle.driver_exec.specs.BetweenCalls.{NumbersWithin}
-use Rattle.driver_exec.specs.Gentle.{EndsWell, IsGentleTold}
+use Rattle.driver_exec.specs.Gentle.{EndsWell, IsGentleWhereTold}
 use Rattle.driver_exec.specs.Moment.{Moment}
 use Rattle.driver_exec.specs.OperationCauses.{DrawsNumbers}
 use Rattle.driver_actions.specs.declared.call.SingleAnswer.{SingleAnswer}
@@ -15,13 +15,13 @@ use Rattle.driver_actions.specs.MainTheorem.{IsValidWrite}
 use Rattle.driver_actions.specs.SingleEntries.{MayWrite}
 
 -- the numbers of idle sessions rise by one at most, where the pool is told
-abbrev pub RaisesTold : Option Pool → Option Pool → Type 0
-RaisesTold (Some pool) (Some pool_now) = (most : ℕ) → NumbersWithin (pos most) pool.idle → NumbersWithin (pos (most + 1)) pool_now.idle
-RaisesTold pool pool_now = Unit {0}
+abbrev pub RaisesWhereTold : Option Pool → Option Pool → Type 0
+RaisesWhereTold (Some pool) (Some pool_now) = (most : ℕ) → NumbersWithin (pos most) pool.idle → NumbersWithin (pos (most + 1)) pool_now.idle
+RaisesWhereTold pool pool_now = Unit {0}
 
 -- the same of two moments
 abbrev pub RaisesNumbers : Moment → Moment → Type 0
-RaisesNumbers before now = RaisesTold before.store.pool now.store.pool
+RaisesNumbers before now = RaisesWhereTold before.store.pool now.store.pool
 
 -- such a write may be made, and no idle session has a number above this one
 pub record MayComplete (most : ℕ) (pool pool_now : Pool) (run : ServerRun) (place : Place) : Type 0 where
@@ -29,13 +29,13 @@ pub record MayComplete (most : ℕ) (pool pool_now : Pool) (run : ServerRun) (pl
   pub numbers : NumbersWithin (pos most) pool.idle
 
 -- the same, where pool and server are told
-abbrev pub MayCompleteTold : ℕ → Option Pool → Option Pool → Option ServerRun → Place → Type 0
-MayCompleteTold most (Some pool) (Some pool_now) (Some run) place = MayComplete most pool pool_now run place
-MayCompleteTold most pool pool_now run place = ⊥
+abbrev pub MayCompleteWhereTold : ℕ → Option Pool → Option Pool → Option ServerRun → Place → Type 0
+MayCompleteWhereTold most (Some pool) (Some pool_now) (Some run) place = MayComplete most pool pool_now run place
+MayCompleteWhereTold most pool pool_now run place = ⊥
 
 -- so it ends well, where it is valid after at most so many writes and its part of the schedule is gentle
 abbrev pub CompletesSingle : Moment → Moment → WriteForm → Place → Result SingleAnswer Error → Type 0
 CompletesSingle before now form place result =
-    (most : ℕ) → MayCompleteTold most before.store.pool now.store.pool (server_run before.link) place → IsValidWrite most before.client.options form
-    → IsGentleTold (kind_in form) (DrawsNumbers true (repeats_in form before.client.options) (setup_of before.link)) (server_run before.link) (server_run now.link)
+    (most : ℕ) → MayCompleteWhereTold most before.store.pool now.store.pool (server_run before.link) place → IsValidWrite most before.client.options form
+    → IsGentleWhereTold (kind_in form) (DrawsNumbers true (repeats_in form before.client.options) (setup_of before.link)) (server_run before.link) (server_run now.link)
     → EndsWell result

@@ -41,13 +41,13 @@ pub record HasWritten (pool_now : Pool) (run run_now : ServerRun) (place : Place
   pub which : (send : Send) → Has run_now.server.trace send → Has run.server.trace send ⊎ IsAllAt place send
 
 -- what stands before the write stands after it, where pool and server are told
-abbrev pub KeepsSingleTold : Option Pool → Option Pool → Option ServerRun → Option ServerRun → Place → Type 0
-KeepsSingleTold (Some pool) (Some pool_now) (Some run) (Some run_now) place = MayWrite pool pool_now run place → HasWritten pool_now run run_now place
-KeepsSingleTold pool pool_now run run_now place = Unit {0}
+abbrev pub KeepsSingleWhereTold : Option Pool → Option Pool → Option ServerRun → Option ServerRun → Place → Type 0
+KeepsSingleWhereTold (Some pool) (Some pool_now) (Some run) (Some run_now) place = MayWrite pool pool_now run place → HasWritten pool_now run run_now place
+KeepsSingleWhereTold pool pool_now run run_now place = Unit {0}
 
 -- the same of two moments
 abbrev pub KeepsSingle : Moment → Moment → Place → Type 0
-KeepsSingle before now place = KeepsSingleTold before.store.pool now.store.pool (server_run before.link) (server_run now.link) place
+KeepsSingle before now place = KeepsSingleWhereTold before.store.pool now.store.pool (server_run before.link) (server_run now.link) place
 
 -- a log has the entry of the caller's own write in its place, and that tells the answer
 pub record HasOwnEntry (given : Written) (place : Place) (log : List Entry) (answer : SingleAnswer) : Type 0 where
@@ -58,12 +58,12 @@ pub record HasOwnEntry (given : Written) (place : Place) (log : List Entry) (ans
   pub tells : answer_by given.kind entry ≡ Some answer
 
 -- so it is in the log that is told after the write
-abbrev pub HasOwnEntryTold : Written → SingleAnswer → Option Pool → Option Pool → Option ServerRun → Option ServerRun → Place → Type 0
-HasOwnEntryTold given answer (Some pool) (Some pool_now) (Some run) (Some run_now) place =
+abbrev pub HasOwnEntryWhereTold : Written → SingleAnswer → Option Pool → Option Pool → Option ServerRun → Option ServerRun → Place → Type 0
+HasOwnEntryWhereTold given answer (Some pool) (Some pool_now) (Some run) (Some run_now) place =
     MayWrite pool pool_now run place → HasOwnEntry given place run_now.server.log answer
-HasOwnEntryTold given answer pool pool_now run run_now place = Unit {0}
+HasOwnEntryWhereTold given answer pool pool_now run run_now place = Unit {0}
 
 -- where the write was done its entry stands
 abbrev pub OkHasEntry : Moment → Moment → Written → Place → Result SingleAnswer Error → Type 0
-OkHasEntry before now given place (Ok answer) = HasOwnEntryTold given answer before.store.pool now.store.pool (server_run before.link) (server_run now.link) place
+OkHasEntry before now given place (Ok answer) = HasOwnEntryWhereTold given answer before.store.pool now.store.pool (server_run before.link) (server_run now.link) place
 OkHasEntry before now given place (Err error) = Unit {0}

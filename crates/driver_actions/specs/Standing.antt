@@ -69,14 +69,14 @@ pub record Leaves (calls : List Call) (outcomes : List Outcome) (pool : Pool) (r
   pub numbers : NumbersWithin (pos (length outcomes)) pool.idle
 
 -- a store and a link tell what these calls left
-abbrev pub LeavesTold : List Call → List Outcome → Option Pool → Option ServerRun → Type 0
-LeavesTold calls outcomes None link = ⊥
-LeavesTold calls outcomes (Some pool) None = ⊥
-LeavesTold calls outcomes (Some pool) (Some run) = Leaves calls outcomes pool run
+abbrev pub LeavesWhereTold : List Call → List Outcome → Option Pool → Option ServerRun → Type 0
+LeavesWhereTold calls outcomes None link = ⊥
+LeavesWhereTold calls outcomes (Some pool) None = ⊥
+LeavesWhereTold calls outcomes (Some pool) (Some run) = Leaves calls outcomes pool run
 
 -- a run stands at a moment: store and link tell what the first calls of the list left, as many as were made, and no session
 -- is open, since no call opens one yet. It says nothing of the calls behind them
 pub record RunInvariant (run : RunState) (calls : List Call) (now : Moment) : Type 0 where
   pub within : run.made ≤ length calls
-  pub left : LeavesTold (take run.made calls) run.outcomes now.store.pool (server_run now.link)
+  pub left : LeavesWhereTold (take run.made calls) run.outcomes now.store.pool (server_run now.link)
   pub closed : run.slots ≡ []

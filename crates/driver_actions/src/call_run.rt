@@ -54,7 +54,7 @@ impl CallRun {
     }
 
     /// How many calls were made.
-    pub fn made(&self) -> usize
+    pub fn calls_made(&self) -> usize
         ensures { result ≡ self.now.made }
     {
         self.outcomes.len()
@@ -108,7 +108,7 @@ impl CallRun {
             (moment_of S.tells L.tells K.tells R.stream client.new outside.new) }
         ensures call { outside.new.call ≡ self.old.made }
     {
-        let number = self.made() as u64;
+        let number = self.calls_made() as u64;
         outside.call = number;
         let call = self.next(calls);
         let outcome = make_call(alloc, client, outside, call);

@@ -16,7 +16,7 @@ use bson_lite::{Bson, Bytes, Document, ID_KEY, Namespace, TryClone, get_or_prepe
 use driver_error::{InsertOneResult, Result};
 use driver_exec::{Client, Outside};
 use driver_link::{Clock, InsertManyOptions, Link, Place};
-use driver_ops::{Collection, Insert, encoded};
+use driver_ops::{Collection, Insert, encode_document};
 use driver_session::SessionStore;
 use rand_core::Rng;
 use std::alloc::Global;
@@ -85,7 +85,7 @@ fn own_document<S: SessionStore>(
 {
     let mut document = document.try_clone(alloc)?;
     let id = put_id(alloc, client, &mut document)?;
-    let bytes = encoded(alloc, &document)?;
+    let bytes = encode_document(alloc, &document)?;
     let answer = InsertOneResult {
         inserted_id: id.try_clone(alloc)?,
     };

@@ -53,7 +53,7 @@ pub fn run_calls<S: SessionStore, L: Link, K: Clock, R: Rng>(
     ensures err { OnErr result ((client.new ≡ client.old) × (outside.new ≡ outside.old)) }
 {
     let mut run = CallRun::begin(alloc, calls.len())?;
-    'calls: while run.made() < calls.len() {
+    'calls: while run.calls_made() < calls.len() {
         run.make(alloc, client, outside, calls);
     }
     Ok(run.finish(client, outside, calls))

@@ -50,8 +50,7 @@ has-named (name ∷ names) q =
 pub contains-texts : (names : Names) (q : List ℕ) → has_label (label_set (texts (Some names))) q ≡ hash.contains_text names q
 contains-texts names q = has-named names.keys q
 
--- a test or another
-pub cond-or : (b x : Bool) → cond b true x ≡ (b || x)
+cond-or : (b x : Bool) → cond b true x ≡ (b || x)
 cond-or true x = refl
 cond-or false x = refl
 

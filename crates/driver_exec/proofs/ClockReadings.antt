@@ -21,7 +21,7 @@ use Rattle.driver_exec.specs.Concerns.{concern_of}
 use Rattle.driver_exec.specs.Executing.{Ends, Proceeds, first_state}
 use Rattle.driver_exec.specs.Holding.{ExecutionSession, GivesBack, HoldsSession, IsBackAt, IsLentAt, needs_session}
 use Rattle.driver_exec.specs.Moment.{Moment}
-use Rattle.driver_exec.specs.Readings.{MayRead, OnlyRead, Reads}
+use Rattle.driver_exec.specs.Readings.{MayRead, OnlyRead, ReadsClockBy}
 use Rattle.driver_exec.specs.Retry.{RetryState}
 use Rattle.driver_exec.specs.inside.Executing.{Reaches}
 use Rattle.driver_exec.proofs.RetryFold.{came_of}
@@ -35,8 +35,8 @@ read_once : (clock now : ClockTells) (at : ℕ) → ReadsClock clock now at → 
 read_once clock now at reads = record { readings = at ∷ []; reads = (now, (reads, refl)) }
 
 -- readings after others
-reads_on : (a b c : ClockTells) (first second : List ℕ) → Reads a b first → Reads b c second → Reads a c (first ++ second)
-reads_on a b c [] second same reads = subst (λ clock. Reads clock c second) same reads
+reads_on : (a b c : ClockTells) (first second : List ℕ) → ReadsClockBy a b first → ReadsClockBy b c second → ReadsClockBy a c (first ++ second)
+reads_on a b c [] second same reads = subst (λ clock. ReadsClockBy clock c second) same reads
 reads_on a b c (reading ∷ first) second reads more = (reads.0, (reads.1.0, reads_on reads.0 b c first second reads.1.1 more))
 
 -- a clock that was only read twice
@@ -44,7 +44,7 @@ pub read_twice : (a b c : ClockTells) → OnlyRead a b → OnlyRead b c → Only
 read_twice a b c first second = record { readings = first.readings ++ second.readings; reads = reads_on a b c first.readings second.readings first.reads second.reads }
 
 -- its last reading is no earlier then, and nobody slept
-pub reads_later : (clock now : ClockTells) (readings : List ℕ) → Reads clock now readings → (clock.last ≤ now.last) × (now.slept ≡ clock.slept)
+pub reads_later : (clock now : ClockTells) (readings : List ℕ) → ReadsClockBy clock now readings → (clock.last ≤ now.last) × (now.slept ≡ clock.slept)
 reads_later clock now [] same = let last : now.last ≡ clock.last = ap (λ c. c.last) same in (omega (arith, last), ap (λ c. c.slept) same)
 reads_later clock now (reading ∷ readings) reads =
     let mid = reads.0 in

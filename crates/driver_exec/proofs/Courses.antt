@@ -20,7 +20,7 @@ use Rattle.driver_session.specs.declared.retryability.Retryability.{Retryability
 use Rattle.driver_session.specs.declared.retryability.Retryability.TheVariants as may
 use Rattle.driver_session.specs.StoreTells.{LendsSession, StoreTells}
 use Rattle.driver_session.specs.Session.{Numbers, Raises, Session}
-use Rattle.driver_session.proofs.Staying.{stays_then_lends, stays_twice}
+use Rattle.driver_session.proofs.UnchangedStore.{stays_then_lends, stays_twice}
 use Rattle.driver_ops.specs.Fields.{in_context, under}
 use Rattle.driver_ops.specs.Operations.{AsksFor, Batch, OperationSpec, send_of}
 use Rattle.driver_ops.specs.SendKinds.{SendKind}

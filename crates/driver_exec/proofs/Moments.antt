@@ -21,7 +21,7 @@ use Rattle.driver_link.specs.LinkCalls.{CallsLink}
 use Rattle.driver_link.specs.LinkState.{LinkState, server_run, setup_of}
 use Rattle.driver_link.specs.ServerRun.{ServerRun, TakesStep, run_after}
 use Rattle.driver_link.proofs.Lists.{none_is_some}
-use Rattle.driver_link.proofs.Replaying.{exchanged_trace}
+use Rattle.driver_link.proofs.Replays.{exchanged_trace}
 use Rattle.driver_ops.specs.Fields.{under}
 use Rattle.driver_ops.specs.Operations.{AsksFor, send_of}
 use Rattle.driver_exec.specs.declared.failure.FailurePhase.{FailurePhase}

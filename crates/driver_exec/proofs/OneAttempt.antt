@@ -22,7 +22,7 @@ use Rattle.driver_link.specs.Faults.{HasLinkCause}
 use Rattle.driver_link.specs.Framed.{Framed}
 use Rattle.driver_link.specs.LinkCalls.{CallsLink, ChecksInConnection, ChecksOutConnection, ExchangesFrame, SelectsServer}
 use Rattle.driver_link.specs.LinkState.{GainsAll, GainsAnswer, HandsBack, LinkState, TellsFrame, noted, nothing_noted, server_run, setup_of}
-use Rattle.driver_link.proofs.Handing.{handed_back_last, same_number}
+use Rattle.driver_link.proofs.ConnectionsOut.{handed_back_last, same_number}
 use Rattle.driver_link.specs.ServerRun.{ServerRun}
 use Rattle.driver_session.specs.declared.retryability.Retryability.{Retryability}
 use Rattle.driver_session.specs.Session.{Session}

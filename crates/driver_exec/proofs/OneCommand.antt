@@ -9,8 +9,8 @@ use Rattle.driver_session.specs.declared.retryability.Retryability.{Retryability
 use Rattle.driver_session.specs.declared.retryability.Retryability.TheVariants as may
 use Rattle.driver_session.specs.StoreTells.{Draws, LendsAsBefore, StoreTells}
 use Rattle.driver_session.specs.Session.{MayRaise, Numbers, Session}
-use Rattle.driver_session.proofs.Drawing.{draws_lending, draws_staying, draws_taking, draws_twice}
-use Rattle.driver_session.proofs.Lending.{lends_staying, lends_turning}
+use Rattle.driver_session.proofs.IdDraws.{draws_lending, draws_staying, draws_taking, draws_twice}
+use Rattle.driver_session.proofs.LentSessions.{lends_staying, lends_turning}
 use Rattle.driver_ops.specs.Fields.{under}
 use Rattle.driver_ops.specs.Operations.{Batch, OperationSpec, send_of}
 use Rattle.driver_ops.specs.SendKinds.{SendKind}

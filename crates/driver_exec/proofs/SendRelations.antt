@@ -7,19 +7,19 @@ use Rattle.driver_link.specs.declared.machine.Send.{Send}
 use Rattle.driver_link.specs.Counting.{KeepsServer, OnlyCounts}
 use Rattle.driver_link.specs.ServerRun.{ServerRun, TakesStep, run_after}
 use Rattle.driver_link.proofs.Lists.{none_is_some}
-use Rattle.driver_exec.specs.Resending.{AnsweredLast, SendsTold, SentTimes}
+use Rattle.driver_exec.specs.Resending.{AnsweredLast, SendsWhereTold, SentTimes}
 
-keeps_twice : (a b c : ServerRun) → KeepsServer a b → KeepsServer b c → KeepsServer a c
-keeps_twice a b c first second =
+keeps_server_twice : (a b c : ServerRun) → KeepsServer a b → KeepsServer b c → KeepsServer a c
+keeps_server_twice a b c first second =
     record { server = second.server ∙ first.server; setup = second.setup ∙ first.setup; schedule = second.schedule ∙ first.schedule }
 
 keeps_refl : (told : ServerRun) → KeepsServer told told
 keeps_refl told = record { server = refl; setup = refl; schedule = refl }
 
 -- calls that were only counted behind the sends
-sends_counted : (told mid now : ServerRun) (send : Send) (count : ℕ) → SendsTold told mid send count → KeepsServer mid now → SendsTold told now send count
-sends_counted told mid now send zero sends keeps = keeps_twice told mid now sends keeps
-sends_counted told mid now send (suc count) sends keeps = (sends.0, (sends.1.0, keeps_twice (run_after sends.0 send) mid now sends.1.1 keeps))
+sends_counted : (told mid now : ServerRun) (send : Send) (count : ℕ) → SendsWhereTold told mid send count → KeepsServer mid now → SendsWhereTold told now send count
+sends_counted told mid now send zero sends keeps = keeps_server_twice told mid now sends keeps
+sends_counted told mid now send (suc count) sends keeps = (sends.0, (sends.1.0, keeps_server_twice (run_after sends.0 send) mid now sends.1.1 keeps))
 
 pub sent_counted : (link mid now : Option ServerRun) (send : Send) (count : ℕ) → SentTimes link mid send count → OnlyCounts mid now → SentTimes link now send count
 sent_counted None mid now send count sent counts = subst (λ told. OnlyCounts told now) sent counts
@@ -31,7 +31,7 @@ sent_counted (Some told) (Some mid) (Some now) send count sent counts = sends_co
 pub none_sent : (link now : Option ServerRun) (send other : Send) (count : ℕ) → count ≡ 0 → SentTimes link now send count → SentTimes link now other 0
 none_sent None now send other count none sent = sent
 none_sent (Some told) None send other count none sent = absurd sent
-none_sent (Some told) (Some now) send other count none sent = subst (SendsTold told now send) none sent
+none_sent (Some told) (Some now) send other count none sent = subst (SendsWhereTold told now send) none sent
 
 pub begins_unsent : (link : Option ServerRun) (send : Send) → SentTimes link link send 0
 begins_unsent None send = refl

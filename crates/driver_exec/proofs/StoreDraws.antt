@@ -7,7 +7,7 @@ use Rattle.driver_link.specs.declared.options.Address.{Address}
 use Rattle.driver_link.specs.declared.options.Conn.{Conn}
 use Rattle.driver_session.specs.StoreTells.{DrawnApart, Draws, StoreTells}
 use Rattle.driver_session.specs.Session.{Session}
-use Rattle.driver_session.proofs.Drawing.{apart_before, draws_lending, draws_staying, draws_taking}
+use Rattle.driver_session.proofs.IdDraws.{apart_before, draws_lending, draws_staying, draws_taking}
 use Rattle.driver_exec.specs.declared.attempt_end.AttemptEnd.{AttemptEnd}
 use Rattle.driver_exec.specs.declared.attempt_end.AttemptEnd.TheVariants.{Done, Ended, Failed, Stopped, Unfit, Unselected}
 use Rattle.driver_exec.specs.declared.failure.FailurePhase.{FailurePhase}

@@ -40,10 +40,10 @@ pub record IsGentlePart (does : WriteKind) (repeats : Type 0) (before now : Serv
   pub one : (a b : ℕ) → IsOfPart before now a → IsOfPart before now b → IsLossy (step_at before.schedule a).item → IsLossy (step_at before.schedule b).item → a ≡ b
 
 -- the same of a link that tells its server
-abbrev pub IsGentleTold : WriteKind → Type 0 → Option ServerRun → Option ServerRun → Type 0
-IsGentleTold does repeats None now = ⊥
-IsGentleTold does repeats (Some told) None = ⊥
-IsGentleTold does repeats (Some told) (Some now) = IsGentlePart does repeats told now
+abbrev pub IsGentleWhereTold : WriteKind → Type 0 → Option ServerRun → Option ServerRun → Type 0
+IsGentleWhereTold does repeats None now = ⊥
+IsGentleWhereTold does repeats (Some told) None = ⊥
+IsGentleWhereTold does repeats (Some told) (Some now) = IsGentlePart does repeats told now
 
 -- a call ended with an answer, or with want of memory
 abbrev pub EndsWell : {A : Type 0} → Result A Error → Type 0

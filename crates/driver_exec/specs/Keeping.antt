@@ -31,13 +31,13 @@ pub record StandsAfter (pool_now : Pool) (run run_now : ServerRun) (body : SendB
   pub which : (send : Send) → Has run_now.server.trace send → Has run.server.trace send ⊎ (send.body ≡ body)
 
 -- what stands before the operation stands after it, where pool and server are told
-abbrev pub KeepsTold : Option Pool → Option Pool → Option ServerRun → Option ServerRun → SendBody → Type 0
-KeepsTold (Some pool) (Some pool_now) (Some run) (Some run_now) body = StandsBefore pool pool_now run body → StandsAfter pool_now run run_now body
-KeepsTold pool pool_now run run_now body = Unit {0}
+abbrev pub KeepsWhereTold : Option Pool → Option Pool → Option ServerRun → Option ServerRun → SendBody → Type 0
+KeepsWhereTold (Some pool) (Some pool_now) (Some run) (Some run_now) body = StandsBefore pool pool_now run body → StandsAfter pool_now run run_now body
+KeepsWhereTold pool pool_now run run_now body = Unit {0}
 
 -- the same of two moments
 abbrev pub KeepsInvariant : Moment → Moment → SendBody → Type 0
-KeepsInvariant before now body = KeepsTold before.store.pool now.store.pool (server_run before.link) (server_run now.link) body
+KeepsInvariant before now body = KeepsWhereTold before.store.pool now.store.pool (server_run before.link) (server_run now.link) body
 
 -- each write of what was asked for has its entry in a log, under one session and one number where there are such, and these
 -- entries tell the output

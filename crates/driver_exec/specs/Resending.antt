@@ -15,15 +15,15 @@ use Rattle.driver_ops.specs.Operations.{AsksFor, Batch, OperationSpec, ReadsOutp
 use Rattle.driver_exec.specs.Moment.{Moment}
 
 -- one send went out so many times; all else were calls that were only counted
-abbrev pub SendsTold : ServerRun → ServerRun → Send → ℕ → Type 0
-SendsTold told now send zero = KeepsServer told now
-SendsTold told now send (suc count) = (mid : ServerRun) × (SendsTold told mid send count × KeepsServer (run_after mid send) now)
+abbrev pub SendsWhereTold : ServerRun → ServerRun → Send → ℕ → Type 0
+SendsWhereTold told now send zero = KeepsServer told now
+SendsWhereTold told now send (suc count) = (mid : ServerRun) × (SendsWhereTold told mid send count × KeepsServer (run_after mid send) now)
 
 -- the same for a link that may tell its server
 abbrev pub SentTimes : Option ServerRun → Option ServerRun → Send → ℕ → Type 0
 SentTimes None now send count = now ≡ None
 SentTimes (Some told) None send count = ⊥
-SentTimes (Some told) (Some now) send count = SendsTold told now send count
+SentTimes (Some told) (Some now) send count = SendsWhereTold told now send count
 
 -- one send went out at most so many times, and at most once where it has no number
 pub record SentWithin (most : ℕ) (link now : Option ServerRun) (send : Send) : Type 0 where
@@ -35,7 +35,7 @@ pub record SentWithin (most : ℕ) (link now : Option ServerRun) (send : Send) :
 -- the last of the sends was answered by a reply in these bytes, after so many others
 pub record LastAnswer (told now : ServerRun) (send : Send) (earlier : ℕ) (bytes : List ℕ) : Type 0 where
   pub mid : ServerRun
-  pub sent : SendsTold told mid send earlier
+  pub sent : SendsWhereTold told mid send earlier
   pub reply : IsReply (run_answer mid send) bytes
   pub rest : KeepsServer (run_after mid send) now
 

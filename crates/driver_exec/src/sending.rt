@@ -155,5 +155,5 @@ fn frame_of(
         command result }
 {
     append_fields(alloc, &mut command, session, number, concern)?;
-    command.framed(alloc)
+    command.into_frame(alloc)
 }

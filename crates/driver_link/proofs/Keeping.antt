@@ -26,13 +26,13 @@ use Rattle.driver_link.specs.Retried.{CountsBy, CountsFirst, CountsWell, IsGreat
 use Rattle.driver_link.specs.Serving.{Plan, usual, served, served_in}
 use Rattle.driver_link.specs.Sessions.{is_below}
 use Rattle.driver_link.specs.Settled.{IsEither, IsOrderly, IsPlain, IsSettled, IsUnnumbered, MayJoin}
-use Rattle.driver_link.specs.Statements.{Results, code_at, counted, front, kept_with, planned_at, statement_of, statements, usual_modified}
-use Rattle.driver_link.proofs.Exchanged.{after_settled, less_settled, longer, orderly_front, without_waiting}
-use Rattle.driver_link.proofs.Following.{kept_from}
+use Rattle.driver_link.specs.Statements.{Results, code_at, counts_by_plan, front_to_run, kept_with, planned_at, statement_of, statements, usual_modified}
+use Rattle.driver_link.proofs.KeptStatements.{kept_from}
 use Rattle.driver_link.proofs.Lists.{has_last, none_is_some, some_is_some}
-use Rattle.driver_link.proofs.Orderly.{last_or}
+use Rattle.driver_link.proofs.OrderlyTraces.{last_or}
 use Rattle.driver_link.proofs.Plain.{begun_done, below_nothing, error_nothing, interrupted_above, interrupted_below, interrupted_runs, known, none_known, plain_known, planned, served_above, served_runs}
-use Rattle.driver_link.proofs.Serving.{IsTaken, Runs, id_cases, id_other, id_same, taken_is}
+use Rattle.driver_link.proofs.ServedSends.{IsTaken, Runs, id_cases, id_other, id_same, taken_is}
+use Rattle.driver_link.proofs.SettledExchanges.{after_settled, less_settled, longer, orderly_front, without_waiting}
 use Rattle.driver_link.proofs.Unnumbered.{begun_only, error_free, interrupted_free, interrupted_runs_only, planned_only, served_free, served_runs_only}
 
 -- without a plan no number is negative
@@ -55,7 +55,7 @@ first_ran : (does : WriteKind) (results : List Planned) (fail : List Failing) (o
 unfolding statements
 first_ran does results fail ordered kept [] result well is = absurd (none_is_some (Ran result) is)
 first_ran does results fail ordered kept (write ∷ writes) result well is =
-    ran_one (finite.get kept 0) (code_at fail 0) (counted write.written.kind (planned_at results 0)) (well write.written.kind) (some_is_some _ (Ran result) is)
+    ran_one (finite.get kept 0) (code_at fail 0) (counts_by_plan write.written.kind (planned_at results 0)) (well write.written.kind) (some_is_some _ (Ran result) is)
   where
     ran_one : (found : Option Counted) (code : Option ℤ) (now : Counted) → CountsWell does now → statement_of found code now ≡ Ran result → CountsWell does result
     ran_one (Some other) code now one is = absurd (let e : ◌≡◌ {A = Statement} (Kept other) (Ran result) = is in cc)
@@ -127,7 +127,7 @@ module _ (does : WriteKind) (id : List ℕ) (number : ℤ) where
         subst (KeepsWell does id number) (sym (interrupted_above send plain server most labels above))
         (runs_keep plain.id plain.number (plain_known plain.id plain.number server) done send server (interrupted_in outside done server send)
         (taken_is plain.number (finite.get server.sessions plain.id) above)
-        (λ result ran. first_ran does [] [] false kept (front kept 0 most (writes_of send)) result (usual_counts does) ran)
+        (λ result ran. first_ran does [] [] false kept (front_to_run kept 0 most (writes_of send)) result (usual_counts does) ran)
         (interrupted_runs send plain server done (none_known send plain server trace settled above)) keeps)
 
     interrupted_plain_keep : (most : ℕ) (labels : List (List ℕ)) → KeepsWell does id number (interrupted most labels server send)

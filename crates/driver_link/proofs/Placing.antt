@@ -9,7 +9,7 @@ use Rattle.driver_link.specs.declared.machine.Statement.TheVariants.{Kept, Ran, 
 use Rattle.driver_link.specs.Once.{NoneAt, Once}
 use Rattle.driver_link.specs.Settled.{Has, PlacesApart}
 use Rattle.driver_link.specs.Statements.{entries_of}
-use Rattle.driver_link.proofs.Following.{entry_from}
+use Rattle.driver_link.proofs.KeptStatements.{entry_from}
 
 pub none_at : (place : Place) (log : List Entry) → ((entry : Entry) → Has log entry → entry.place ≢ place) → NoneAt place log
 none_at place [] differ = tt

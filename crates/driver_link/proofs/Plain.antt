@@ -19,9 +19,9 @@ use Rattle.driver_link.specs.Interrupting.{interrupted_case, interrupted_done, i
 use Rattle.driver_link.specs.Serving.{Plan, usual, done_in, served, served_in, sessions_as, session_after}
 use Rattle.driver_link.specs.Sessions.{is_below, is_new, taken}
 use Rattle.driver_link.specs.Settled.{Has, IsOrderly, IsPlain, IsSettled, IsWrite}
-use Rattle.driver_link.specs.Statements.{entries_of, front, statements, usual_statements}
-use Rattle.driver_link.proofs.Following.{Follows, follows_front, follows_statements}
-use Rattle.driver_link.proofs.Serving.{Runs, taken_is, runs_settled}
+use Rattle.driver_link.specs.Statements.{entries_of, front_to_run, statements, usual_statements}
+use Rattle.driver_link.proofs.KeptStatements.{Follows, follows_front, follows_statements}
+use Rattle.driver_link.proofs.ServedSends.{Runs, taken_is, runs_settled}
 
 -- what is known of a plain send's session once its number has come
 abbrev pub plain_known : List ℕ → ℤ → Server → KnownSession
@@ -182,7 +182,7 @@ module _ (send : Send) (plain : IsPlain send) (server : Server) where
 
   -- the statements that run before an interruption
   unfoldable pub begun_done : ℕ → List Statement
-  begun_done most = usual_statements known.kept (front known.kept 0 most (writes_of send))
+  begun_done most = usual_statements known.kept (front_to_run known.kept 0 most (writes_of send))
 
   pub interruption_above : (most : ℕ) → is_below plain.number (finite.get server.sessions plain.id) ≡ false
       → interruption most server send ≡ interrupted_in outside (begun_done most) server send

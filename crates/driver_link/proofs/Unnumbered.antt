@@ -18,10 +18,10 @@ use Rattle.driver_link.specs.Honesty.{has_transient}
 use Rattle.driver_link.specs.Interrupting.{interrupted_case, interrupted_done, interrupted_in, interruption, told_of_error, transient_as, session_interrupted}
 use Rattle.driver_link.specs.Serving.{Plan, done_in, served, served_in, sessions_as, session_after}
 use Rattle.driver_link.specs.Settled.{Has, HasFreeOrigin, HasOrigin, IsOrderly, IsSettled, IsSettledSession, IsUnnumbered, IsUnserved, IsWrite, SharePlace}
-use Rattle.driver_link.specs.Statements.{entries_of, entry_of, front, no_results, statements, usual_statements}
-use Rattle.driver_link.proofs.Following.{IsEntryOf, entry_from}
+use Rattle.driver_link.specs.Statements.{entries_of, entry_of, front_to_run, no_results, statements, usual_statements}
+use Rattle.driver_link.proofs.KeptStatements.{IsEntryOf, entry_from}
 use Rattle.driver_link.proofs.Lists.{has_either, has_left}
-use Rattle.driver_link.proofs.Orderly.{all_places}
+use Rattle.driver_link.proofs.OrderlyTraces.{all_places}
 use Rattle.driver_link.proofs.Placing.{once_append, once_entries}
 
 -- what a send without a number makes of a server: no session changes, and the log gains the entries of the
@@ -193,7 +193,7 @@ module _ (send : Send) (free : IsUnnumbered send) (server : Server) where
 
   -- the statements that run before an interruption
   unfoldable pub begun_only : ℕ → List Statement
-  begun_only most = usual_statements no_results (front no_results 0 most (writes_of send))
+  begun_only most = usual_statements no_results (front_to_run no_results 0 most (writes_of send))
 
   interruption_free : (most : ℕ) → interruption most server send ≡ interrupted_in outside (begun_only most) server send
   unfolding interruption begun_only

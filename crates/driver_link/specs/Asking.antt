@@ -18,7 +18,7 @@ use Rattle.driver_link.specs.declared.machine.SendCommand.TheVariants as command
 use Rattle.driver_link.specs.declared.machine.WriteKind.{WriteKind}
 use Rattle.driver_link.specs.declared.machine.WriteKind.TheVariants as kind
 use Rattle.driver_link.specs.declared.machine.Written.{Written}
-use Rattle.driver_link.specs.CommandNames.{named}
+use Rattle.driver_link.specs.CommandNames.{command_named}
 use Rattle.driver_link.specs.Commands.{needed, goes_to, sent_as}
 use Rattle.driver_link.specs.Values.{text_of, bool_of, int32_of, int64_of, array_of}
 use Rattle.driver_link.specs.Writes.{placed, write_on, writes_on, documents_in, own_fields, namespaces_in, ops_of}
@@ -136,7 +136,7 @@ may_go_to does database = if is_of_admin does then bytes_eq database ADMIN.now e
 unfoldable pub asks : List ℕ → List (Pair Bson) → List Documents → List Place → Option SendBody
 asks database [] sequences places = None
 asks database (first ∷ fields) sequences places =
-    option_and_then (λ does. if may_go_to does database then asks_as does database first.value (first ∷ fields) sequences places else None) (named first.key)
+    option_and_then (λ does. if may_go_to does database then asks_as does database first.value (first ∷ fields) sequences places else None) (command_named first.key)
 
 -- the send that a command's body spells, with the documents beside it and the places of its writes
 unfoldable pub spelled : List ℕ → List (Pair Bson) → List Documents → List Place → Option Send

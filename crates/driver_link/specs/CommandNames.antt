@@ -5,8 +5,8 @@ use Rattle.driver_link.specs.declared.command.CommandName.TheVariants as name
 use Rattle.driver_link.specs.declared.keys.TheConstants.{ABORT_TRANSACTION, BULK_WRITE, COMMIT_TRANSACTION, DELETE, FIND_AND_MODIFY, GET_MORE, INSERT, KILL_CURSORS, UPDATE}
 
 -- the command that a text names
-unfoldable pub named : List ℕ → Option CommandName
-named key =
+unfoldable pub command_named : List ℕ → Option CommandName
+command_named key =
     if bytes_eq key INSERT.now then Some name.Insert else (
     if bytes_eq key UPDATE.now then Some name.Update else (
     if bytes_eq key DELETE.now then Some name.Delete else (

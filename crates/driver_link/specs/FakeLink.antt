@@ -78,11 +78,11 @@ address_for (Some (criteria.Address address)) = address
 address_for criteria = fake_address
 
 -- one selection: what it asked and answered is noted; want of memory changes nothing, and no fault is answered
-abbrev pub Selects : Fake → Fake → Asked → Result Address LinkError → Type 0
-Selects old now asked (Ok address) =
+abbrev pub FakeSelects : Fake → Fake → Asked → Result Address LinkError → Type 0
+FakeSelects old now asked (Ok address) =
     (address ≡ address_for asked.criteria) × (now ≡ record old { asked = old.asked ++ asked ∷ []; addresses = old.addresses ++ address ∷ [] })
-Selects old now asked (Err (Fault fault labels)) = ⊥
-Selects old now asked (Err Memory) = now ≡ old
+FakeSelects old now asked (Err (Fault fault labels)) = ⊥
+FakeSelects old now asked (Err Memory) = now ≡ old
 
 -- the description that the check-out of a number gives, from 0: the one at that place, and the last one from
 -- then on
@@ -96,12 +96,12 @@ pub record IsNext (fake : Fake) (to : Address) (conn : Conn) : Type 0 where
   pub description : description_at fake.descriptions fake.check_outs ≡ Some conn.description
 
 -- one check-out: it is counted, and its connection noted; want of memory changes nothing, and no fault is answered
-abbrev pub ChecksOut : Fake → Fake → Address → Result Conn LinkError → Type 0
-ChecksOut old now address (Ok conn) =
+abbrev pub FakeChecksOut : Fake → Fake → Address → Result Conn LinkError → Type 0
+FakeChecksOut old now address (Ok conn) =
     IsNext old address conn
     × (now ≡ record old { check_outs = one_more old.check_outs; connections = old.connections ++ conn ∷ []; out = old.out ++ conn ∷ [] })
-ChecksOut old now address (Err (Fault fault labels)) = ⊥
-ChecksOut old now address (Err Memory) = now ≡ old
+FakeChecksOut old now address (Err (Fault fault labels)) = ⊥
+FakeChecksOut old now address (Err Memory) = now ≡ old
 
 -- a step, and where there is none the reset of the connection
 abbrev pub step_or_reset : Option FakeStep → FakeStep
@@ -132,16 +132,16 @@ exchanged_with fake number frame note = record fake {
 
 -- one exchange: it answers what the next step says, a fault without labels, and a fault is counted; want of
 -- memory changes nothing
-abbrev pub Exchanges : Fake → Fake → ℕ → Framed → Result (List ℕ) LinkError → Type 0
-Exchanges old now number frame (Ok bytes) = (next_step old ≡ step.Reply bytes) × (now ≡ exchanged_with old number frame (answer.Reply bytes))
-Exchanges old now number frame (Err (Fault fault labels)) =
+abbrev pub FakeExchanges : Fake → Fake → ℕ → Framed → Result (List ℕ) LinkError → Type 0
+FakeExchanges old now number frame (Ok bytes) = (next_step old ≡ step.Reply bytes) × (now ≡ exchanged_with old number frame (answer.Reply bytes))
+FakeExchanges old now number frame (Err (Fault fault labels)) =
     (next_step old ≡ step.Fault fault) × (labels ≡ [])
     × (now ≡ record (exchanged_with old number frame (answer.Fault Exchange fault [])) { faults = one_more old.faults })
-Exchanges old now number frame (Err Memory) = now ≡ old
+FakeExchanges old now number frame (Err Memory) = now ≡ old
 
 -- a connection is handed back: where one of its number is out, the newest is out no more
-abbrev pub ChecksIn : Fake → Fake → ℕ → Type 0
-ChecksIn old now number = now ≡ record old { out = without_newest number old.out }
+abbrev pub FakeChecksIn : Fake → Fake → ℕ → Type 0
+FakeChecksIn old now number = now ≡ record old { out = without_newest number old.out }
 
 -- where the newest connection of a number is out, or that none is
 abbrev pub FindsNewest : ℕ → List Conn → Option ℕ → Type 0

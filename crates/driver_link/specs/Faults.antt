@@ -8,9 +8,9 @@ abbrev pub Rose : ℕ → ℕ → Type 0
 Rose before now = min (before + 1) (2 ^ 64 - 1) ≤ now
 
 -- a count never falls, and a failure comes only where it rose
-abbrev pub HasCause : {A E : Type 0} → ℕ → ℕ → Result A E → Type 0
-HasCause before now (Ok answer) = before ≤ now
-HasCause before now (Err failed) = Rose before now × (before ≤ now)
+abbrev pub FailsByCount : {A E : Type 0} → ℕ → ℕ → Result A E → Type 0
+FailsByCount before now (Ok answer) = before ≤ now
+FailsByCount before now (Err failed) = Rose before now × (before ≤ now)
 
 -- the same for a link, whose want of memory has no cause
 abbrev pub HasLinkCause : {A : Type 0} → ℕ → ℕ → Result A LinkError → Type 0

@@ -23,12 +23,12 @@ session_ids (Session ∷ kinds) to_come = to_come [] Session ∷ session_ids kin
 session_ids (Object ∷ kinds) to_come = session_ids kinds (after_draw Object to_come)
 
 -- one draw more, where it is of this kind
-abbrev pub counted : IdKind → IdKind → ℕ → ℕ
-counted Session Session count = count + 1
-counted Object Object count = count + 1
-counted kind drawn count = count
+abbrev pub count_after_draw : IdKind → IdKind → ℕ → ℕ
+count_after_draw Session Session count = count + 1
+count_after_draw Object Object count = count + 1
+count_after_draw kind drawn count = count
 
 -- how many of these draws are of one kind
 abbrev pub times : IdKind → List IdKind → ℕ
 times kind [] = 0
-times kind (drawn ∷ kinds) = counted kind drawn (times kind kinds)
+times kind (drawn ∷ kinds) = count_after_draw kind drawn (times kind kinds)

@@ -11,7 +11,7 @@ use Rattle.driver_link.specs.declared.machine.Statement.{Statement}
 use Rattle.driver_link.specs.Cases.{Case, outside, gathers, commits, aborts, of_cursor, nothing, case_of, known_of, known_under, results_of, body_writes, is_in_transaction, writes_of}
 use Rattle.driver_link.specs.Honesty.{has_transient}
 use Rattle.driver_link.specs.Serving.{session_after, log_gains, sessions_as, has_entries}
-use Rattle.driver_link.specs.Statements.{Results, no_results, front, usual_statements, has_run, entries_of}
+use Rattle.driver_link.specs.Statements.{Results, no_results, front_to_run, usual_statements, has_run, entries_of}
 
 -- the case as an interruption leaves it: a commit goes through where it comes after it, an abort and a
 -- command of a cursor never do
@@ -23,8 +23,8 @@ interrupted_case most other = other
 
 -- the statements of an interrupted send: the first without a kept result, so many as it says
 abbrev pub interrupted_done : ℕ → Case → Results → SendBody → List Statement
-interrupted_done most outside kept body = usual_statements kept (front kept 0 most (body_writes body))
-interrupted_done most (gathers entries) kept body = usual_statements no_results (front no_results 0 most (body_writes body))
+interrupted_done most outside kept body = usual_statements kept (front_to_run kept 0 most (body_writes body))
+interrupted_done most (gathers entries) kept body = usual_statements no_results (front_to_run no_results 0 most (body_writes body))
 interrupted_done most other kept body = []
 
 -- a transaction whose writes were interrupted is aborted

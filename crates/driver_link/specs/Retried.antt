@@ -19,7 +19,7 @@ use Rattle.driver_link.specs.Cursors.{Reply}
 use Rattle.driver_link.specs.Numbers.{field, reply_number}
 use Rattle.driver_link.specs.Replies.{done_field, result_of, write_reply}
 use Rattle.driver_link.specs.Settled.{Has, IsUnder}
-use Rattle.driver_link.specs.Statements.{counted, planned_at}
+use Rattle.driver_link.specs.Statements.{counts_by_plan, planned_at}
 
 -- what a write counts where its call is to end well: an insert one document, and no other write a negative number
 abbrev pub CountsWell : WriteKind → Counted → Type 0
@@ -28,7 +28,7 @@ CountsWell other result = (pos 0 ≤ℤ result.n) × (pos 0 ≤ℤ result.modifi
 
 -- the first statement counts so where it runs, whichever kind it is of
 abbrev pub CountsFirst : WriteKind → List Planned → Type 0
-CountsFirst does results = (other : WriteKind) → CountsWell does (counted other (planned_at results 0))
+CountsFirst does results = (other : WriteKind) → CountsWell does (counts_by_plan other (planned_at results 0))
 
 -- an item that serves a send without a failure, and its first statement counts so
 abbrev pub IsGentleItem : WriteKind → Item → Type 0

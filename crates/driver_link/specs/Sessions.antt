@@ -15,8 +15,8 @@ opened true true = transaction.Running []
 opened true false = transaction.Aborted
 
 -- a session begins, or begins anew, with a number
-abbrev pub begun : ℤ → Bool → Bool → KnownSession
-begun number in_transaction start =
+abbrev pub begin_session : ℤ → Bool → Bool → KnownSession
+begin_session number in_transaction start =
     record { greatest = number; kept = no_results; ran = false; transaction = opened in_transaction start }
 
 -- the number is below the greatest of its session
@@ -31,8 +31,8 @@ is_new number (Some known) = int_lt known.greatest number
 
 -- what is known of a session once a send with this number has come: a greater number begins anew
 unfoldable pub taken : ℤ → Bool → Bool → Option KnownSession → KnownSession
-taken number in_transaction start None = begun number in_transaction start
-taken number in_transaction start (Some known) = if int_lt known.greatest number then begun number in_transaction start else known
+taken number in_transaction start None = begin_session number in_transaction start
+taken number in_transaction start (Some known) = if int_lt known.greatest number then begin_session number in_transaction start else known
 
 -- the transaction is committed
 abbrev pub is_committed : ServerTransaction → Bool

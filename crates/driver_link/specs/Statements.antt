@@ -32,8 +32,8 @@ usual_modified kind.Update = pos 1
 usual_modified other = pos 0
 
 -- what a statement of a kind counts by its plan: one document where the plan does not say so
-abbrev pub counted : WriteKind → Planned → Counted
-counted does planned = record {
+abbrev pub counts_by_plan : WriteKind → Planned → Counted
+counts_by_plan does planned = record {
   n = unwrap_or planned.n (pos 1);
   modified = unwrap_or planned.modified (usual_modified does);
   upserted = planned.upserted;
@@ -62,7 +62,7 @@ statement_of None None now = Ran now
 -- what the statement at a position comes to
 abbrev pub statement_at : List Planned → List Failing → Results → ℕ → PlacedWrite → Statement
 statement_at results fail kept at write =
-    statement_of (finite.get kept at) (code_at fail at) (counted write.written.kind (planned_at results at))
+    statement_of (finite.get kept at) (code_at fail at) (counts_by_plan write.written.kind (planned_at results at))
 
 -- the statement failed
 abbrev pub is_failed : Statement → Bool
@@ -124,8 +124,8 @@ kept_with kept at [] = kept
 kept_with kept at (statement ∷ done) = kept_with (kept_by kept at statement) (at + 1) done
 
 -- the front of the writes, the first at a position, that has so many without a kept result
-unfoldable pub front : Results → ℕ → ℕ → List PlacedWrite → List PlacedWrite
-front kept at most [] = []
-front kept at most (write ∷ writes) =
-    if is_some (finite.get kept at) then write ∷ front kept (at + 1) most writes
-    else (if most == 0 then [] else write ∷ front kept (at + 1) (most - 1) writes)
+unfoldable pub front_to_run : Results → ℕ → ℕ → List PlacedWrite → List PlacedWrite
+front_to_run kept at most [] = []
+front_to_run kept at most (write ∷ writes) =
+    if is_some (finite.get kept at) then write ∷ front_to_run kept (at + 1) most writes
+    else (if most == 0 then [] else write ∷ front_to_run kept (at + 1) (most - 1) writes)

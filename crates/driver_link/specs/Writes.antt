@@ -13,7 +13,7 @@ use Rattle.driver_link.specs.declared.machine.PlacedWrite.{PlacedWrite}
 use Rattle.driver_link.specs.declared.machine.WriteKind.{WriteKind}
 use Rattle.driver_link.specs.declared.machine.WriteKind.TheVariants as kind
 use Rattle.driver_link.specs.declared.machine.Written.{Written}
-use Rattle.driver_link.specs.CommandNames.{named}
+use Rattle.driver_link.specs.CommandNames.{command_named}
 use Rattle.driver_link.specs.Commands.{needed}
 use Rattle.driver_link.specs.Values.{text_of, int32_of, document_of}
 
@@ -93,7 +93,7 @@ op_write other namespace fields = None
 unfoldable pub op_of : List Namespace → List (Pair Bson) → Option Written
 op_of namespaces [] = None
 op_of namespaces (first ∷ fields) =
-    option_and_then (λ does. option_and_then (λ namespace. op_write does namespace fields) (namespace_by namespaces first.value)) (named first.key)
+    option_and_then (λ does. option_and_then (λ namespace. op_write does namespace fields) (namespace_by namespaces first.value)) (command_named first.key)
 
 -- the writes of ops
 unfoldable pub ops_of : List Namespace → List (List (Pair Bson)) → Option (List Written)

@@ -6,7 +6,7 @@ pub trait Clock {
     // Its last reading, the sum of its sleeps, and its readings to come.
     ghost tells: { Self → ClockTells };
 
-    /// The present moment in milliseconds.
+    /// The present time in milliseconds.
     fn now_ms(&mut self) -> u64
         ensures { ReadsClock (tells self.old) (tells self.new) result };
 

@@ -1,6 +1,6 @@
 //! The commands of the write path by their names, which are the first key of a body.
 ghost use Rattle.std.specs.Prelude.{◌≡◌};
-ghost use Rattle.driver_link.specs.CommandNames.{named};
+ghost use Rattle.driver_link.specs.CommandNames.{command_named};
 
 use crate::keys::{
     ABORT_TRANSACTION, BULK_WRITE, COMMIT_TRANSACTION, DELETE, FIND_AND_MODIFY, GET_MORE, INSERT,
@@ -22,9 +22,9 @@ pub enum CommandName {
 }
 
 /// The command that a key names.
-#[tactic(auto, unfolding(crate::specs::CommandNames::named))]
+#[tactic(auto, unfolding(crate::specs::CommandNames::command_named))]
 pub fn command_named(key: &str) -> Option<CommandName>
-    ensures { result ≡ named key.now }
+    ensures { result ≡ command_named key.now }
 {
     if key == INSERT {
         Some(CommandName::Insert)

@@ -212,7 +212,7 @@ impl FakeLink {
 impl Link for FakeLink {
     ghost use Rattle.std.specs.Prelude.{◌≡◌, Ok, None, Some, true, IfSome, slice_get};
     ghost use Rattle.std.specs.Option.{option_copied, option_map};
-    ghost use Rattle.driver_link.specs.FakeLink.{ChecksIn, ChecksOut, Exchanges, Selects, fake_tells};
+    ghost use Rattle.driver_link.specs.FakeLink.{FakeChecksIn, FakeChecksOut, FakeExchanges, FakeSelects, fake_tells};
     ghost use Rattle.driver_link.specs.LinkCalls.{AsksSupport, ChecksInConnection, ChecksOutConnection, ExchangesFrame, Reauthenticates, SelectsServer};
     ghost use Rattle.driver_link.specs.LinkState.{setup_of};
     ghost use Rattle.driver_link.specs.Reads.{Reads};
@@ -228,7 +228,7 @@ impl Link for FakeLink {
     ) -> Result<Address, LinkError>
         ensures told { SelectsServer (fake_tells self.old) (fake_tells self.new)
             (record { criteria = option_copied criteria.entry; deprioritized = deprioritized.now }) result }
-        ensures selects { Selects self.old self.new
+        ensures selects { FakeSelects self.old self.new
             (record { criteria = option_copied criteria.entry; deprioritized = deprioritized.now }) result }
     {
         let address = address_for(alloc, criteria)?;
@@ -266,7 +266,7 @@ impl Link for FakeLink {
 
     fn check_out(&mut self, alloc: Global, address: &Address) -> Result<Conn, LinkError>
         ensures told { ChecksOutConnection (fake_tells self.old) (fake_tells self.new) address.now result }
-        ensures checks_out { ChecksOut self.old self.new address.now result }
+        ensures checks_out { FakeChecksOut self.old self.new address.now result }
     {
         let number = self.check_outs;
         let description = description_at(self.descriptions.as_slice(), number);
@@ -292,7 +292,7 @@ impl Link for FakeLink {
         requires { (send : Sent) × Reads frame.now places.now send }
         ensures told { ExchangesFrame (fake_tells self.old) (fake_tells self.new)
             conn.now frame.now places.now result }
-        ensures exchanges { Exchanges self.old self.new conn.now.number frame.now result }
+        ensures exchanges { FakeExchanges self.old self.new conn.now.number frame.now result }
     {
         let step = step_at(alloc, &self.steps, self.exchanges)?;
         let note = note_of(alloc, &step)?;
@@ -322,7 +322,7 @@ impl Link for FakeLink {
 
     fn check_in(&mut self, conn: Conn)
         ensures told { ChecksInConnection (fake_tells self.old) (fake_tells self.new) conn }
-        ensures checks_in { ChecksIn self.old self.new conn.number }
+        ensures checks_in { FakeChecksIn self.old self.new conn.number }
     {
         let Conn {
             address,
@@ -429,7 +429,7 @@ fn note_conn(
 }
 
 /// Takes the newest connection of a number from those that are out, where one is.
-#[tactic(auto, using(crate::proofs::Handing::none_newest))]
+#[tactic(auto, using(crate::proofs::ConnectionsOut::none_newest))]
 fn hand_back(out: &mut Vec<NotedConn>, number: u64)
     ensures { out.new.items ≡ without_newest number out.old.items }
 {

@@ -8,7 +8,7 @@ use std::marker::Model;
 /// A clock that goes on by a step at each reading, and by each sleep.
 #[derive(Debug, Drop)]
 pub struct MemClock {
-    moment: u64,
+    present: u64,
     step: u64,
     last: u64,
     slept: u64,
@@ -21,18 +21,18 @@ impl Model for MemClock {
     ghost Value = { ClockState };
 
     ghost view = { λ clock. record
-        { moment = clock.moment; step = clock.step; last = clock.last; slept = clock.slept } };
+        { present = clock.present; step = clock.step; last = clock.last; slept = clock.slept } };
 
-    ghost invariant = { λ clock. clock.last ≤ clock.moment };
+    ghost invariant = { λ clock. clock.last ≤ clock.present };
 }
 
 impl MemClock {
     /// A clock that answers `start` first. It has not been read and has not slept.
     pub fn new(start: u64, step: u64) -> MemClock
-        ensures { result ≡ record { moment = start; step = step; last = 0; slept = 0 } }
+        ensures { result ≡ record { present = start; step = step; last = 0; slept = 0 } }
     {
         MemClock {
-            moment: start,
+            present: start,
             step,
             last: 0,
             slept: 0,
@@ -49,26 +49,26 @@ impl Clock for MemClock {
     #[tactic(auto, using(crate::proofs::Readings::reads_clock))]
     fn now_ms(&mut self) -> u64
         ensures reads { ReadsClock (clock_tells self.old) (clock_tells self.new) result }
-        ensures moment { result ≡ self.old.moment }
+        ensures present { result ≡ self.old.present }
         ensures steps { self.new ≡ record self.old {
-          moment = capped_sum self.old.moment self.old.step;
-          last = self.old.moment;
+          present = capped_sum self.old.present self.old.step;
+          last = self.old.present;
         } }
     {
-        let now = self.moment;
+        let now = self.present;
         self.last = now;
-        self.moment = now.saturating_add(self.step);
+        self.present = now.saturating_add(self.step);
         now
     }
 
     fn sleep_ms(&mut self, ms: u64)
         ensures sleeps { SleepsFor (clock_tells self.old) (clock_tells self.new) ms }
         ensures goes_on { self.new ≡ record self.old {
-          moment = capped_sum self.old.moment ms;
+          present = capped_sum self.old.present ms;
           slept = capped_sum self.old.slept ms;
         } }
     {
-        self.moment = self.moment.saturating_add(ms);
+        self.present = self.present.saturating_add(ms);
         self.slept = self.slept.saturating_add(ms);
     }
 }

@@ -1,7 +1,7 @@
 //! Input and output in memory that fail at chosen calls, for runs that are to repeat exactly.
 ghost use Rattle.std.specs.Prelude.{◌≡◌, ◌≤◌, ◌<◌, ◌+◌, ◌-◌, ◌^◌, ◌++◌, [], min, drop, take, length, is_err, IfOk, OnErr, Some};
 ghost use Rattle.driver_link.specs.Counting.{is_listed};
-ghost use Rattle.driver_link.specs.Faults.{HasCause};
+ghost use Rattle.driver_link.specs.Faults.{FailsByCount};
 ghost use Rattle.driver_link.specs.MemStreams.{SourceState, SinkState, write_fails};
 ghost use Rattle.driver_link.specs.Streams.{Consumes, IsAtEnd, Appends};
 
@@ -60,7 +60,7 @@ impl Source for MemSource {
             (λ count. Consumes (Some self.old.left) (Some self.new.left) (take count into.new)) }
         ensures end { IfOk result (λ count. count ≡ 0 → 0 < length into.old → IsAtEnd (Some self.old.left)) }
         ensures err { OnErr result (Some self.new.left ≡ Some self.old.left) }
-        ensures cause { HasCause self.old.faults self.new.faults result }
+        ensures cause { FailsByCount self.old.faults self.new.faults result }
         ensures listed { is_err result ≡ is_listed self.old.fails self.old.calls }
         ensures calls { self.new.calls ≡ min (self.old.calls + 1) (2 ^ 64 - 1) }
         ensures fails { self.new.fails ≡ self.old.fails }
@@ -141,7 +141,7 @@ impl Sink for MemSink {
         ensures taken { IfOk result
             (λ count. Appends (Some self.old.contents) (Some self.new.contents) (take count bytes.now)) }
         ensures err { OnErr result (Some self.new.contents ≡ Some self.old.contents) }
-        ensures cause { HasCause self.old.faults self.new.faults result }
+        ensures cause { FailsByCount self.old.faults self.new.faults result }
         ensures listed { is_err result ≡ write_fails self.old }
         ensures fits { IfOk result
             (λ count. count ≡ min (length bytes.now) (self.old.room - length self.old.contents)) }

@@ -1,7 +1,7 @@
 //! Input and output in pieces, with a count of faults.
 ghost use Rattle.std.specs.Prelude.{◌≡◌, ℕ, List, Option, ◌<◌, ◌≤◌, length, take, IfOk, OnErr};
 ghost use Rattle.driver_link.specs.Streams.{Consumes, IsAtEnd, Appends};
-ghost use Rattle.driver_link.specs.Faults.{HasCause};
+ghost use Rattle.driver_link.specs.Faults.{FailsByCount};
 
 /// Reading or writing failed. It says no more: the count of faults rose.
 #[derive(Clone, Copy, Debug, PartialEq, Eq)]
@@ -23,7 +23,7 @@ pub trait Source {
             (λ count. Consumes (left self.old) (left self.new) (take count into.new)) }
         ensures end { IfOk result (λ count. count ≡ 0 → 0 < length into.old → IsAtEnd (left self.old)) }
         ensures err { OnErr result (left self.new ≡ left self.old) }
-        ensures cause { HasCause (faults self.old) (faults self.new) result };
+        ensures cause { FailsByCount (faults self.old) (faults self.new) result };
 }
 
 /// Output in pieces.
@@ -42,5 +42,5 @@ pub trait Sink {
         ensures taken { IfOk result
             (λ count. Appends (contents self.old) (contents self.new) (take count bytes.now)) }
         ensures err { OnErr result (contents self.new ≡ contents self.old) }
-        ensures cause { HasCause (faults self.old) (faults self.new) result };
+        ensures cause { FailsByCount (faults self.old) (faults self.new) result };
 }

@@ -21,11 +21,11 @@ use Rattle.driver_link.specs.Serving.{Plan, done_in, served, served_in}
 use Rattle.driver_link.specs.Sessions.{is_below}
 use Rattle.driver_link.specs.Settled.{Has, IsEither, IsOrderly, IsPlain, IsSettled, IsUnnumbered, MayJoin}
 use Rattle.driver_link.specs.Statements.{Results, entry_of, has_failed, is_failed, no_results, statement_at, statements}
-use Rattle.driver_link.proofs.Exchanged.{after_settled, longer, orderly_front}
-use Rattle.driver_link.proofs.Following.{FitsKept, Follows, entry_there, follows_statements}
+use Rattle.driver_link.proofs.KeptStatements.{FitsKept, Follows, entry_there, follows_statements}
 use Rattle.driver_link.proofs.Lists.{has_last, has_right, none_is_some, some_is_some}
 use Rattle.driver_link.proofs.Plain.{case_below, known, none_known, planned, results_here, served_above, served_runs}
-use Rattle.driver_link.proofs.Serving.{Runs, kept_entry, taken_is}
+use Rattle.driver_link.proofs.ServedSends.{Runs, kept_entry, taken_is}
+use Rattle.driver_link.proofs.SettledExchanges.{after_settled, longer, orderly_front}
 use Rattle.driver_link.proofs.Unnumbered.{planned_only, results_free, served_free, served_runs_only}
 use Rattle.driver_ops.specs.Served.{AreEntries, RanOrKept, entries_counted, statements_in}
 use Rattle.driver_ops.specs.lawful.Statements.{told_outside}

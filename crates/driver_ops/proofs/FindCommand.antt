@@ -16,7 +16,7 @@ use Rattle.driver_link.specs.declared.machine.WriteKind.TheVariants as kind
 use Rattle.driver_link.specs.declared.updates.Modification.{Modification}
 use Rattle.driver_link.specs.declared.updates.Modification.TheVariants.{Delete, Update}
 use Rattle.driver_link.specs.Asking.{asks, asks_alone, asks_as, asks_one, asks_writes, may_go_to, target as target_of}
-use Rattle.driver_link.specs.CommandNames.{named}
+use Rattle.driver_link.specs.CommandNames.{command_named}
 use Rattle.driver_link.specs.Numbers.{field}
 use Rattle.driver_link.specs.Writes.{common_keys, is_common, own_fields, placed}
 use Rattle.driver_ops.specs.declared.command.Command.{Command}
@@ -144,7 +144,7 @@ asks_first_find : (database collection : List ℕ) (fields body : List (Pair Bso
     → own_fields (field FIND_AND_MODIFY.now (bson.String collection) ∷ fields) ≡ body
     → asks database (field FIND_AND_MODIFY.now (bson.String collection) ∷ fields) [] (place ∷ [])
     ≡ Some (Write command.FindAndModify true (statement_write kind.FindAndModify (record { db = database; coll = collection }) body place ∷ []))
-unfolding asks named may_go_to asks_as asks_alone target_of asks_one asks_writes placed
+unfolding asks command_named may_go_to asks_as asks_alone target_of asks_one asks_writes placed
 asks_first_find database collection fields body place own = rw (text_is collection, own)
 
 module _ (namespace : Namespace) (filter : List (Pair Bson)) (modification : Modification) (options : FindAndModifyOptions) where

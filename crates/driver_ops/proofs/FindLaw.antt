@@ -45,9 +45,9 @@ use Rattle.driver_ops.specs.StatementLaw.{CountsStatement, ExchangesStatement, I
 use Rattle.driver_ops.specs.StatementSpec.{find_spec, statement_write}
 use Rattle.driver_ops.specs.Targets.{namespace_of}
 use Rattle.driver_ops.specs.WriteReplies.{concern_error_of, write_errors_in}
-use Rattle.driver_ops.specs.lawful.FoundTold.{reply_found, value_read}
-use Rattle.driver_ops.specs.lawful.OneTold.{IsOneOf}
-use Rattle.driver_ops.specs.lawful.StatementTold.{output_told, told_by_reading}
+use Rattle.driver_ops.specs.lawful.FindReplies.{reply_found, value_read}
+use Rattle.driver_ops.specs.lawful.OneWriteReplies.{IsOneOf}
+use Rattle.driver_ops.specs.lawful.StatementReading.{output_told, told_by_reading}
 use Rattle.driver_ops.proofs.PlainReading.{may_be_done, only_memory}
 use Rattle.driver_ops.proofs.StatementLaw.{concern_is_failure, counts_one, told_reply, unfailed}
 

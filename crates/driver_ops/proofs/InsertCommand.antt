@@ -16,7 +16,7 @@ use Rattle.driver_link.specs.declared.machine.SendBody.{SendBody}
 use Rattle.driver_link.specs.declared.machine.SendBody.TheVariants.{Write}
 use Rattle.driver_link.specs.declared.machine.SendCommand.TheVariants as command
 use Rattle.driver_link.specs.Asking.{asks, asks_as, asks_insert, asks_writes, may_go_to, only_sequence, target}
-use Rattle.driver_link.specs.CommandNames.{named}
+use Rattle.driver_link.specs.CommandNames.{command_named}
 use Rattle.driver_link.specs.Commands.{needed}
 use Rattle.driver_link.specs.Numbers.{field}
 use Rattle.driver_link.specs.Reads.{SpellSequences}
@@ -28,7 +28,7 @@ use Rattle.driver_ops.specs.declared.keys.TheConstants.{BYPASS_DOCUMENT_VALIDATI
 use Rattle.driver_ops.specs.declared.target.OperationTarget.{OperationTarget}
 use Rattle.driver_ops.specs.Fields.{IsPlain, IsSixteen, SendContext, executor_fields, with_fields}
 use Rattle.driver_ops.specs.InsertSpec.{AsksInsert, IsInsertCommand, insert_spec}
-use Rattle.driver_ops.specs.Inserts.{BodyRefused, insert_body, insert_command, insert_write, is_ordered}
+use Rattle.driver_ops.specs.Inserts.{BodyRefused, insert_body, insert_command, insert_is_ordered, insert_write}
 use Rattle.driver_ops.specs.Operations.{CommandAsks, IsBuilt}
 use Rattle.driver_ops.specs.SendKinds.{SendKind}
 use Rattle.driver_ops.specs.OptionFields.{flag_of, option_field}
@@ -48,21 +48,21 @@ module _ (namespace : Namespace) (options : InsertManyOptions) where
   front = (field INSERT.now (bson.String namespace.coll) ∷ []) ++ option_field BYPASS_DOCUMENT_VALIDATION.now (flag_of options.bypass_document_validation)
 
   abbrev order : List (Pair Bson)
-  order = field ORDERED.now (bson.Boolean (is_ordered options)) ∷ []
+  order = field ORDERED.now (bson.Boolean (insert_is_ordered options)) ∷ []
 
   abbrev comment : List (Pair Bson)
   comment = option_field COMMENT.now options.comment
 
-  ordered_in : (fields : List (Pair Bson)) → value_of ORDERED.now (insert_command namespace options ++ fields) ≡ Some (bson.Boolean (is_ordered options))
+  ordered_in : (fields : List (Pair Bson)) → value_of ORDERED.now (insert_command namespace options ++ fields) ≡ Some (bson.Boolean (insert_is_ordered options))
   unfolding insert_command
   ordered_in fields =
-      stays ORDERED.now ((front ++ order) ++ comment) fields (bson.Boolean (is_ordered options))
-      (stays ORDERED.now (front ++ order) comment (bson.Boolean (is_ordered options))
+      stays ORDERED.now ((front ++ order) ++ comment) fields (bson.Boolean (insert_is_ordered options))
+      (stays ORDERED.now (front ++ order) comment (bson.Boolean (insert_is_ordered options))
       (skips ORDERED.now front order (no_order namespace.coll (flag_of options.bypass_document_validation))))
 
-  ordered_of : (fields : List (Pair Bson)) → needed bool_of ORDERED.now (insert_command namespace options ++ fields) ≡ Some (is_ordered options)
+  ordered_of : (fields : List (Pair Bson)) → needed bool_of ORDERED.now (insert_command namespace options ++ fields) ≡ Some (insert_is_ordered options)
   unfolding needed
-  ordered_of fields = ap (option_and_then bool_of) (ordered_in fields) ∙ bool_is (is_ordered options)
+  ordered_of fields = ap (option_and_then bool_of) (ordered_in fields) ∙ bool_is (insert_is_ordered options)
 
   plain_is : IsPlain (insert_command namespace options)
   unfolding insert_command
@@ -78,14 +78,14 @@ asks_first : (database coll : List ℕ) (ordered : Bool) (fields document : List
     → needed bool_of ORDERED.now (field INSERT.now (bson.String coll) ∷ fields) ≡ Some ordered
     → asks database (field INSERT.now (bson.String coll) ∷ fields) (record { name = DOCUMENTS.now; documents = document ∷ [] } ∷ []) (place ∷ [])
     ≡ Some (Write command.Insert ordered (insert_write (record { db = database; coll = coll }) document place ∷ []))
-unfolding asks named may_go_to asks_as target asks_insert only_sequence asks_writes placed
+unfolding asks command_named may_go_to asks_as target asks_insert only_sequence asks_writes placed
 asks_first database coll ordered fields document place is = rw (text_is coll, is)
 
 asks_is : (namespace : Namespace) (options : InsertManyOptions) (fields document : List (Pair Bson)) (place : Place)
     → asks namespace.db (insert_command namespace options ++ fields) (record { name = DOCUMENTS.now; documents = document ∷ [] } ∷ []) (place ∷ [])
-    ≡ Some (Write command.Insert (is_ordered options) (insert_write namespace document place ∷ []))
+    ≡ Some (Write command.Insert (insert_is_ordered options) (insert_write namespace document place ∷ []))
 unfolding insert_command
-asks_is namespace options fields document place = asks_first namespace.db namespace.coll (is_ordered options) _ document place (ordered_of namespace options fields)
+asks_is namespace options fields document place = asks_first namespace.db namespace.coll (insert_is_ordered options) _ document place (ordered_of namespace options fields)
 
 -- the command with the executor's fields has the whole body
 body_is : (namespace : Namespace) (options : InsertManyOptions) (context : SendContext)

@@ -28,21 +28,21 @@ use Rattle.driver_link.specs.Retried.{one_inserted}
 use Rattle.driver_link.specs.Serving.{Plan}
 use Rattle.driver_link.specs.Settled.{IsWrite}
 use Rattle.driver_link.specs.Statements.{has_failed}
-use Rattle.driver_link.proofs.Replying.{one_reply}
+use Rattle.driver_link.proofs.OneWriteReplies.{one_reply}
 use Rattle.driver_link.specs.declared.write_options.InsertManyOptions.{InsertManyOptions}
 use Rattle.driver_ops.specs.declared.target.OperationTarget.{OperationTarget}
 use Rattle.driver_ops.specs.InsertLaw.{CountsOneDocument, ExchangesInsert, IsReadExactly, concern_of}
 use Rattle.driver_ops.specs.InsertLawful.{insert_lawful}
 use Rattle.driver_ops.specs.InsertSpec.{insert_spec}
-use Rattle.driver_ops.specs.Inserts.{insert_write, int_at, is_done_reply, is_one, is_ordered}
+use Rattle.driver_ops.specs.Inserts.{insert_is_ordered, insert_write, int_at, is_done_reply, is_one}
 use Rattle.driver_ops.specs.OperationLaw.{TellsOutput}
 use Rattle.driver_ops.specs.Operations.{ReadsOutput}
 use Rattle.driver_ops.specs.Served.{statements_in}
 use Rattle.driver_ops.specs.Targets.{namespace_of}
-use Rattle.driver_ops.specs.WriteReplies.{concern_error_of, concern_in}
-use Rattle.driver_ops.specs.lawful.CountsTold.{reply_number_is}
+use Rattle.driver_ops.specs.WriteReplies.{concern_error_of, reply_concern_error}
+use Rattle.driver_ops.specs.lawful.CountReplies.{reply_number_is}
 use Rattle.driver_ops.specs.lawful.InsertRead.{differ, output_concern, spells_one}
-use Rattle.driver_ops.specs.lawful.InsertTold.{IsInsertOf, IsReadDone, one_told, read_done}
+use Rattle.driver_ops.specs.lawful.InsertReplies.{IsInsertOf, IsReadDone, one_told, read_done}
 use Rattle.driver_ops.proofs.InsertReading.{inserted_plain, plain_done, plain_read}
 
 -- the sum of what statements count
@@ -75,7 +75,7 @@ not_missing value is = by_found (concern_error_of value) is
 
 -- a reply that tells of a result, and that is read as without a write concern error, has none
 no_concern : (concern : Option PlannedConcern) (page : Option ℕ) (cursors : List (Option (List Reply))) (write : PlacedWrite) (statement : Statement) (result : Counted)
-    → result_of statement ≡ Some result → concern_in (write_reply command.Insert page concern cursors (write ∷ []) (statement ∷ [])) ≡ Some None → concern ≡ None
+    → result_of statement ≡ Some result → reply_concern_error (write_reply command.Insert page concern cursors (write ∷ []) (statement ∷ [])) ≡ Some None → concern ≡ None
 unfolding write_reply write_errors
 no_concern None page cursors write statement result counts none = refl
 no_concern (Some concern) page cursors write (Kept found) result counts none = absurd (not_missing _ none)
@@ -103,8 +103,8 @@ counts_one target bytes id options server send step write found is came spelled 
     let alone = is.alone in
     let plan = alone.plan in
     let same = spells_one reads.response.body found came reads.done.spelled spelled in
-    let none : concern_in (one_reply command.Insert plan before write alone.statement) ≡ Some None
-    = subst (λ reply. concern_in reply ≡ Some None) (same ∙ alone.is) (output_concern target bytes id options came output reads) in
+    let none : reply_concern_error (one_reply command.Insert plan before write alone.statement) ≡ Some None
+    = subst (λ reply. reply_concern_error reply ≡ Some None) (same ∙ alone.is) (output_concern target bytes id options came output reads) in
     record {
       done = is.done;
       told = is.told;
@@ -118,7 +118,7 @@ module _ (target : OperationTarget) (bytes : List ℕ) (id : Bson) (options : In
   write = insert_write (namespace_of target) made.asks.document made.asks.place
 
   one : IsInsertOf send write
-  one = record { out = ap (λ s. s.in_transaction) made.send_is; ordered = is_ordered options; body = ap (λ s. s.body) made.send_is ∙ made.asks.is }
+  one = record { out = ap (λ s. s.in_transaction) made.send_is; ordered = insert_is_ordered options; body = ap (λ s. s.body) made.send_is ∙ made.asks.is }
 
   -- an output that is read is told by the entry of the document
   only_told : (output : InsertManyResult) → ReadsOutput (insert_spec target bytes id options) reply output → TellsOutput (insert_spec target bytes id options) server send step output

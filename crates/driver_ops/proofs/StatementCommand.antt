@@ -19,7 +19,7 @@ use Rattle.driver_link.specs.declared.updates.UpdateOrReplace.{UpdateOrReplace}
 use Rattle.driver_link.specs.declared.write_options.DeleteOptions.{DeleteOptions}
 use Rattle.driver_link.specs.declared.write_options.UpdateOptions.{UpdateOptions}
 use Rattle.driver_link.specs.Asking.{asks, asks_alone, asks_as, asks_statements, asks_writes, may_go_to, target as target_of}
-use Rattle.driver_link.specs.CommandNames.{named}
+use Rattle.driver_link.specs.CommandNames.{command_named}
 use Rattle.driver_link.specs.Commands.{needed}
 use Rattle.driver_link.specs.Numbers.{field}
 use Rattle.driver_link.specs.Reads.{SpellSequences}
@@ -135,7 +135,7 @@ asks_first_update : (database collection : List ℕ) (fields statement : List (P
     → value_of UPDATES.now (field UPDATE.now (bson.String collection) ∷ fields) ≡ Some (bson.Array (bson.Document statement ∷ []))
     → asks database (field UPDATE.now (bson.String collection) ∷ fields) [] (place ∷ [])
     ≡ Some (Write command.Update true (statement_write kind.Update (record { db = database; coll = collection }) statement place ∷ []))
-unfolding asks named may_go_to asks_as asks_alone target_of asks_statements asks_writes placed documents_in needed
+unfolding asks command_named may_go_to asks_as asks_alone target_of asks_statements asks_writes placed documents_in needed
 asks_first_update database collection fields statement place ordered found =
     rw (text_is collection, ordered, bool_is true, found, array_is (bson.Document statement ∷ []), document_is statement)
 
@@ -152,7 +152,7 @@ asks_first_delete : (database collection : List ℕ) (fields statement : List (P
     → value_of DELETES.now (field DELETE.now (bson.String collection) ∷ fields) ≡ Some (bson.Array (bson.Document statement ∷ []))
     → asks database (field DELETE.now (bson.String collection) ∷ fields) [] (place ∷ [])
     ≡ Some (Write command.Delete true (statement_write kind.Delete (record { db = database; coll = collection }) statement place ∷ []))
-unfolding asks named may_go_to asks_as asks_alone target_of asks_statements asks_writes placed documents_in needed
+unfolding asks command_named may_go_to asks_as asks_alone target_of asks_statements asks_writes placed documents_in needed
 asks_first_delete database collection fields statement place ordered found =
     rw (text_is collection, ordered, bool_is true, found, array_is (bson.Document statement ∷ []), document_is statement)
 

@@ -58,9 +58,9 @@ use Rattle.driver_ops.specs.Targets.{namespace_of}
 use Rattle.driver_ops.specs.UpdateLawful.{update_reading}
 use Rattle.driver_ops.specs.Updating.{update_statement}
 use Rattle.driver_ops.specs.WriteReplies.{concern_error_of, write_errors_in}
-use Rattle.driver_ops.specs.lawful.CountsTold.{plus_nothing, reply_counted, reply_number_is, reply_taken, upserted_read}
-use Rattle.driver_ops.specs.lawful.OneTold.{IsOneCounted, IsOneOf, counted_unfailed, one_told}
-use Rattle.driver_ops.specs.lawful.StatementTold.{output_told, told_by_reading}
+use Rattle.driver_ops.specs.lawful.CountReplies.{plus_nothing, reply_counted, reply_number_is, reply_taken, upserted_read}
+use Rattle.driver_ops.specs.lawful.OneWriteReplies.{IsOneCounted, IsOneOf, counted_unfailed, one_told}
+use Rattle.driver_ops.specs.lawful.StatementReading.{output_told, told_by_reading}
 use Rattle.driver_ops.proofs.PlainReading.{may_be_done, only_memory}
 
 -- a number of a reply is read as the count that it is

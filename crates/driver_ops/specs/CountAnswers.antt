@@ -22,7 +22,7 @@ use Rattle.driver_ops.specs.declared.failed_write.FailedWrite.{FailedWrite}
 use Rattle.driver_ops.specs.declared.update.UpdateReply.{UpdateReply}
 use Rattle.driver_ops.specs.declared.delete.DeleteReply.{DeleteReply}
 use Rattle.driver_ops.specs.Readings.{labels_in, natural, natural_of}
-use Rattle.driver_ops.specs.WriteReplies.{concern_in, write_errors_in}
+use Rattle.driver_ops.specs.WriteReplies.{reply_concern_error, write_errors_in}
 
 -- the failure that a reply tells of, if any, the first write error before the write concern error, with the reply's labels
 unfoldable pub failed_write_in : List (Pair Bson) → Option FailedWrite
@@ -31,7 +31,7 @@ failed_write_in reply =
     option_and_then (λ concern.
     option_map (λ labels. record { failure = first_failure (Some errors) concern; labels = labels })
     (labels_in reply))
-    (concern_in reply))
+    (reply_concern_error reply))
     (write_errors_in reply)
 
 -- the id in the first of these values, where it is a document that has one

@@ -11,8 +11,8 @@ use Rattle.driver_ops.specs.Deleting.{delete_statement}
 use Rattle.driver_ops.specs.OperationLaw.{IsLawful}
 use Rattle.driver_ops.specs.StatementSpec.{delete_spec, statement_write}
 use Rattle.driver_ops.specs.Targets.{namespace_of}
-use Rattle.driver_ops.specs.lawful.CountsTold.{IsDeleteRead, delete_by, delete_counts, delete_read}
-use Rattle.driver_ops.specs.lawful.StatementTold.{ReadsStatement, statement_lawful}
+use Rattle.driver_ops.specs.lawful.CountReplies.{IsDeleteRead, delete_by, delete_counts, delete_read}
+use Rattle.driver_ops.specs.lawful.StatementReading.{ReadsStatement, statement_lawful}
 
 -- a delete reads the count of its one statement
 pub delete_reading : (target : OperationTarget) (filter : List (Pair Bson)) (multi : Bool) (options : DeleteOptions)

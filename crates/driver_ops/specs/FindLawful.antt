@@ -12,8 +12,8 @@ use Rattle.driver_ops.specs.FoundAnswers.{found_by}
 use Rattle.driver_ops.specs.OperationLaw.{IsLawful}
 use Rattle.driver_ops.specs.StatementSpec.{find_spec, statement_write}
 use Rattle.driver_ops.specs.Targets.{namespace_of}
-use Rattle.driver_ops.specs.lawful.FoundTold.{IsFindRead, find_by, find_counts, find_read}
-use Rattle.driver_ops.specs.lawful.StatementTold.{ReadsStatement, statement_lawful}
+use Rattle.driver_ops.specs.lawful.FindReplies.{IsFindRead, find_by, find_counts, find_read}
+use Rattle.driver_ops.specs.lawful.StatementReading.{ReadsStatement, statement_lawful}
 
 -- a findAndModify reads the document of its one write's result
 pub find_reading : (target : OperationTarget) (filter : List (Pair Bson)) (modification : Modification) (options : FindAndModifyOptions)

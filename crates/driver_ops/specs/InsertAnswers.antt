@@ -18,7 +18,7 @@ use Rattle.driver_link.specs.declared.keys.TheConstants.{N}
 use Rattle.driver_link.specs.Commands.{needed}
 use Rattle.driver_ops.specs.declared.insert.InsertReply.{InsertReply}
 use Rattle.driver_ops.specs.Readings.{labels_in}
-use Rattle.driver_ops.specs.WriteReplies.{concern_in, write_errors_in}
+use Rattle.driver_ops.specs.WriteReplies.{reply_concern_error, write_errors_in}
 
 -- the fields, each in its form
 unfoldable pub insert_reply : List (Pair Bson) → Option InsertReply
@@ -28,7 +28,7 @@ insert_reply reply =
     option_and_then (λ concern.
     option_map (λ labels. record { n = n; errors = errors; concern = concern; labels = labels })
     (labels_in reply))
-    (concern_in reply))
+    (reply_concern_error reply))
     (write_errors_in reply))
     (needed int_of N.now reply)
 

@@ -16,12 +16,12 @@ use Rattle.driver_link.specs.declared.write_options.InsertManyOptions.{InsertMan
 use Rattle.driver_ops.specs.declared.target.OperationTarget.{OperationTarget}
 use Rattle.driver_ops.specs.InsertAnswers.{one_id}
 use Rattle.driver_ops.specs.InsertSpec.{TellsIds, id_beside, insert_spec}
-use Rattle.driver_ops.specs.Inserts.{is_ordered, insert_write}
+use Rattle.driver_ops.specs.Inserts.{insert_is_ordered, insert_write}
 use Rattle.driver_ops.specs.OperationLaw.{IsLawful}
 use Rattle.driver_ops.specs.Operations.{send_of}
 use Rattle.driver_ops.specs.Served.{RanOrKept, entries_counted, entry_counted}
 use Rattle.driver_ops.specs.Targets.{namespace_of}
-use Rattle.driver_ops.specs.lawful.InsertTold.{IsInsertOf, IsReadDone, read_done}
+use Rattle.driver_ops.specs.lawful.InsertReplies.{IsInsertOf, IsReadDone, read_done}
 
 -- the entry of the one write
 one_entry : (server : Server) (send : Send) (step : Scheduled) (write : PlacedWrite) (found : Reply) → IsInsertOf send write
@@ -47,7 +47,7 @@ insert_lawful target bytes id options = record {
   reads_own = λ statements places body asks writes context server step reply answer came spelled output reads.
       let send = send_of context body in
       let write = insert_write (namespace_of target) asks.document asks.place in
-      let one : IsInsertOf send write = record { out = refl; ordered = is_ordered options; body = asks.is } in
+      let one : IsInsertOf send write = record { out = refl; ordered = insert_is_ordered options; body = asks.is } in
       let is = read_done target bytes id options server send step write reply one answer came spelled output reads in
       record {
         entries = entry_of context.session context.number write is.result ∷ [];

@@ -26,7 +26,7 @@ use Rattle.driver_ops.specs.declared.target.OperationTarget.{OperationTarget}
 use Rattle.driver_ops.specs.Defaults.{is_repeatable, repeated_where}
 use Rattle.driver_ops.specs.InsertAnswers.{ReadsInsert}
 use Rattle.driver_ops.specs.Features.{feature_of}
-use Rattle.driver_ops.specs.Inserts.{IsOneDocument, insert_command, insert_write, is_ordered}
+use Rattle.driver_ops.specs.Inserts.{IsOneDocument, insert_command, insert_is_ordered, insert_write}
 use Rattle.driver_ops.specs.Operations.{OperationSpec, Page, never}
 use Rattle.driver_ops.specs.Targets.{namespace_of}
 
@@ -45,7 +45,7 @@ pub record AsksInsert (namespace : Namespace) (bytes : List ℕ) (id : Bson) (op
   pub spelled : Spells document bytes
   pub found : value_of id_key document ≡ Some id
   pub alone : places ≡ place ∷ []
-  pub is : body ≡ Write command.Insert (is_ordered options) (insert_write namespace document place ∷ [])
+  pub is : body ≡ Write command.Insert (insert_is_ordered options) (insert_write namespace document place ∷ [])
 
 -- what an insert may repeat under these options
 abbrev pub own_of_insert : ClientOptions → Retryability

@@ -22,15 +22,15 @@ use Rattle.driver_ops.specs.Fields.{IsSixteen, SendContext, executor_fields}
 use Rattle.driver_ops.specs.OptionFields.{flag_of, option_field}
 
 -- an insert stops at the first document that fails, unless its options say that it goes on
-abbrev pub is_ordered : InsertManyOptions → Bool
-is_ordered options = unwrap_or options.ordered true
+abbrev pub insert_is_ordered : InsertManyOptions → Bool
+insert_is_ordered options = unwrap_or options.ordered true
 
 -- the body of the insert command, without the executor's fields
 unfoldable pub insert_command : Namespace → InsertManyOptions → List (Pair Bson)
 insert_command namespace options =
     (((field INSERT.now (bson.String namespace.coll) ∷ [])
     ++ option_field BYPASS_DOCUMENT_VALIDATION.now (flag_of options.bypass_document_validation))
-    ++ field ORDERED.now (bson.Boolean (is_ordered options)) ∷ [])
+    ++ field ORDERED.now (bson.Boolean (insert_is_ordered options)) ∷ [])
     ++ option_field COMMENT.now options.comment
 
 -- the body of the insert command, with the executor's fields

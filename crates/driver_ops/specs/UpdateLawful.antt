@@ -12,8 +12,8 @@ use Rattle.driver_ops.specs.OperationLaw.{IsLawful}
 use Rattle.driver_ops.specs.StatementSpec.{statement_write, update_spec}
 use Rattle.driver_ops.specs.Targets.{namespace_of}
 use Rattle.driver_ops.specs.Updating.{update_statement}
-use Rattle.driver_ops.specs.lawful.CountsTold.{IsUpdateRead, update_by, update_counts, update_read}
-use Rattle.driver_ops.specs.lawful.StatementTold.{ReadsStatement, statement_lawful}
+use Rattle.driver_ops.specs.lawful.CountReplies.{IsUpdateRead, update_by, update_counts, update_read}
+use Rattle.driver_ops.specs.lawful.StatementReading.{ReadsStatement, statement_lawful}
 
 -- an update reads the counts of its one statement
 pub update_reading : (target : OperationTarget) (filter : List (Pair Bson)) (change : UpdateOrReplace) (multi : Bool) (options : UpdateOptions)

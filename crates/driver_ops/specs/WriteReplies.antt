@@ -61,5 +61,5 @@ unfoldable pub concern_error_of : Bson → Option WriteConcernError
 concern_error_of value = option_and_then concern_error_in (document_of value)
 
 -- the write concern error of a reply, which may be missing
-abbrev pub concern_in : List (Pair Bson) → Option (Option WriteConcernError)
-concern_in reply = optional concern_error_of WRITE_CONCERN_ERROR.now reply
+abbrev pub reply_concern_error : List (Pair Bson) → Option (Option WriteConcernError)
+reply_concern_error reply = optional concern_error_of WRITE_CONCERN_ERROR.now reply

@@ -1,8 +1,8 @@
 -- Lemmas that the law of operations needs.
-pub mod CountsTold
-pub mod FoundTold
+pub mod CountReplies
+pub mod FindReplies
 pub mod InsertRead
-pub mod InsertTold
-pub mod OneTold
-pub mod StatementTold
+pub mod InsertReplies
+pub mod OneWriteReplies
+pub mod StatementReading
 pub mod Statements

@@ -1,7 +1,7 @@
 //! A command before it is sent: its name, its database, its body, and the sequences beside it.
 ghost use Rattle.driver_ops.specs.Fields.{Frames};
 
-use crate::spelling::encoded;
+use crate::spelling::encode_document;
 use bson_lite::{Document, List, Text};
 use driver_error::Result;
 use driver_link::{CommandName, Frame, Sequence};
@@ -18,7 +18,7 @@ pub struct Command {
 
 impl Command {
     /// The command in bytes.
-    pub fn framed(self, alloc: Global) -> Result<Frame>
+    pub fn into_frame(self, alloc: Global) -> Result<Frame>
         ensures { Frames self result }
     {
         let Command {
@@ -27,7 +27,7 @@ impl Command {
             sequences,
             ..
         } = self;
-        let body = encoded(alloc, &body)?;
+        let body = encode_document(alloc, &body)?;
         Ok(Frame::new(database, body, sequences))
     }
 }

@@ -78,7 +78,7 @@ impl Operation for Delete {
 
     ghost has_read = { λ delete pages. ⊤ };
 
-    #[tactic(auto, unfolding(driver_link::specs::CommandNames::named))]
+    #[tactic(auto, unfolding(driver_link::specs::CommandNames::command_named))]
     fn name(&self) -> &'static str {
         keys::DELETE
     }

@@ -5,7 +5,7 @@ ghost use Rattle.driver_ops.specs.CountAnswers.{AnswersFailed, failed_write_in, 
 ghost use Rattle.driver_ops.specs.inside.Readings.{Gives};
 
 use crate::reply_fields::{Unread, labels_at};
-use crate::write_reply::{concern_in, write_errors_in};
+use crate::write_reply::{reply_concern_error, write_errors_in};
 use bson_lite::{Bson, Document, ID_KEY, List, Text, TryClone};
 use driver_error::{
     Error, ErrorKind, IndexedWriteError, Result, WriteConcernError, WriteError, WriteFailure,
@@ -29,7 +29,7 @@ pub(crate) fn failed_write_in(
     ensures { Gives result (failed_write_in reply.now) }
 {
     let errors = write_errors_in(alloc, reply)?;
-    let concern = concern_in(alloc, reply)?;
+    let concern = reply_concern_error(alloc, reply)?;
     let labels = labels_at(alloc, reply)?;
     Ok(FailedWrite {
         failure: first_failure(errors, concern),

@@ -85,7 +85,7 @@ impl Operation for FindAndModify {
 
     ghost has_read = { λ find pages. ⊤ };
 
-    #[tactic(auto, unfolding(driver_link::specs::CommandNames::named))]
+    #[tactic(auto, unfolding(driver_link::specs::CommandNames::command_named))]
     fn name(&self) -> &'static str {
         keys::FIND_AND_MODIFY
     }

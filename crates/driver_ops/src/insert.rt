@@ -24,7 +24,7 @@ use crate::option_fields::{push_flag, push_value};
 use crate::reply_fields::{Unread, int_at, labels_at};
 use crate::response::odd_reply;
 use crate::target::{Collection, OperationTarget};
-use crate::write_reply::{concern_in, write_errors_in};
+use crate::write_reply::{reply_concern_error, write_errors_in};
 use bson_lite::{Bson, ByIndex, Bytes, Document, List, Text, TryClone};
 use driver_error::{
     Error, ErrorKind, IndexedWriteError, InsertManyError, InsertManyResult, Result,
@@ -82,7 +82,7 @@ impl Operation for Insert {
 
     ghost has_read = { λ insert pages. ⊤ };
 
-    #[tactic(auto, unfolding(driver_link::specs::CommandNames::named))]
+    #[tactic(auto, unfolding(driver_link::specs::CommandNames::command_named))]
     fn name(&self) -> &'static str {
         keys::INSERT
     }
@@ -214,7 +214,7 @@ fn insert_reply(alloc: Global, reply: &Document) -> std::result::Result<InsertRe
 {
     let n = int_at(reply, keys::N)?;
     let errors = write_errors_in(alloc, reply)?;
-    let concern = concern_in(alloc, reply)?;
+    let concern = reply_concern_error(alloc, reply)?;
     let labels = labels_at(alloc, reply)?;
     Ok(InsertReply {
         n,

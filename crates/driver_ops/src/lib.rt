@@ -35,6 +35,6 @@ pub use insert::{Insert, insert_body};
 pub use keys::{BASE_BACKOFF, CODE_NAME, ERROR_INFO};
 pub use operation::{Operation, Reading};
 pub use response::{CommandResponse, read_response};
-pub use spelling::encoded;
+pub use spelling::encode_document;
 pub use target::{Collection, Database, OperationTarget};
 pub use update::{Update, update_body};

@@ -2,7 +2,7 @@
 ghost use Rattle.std.specs.Prelude.{◌≡◌, ℕ, ◌∷◌, [], List, Option, Some, Ok, IfErr, IfSome, OnErr, OnOk};
 ghost use Rattle.driver_error.specs.declared.kind.ErrorKind.TheVariants.{Memory};
 ghost use Rattle.driver_error.specs.Error.{kind_of};
-ghost use Rattle.driver_link.specs.CommandNames.{named};
+ghost use Rattle.driver_link.specs.CommandNames.{command_named};
 ghost use Rattle.driver_ops.specs.Features.{feature_told};
 ghost use Rattle.driver_ops.specs.OperationLaw.{IsLawful};
 ghost use Rattle.driver_ops.specs.Operations.{Builds, OperationSpec, Page, SameAt, SameSpec};
@@ -43,7 +43,7 @@ pub trait Operation {
 
     /// The name of its command.
     fn name(&self) -> &'static str
-        ensures { named result.now ≡ Some (spec self.now).name };
+        ensures { command_named result.now ≡ Some (spec self.now).name };
 
     /// What it goes to.
     fn target(&self) -> &OperationTarget

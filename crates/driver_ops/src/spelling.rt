@@ -6,7 +6,7 @@ use driver_error::{Error, ErrorKind, Result};
 use std::alloc::Global;
 
 /// The spelling of a document that is to be sent.
-pub fn encoded(alloc: Global, document: &Document) -> Result<Bytes>
+pub fn encode_document(alloc: Global, document: &Document) -> Result<Bytes>
     ensures { Encoded document.now result }
 {
     match encode(alloc, document) {

@@ -88,7 +88,7 @@ impl Operation for Update {
 
     ghost has_read = { λ update pages. ⊤ };
 
-    #[tactic(auto, unfolding(driver_link::specs::CommandNames::named))]
+    #[tactic(auto, unfolding(driver_link::specs::CommandNames::command_named))]
     fn name(&self) -> &'static str {
         keys::UPDATE
     }

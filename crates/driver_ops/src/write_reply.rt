@@ -4,7 +4,7 @@ ghost use Rattle.std.specs.Option.{option_copied};
 ghost use Rattle.driver_link.specs.Commands.{optional};
 ghost use Rattle.driver_link.specs.Values.{document_of, text_of};
 ghost use Rattle.driver_ops.specs.inside.Readings.{Gives};
-ghost use Rattle.driver_ops.specs.WriteReplies.{concern_error_in, concern_error_of, concern_in, indexed_error_in, indexed_error_of, indexed_errors, indexed_errors_of, write_errors_in};
+ghost use Rattle.driver_ops.specs.WriteReplies.{concern_error_in, concern_error_of, indexed_error_in, indexed_error_of, indexed_errors, indexed_errors_of, reply_concern_error, write_errors_in};
 
 use crate::keys::{CODE_NAME, ERROR_INFO};
 use crate::reply_fields::{Unread, code_at, count_at, labels_at, text_at};
@@ -125,11 +125,11 @@ fn concern_error_in(alloc: Global, document: &Document) -> Result<WriteConcernEr
 
 /// The write concern error of a reply, which may be missing.
 #[tactic(auto, unfolding(crate::specs::WriteReplies::concern_error_of, driver_link::specs::Commands::optional_value))]
-pub(crate) fn concern_in(
+pub(crate) fn reply_concern_error(
     alloc: Global,
     reply: &Document,
 ) -> Result<Option<WriteConcernError>, Unread>
-    ensures { Gives result (concern_in reply.now) }
+    ensures { Gives result (reply_concern_error reply.now) }
 {
     match reply.get(keys::WRITE_CONCERN_ERROR) {
         None => Ok(None),

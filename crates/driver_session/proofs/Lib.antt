@@ -1,5 +1,5 @@
-pub mod Drawing
+pub mod IdDraws
 pub mod Ids
-pub mod Lending
+pub mod LentSessions
 pub mod PoolTells
-pub mod Staying
+pub mod UnchangedStore

@@ -5,7 +5,7 @@ use Rattle.driver_error.specs.declared.kind.ErrorKind.TheVariants.{Internal, Mem
 use Rattle.driver_error.specs.Error.{IsAlone, kind_of}
 use Rattle.driver_error.specs.LabelTexts.{no_labels}
 
--- an id, the last transaction number that was used, the moment of the last use in milliseconds, and
+-- an id, the last transaction number that was used, the time of the last use in milliseconds, and
 -- whether the network failed under it
 pub record Session : Type 0 where
   pub id : List ℕ

@@ -33,7 +33,7 @@ abbrev pub LendsId : Option Pool → Option IdsToCome → Option IdsToCome → L
 LendsId None to_come now drawn = (now ≡ to_come) ⊎ DrawsId id.Session to_come now drawn
 LendsId (Some pool) to_come now drawn = DrawsWhere (draws pool.idle) to_come now drawn
 
--- a check-out at a moment
+-- a check-out at a time
 pub record LendsSession (old now : StoreTells) (at : ℕ) (session : Session) : Type 0 where
   pub pool : LendsFrom old.pool now.pool old.caller at session
   pub ids : LendsId old.pool old.to_come now.to_come session.id
@@ -44,7 +44,7 @@ abbrev pub TakesInto : Option Pool → Option Pool → ℕ → Session → ℕ �
 TakesInto None now caller session at = now ≡ None
 TakesInto (Some pool) now caller session at = now ≡ Some (taken_back caller session at pool)
 
--- a check-in at a moment
+-- a check-in at a time
 pub record TakesSession (old now : StoreTells) (session : Session) (at : ℕ) : Type 0 where
   pub pool : TakesInto old.pool now.pool old.caller session at
   pub ids : now.to_come ≡ old.to_come

@@ -45,10 +45,10 @@ impl<I> PlainStore<I> {
     }
 
     /// All session ids that the store drew, the oldest first.
-    pub fn drawn(&self) -> &[[u8; 16]]
+    pub fn drawn_ids(&self) -> &[[u8; 16]]
         ensures { result.now ≡ self.now.pool.drawn }
     {
-        self.state.drawn()
+        self.state.drawn_ids()
     }
 }
 

@@ -177,7 +177,7 @@ impl<I> StoreState<I> {
     }
 
     /// All ids that were drawn, the oldest first.
-    pub fn drawn(&self) -> &[[u8; 16]]
+    pub fn drawn_ids(&self) -> &[[u8; 16]]
         ensures { result.now ≡ self.now.pool.drawn }
     {
         self.drawn.as_slice()

@@ -53,7 +53,7 @@ fn lends_in_turn(store: &mut PlainStore<CountingIds>, alloc: Global) -> bool {
 fn lends_the_front_first_and_no_dirty_one(rt: HostRuntime) {
     let mut store = PlainStore::new(rt.alloc(), CountingIds::new());
     let in_turn = lends_in_turn(&mut store, rt.alloc());
-    let told = (store.drawn().len(), store.history().len());
+    let told = (store.drawn_ids().len(), store.history().len());
     let id = store.object_id().bytes;
     drop(store);
     assert!(rt; in_turn);

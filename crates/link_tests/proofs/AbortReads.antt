@@ -8,7 +8,7 @@ use Rattle.bson_lite.specs.Spelling.{Spells}
 use Rattle.driver_link.specs.declared.keys.TheConstants.{ADMIN}
 use Rattle.driver_link.specs.declared.machine.SendBody.TheVariants.{Abort}
 use Rattle.driver_link.specs.Asking.{asks, asks_alone, asks_as, is_plain_one, may_go_to, spelled}
-use Rattle.driver_link.specs.CommandNames.{named}
+use Rattle.driver_link.specs.CommandNames.{command_named}
 use Rattle.driver_link.specs.Commands.{flag_value, goes_to, needed, optional_value, sent_as}
 use Rattle.link_tests.specs.AbortFrame.{abort_body, abort_send}
 use Rattle.driver_link.specs.Framed.{Framed}
@@ -29,7 +29,7 @@ unfolding is_plain_one
 plain = rw (int_is (pos 1)) refl
 
 asked : asks ADMIN.now abort_body [] [] ≡ Some Abort
-unfolding asks named may_go_to asks_as asks_alone abort_body
+unfolding asks command_named may_go_to asks_as asks_alone abort_body
 asked = rw plain refl
 
 sent : sent_as abort_body Abort ≡ Some abort_send

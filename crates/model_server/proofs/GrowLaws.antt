@@ -7,7 +7,7 @@ use Rattle.driver_link.specs.Exchange.{after_picks, arrived, delivered, exchange
 use Rattle.driver_link.specs.Honesty.{has_transient}
 use Rattle.driver_link.specs.Interrupting.{aborted, done_before, interrupted_case, interrupted_in, interruption, told_of_error, transient_as}
 use Rattle.driver_link.specs.Serving.{Plan, log_gains, served, served_in, usual}
-use Rattle.driver_link.specs.Statements.{Results, code_at, counted, entries_of, is_failed, planned_at, statement_of, statements}
+use Rattle.driver_link.specs.Statements.{Results, code_at, counts_by_plan, entries_of, is_failed, planned_at, statement_of, statements}
 use Rattle.driver_link.specs.declared.machine.Counted.{Counted}
 use Rattle.driver_link.specs.declared.machine.Failing.{Failing}
 use Rattle.driver_link.specs.declared.machine.Item.{Item}
@@ -116,7 +116,7 @@ no_entries : (session : Option (List ℕ)) (number : Option ℤ) (results : List
 unfolding entries_of statements
 no_entries session number results fail ordered kept at [] has = refl
 no_entries session number results fail ordered kept at (write ∷ writes) has =
-    let is = kept_statement (finite.get kept at) (code_at fail at) (counted write.written.kind (planned_at results at)) has.0 in
+    let is = kept_statement (finite.get kept at) (code_at fail at) (counts_by_plan write.written.kind (planned_at results at)) has.0 in
     (λ i. entries_of session number (write ∷ writes) (is.1 i ∷ (if ordered && is_failed (is.1 i) then [] else statements results fail ordered kept (at + 1) writes)))
     ∙ later ordered (no_entries session number results fail ordered kept (at + 1) writes has.1)
   where

@@ -9,7 +9,7 @@ use Rattle.driver_link.specs.Cases.{Case, is_end, unnumbered_case, write_case, c
 use Rattle.driver_link.specs.Honesty.{can_be_transient}
 use Rattle.driver_link.specs.Interrupting.{done_before, interrupted_case, interrupted_in, interruption, session_interrupted}
 use Rattle.driver_link.specs.Serving.{sessions_as}
-use Rattle.driver_link.specs.Sessions.{denied_transaction, begun, is_below, is_committed, is_new, running, taken}
+use Rattle.driver_link.specs.Sessions.{denied_transaction, begin_session, is_below, is_committed, is_new, running, taken}
 use Rattle.driver_link.specs.Statements.{entries_of, negated}
 use Rattle.driver_link.specs.declared.machine.Entry.{Entry}
 use Rattle.driver_link.specs.declared.machine.KnownSession.{KnownSession}
@@ -96,7 +96,7 @@ unfolding taken is_below
 not_below_taken number inside start None above = not_below_itself number
 not_below_taken number inside start (Some known) above = by_test (int_lt known.greatest number)
   where
-    by_test : (b : Bool) → int_lt number (if b then begun number inside start else known).greatest ≡ false
+    by_test : (b : Bool) → int_lt number (if b then begin_session number inside start else known).greatest ≡ false
     by_test true = not_below_itself number
     by_test false = above
 

@@ -10,7 +10,7 @@ use Rattle.driver_link.specs.Cases.{is_in_transaction, known_under}
 use Rattle.driver_link.specs.Exchange.{refused_labels}
 use Rattle.driver_link.specs.Honesty.{can_be_transient, honest, ran_before}
 use Rattle.driver_link.specs.Interrupting.{aborted, transient_as}
-use Rattle.driver_link.specs.Sessions.{begun, taken}
+use Rattle.driver_link.specs.Sessions.{begin_session, taken}
 use Rattle.driver_link.specs.declared.machine.KnownSession.{KnownSession}
 use Rattle.driver_link.specs.declared.machine.Send.{Send}
 use Rattle.driver_link.specs.declared.machine.Server.{Server}
@@ -65,7 +65,7 @@ unfolding taken
 not_new number in_transaction start None = not_below_itself number
 not_new number in_transaction start (Some known) = by_test (int_lt known.greatest number) refl
   where
-    by_test : (b : Bool) → int_lt known.greatest number ≡ b → int_lt (if b then begun number in_transaction start else known).greatest number ≡ false
+    by_test : (b : Bool) → int_lt known.greatest number ≡ b → int_lt (if b then begin_session number in_transaction start else known).greatest number ≡ false
     by_test true is = not_below_itself number
     by_test false is = is
 
@@ -73,7 +73,7 @@ not_new number in_transaction start (Some known) = by_test (int_lt known.greates
 pub taken_again : (number : ℤ) (in_transaction start : Bool) (known : KnownSession) → int_lt known.greatest number ≡ false
     → taken number in_transaction start (Some known) ≡ known
 unfolding taken
-taken_again number in_transaction start known is = ap (λ b. if b then begun number in_transaction start else known) is
+taken_again number in_transaction start known is = ap (λ b. if b then begin_session number in_transaction start else known) is
 
 -- what is known of a session after a step of it
 pub known_after : (id : List ℕ) (number : ℤ) (step : SessionStep) (server : Server) (send : Send)

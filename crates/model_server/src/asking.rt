@@ -187,7 +187,7 @@ fn may_go_to(name: CommandName, database: &str) -> bool
 
 /// What a body and the documents beside it ask for.
 #[tactic(auto, unfolding(driver_link::specs::Asking::asks))]
-pub fn asked(
+pub fn asked_body(
     alloc: Global,
     database: &str,
     body: &Document,

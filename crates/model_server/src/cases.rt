@@ -2,7 +2,7 @@
 ghost use Rattle.std.specs.Prelude.{◌≡◌, List as Listed, unwrap_or};
 ghost use Rattle.std.specs.Option.{option_copied};
 ghost use Rattle.driver_link.specs.Cases.{body_writes, is_ordered as ordered_body, is_in_transaction as in_transaction_of, write_case as case_of_write, commit_case as case_of_commit, abort_case as case_of_abort, numbered_case as case_numbered, unnumbered_case as case_unnumbered, case_under as case_by_number, case_of as case_met, known_under, known_of, results_of, is_decided as decided};
-ghost use Rattle.driver_link.specs.Sessions.{begun as begun_with, running};
+ghost use Rattle.driver_link.specs.Sessions.{begin_session as begun_with, running};
 ghost use Rattle.driver_link.specs.Statements.{no_results};
 ghost use Rattle.driver_link.specs.declared.machine.Entry.{Entry as Written};
 ghost use Rattle.model_server.specs.Seen.{seen, entries_in, gathered_by, is_too_old as too_old};
@@ -65,7 +65,7 @@ pub fn is_in_transaction(send: &Send) -> bool
 }
 
 /// A session that begins, or begins anew, with a number. It takes no memory.
-pub fn begun(alloc: Global, number: i64, in_transaction: bool, start: bool) -> KnownSession
+pub fn begin_session(alloc: Global, number: i64, in_transaction: bool, start: bool) -> KnownSession
     ensures { result ≡ begun_with number in_transaction start }
 {
     let transaction = match (in_transaction, start) {
@@ -154,7 +154,7 @@ fn case_under(alloc: Global, id: [u8; 16], number: i64, server: &Server, send: &
     let in_transaction = is_in_transaction(send);
     let Some(known) = server.sessions.get(&id) else {
         return numbered_case(
-            &begun(alloc, number, in_transaction, send.start),
+            &begin_session(alloc, number, in_transaction, send.start),
             true,
             send,
         );
@@ -164,7 +164,7 @@ fn case_under(alloc: Global, id: [u8; 16], number: i64, server: &Server, send: &
     }
     if known.greatest < number {
         return numbered_case(
-            &begun(alloc, number, in_transaction, send.start),
+            &begin_session(alloc, number, in_transaction, send.start),
             true,
             send,
         );

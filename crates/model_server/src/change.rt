@@ -10,7 +10,7 @@ ghost use Rattle.model_server.specs.Changes.{stepped, logged_by, ended, step_in,
 ghost use Rattle.model_server.specs.Displacing.{displaced_by, session_displaced, outdated};
 ghost use Rattle.model_server.specs.Seen.{entries_in};
 
-use crate::cases::begun;
+use crate::cases::begin_session;
 use crate::cursors::place_of;
 use crate::places::take_out;
 use bson_lite::{Document, List};
@@ -86,7 +86,7 @@ pub struct Displaced {
 /// Puts what a send does into a server. The answer is what that takes the place of. A refusal leaves the
 /// server as it was.
 #[tactic(auto, unfolding(crate::specs::Changes::changed, crate::specs::Changes::effect_in))]
-pub fn put(
+pub fn put_changes(
     server: &mut Server,
     alloc: Global,
     effect: Effect,
@@ -219,7 +219,7 @@ fn put_step(
         (λ displaced. displaced ≡ outdated taking.number (finite.get server.old.sessions id)) }
     ensures err { OnErr result (server.new ≡ server.old) }
 {
-    let anew = begun(alloc, taking.number, taking.in_transaction, taking.start);
+    let anew = begin_session(alloc, taking.number, taking.in_transaction, taking.start);
     let Some(known) = server.sessions.get(&id) else {
         return begin(server, alloc, id, anew, step, transient);
     };
@@ -462,7 +462,7 @@ pub fn lend(sessions: &mut ById<KnownSession>, alloc: Global, id: [u8; 16]) -> K
     ensures back { (known : Known) →
         finite.insert sessions.new id known ≡ finite.insert sessions.old id known }
 {
-    let empty = begun(alloc, 0, false, false);
+    let empty = begin_session(alloc, 0, false, false);
     match sessions.insert(id, empty) {
         Ok(Some(known)) => known,
         _ => unreachable!(),

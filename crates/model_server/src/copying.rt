@@ -1,7 +1,7 @@
 //! Copies of a send, of a transaction and of the results that a session keeps.
 ghost use Rattle.std.specs.Prelude.{◌≡◌, IfOk};
 
-use crate::statements::copied;
+use crate::statements::copy_counts;
 use bson_lite::{ByIndex, List, TryClone};
 use driver_link::{Counted, Entry, PlacedWrite, Send, SendBody, ServerTransaction};
 use std::alloc::{AllocError, Global};
@@ -63,7 +63,7 @@ fn copied_entries(alloc: Global, entries: &[Entry]) -> Result<List<Entry>, Alloc
         copies.push(Entry {
             place: entry.place,
             written: entry.written.try_clone(alloc)?,
-            result: copied(alloc, &entry.result)?,
+            result: copy_counts(alloc, &entry.result)?,
             session: entry.session,
             number: entry.number,
         })?;
@@ -95,7 +95,7 @@ pub fn copied_kept(alloc: Global, kept: &ByIndex<Counted>) -> Result<ByIndex<Cou
     let entries = kept.map();
     let mut copies = ByIndex::new(alloc);
     for (index, counts) in entries.iter() {
-        copies.insert(*index, copied(alloc, counts)?)?;
+        copies.insert(*index, copy_counts(alloc, counts)?)?;
     }
     Ok(copies)
 }

@@ -21,7 +21,7 @@ fn plus(a: i64, b: i64) -> Result<i64, AllocError>
 }
 
 /// What a statement counts: one that failed counts nothing.
-pub fn counted(statement: &Statement) -> Option<&Counted>
+pub fn counts_of(statement: &Statement) -> Option<&Counted>
     ensures { option_copied result ≡ result_of statement.now }
 {
     match statement {
@@ -55,7 +55,7 @@ fn counted_of_kind<'a>(
         kept_where (same_kind does write.now.written.kind) (result_of statement.now) rest }
 {
     if is_kind(does, write.written.kind) {
-        return counted(statement);
+        return counts_of(statement);
     }
     None
 }
@@ -67,7 +67,7 @@ pub fn sum_n(done: &[Statement]) -> Result<i64, AllocError>
 {
     let mut sum = 0;
     for statement in done {
-        match counted(statement) {
+        match counts_of(statement) {
             Some(counts) => sum = plus(sum, counts.n)?,
             None => {}
         }
@@ -82,7 +82,7 @@ pub fn sum_modified(done: &[Statement]) -> Result<i64, AllocError>
 {
     let mut sum = 0;
     for statement in done {
-        match counted(statement) {
+        match counts_of(statement) {
             Some(counts) => sum = plus(sum, counts.modified)?,
             None => {}
         }
@@ -128,7 +128,7 @@ pub fn sum_of_kind(
 
 /// The sum of `n` over the updates that inserted nothing.
 #[tactic(auto, unfolding(driver_link::specs::Replies::sum_of, driver_link::specs::Replies::results_of_kind))]
-pub fn matched(writes: &[PlacedWrite], done: &[Statement]) -> Result<i64, AllocError>
+pub fn count_of_matched(writes: &[PlacedWrite], done: &[Statement]) -> Result<i64, AllocError>
     ensures { IfOk result
         (λ sum. sum ≡ sum_of (λ counts. counts.n)
         (filter (λ counts. is_none counts.upserted) (results_of_kind WriteKind.Update writes.now done.now))) }
@@ -151,7 +151,7 @@ pub fn matched(writes: &[PlacedWrite], done: &[Statement]) -> Result<i64, AllocE
 
 /// The sum of `modified` over the updates.
 #[tactic(auto, unfolding(driver_link::specs::Replies::sum_of, driver_link::specs::Replies::results_of_kind))]
-pub fn modified(writes: &[PlacedWrite], done: &[Statement]) -> Result<i64, AllocError>
+pub fn count_of_modified(writes: &[PlacedWrite], done: &[Statement]) -> Result<i64, AllocError>
     ensures { IfOk result
         (λ sum. sum ≡
         sum_of (λ counts. counts.modified) (results_of_kind WriteKind.Update writes.now done.now)) }
@@ -171,7 +171,7 @@ pub fn modified(writes: &[PlacedWrite], done: &[Statement]) -> Result<i64, Alloc
 
 /// How many updates inserted a document.
 #[tactic(auto, unfolding(driver_link::specs::Replies::results_of_kind))]
-pub fn upserted(writes: &[PlacedWrite], done: &[Statement]) -> usize
+pub fn count_of_upserted(writes: &[PlacedWrite], done: &[Statement]) -> usize
     ensures { result ≡
         count_by (λ counts. is_some counts.upserted) (results_of_kind WriteKind.Update writes.now done.now) }
 {

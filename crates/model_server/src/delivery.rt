@@ -6,7 +6,7 @@ ghost use Rattle.driver_link.specs.Serving.{served, usual};
 ghost use Rattle.model_server.specs.Undoing.{each_before, found_before, late_before, server_before};
 ghost use Rattle.model_server.specs.Waiting.{waits_at};
 
-use crate::change::{Displaced, put};
+use crate::change::{Displaced, put_changes};
 use crate::exchange::{Prepared, prepare};
 use crate::places::{put_back, take_out};
 use crate::undoing::{Past, note, undo};
@@ -84,7 +84,7 @@ fn serve_late(server: &mut Server, alloc: Global, send: &Send) -> Result<Undoing
         change,
     } = made;
     let past = note(alloc, server, &effect, &change)?;
-    let displaced = put(server, alloc, effect, change)?;
+    let displaced = put_changes(server, alloc, effect, change)?;
     Ok(Undoing { past, displaced })
 }
 

@@ -6,7 +6,7 @@ ghost use Rattle.driver_error.specs.declared.kind.IoKind.TheVariants.{Connection
 ghost use Rattle.driver_link.specs.declared.machine.Send.{Send as Sent};
 ghost use Rattle.model_server.specs.Meets.{met_by, reply_of, IsSpelled, note_of as noted};
 
-use crate::change::{CursorChange, Effect, put};
+use crate::change::{CursorChange, Effect, put_changes};
 use crate::copying::copied_send;
 use crate::exchange::{Prepared, prepare};
 use crate::interrupting::interrupt;
@@ -262,7 +262,7 @@ fn put_met(server: &mut Server, alloc: Global, made: Meeting) -> Result<(), Allo
 {
     match made {
         Meeting::Comes { effect, change, .. } => {
-            put(server, alloc, effect, change)?;
+            put_changes(server, alloc, effect, change)?;
             Ok(())
         }
         Meeting::Waits { late } => server.waiting.push(Some(late)),

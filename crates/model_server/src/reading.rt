@@ -10,7 +10,7 @@ ghost use Rattle.driver_link.specs.declared.frame.Documents.{Documents as Named}
 ghost use Rattle.driver_link.specs.declared.frame.Sequence.{Sequence as Framed};
 ghost use Rattle.driver_link.specs.declared.machine.Send.{Send as Sent};
 
-use crate::asking::asked;
+use crate::asking::asked_body;
 use crate::body_fields::{goes_to, send_as};
 use bson_lite::{DecodeFault, Document, List, Text, decode};
 use driver_link::{Documents, Frame, Place, Send};
@@ -112,7 +112,7 @@ fn send_of(
     if !goes_to(database, body) {
         return Ok(None);
     }
-    let Some(asked) = asked(alloc, database, body, sequences, places)? else {
+    let Some(asked) = asked_body(alloc, database, body, sequences, places)? else {
         return Ok(None);
     };
     Ok(send_as(body, asked))

@@ -9,7 +9,7 @@ ghost use Rattle.driver_link.specs.declared.machine.Send.{Send as Sent};
 ghost use Rattle.driver_link.specs.declared.machine.Server.{Server as State};
 ghost use Rattle.model_server.specs.Changes.{changed, effect_in};
 
-use crate::cases::{begun, is_in_transaction};
+use crate::cases::{begin_session, is_in_transaction};
 use crate::change::{CursorChange, Effect, SessionStep};
 use crate::exchange::Prepared;
 use crate::honesty::{Judgement, has_transient, honest, ran_before};
@@ -36,7 +36,7 @@ pub(crate) fn can_be_transient(alloc: Global, server: &Server, send: &Send) -> b
     if !is_in_transaction(send) {
         return true;
     }
-    let anew = begun(alloc, number, is_in_transaction(send), send.start);
+    let anew = begin_session(alloc, number, is_in_transaction(send), send.start);
     let Some(known) = server.sessions.get(&id) else {
         return !is_committed(&anew.transaction);
     };

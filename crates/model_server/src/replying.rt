@@ -157,7 +157,7 @@ fn push_upsert(
         ((rest : Listed Value) →
         upserts.new ++ rest ≡ upserts.old ++ upserted_by at (result_of statement.now) rest) }
 {
-    match counts::counted(statement) {
+    match counts::counts_of(statement) {
         Some(counts) => push_inserted(alloc, upserts, at, &counts.upserted),
         None => Ok(()),
     }
@@ -204,7 +204,7 @@ fn first_value(alloc: Global, done: &[Statement]) -> Result<Bson, AllocError>
     if done.is_empty() {
         return Ok(Bson::Null);
     }
-    match counts::counted(&done[0]) {
+    match counts::counts_of(&done[0]) {
         None => Ok(Bson::Null),
         Some(counts) => match &counts.value {
             None => Ok(Bson::Null),
@@ -246,9 +246,9 @@ fn push_bulk(
     let deleted = counts::sum_of_kind(WriteKind::Delete, writes, done)?;
     reply.push(N_ERRORS, count(counts::failures(done))?)?;
     reply.push(N_INSERTED, number(inserted))?;
-    reply.push(N_MATCHED, number(counts::matched(writes, done)?))?;
-    reply.push(N_MODIFIED, number(counts::modified(writes, done)?))?;
-    reply.push(N_UPSERTED, count(counts::upserted(writes, done))?)?;
+    reply.push(N_MATCHED, number(counts::count_of_matched(writes, done)?))?;
+    reply.push(N_MODIFIED, number(counts::count_of_modified(writes, done)?))?;
+    reply.push(N_UPSERTED, count(counts::count_of_upserted(writes, done))?)?;
     reply.push(N_DELETED, number(deleted))?;
     let results = cursors::rows(alloc, writes, done)?;
     let left = cursors::pages_left(page, results.as_slice());

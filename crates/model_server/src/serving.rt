@@ -16,7 +16,7 @@ ghost use Rattle.model_server.specs.Does.{Does};
 ghost use Rattle.model_server.specs.Parts.{ran_of};
 ghost use Rattle.model_server.specs.Seen.{seen};
 
-use crate::cases::{Case, begun, is_in_transaction, is_ordered, kept_of, writes_of};
+use crate::cases::{Case, begin_session, is_in_transaction, is_ordered, kept_of, writes_of};
 use crate::change::{CursorChange, SessionStep};
 use crate::cursors::{pages_left, rows};
 use crate::replying::{
@@ -60,7 +60,7 @@ pub fn done_in(
 }
 
 /// The step of a send outside transactions.
-fn keeps(alloc: Global, send: &Send, done: &[Statement]) -> Result<SessionStep, AllocError>
+fn keeps_step(alloc: Global, send: &Send, done: &[Statement]) -> Result<SessionStep, AllocError>
     ensures { IfOk result
         (λ step. (known : Known) →
         Does session_after step Case.Outside done.now (ran_of send.now done.now) known) }
@@ -113,7 +113,7 @@ pub fn step_in(
         (λ step. (known : Known) → Does session_after step case done.now (ran_of send.now done.now) known) }
 {
     match case {
-        Case::Outside => keeps(alloc, send, done),
+        Case::Outside => keeps_step(alloc, send, done),
         Case::Gathers => gathers(alloc, send, done),
         Case::Commits => Ok(SessionStep::Commits),
         Case::Aborts => Ok(SessionStep::Ends),
@@ -212,7 +212,7 @@ fn denied(alloc: Global, server: &Server, send: &Send) -> Result<Document, Alloc
     let (Some(id), Some(number)) = (send.session, send.number) else {
         return denied_reply(alloc, &ServerTransaction::None);
     };
-    let anew = begun(alloc, number, is_in_transaction(send), send.start);
+    let anew = begin_session(alloc, number, is_in_transaction(send), send.start);
     let Some(known) = server.sessions.get(&id) else {
         return denied_reply(alloc, &anew.transaction);
     };

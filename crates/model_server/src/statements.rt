@@ -1,7 +1,7 @@
 //! The statements of a send: which of them run, what they count, and what they leave.
 ghost use Rattle.std.specs.Prelude.{◌≡◌, false, [], IfOk};
 ghost use Rattle.std.specs.List.{list_any};
-ghost use Rattle.driver_link.specs.Statements.{usual_modified, counted, planned_at, code_at as failing_code, statement_at, is_failed as failed, is_run as run, statements as all_statements, front, usual_statements, has_run as some_run, has_failed as some_failed, entry_of, entries_of, no_plan};
+ghost use Rattle.driver_link.specs.Statements.{usual_modified, counts_by_plan, planned_at, code_at as failing_code, statement_at, is_failed as failed, is_run as run, statements as all_statements, front_to_run, usual_statements, has_run as some_run, has_failed as some_failed, entry_of, entries_of, no_plan};
 ghost use Rattle.model_server.specs.Ran.{ran_at, runs_first};
 
 use bson_lite::{ByIndex, List, TryClone};
@@ -20,7 +20,7 @@ fn usual_change(does: WriteKind) -> i64
 
 /// What a statement counts by its plan.
 fn by_plan(alloc: Global, does: WriteKind, planned: &Planned) -> Result<Counted, AllocError>
-    ensures { IfOk result (λ count. count ≡ counted does planned.now) }
+    ensures { IfOk result (λ count. count ≡ counts_by_plan does planned.now) }
 {
     Ok(Counted {
         n: planned.n.unwrap_or(1),
@@ -32,7 +32,7 @@ fn by_plan(alloc: Global, does: WriteKind, planned: &Planned) -> Result<Counted,
 
 /// What a statement counts where no plan says anything.
 fn as_usual(does: WriteKind) -> Counted
-    ensures { result ≡ counted does no_plan }
+    ensures { result ≡ counts_by_plan does no_plan }
 {
     Counted {
         n: 1,
@@ -49,7 +49,7 @@ fn count_at(
     at: usize,
     does: WriteKind,
 ) -> Result<Counted, AllocError>
-    ensures { IfOk result (λ count. count ≡ counted does (planned_at results.now at)) }
+    ensures { IfOk result (λ count. count ≡ counts_by_plan does (planned_at results.now at)) }
 {
     if at >= results.len() {
         return Ok(as_usual(does));
@@ -71,7 +71,7 @@ fn code_at(fail: &[Failing], at: usize) -> Option<i32>
 }
 
 /// A copy of a result.
-pub fn copied(alloc: Global, counts: &Counted) -> Result<Counted, AllocError>
+pub fn copy_counts(alloc: Global, counts: &Counted) -> Result<Counted, AllocError>
     ensures { IfOk result (λ copy. copy ≡ counts.now) }
 {
     Ok(Counted {
@@ -94,7 +94,7 @@ fn statement(
     ensures { IfOk result (λ statement. statement ≡ statement_at results.now fail.now kept.now at write.now) }
 {
     if let Some(before) = kept.get(at) {
-        return Ok(Statement::Kept(copied(alloc, before)?));
+        return Ok(Statement::Kept(copy_counts(alloc, before)?));
     }
     if let Some(code) = code_at(fail, at) {
         return Ok(Statement::Failed(code));
@@ -143,20 +143,21 @@ pub fn statements(
 
 /// The statements of the first writes, so many of them without a kept result, where no schedule says
 /// anything.
-#[tactic(auto, unfolding(driver_link::specs::Statements::statements, driver_link::specs::Statements::front, driver_link::specs::Statements::code_at))]
+#[tactic(auto, unfolding(driver_link::specs::Statements::statements, driver_link::specs::Statements::front_to_run, driver_link::specs::Statements::code_at))]
 pub fn first_statements(
     alloc: Global,
     kept: &ByIndex<Counted>,
     most: u64,
     writes: &[PlacedWrite],
 ) -> Result<List<Statement>, AllocError>
-    ensures { IfOk result (λ done. done ≡ usual_statements kept.now (front kept.now 0 most writes.now)) }
+    ensures { IfOk result
+        (λ done. done ≡ usual_statements kept.now (front_to_run kept.now 0 most writes.now)) }
 {
     let mut left = most;
     let mut done = List::new(alloc);
     for (at, write) in writes.iter().enumerate() {
         match kept.get(at) {
-            Some(before) => done.push(Statement::Kept(copied(alloc, before)?))?,
+            Some(before) => done.push(Statement::Kept(copy_counts(alloc, before)?))?,
             None => {
                 if left == 0 {
                     return Ok(done);
@@ -221,7 +222,7 @@ fn entry(
     Ok(Entry {
         place: write.place,
         written: write.written.try_clone(alloc)?,
-        result: copied(alloc, counts)?,
+        result: copy_counts(alloc, counts)?,
         session,
         number,
     })
@@ -259,7 +260,7 @@ pub fn ran_results(alloc: Global, done: &[Statement]) -> Result<List<(usize, Cou
     let mut results = List::new(alloc);
     for (at, statement) in done.iter().enumerate() {
         match statement {
-            Statement::Ran(counts) => results.push((at, copied(alloc, counts)?))?,
+            Statement::Ran(counts) => results.push((at, copy_counts(alloc, counts)?))?,
             _ => {}
         }
     }

@@ -1,11 +1,10 @@
 -- A set of the ids from a place on.
-use Rattle.std.proofs.Common.{◌≡◌, ℕ, zero, suc, ◌-◌, ◌<◌, ◌≤◌, List, [], ◌∷◌, Bool, true, false, not, cond, length, drop, get_or, bytes_eq, arith, refl, sym, ap, ◌∙◌}
+use Rattle.std.proofs.Common.{◌≡◌, ℕ, zero, suc, ◌-◌, ◌<◌, ◌≤◌, List, [], ◌∷◌, Bool, true, false, not, ◌||◌, cond, length, drop, get_or, bytes_eq, arith, refl, sym, ap, ◌∙◌}
 use Rattle.std.proofs.Math.Bool.{and-false}
 use Rattle.std.proofs.Math.Seq.{drop-cons, drop-length}
 use Rattle.std.specs.HashSet as bag
 use Rattle.std.specs.declared.hash.FoldHasher.{FoldHasher}
 use Rattle.std.specs.declared.hash.BuildHasherDefault.{BuildHasherDefault}
-use Rattle.driver_error.proofs.LabelSets.{cond-or}
 use Rattle.script_run.specs.Distinct.{distinct, stands_in}
 
 -- a set of ids
@@ -23,6 +22,11 @@ pub drop_before : (ids : List (List ℕ)) (at : ℕ) → 0 < at → at ≤ lengt
 drop_before ids at some within =
     let next : suc (at - 1) ≡ at = omega arith in
     drop-cons ids (at - 1) [] (omega arith) ∙ ap (λ n. get_or ids (at - 1) [] ∷ drop n ids) next
+
+-- a test or another
+or_cond : (a b : Bool) → cond a true b ≡ (a || b)
+or_cond true b = refl
+or_cond false b = refl
 
 -- ids whose end repeats one repeat one
 pub distinct_drop : (n : ℕ) (ids : List (List ℕ)) → distinct (drop n ids) ≡ false → distinct ids ≡ false
@@ -50,7 +54,7 @@ HasLast_more ids at later now has some new adds =
     let front = drop_before ids at some has.within in
     record {
       within = (let within = has.within in omega arith);
-      seen = λ id. rw (front, adds id, has.seen id) (cond-or (bytes_eq (get_or ids (at - 1) []) id) (stands_in (drop at ids) id));
+      seen = λ id. rw (front, adds id, has.seen id) (or_cond (bytes_eq (get_or ids (at - 1) []) id) (stands_in (drop at ids) id));
       apart = rw (front, ← has.seen (get_or ids (at - 1) []), new, has.apart) refl;
     }
 

@@ -122,7 +122,7 @@ fn deliver(server: &mut ModelServer, alloc: Global, pick: u64) -> Result<(), All
 fn bound_drawn(client: &Client<PlainStore<CountingIds>>)
     ensures { length (drawn_of (Some client.now)) < 2 ^ 64 }
 {
-    let _ = client.store().drawn().len();
+    let _ = client.store().drawn_ids().len();
 }
 
 /// Runs the script of an input, and writes its report. It waits for nobody.

@@ -75,7 +75,7 @@ fn drawn_in(run: &Run) -> &[[u8; 16]]
     ensures { result.now ≡ drawn_of run.now.client }
 {
     match &run.client {
-        Some(client) => client.store().drawn(),
+        Some(client) => client.store().drawn_ids(),
         None => &[],
     }
 }

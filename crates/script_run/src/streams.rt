@@ -1,7 +1,7 @@
 //! A whole input read to its end, and a whole text written.
 ghost use Rattle.std.specs.Prelude.{◌≡◌, ◌≤◌, OnOk, OnErr};
 ghost use Rattle.driver_link.specs.Streams.{Appends};
-ghost use Rattle.driver_link.specs.Faults.{HasCause};
+ghost use Rattle.driver_link.specs.Faults.{FailsByCount};
 ghost use Rattle.script_run.specs.Streamed.{EndsReading, TookFront};
 
 use bson_lite::Bytes;
@@ -64,7 +64,7 @@ pub(crate) fn read_all<I: Source>(
 pub(crate) fn write_all<O: Sink>(sink: &mut O, bytes: &[u8]) -> Result<(), Failed>
     ensures ok { OnOk result (Appends (O.contents sink.old) (O.contents sink.new) bytes.now) }
     ensures err { OnErr result (TookFront (O.contents sink.old) (O.contents sink.new) bytes.now) }
-    ensures cause { HasCause (O.faults sink.old) (O.faults sink.new) result }
+    ensures cause { FailsByCount (O.faults sink.old) (O.faults sink.new) result }
 {
     let mut at = 0;
     'writes: while at < bytes.len() {

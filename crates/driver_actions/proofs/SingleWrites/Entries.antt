@@ -21,14 +21,14 @@ use Rattle.driver_ops.specs.Served.{AreEntries}
 use Rattle.driver_ops.specs.StatementSpec.{delete_spec, find_spec, update_spec}
 use Rattle.driver_ops.specs.Targets.{in_collection}
 use Rattle.driver_exec.specs.BetweenCalls.{MaySendPlaces}
-use Rattle.driver_exec.specs.Keeping.{AreWritten, HasEntries, KeepsTold, OkHasEntries, StandsAfter, StandsBefore}
+use Rattle.driver_exec.specs.Keeping.{AreWritten, HasEntries, KeepsWhereTold, OkHasEntries, StandsAfter, StandsBefore}
 use Rattle.driver_exec.specs.Moment.{Moment}
 use Rattle.driver_actions.specs.declared.call.SingleAnswer.{SingleAnswer}
 use Rattle.driver_actions.specs.declared.call.SingleAnswer.TheVariants.{Deleted, Found, Inserted, Updated}
 use Rattle.driver_actions.specs.Calls.{IsOwn, answer_by}
 use Rattle.driver_actions.specs.Forms.{WriteForm, asked_in, deletes, finds, inserts, kind_in, updates, written_in}
 use Rattle.driver_actions.specs.SingleCalls.{Made, Makes, Runs, Tells, first_place}
-use Rattle.driver_actions.specs.SingleEntries.{HasOwnEntry, HasOwnEntryTold, HasWritten, IsNewPlace, KeepsSingle, KeepsSingleTold, MayWrite, OkHasEntry}
+use Rattle.driver_actions.specs.SingleEntries.{HasOwnEntry, HasOwnEntryWhereTold, HasWritten, IsNewPlace, KeepsSingle, KeepsSingleWhereTold, MayWrite, OkHasEntry}
 use Rattle.driver_actions.specs.Singles.{BecomesSingle}
 use Rattle.driver_actions.specs.Standing.{AllBelow}
 use Rattle.driver_actions.proofs.CallSends.{mid_run, pool_kept}
@@ -103,13 +103,13 @@ module _ {A : Type 0} (spec : OperationSpec A) (form : WriteForm) (answers : A �
 
   -- the same where pool and server are told
   abbrev Told : Type 0
-  Told = HasOwnEntryTold (written_in form) answer mid.store.pool now.store.pool (server_run mid.link) (server_run now.link) place
+  Told = HasOwnEntryWhereTold (written_in form) answer mid.store.pool now.store.pool (server_run mid.link) (server_run now.link) place
 
   done_entry : (output : A) → answer ≡ answers output → OkHasEntries spec (asked_in form place sent) mid now (Ok output) → Told
   done_entry output is entries = of_told mid.store.pool now.store.pool (server_run mid.link) (server_run now.link) entries
     where
       of_told : (pool pool_now : Option Pool) (run run_now : Option ServerRun) → AreWritten spec (asked_in form place sent) output pool pool_now run run_now
-          → HasOwnEntryTold (written_in form) answer pool pool_now run run_now place
+          → HasOwnEntryWhereTold (written_in form) answer pool pool_now run run_now place
       of_told (Some pool) (Some pool_now) (Some run) (Some run_now) are = λ may. has_own output run_now.server.log is (are (may_stand pool pool_now run form place sent may))
       of_told None pool_now run run_now are = tt
       of_told (Some pool) None run run_now are = tt
@@ -132,12 +132,12 @@ module _ (before now : Moment) (place : Place) where
   made_keeps form result made =
       let drew = made_drew form made in
       let mid = made.mid in
-      subst (λ p. KeepsSingleTold p now.store.pool (server_run before.link) (server_run now.link) place) (pool_kept before.store mid.store drew.draws)
-      (subst (λ r. KeepsSingleTold mid.store.pool now.store.pool r (server_run now.link) place) (mid_run before mid drew)
+      subst (λ p. KeepsSingleWhereTold p now.store.pool (server_run before.link) (server_run now.link) place) (pool_kept before.store mid.store drew.draws)
+      (subst (λ r. KeepsSingleWhereTold mid.store.pool now.store.pool r (server_run now.link) place) (mid_run before mid drew)
       (of_told mid.store.pool now.store.pool (server_run mid.link) (server_run now.link) (made_left form made).keeps))
     where
-      of_told : (pool pool_now : Option Pool) (run run_now : Option ServerRun) → KeepsTold pool pool_now run run_now (asked_in form place made.sent)
-          → KeepsSingleTold pool pool_now run run_now place
+      of_told : (pool pool_now : Option Pool) (run run_now : Option ServerRun) → KeepsWhereTold pool pool_now run run_now (asked_in form place made.sent)
+          → KeepsSingleWhereTold pool pool_now run run_now place
       of_told (Some pool) (Some pool_now) (Some run) (Some run_now) keeps = λ may.
           written_after pool_now run run_now form place made.sent (keeps (may_stand pool pool_now run form place made.sent may))
       of_told None pool_now run run_now keeps = tt
@@ -148,10 +148,10 @@ module _ (before now : Moment) (place : Place) where
   -- a write that was not made changed nothing that is told of pool and server
   unmade_keeps : OnlyDrew before now → KeepsSingle before now place
   unmade_keeps draws =
-      subst (λ p. KeepsSingleTold before.store.pool p (server_run before.link) (server_run now.link) place) (sym (pool_kept before.store now.store draws.draws))
-      (subst (λ r. KeepsSingleTold before.store.pool before.store.pool (server_run before.link) r place) (sym (mid_run before now draws)) (of_told before.store.pool (server_run before.link)))
+      subst (λ p. KeepsSingleWhereTold before.store.pool p (server_run before.link) (server_run now.link) place) (sym (pool_kept before.store now.store draws.draws))
+      (subst (λ r. KeepsSingleWhereTold before.store.pool before.store.pool (server_run before.link) r place) (sym (mid_run before now draws)) (of_told before.store.pool (server_run before.link)))
     where
-      of_told : (pool : Option Pool) (run : Option ServerRun) → KeepsSingleTold pool pool run run place
+      of_told : (pool : Option Pool) (run : Option ServerRun) → KeepsSingleWhereTold pool pool run run place
       of_told None run = tt
       of_told (Some pool) None = tt
       of_told (Some pool) (Some run) = λ may. record { between = may.between; sound = may.sound; which = λ send has. inl has }
@@ -166,7 +166,7 @@ module _ (before now : Moment) (place : Place) where
 
   -- the entry of a write that was done, told from the moment of its operation on
   mid_entry : (form : WriteForm) (answer : SingleAnswer) (made : Made before now form place (Ok answer))
-      → HasOwnEntryTold (written_in form) answer made.mid.store.pool now.store.pool (server_run made.mid.link) (server_run now.link) place
+      → HasOwnEntryWhereTold (written_in form) answer made.mid.store.pool now.store.pool (server_run made.mid.link) (server_run now.link) place
   mid_entry (inserts namespace document options) answer made =
       let run = made.runs in
       runs_entry (insert_spec (in_collection namespace) run.bytes run.value options) (inserts namespace document options) (λ output. Inserted (record { inserted_id = run.value })) made.mid now place made.sent
@@ -190,16 +190,16 @@ module _ (before now : Moment) (place : Place) where
   pub makes_entry : (form : WriteForm) (result : Result SingleAnswer Error) → Makes before now form place result → OkHasEntry before now (written_in form) place result
   makes_entry form (Ok answer) made =
       let drew = made_drew form made in
-      subst (λ p. HasOwnEntryTold (written_in form) answer p now.store.pool (server_run before.link) (server_run now.link) place) (pool_kept before.store made.mid.store drew.draws)
-      (subst (λ r. HasOwnEntryTold (written_in form) answer made.mid.store.pool now.store.pool r (server_run now.link) place) (mid_run before made.mid drew) (mid_entry form answer made))
+      subst (λ p. HasOwnEntryWhereTold (written_in form) answer p now.store.pool (server_run before.link) (server_run now.link) place) (pool_kept before.store made.mid.store drew.draws)
+      (subst (λ r. HasOwnEntryWhereTold (written_in form) answer made.mid.store.pool now.store.pool r (server_run now.link) place) (mid_run before made.mid drew) (mid_entry form answer made))
   makes_entry form (Err error) makes = tt
 
 -- the entry, where pool and server are told to be these
 pub entry_told : (place : Place) (store store_now : Option Pool) (link link_now : Option ServerRun) (pool pool_now : Pool) (run run_now : ServerRun) → store ≡ Some pool → store_now ≡ Some pool_now
-    → link ≡ Some run → link_now ≡ Some run_now → (given : Written) (answer : SingleAnswer) → HasOwnEntryTold given answer store store_now link link_now place → MayWrite pool pool_now run place
+    → link ≡ Some run → link_now ≡ Some run_now → (given : Written) (answer : SingleAnswer) → HasOwnEntryWhereTold given answer store store_now link link_now place → MayWrite pool pool_now run place
     → HasOwnEntry given place run_now.server.log answer
 entry_told place store store_now link link_now pool pool_now run run_now pool_is pool_now_is run_is run_now_is given answer told may =
-    subst (λ n. HasOwnEntryTold given answer (Some pool) (Some pool_now) (Some run) n place) run_now_is
-    (subst (λ r. HasOwnEntryTold given answer (Some pool) (Some pool_now) r link_now place) run_is
-    (subst (λ p. HasOwnEntryTold given answer (Some pool) p link link_now place) pool_now_is
-    (subst (λ p. HasOwnEntryTold given answer p store_now link link_now place) pool_is told))) may
+    subst (λ n. HasOwnEntryWhereTold given answer (Some pool) (Some pool_now) (Some run) n place) run_now_is
+    (subst (λ r. HasOwnEntryWhereTold given answer (Some pool) (Some pool_now) r link_now place) run_is
+    (subst (λ p. HasOwnEntryWhereTold given answer (Some pool) p link link_now place) pool_now_is
+    (subst (λ p. HasOwnEntryWhereTold given answer p store_now link link_now place) pool_is told))) may

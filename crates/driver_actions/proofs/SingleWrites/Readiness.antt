@@ -13,17 +13,17 @@ use Rattle.driver_link.specs.declared.machine.WriteKind.{WriteKind}
 use Rattle.driver_link.specs.declared.machine.Written.{Written}
 use Rattle.driver_link.specs.Exchange.{answered, exchanged}
 use Rattle.driver_link.specs.Retried.{CountsBy, IsGentleItem, IsNewNumber}
-use Rattle.driver_link.proofs.Replying.{IsOneWrite}
-use Rattle.driver_link.proofs.ReplyingUnnumbered.{IsOneUnnumbered}
-use Rattle.driver_link.proofs.Retrying.{IsDone, MayBeSent, may_again, may_answered, may_first, only_done}
+use Rattle.driver_link.proofs.OneWriteReplies.{IsOneWrite}
+use Rattle.driver_link.proofs.RetriedSends.{IsDone, MayBeSent, may_again, may_answered, may_first, only_done}
+use Rattle.driver_link.proofs.UnnumberedReplies.{IsOneUnnumbered}
 use Rattle.driver_session.specs.Pool.{Pool}
 use Rattle.driver_session.specs.StoreTells.{DrawnApart, DrawnApartIn, LendsSession, StoreTells}
 use Rattle.driver_session.specs.Session.{Session}
 use Rattle.driver_session.proofs.PoolTells.{lends_told}
 use Rattle.driver_exec.specs.BetweenCalls.{Between, MaySendPlaces, SentUpTo, Sound}
 use Rattle.driver_exec.specs.Gentle.{IsLossy}
-use Rattle.driver_exec.proofs.Knowing.{lends_holds}
-use Rattle.driver_exec.proofs.Keeping.Sends.{numbered_new, unnumbered_send}
+use Rattle.driver_exec.proofs.TraceSessions.{lends_holds}
+use Rattle.driver_exec.proofs.InvariantSteps.Sends.{numbered_new, unnumbered_send}
 use Rattle.driver_actions.specs.Forms.{WriteForm, asked_in, command_in, kind_in, ordered_in, send_in}
 use Rattle.driver_actions.proofs.SingleWrites.Entries.{placed_at}
 

@@ -30,7 +30,7 @@ use Rattle.driver_exec.specs.Keeping.{KeepsInvariant, OkHasEntries}
 use Rattle.driver_exec.specs.Moment.{Moment}
 use Rattle.driver_exec.specs.OperationCauses.{Caused}
 use Rattle.driver_exec.specs.Resending.{SendsOneCommand}
-use Rattle.driver_exec.proofs.Refusing.{executes_draws, executes_few, executes_lends}
+use Rattle.driver_exec.proofs.WholeOperation.{executes_draws, executes_few, executes_lends}
 use Rattle.driver_actions.specs.declared.call.SingleAnswer.{SingleAnswer}
 use Rattle.driver_actions.specs.declared.call.SingleAnswer.TheVariants.{Deleted, Found, Updated}
 use Rattle.driver_actions.specs.Forms.{asked_in, deletes, finds, inserts, updates, written_in}

@@ -13,7 +13,7 @@ use Rattle.driver_exec.specs.Keeping.{KeepsInvariant}
 use Rattle.driver_exec.specs.Moment.{Moment}
 use Rattle.driver_exec.specs.Readings.{OnlyRead}
 use Rattle.driver_exec.specs.Resending.{Borrows, SentWithin}
-use Rattle.driver_exec.proofs.Refusing.{executes_read, executes_words}
+use Rattle.driver_exec.proofs.WholeOperation.{executes_read, executes_words}
 use Rattle.driver_actions.specs.declared.call.SingleAnswer.{SingleAnswer}
 use Rattle.driver_actions.specs.Calls.{IsOwn}
 use Rattle.driver_actions.specs.Forms.{WriteForm, asked_in, deletes, finds, inserts, updates, written_in}

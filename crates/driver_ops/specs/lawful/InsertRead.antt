@@ -24,7 +24,7 @@ use Rattle.driver_ops.specs.InsertSpec.{insert_spec}
 use Rattle.driver_ops.specs.Inserts.{int_at, is_done_reply, is_one}
 use Rattle.driver_ops.specs.Readings.{command_error_in, labels_in}
 use Rattle.driver_ops.specs.Responses.{breaks, done, failed_with, missing_ok_text, odd_ok_text, said, said_by, said_with}
-use Rattle.driver_ops.specs.WriteReplies.{concern_in, write_errors_in}
+use Rattle.driver_ops.specs.WriteReplies.{reply_concern_error, write_errors_in}
 use Rattle.driver_ops.specs.Operations.{ReadsOutput}
 
 -- bytes spell one document alone
@@ -83,9 +83,9 @@ fields_found (Some n) (Some errors) None labels found is = absurd (none_is_some 
 fields_found (Some n) (Some errors) (Some concern) None found is = absurd (none_is_some found is)
 
 -- the number and the write concern error of a reply that was read
-read_found : (reply : List (Pair Bson)) (found : InsertReply) → insert_reply reply ≡ Some found → (int_at N.now reply ≡ Some found.n) × (concern_in reply ≡ Some found.concern)
+read_found : (reply : List (Pair Bson)) (found : InsertReply) → insert_reply reply ≡ Some found → (int_at N.now reply ≡ Some found.n) × (reply_concern_error reply ≡ Some found.concern)
 unfolding insert_reply needed
-read_found reply found is = fields_found (int_at N.now reply) (write_errors_in reply) (concern_in reply) (labels_in reply) found is
+read_found reply found is = fields_found (int_at N.now reply) (write_errors_in reply) (reply_concern_error reply) (labels_in reply) found is
 
 -- a reply that an insert takes tells of one that was done
 done_found : {A : Type 0} (reply : List (Pair Bson)) (output : A) (found : Option InsertReply) → insert_reply reply ≡ found → AnswersReply found (Ok output) → said reply ≡ done
@@ -98,7 +98,7 @@ done_found reply output (Some found) at answers is =
 
 -- and has no write concern error
 concern_found : {A : Type 0} (reply : List (Pair Bson)) (output : A) (found : Option InsertReply) → insert_reply reply ≡ found → AnswersReply found (Ok output)
-    → concern_in reply ≡ Some None
+    → reply_concern_error reply ≡ Some None
 concern_found reply output None at answers = absurd answers
 concern_found reply output (Some found) at answers =
     (read_found reply found at).1 ∙ ap (λ concern. Some concern) (by_concern (is_none (errors_there found.errors)) found.concern answers.1)
@@ -116,5 +116,5 @@ output_done target document id options bytes output reads =
 
 -- and that has no write concern error
 pub output_concern : (target : OperationTarget) (document : List ℕ) (id : Bson) (options : InsertManyOptions) (bytes : List ℕ) (output : InsertManyResult)
-    (reads : ReadsOutput (insert_spec target document id options) bytes output) → concern_in reads.response.body ≡ Some None
+    (reads : ReadsOutput (insert_spec target document id options) bytes output) → reply_concern_error reads.response.body ≡ Some None
 output_concern target document id options bytes output reads = concern_found reads.response.body output (insert_reply reads.response.body) refl reads.reads.0

@@ -16,8 +16,8 @@ use Rattle.driver_link.specs.Serving.{Plan, usual, done_in}
 use Rattle.driver_link.specs.Sessions.{is_below, is_new}
 use Rattle.driver_link.specs.Settled.{IsWrite}
 use Rattle.driver_link.proofs.Lists.{none_is_some, some_is_some}
+use Rattle.driver_link.proofs.OneWriteReplies.{IsError}
 use Rattle.driver_link.proofs.Plain.{case_is}
-use Rattle.driver_link.proofs.Replying.{IsError}
 use Rattle.driver_link.proofs.Unnumbered.{write_outside}
 use Rattle.driver_ops.specs.Served.{case_statements, met_statements}
 

@@ -1,11 +1,11 @@
 -- Each call keeps what holds of the run so far.
 use Rattle.std.proofs.Common.{◌≤◌, length, refl, sym, ap, subst, ◌∙◌, arith}
-use Rattle.driver_session.proofs.Drawing.{draws_refl, draws_twice}
-use Rattle.driver_session.proofs.Lending.{lends_refl, lends_twice}
+use Rattle.driver_session.proofs.IdDraws.{draws_refl, draws_twice}
+use Rattle.driver_session.proofs.LentSessions.{lends_refl, lends_twice}
 use Rattle.driver_exec.specs.Client.{store_of}
 use Rattle.driver_exec.specs.Moment.{moment_of}
 use Rattle.driver_actions.proofs.CallsInOrder.{began_before, causes_more, causes_start, ended_more, ended_start}
-use Rattle.driver_actions.proofs.ServerMaking.{fresh_replayed, keeps_refl, keeps_twice}
+use Rattle.driver_actions.proofs.ServerMaking.{fresh_replayed, keeps_making_twice, keeps_refl}
 use Rattle.driver_actions.proofs.run.run_calls.Goals as goal
 
 pub calls-init : goal.calls-init
@@ -33,7 +33,7 @@ calls-preserved g c =
     let before = c.calls.invariant in
     let made = c.make.ensures in
     record {
-      within = omega (arith, ap (λ run. run.made) made.makes.appended, c.made.ensures, c.calls-test.true);
+      within = omega (arith, ap (λ run. run.made) made.makes.appended, c.calls_made.ensures, c.calls-test.true);
       room = ap (λ run. run.room) made.makes.appended ∙ before.room;
       client = made.client ∙ before.client;
       stands = λ begins. made.stands (before.stands (began_before first mid now made.drawn begins)) begins.apart;
@@ -41,7 +41,7 @@ calls-preserved g c =
           let began = began_before first mid now made.drawn begins in
           ended_more c.calls.run c.make.new.self c.args.calls.now first mid now before.within (made.complete (before.stands began) begins.apart) (before.ended began);
       replayed = λ fresh. made.replayed (before.replayed fresh);
-      making = keeps_twice first mid now before.making made.making;
+      making = keeps_making_twice first mid now before.making made.making;
       drawn = draws_twice first.store mid.store now.store before.drawn made.drawn;
       lent = lends_twice first.store mid.store now.store before.lent made.lent;
       causes = causes_more c.calls.run c.make.new.self c.args.calls.now first mid now before.within made.makes before.causes;

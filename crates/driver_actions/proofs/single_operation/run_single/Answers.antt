@@ -1,7 +1,7 @@
 -- The operation was run where it was executed, with the number of its sends, and its error takes the form of a single write's.
 use Rattle.std.proofs.Common.{ap, refl}
 use Rattle.std.specs.Prelude.{Ok, Err}
-use Rattle.driver_exec.proofs.Refusing.{executes_client}
+use Rattle.driver_exec.proofs.WholeOperation.{executes_client}
 use Rattle.driver_actions.proofs.SingleWrites.WriteOperations.{executed_runs, still_one}
 use Rattle.driver_actions.proofs.single_operation.run_single.Goals as goal
 

@@ -6,8 +6,8 @@ use Rattle.driver_ops.specs.Operations.{batch_of}
 use Rattle.driver_exec.specs.Client.{store_of}
 use Rattle.driver_exec.specs.Concerns.{IsConcernError, concern_of, concern_refusal}
 use Rattle.driver_exec.proofs.CommandParts.{fixed_some}
-use Rattle.driver_exec.proofs.Keeping.Standing.{one_command_entries, one_command_keeps}
-use Rattle.driver_exec.proofs.Refusing.{executes_caused, executes_sends_one_command}
+use Rattle.driver_exec.proofs.InvariantSteps.Standing.{one_command_entries, one_command_keeps}
+use Rattle.driver_exec.proofs.WholeOperation.{executes_caused, executes_sends_one_command}
 use Rattle.driver_exec.proofs.execute.execute_operation.Goals as goal
 use Rattle.driver_exec.specs.inside.Attempting.{attempt_state}
 

@@ -1,5 +1,5 @@
 -- The law is a lemma.
-use Rattle.driver_exec.proofs.Refusing.{executes_draws}
+use Rattle.driver_exec.proofs.WholeOperation.{executes_draws}
 use Rattle.driver_exec.proofs.laws.an_operation_draws_in_order.Goals as goal
 
 pub returns : goal.returns

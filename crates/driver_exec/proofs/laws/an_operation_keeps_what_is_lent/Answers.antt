@@ -1,5 +1,5 @@
 -- The law is a lemma.
-use Rattle.driver_exec.proofs.Refusing.{executes_lends}
+use Rattle.driver_exec.proofs.WholeOperation.{executes_lends}
 use Rattle.driver_exec.proofs.laws.an_operation_keeps_what_is_lent.Goals as goal
 
 pub returns : goal.returns

@@ -1,5 +1,5 @@
 -- The law is a lemma.
-use Rattle.driver_exec.proofs.Refusing.{executes_read}
+use Rattle.driver_exec.proofs.WholeOperation.{executes_read}
 use Rattle.driver_exec.proofs.laws.an_operation_only_reads_the_clock.Goals as goal
 
 pub returns : goal.returns

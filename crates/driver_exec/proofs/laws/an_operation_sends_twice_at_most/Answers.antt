@@ -1,5 +1,5 @@
 -- The law is a lemma.
-use Rattle.driver_exec.proofs.Refusing.{executes_few}
+use Rattle.driver_exec.proofs.WholeOperation.{executes_few}
 use Rattle.driver_exec.proofs.laws.an_operation_sends_twice_at_most.Goals as goal
 
 pub returns : goal.returns

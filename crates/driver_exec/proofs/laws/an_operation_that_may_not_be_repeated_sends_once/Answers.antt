@@ -1,5 +1,5 @@
 -- The law is a lemma.
-use Rattle.driver_exec.proofs.Refusing.{executes_once}
+use Rattle.driver_exec.proofs.WholeOperation.{executes_once}
 use Rattle.driver_exec.proofs.laws.an_operation_that_may_not_be_repeated_sends_once.Goals as goal
 
 pub returns : goal.returns

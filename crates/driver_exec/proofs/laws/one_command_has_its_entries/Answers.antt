@@ -1,5 +1,5 @@
 -- The law is a lemma.
-use Rattle.driver_exec.proofs.Keeping.Standing.{one_command_entries}
+use Rattle.driver_exec.proofs.InvariantSteps.Standing.{one_command_entries}
 use Rattle.driver_exec.proofs.laws.one_command_has_its_entries.Goals as goal
 
 pub returns : goal.returns

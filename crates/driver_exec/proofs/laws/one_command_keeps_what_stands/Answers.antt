@@ -1,5 +1,5 @@
 -- The law is a lemma.
-use Rattle.driver_exec.proofs.Keeping.Standing.{one_command_keeps}
+use Rattle.driver_exec.proofs.InvariantSteps.Standing.{one_command_keeps}
 use Rattle.driver_exec.proofs.laws.one_command_keeps_what_stands.Goals as goal
 
 pub returns : goal.returns

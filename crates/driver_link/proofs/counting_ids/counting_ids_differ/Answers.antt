@@ -1,4 +1,4 @@
-use Rattle.driver_link.proofs.Counting.{objects_apart, sessions_apart}
+use Rattle.driver_link.proofs.CountedIds.{objects_apart, sessions_apart}
 use Rattle.driver_link.proofs.counting_ids.counting_ids_differ.Goals as goal
 
 pub returns-clause-sessions : goal.returns-clause-sessions

@@ -1,7 +1,7 @@
 -- The connection that was reached is the newest of its number.
 use Rattle.std.proofs.Common.{◌+◌, ◌-◌, arith, sym, subst, ◌∙◌, false, ◌≡◌, drop}
 use Rattle.driver_link.specs.LinkState.{has_number}
-use Rattle.driver_link.proofs.Handing.{newest_at, same_number}
+use Rattle.driver_link.proofs.ConnectionsOut.{newest_at, same_number}
 use Rattle.driver_link.proofs.fake_link.newest_of.Goals as goal
 
 pub returns-then-number : goal.returns-then-number

@@ -13,7 +13,7 @@ loop-index-init c =
 pub loop-index-preserved : goal.loop-index-preserved
 unfolding insert_each
 loop-index-preserved c =
-    ap (λ m. insert_each m c.next.new.self) (c.in_ok-insert.ensures.ok ∙ ap (finite.insert c.loop-index.copies c.in-Some.index.now) c.in_ok-copied.ensures)
+    ap (λ m. insert_each m c.next.new.self) (c.in_ok-insert.ensures.ok ∙ ap (finite.insert c.loop-index.copies c.in-Some.index.now) c.in_ok-copy_counts.ensures)
     ∙ ap (insert_each c.loop-index.copies) (sym c.in-Some.ensures.steps) ∙ c.loop-index.invariant
 
 pub returns : goal.returns

@@ -8,5 +8,5 @@ use Rattle.model_server.proofs.serving.step_in.Goals as goal
 
 pub returns-in-Outside : goal.returns-in-Outside
 returns-in-Outside c =
-    subst (λ case. IfOk c.keeps.result (λ step. (known : KnownSession) → Does session_after step case c.args.done.now (entries_of c.args.send.now.session c.args.send.now.number (writes_of c.args.send.now) c.args.done.now) known))
-    (sym c.in-Outside.is) c.keeps.ensures
+    subst (λ case. IfOk c.keeps_step.result (λ step. (known : KnownSession) → Does session_after step case c.args.done.now (entries_of c.args.send.now.session c.args.send.now.number (writes_of c.args.send.now) c.args.done.now) known))
+    (sym c.in-Outside.is) c.keeps_step.ensures

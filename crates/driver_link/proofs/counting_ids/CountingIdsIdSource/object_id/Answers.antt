@@ -1,5 +1,5 @@
 use Rattle.std.proofs.Common.{ap, ◌∙◌, ◌∷◌}
-use Rattle.driver_link.proofs.Counting.{object_now, object_rest}
+use Rattle.driver_link.proofs.CountedIds.{object_now, object_rest}
 use Rattle.driver_link.specs.CountingIds.{IdsDrawn, counted_ids, object_at}
 use Rattle.driver_link.specs.declared.ids.IdKind.TheVariants.{Object}
 use Rattle.driver_link.proofs.counting_ids.CountingIdsIdSource.object_id.Goals as goal

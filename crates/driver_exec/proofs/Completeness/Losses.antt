@@ -36,8 +36,8 @@ use Rattle.driver_exec.specs.Retry.{RetryState}
 use Rattle.driver_exec.proofs.HeldSessions.{draws_on, not_both}
 use Rattle.driver_exec.proofs.Moments.{IsBefore, LeadsCalling, after_before, before_twice, checks_well, longer_after, one_moment, selects_lead, selects_well}
 use Rattle.driver_exec.proofs.OperationCauses.{fault_error, reworded_is}
-use Rattle.driver_exec.proofs.Completing.Ends.{ReadsPlainly, lossy_none, has_own_label, HasNumber, lost_held, held_again, same_again}
-use Rattle.driver_exec.proofs.Completing.Sessions.{KnownCommand, attempted, MayGo, IsReadied, IsPrepared, again_readied, is_conn, reached_at, readied_at}
+use Rattle.driver_exec.proofs.Completeness.Ends.{ReadsPlainly, lossy_none, has_own_label, HasNumber, lost_held, held_again, same_again}
+use Rattle.driver_exec.proofs.Completeness.Sessions.{KnownCommand, attempted, MayGo, IsReadied, IsPrepared, again_readied, is_conn, reached_at, readied_at}
 
 module _ {A : Type 0} (known : KnownCommand A) where
   open known use {spec, body, does, retryability, told, link, Ready, ready_answers, ready_again}

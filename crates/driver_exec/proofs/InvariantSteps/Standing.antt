@@ -14,10 +14,10 @@ use Rattle.driver_ops.specs.Fields.{under}
 use Rattle.driver_ops.specs.OperationLaw.{IsLawful}
 use Rattle.driver_ops.specs.Operations.{AsksFor, Batch, OperationSpec, ReadsOutput, send_of}
 use Rattle.driver_ops.proofs.Entries.{entries_are, entries_stand}
-use Rattle.driver_exec.specs.Keeping.{AreWritten, HasEntries, KeepsInvariant, KeepsTold, OkHasEntries}
+use Rattle.driver_exec.specs.Keeping.{AreWritten, HasEntries, KeepsInvariant, KeepsWhereTold, OkHasEntries}
 use Rattle.driver_exec.specs.Moment.{Moment}
 use Rattle.driver_exec.specs.Resending.{AnsweredLast, LastAnswer, SendsOneCommand}
-use Rattle.driver_exec.proofs.Keeping.Leaving.{MayGo, left_of, may_go}
+use Rattle.driver_exec.proofs.InvariantSteps.Leaving.{MayGo, left_of, may_go}
 
 module _ {A : Type 0} (spec : OperationSpec A) (batch : Batch) (before now : Moment) (body : SendBody) (asked : AsksFor spec batch body) where
   -- an operation keeps what stands
@@ -25,7 +25,7 @@ module _ {A : Type 0} (spec : OperationSpec A) (batch : Batch) (before now : Mom
   one_command_keeps result sends = of_told before.store.pool now.store.pool (server_run before.link) (server_run now.link) refl refl refl refl
     where
       of_told : (pool pool_now : Option Pool) (run run_now : Option ServerRun) → before.store.pool ≡ pool → now.store.pool ≡ pool_now → server_run before.link ≡ run
-          → server_run now.link ≡ run_now → KeepsTold pool pool_now run run_now body
+          → server_run now.link ≡ run_now → KeepsWhereTold pool pool_now run run_now body
       of_told (Some pool) (Some pool_now) (Some run) (Some run_now) is now_is run_is run_now_is = λ stands.
           let sent = sends.sends body asked in
           let left = left_of before now pool pool_now run run_now is now_is run_is run_now_is body stands sends.session sends.number sent.count sends.borrows sent.once sent.sends in

@@ -2,7 +2,7 @@
 use Rattle.std.proofs.Common.{◌≡◌, ◌≤◌, ◌+◌, count_by, is_some, drop}
 use Rattle.driver_link.specs.Replies.{results_of_kind}
 use Rattle.driver_link.specs.declared.machine.WriteKind.TheVariants as kind
-use Rattle.model_server.proofs.counts.upserted.Given as goal
+use Rattle.model_server.proofs.counts.count_of_upserted.Given as goal
 
 abbrev pub invariant-loop-at : goal.invariant-loop-at
 invariant-loop-at l =

@@ -6,8 +6,8 @@ use Rattle.driver_error.specs.Error.{labels_of}
 use Rattle.driver_link.specs.LinkState.{server_run}
 use Rattle.driver_session.specs.declared.retryability.Retryability.TheVariants as may
 use Rattle.driver_session.specs.StoreTells.{Draws, LendsAsBefore}
-use Rattle.driver_session.proofs.Drawing.{draws_staying}
-use Rattle.driver_session.proofs.Lending.{lends_staying}
+use Rattle.driver_session.proofs.IdDraws.{draws_staying}
+use Rattle.driver_session.proofs.LentSessions.{lends_staying}
 use Rattle.driver_ops.specs.Fields.{under}
 use Rattle.driver_ops.specs.Operations.{Batch, OperationSpec, send_of}
 use Rattle.driver_ops.specs.SendKinds.{SendKind}

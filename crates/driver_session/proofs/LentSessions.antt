@@ -42,16 +42,16 @@ is_lent_last id [] = ap (λ b. b || false) (bytes_eq-same id)
 is_lent_last id (other ∷ lent) = ap (λ b. bytes_eq other id || b) (is_lent_last id lent) ∙ or_right (bytes_eq other id) true refl
 
 -- what is lent after a check-out
-lent_is : (caller : ℕ) (next : List ℕ) (moment : ℕ) (pool : Pool)
-    → (lent_out caller next moment pool).lent ≡ pool.lent ++ (session_out pool.idle next moment).id ∷ []
+lent_is : (caller : ℕ) (next : List ℕ) (at : ℕ) (pool : Pool)
+    → (lent_out caller next at pool).lent ≡ pool.lent ++ (session_out pool.idle next at).id ∷ []
 unfolding lent_out
-lent_is caller next moment pool = refl
+lent_is caller next at pool = refl
 
 -- what is lent after a check-in of a lent session
-back_is : (caller : ℕ) (session : Session) (moment : ℕ) (pool : Pool) → is_lent session.id pool.lent ≡ true
-    → (taken_back caller session moment pool).lent ≡ without_first session.id pool.lent
+back_is : (caller : ℕ) (session : Session) (at : ℕ) (pool : Pool) → is_lent session.id pool.lent ≡ true
+    → (taken_back caller session at pool).lent ≡ without_first session.id pool.lent
 unfolding taken_back
-back_is caller session moment pool there = ap (λ made. made.lent) (cond-true (is_lent session.id pool.lent) _ pool there)
+back_is caller session at pool there = ap (λ made. made.lent) (cond-true (is_lent session.id pool.lent) _ pool there)
 
 -- as often as before, and again as often
 pool_twice : (a b c : Option Pool) → LendsPoolAsBefore a b → LendsPoolAsBefore b c → LendsPoolAsBefore a c

@@ -27,16 +27,16 @@ use Rattle.driver_link.specs.Retried.{CountsBy, CountsFirst, CountsWell, IsDoneR
 use Rattle.driver_link.specs.Serving.{Plan}
 use Rattle.driver_link.specs.Sessions.{is_below}
 use Rattle.driver_link.specs.Settled.{IsOrderly, IsSettled, MayJoin}
-use Rattle.driver_link.specs.Statements.{code_at, counted, planned_at, statement_of}
-use Rattle.driver_link.proofs.Exchanged.{after_settled, exchanged_settled, orderly_front}
+use Rattle.driver_link.specs.Statements.{code_at, counts_by_plan, planned_at, statement_of}
+use Rattle.driver_link.proofs.SettledExchanges.{after_settled, exchanged_settled, orderly_front}
 use Rattle.driver_link.proofs.Lists.{has_last, none_is_some, some_is_some}
 use Rattle.driver_link.proofs.Keeping.{after_keep, exchanged_keep, greatest_above, new_is_greatest, new_keeps, sent_is_greatest, taken_well}
-use Rattle.driver_link.proofs.Orderly.{orderly_again}
+use Rattle.driver_link.proofs.OrderlyTraces.{orderly_again}
 use Rattle.driver_link.proofs.Plain.{known, plain_known}
-use Rattle.driver_link.proofs.Replaying.{exchanged_trace}
-use Rattle.driver_link.proofs.Replying.{IsOneWrite, one_reply, one_statement, served_one}
-use Rattle.driver_link.proofs.ReplyingUnnumbered.{IsOneUnnumbered, only_statement, served_only}
-use Rattle.driver_link.proofs.Serving.{taken_is}
+use Rattle.driver_link.proofs.Replays.{exchanged_trace}
+use Rattle.driver_link.proofs.OneWriteReplies.{IsOneWrite, one_reply, one_statement, served_one}
+use Rattle.driver_link.proofs.UnnumberedReplies.{IsOneUnnumbered, only_statement, served_only}
+use Rattle.driver_link.proofs.ServedSends.{taken_is}
 
 -- a statement that was done and counts well
 abbrev CountsIn : WriteKind → Statement → Type 0
@@ -104,7 +104,7 @@ module _ {asks : SendCommand} (does : WriteKind) where
       → KeepsWell does one.plain.id one.plain.number server → CountsIn does (one_statement send one.plain server plan write)
   unfolding known
   gentle_one send write one server plan above fail counts keeps =
-      kept_or_run does (finite.get (plain_known one.plain.id one.plain.number server).kept 0) (code_at plan.fail 0) (counted write.written.kind (planned_at plan.results 0))
+      kept_or_run does (finite.get (plain_known one.plain.id one.plain.number server).kept 0) (code_at plan.fail 0) (counts_by_plan write.written.kind (planned_at plan.results 0))
       (none_fails plan.fail fail) (counts write.written.kind)
       (taken_well does one.plain.id one.plain.number server (plain_known one.plain.id one.plain.number server)
       (taken_is one.plain.number (finite.get server.sessions one.plain.id) above) keeps)
@@ -153,7 +153,7 @@ module _ {asks : SendCommand} (does : WriteKind) where
     where
       nothing_kept : (plan : Plan) → plan.fail ≡ [] → CountsFirst does plan.results → CountsIn does (only_statement plan write)
       nothing_kept plan fail counts =
-          kept_or_run does (finite.get (finite.empty) 0) (code_at plan.fail 0) (counted write.written.kind (planned_at plan.results 0)) (none_fails plan.fail fail)
+          kept_or_run does (finite.get (finite.empty) 0) (code_at plan.fail 0) (counts_by_plan write.written.kind (planned_at plan.results 0)) (none_fails plan.fail fail)
           (counts write.written.kind) (λ result is. absurd (none_is_some result (sym (finite.get-empty nat_cmp 0) ∙ is)))
   reply_only send write one server Lost gentle = absurd gentle
   reply_only send write one server Late gentle = absurd gentle

@@ -17,7 +17,7 @@ use Rattle.driver_link.specs.Serving.{Plan, usual, served}
 use Rattle.driver_link.specs.Settled.{Has, HasFreeOrigin, HasOrigin, IsFrom, IsOrderly, IsSettled, IsSettledSession, IsUnnumbered, IsUnserved, SharePlace}
 use Rattle.driver_link.specs.Statements.{entry_of}
 use Rattle.driver_link.proofs.Lists.{earlier_or_last, get_left, has_last, has_left, none_is_some, set_gone, set_none}
-use Rattle.driver_link.proofs.Orderly.{new_apart, share_back}
+use Rattle.driver_link.proofs.OrderlyTraces.{new_apart, share_back}
 use Rattle.driver_link.proofs.Plain.{interrupted_settled, refused_settled, served_settled}
 use Rattle.driver_link.proofs.Unnumbered.{interrupted_free_settled, origin_moves, refused_free_settled, served_free_settled}
 

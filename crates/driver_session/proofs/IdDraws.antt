@@ -122,9 +122,9 @@ draws_lending old now at session lends =
     record { kinds = lent.kinds; more = lent.more; ids = lent.ids; drawn = lent.drawn; caller = lends.caller }
 
 -- a session that comes back leaves the ids that were drawn
-pub drawn_back : (caller : ℕ) (session : Session) (moment : ℕ) (pool : Pool) → (taken_back caller session moment pool).drawn ≡ pool.drawn
+pub drawn_back : (caller : ℕ) (session : Session) (at : ℕ) (pool : Pool) → (taken_back caller session at pool).drawn ≡ pool.drawn
 unfolding taken_back
-drawn_back caller session moment pool = if_drawn (is_lent session.id pool.lent) _ pool refl
+drawn_back caller session at pool = if_drawn (is_lent session.id pool.lent) _ pool refl
   where
     if_drawn : (b : Bool) (taken kept : Pool) → taken.drawn ≡ kept.drawn → (if b then taken else kept).drawn ≡ kept.drawn
     if_drawn true taken kept same = same

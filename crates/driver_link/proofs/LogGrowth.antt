@@ -16,22 +16,22 @@ use Rattle.driver_link.specs.Serving.{Plan, usual, served, served_in}
 use Rattle.driver_link.specs.Sessions.{is_below}
 use Rattle.driver_link.specs.Settled.{IsEither, IsOrderly, IsPlain, IsSettled, IsUnnumbered}
 use Rattle.driver_link.specs.Statements.{entries_of}
-use Rattle.driver_link.proofs.Exchanged.{after_settled, orderly_front}
 use Rattle.driver_link.proofs.Lists.{has_last}
 use Rattle.driver_link.proofs.Plain.{begun_done, below_nothing, error_nothing, interrupted_above, interrupted_below, planned, served_above}
+use Rattle.driver_link.proofs.SettledExchanges.{after_settled, orderly_front}
 use Rattle.driver_link.proofs.Unnumbered.{begun_only, error_free, interrupted_free, planned_only, served_free}
 
 -- the log keeps its front and the trace stays
-pub record Keeps (old now : Server) : Type 0 where
+pub record KeepsEntries (old now : Server) : Type 0 where
   pub more : List Entry
   pub log : now.log ≡ old.log ++ more
   pub trace : now.trace ≡ old.trace
 
-keeps_same : (server : Server) → Keeps server server
+keeps_same : (server : Server) → KeepsEntries server server
 keeps_same server = record { more = []; log = sym (append-nil server.log); trace = refl }
 
-keeps_twice : (a b c : Server) → Keeps a b → Keeps b c → Keeps a c
-keeps_twice a b c first second = record {
+keeps_entries_twice : (a b c : Server) → KeepsEntries a b → KeepsEntries b c → KeepsEntries a c
+keeps_entries_twice a b c first second = record {
   more = first.more ++ second.more;
   log = second.log ∙ ap (λ log. log ++ second.more) first.log ∙ append_assoc a.log first.more second.more;
   trace = second.trace ∙ first.trace;
@@ -39,66 +39,66 @@ keeps_twice a b c first second = record {
 
 -- under a number
 module _ (send : Send) (plain : IsPlain send) (server : Server) where
-  served_in_keeps : (plan : Plan) → Keeps server (served_in outside (planned send plain server plan) plan.page server send)
+  served_in_keeps : (plan : Plan) → KeepsEntries server (served_in outside (planned send plain server plan) plan.page server send)
   unfolding served_in
   served_in_keeps plan =
       record { more = entries_of send.session send.number (writes_of send) (planned send plain server plan); log = refl; trace = refl }
 
-  served_plain_keeps : (plan : Plan) → Keeps server (served plan server send)
+  served_plain_keeps : (plan : Plan) → KeepsEntries server (served plan server send)
   served_plain_keeps plan =
       elim (is_below plain.number (finite.get server.sessions plain.id))
-      as (λ b. is_below plain.number (finite.get server.sessions plain.id) ≡ b → Keeps server (served plan server send)) [
-        | true ↦ λ below. subst (Keeps server) (sym (below_nothing send plain server plan below)) (keeps_same server)
-        | false ↦ λ above. subst (Keeps server) (sym (served_above send plain server plan above)) (served_in_keeps plan)
+      as (λ b. is_below plain.number (finite.get server.sessions plain.id) ≡ b → KeepsEntries server (served plan server send)) [
+        | true ↦ λ below. subst (KeepsEntries server) (sym (below_nothing send plain server plan below)) (keeps_same server)
+        | false ↦ λ above. subst (KeepsEntries server) (sym (served_above send plain server plan above)) (served_in_keeps plan)
       ] refl
 
-  begun_in_keeps : (most : ℕ) → Keeps server (interrupted_in outside (begun_done send plain server most) server send)
+  begun_in_keeps : (most : ℕ) → KeepsEntries server (interrupted_in outside (begun_done send plain server most) server send)
   unfolding interrupted_in
   begun_in_keeps most = record { more = entries_of send.session send.number (writes_of send) (begun_done send plain server most); log = refl; trace = refl }
 
-  interrupted_plain_keeps : (most : ℕ) (labels : List (List ℕ)) → Keeps server (interrupted most labels server send)
+  interrupted_plain_keeps : (most : ℕ) (labels : List (List ℕ)) → KeepsEntries server (interrupted most labels server send)
   interrupted_plain_keeps most labels =
       elim (is_below plain.number (finite.get server.sessions plain.id))
-      as (λ b. is_below plain.number (finite.get server.sessions plain.id) ≡ b → Keeps server (interrupted most labels server send)) [
-        | true ↦ λ below. subst (Keeps server) (sym (interrupted_below send plain server most labels below)) (keeps_same server)
-        | false ↦ λ above. subst (Keeps server) (sym (interrupted_above send plain server most labels above)) (begun_in_keeps most)
+      as (λ b. is_below plain.number (finite.get server.sessions plain.id) ≡ b → KeepsEntries server (interrupted most labels server send)) [
+        | true ↦ λ below. subst (KeepsEntries server) (sym (interrupted_below send plain server most labels below)) (keeps_same server)
+        | false ↦ λ above. subst (KeepsEntries server) (sym (interrupted_above send plain server most labels above)) (begun_in_keeps most)
       ] refl
 
 -- without one
 module _ (send : Send) (free : IsUnnumbered send) (server : Server) where
-  served_in_keeps_free : (plan : Plan) → Keeps server (served_in outside (planned_only send free server plan) plan.page server send)
+  served_in_keeps_free : (plan : Plan) → KeepsEntries server (served_in outside (planned_only send free server plan) plan.page server send)
   unfolding served_in
   served_in_keeps_free plan =
       record { more = entries_of send.session send.number (writes_of send) (planned_only send free server plan); log = refl; trace = refl }
 
-  served_free_keeps : (plan : Plan) → Keeps server (served plan server send)
-  served_free_keeps plan = subst (Keeps server) (sym (served_free send free server plan)) (served_in_keeps_free plan)
+  served_free_keeps : (plan : Plan) → KeepsEntries server (served plan server send)
+  served_free_keeps plan = subst (KeepsEntries server) (sym (served_free send free server plan)) (served_in_keeps_free plan)
 
-  begun_in_keeps_free : (most : ℕ) → Keeps server (interrupted_in outside (begun_only send free server most) server send)
+  begun_in_keeps_free : (most : ℕ) → KeepsEntries server (interrupted_in outside (begun_only send free server most) server send)
   unfolding interrupted_in
   begun_in_keeps_free most = record { more = entries_of send.session send.number (writes_of send) (begun_only send free server most); log = refl; trace = refl }
 
-  interrupted_free_keeps : (most : ℕ) (labels : List (List ℕ)) → Keeps server (interrupted most labels server send)
-  interrupted_free_keeps most labels = subst (Keeps server) (sym (interrupted_free send free server most labels)) (begun_in_keeps_free most)
+  interrupted_free_keeps : (most : ℕ) (labels : List (List ℕ)) → KeepsEntries server (interrupted most labels server send)
+  interrupted_free_keeps most labels = subst (KeepsEntries server) (sym (interrupted_free send free server most labels)) (begun_in_keeps_free most)
 
 -- with one or without
 module _ (send : Send) (is_either : IsEither send) (server : Server) where
-  served_keeps : (plan : Plan) → Keeps server (served plan server send)
+  served_keeps : (plan : Plan) → KeepsEntries server (served plan server send)
   served_keeps plan = elim is_either [ inl plain ↦ served_plain_keeps send plain server plan | inr free ↦ served_free_keeps send free server plan ]
 
-  interrupted_keeps : (most : ℕ) (labels : List (List ℕ)) → Keeps server (interrupted most labels server send)
+  interrupted_keeps : (most : ℕ) (labels : List (List ℕ)) → KeepsEntries server (interrupted most labels server send)
   interrupted_keeps most labels = elim is_either [
     | inl plain ↦ interrupted_plain_keeps send plain server most labels
     | inr free ↦ interrupted_free_keeps send free server most labels
   ]
 
-  refused_keeps : (labels : List (List ℕ)) → Keeps server (told_of_error labels server send)
+  refused_keeps : (labels : List (List ℕ)) → KeepsEntries server (told_of_error labels server send)
   refused_keeps labels = elim is_either [
-    | inl plain ↦ subst (Keeps server) (sym (error_nothing send plain server labels server)) (keeps_same server)
-    | inr free ↦ subst (Keeps server) (sym (error_free send free server labels server)) (keeps_same server)
+    | inl plain ↦ subst (KeepsEntries server) (sym (error_nothing send plain server labels server)) (keeps_same server)
+    | inr free ↦ subst (KeepsEntries server) (sym (error_free send free server labels server)) (keeps_same server)
   ]
 
-  met_keeps : (item : Item) → Keeps server (met server send item)
+  met_keeps : (item : Item) → KeepsEntries server (met server send item)
   unfolding met
   met_keeps (Serve results fail concern page) = served_keeps (plan_of results fail concern page)
   met_keeps Lost = keeps_same server
@@ -109,7 +109,7 @@ module _ (send : Send) (is_either : IsEither send) (server : Server) where
   met_keeps Reauthenticate = keeps_same server
 
 arrived_keeps : (trace : List Send) (server : Server) (at : ℕ) (found : Option (Option Send)) → IsOrderly trace → slice_get server.waiting at ≡ found → IsSettled trace server
-    → Keeps server (arrived server at found)
+    → KeepsEntries server (arrived server at found)
 unfolding arrived
 arrived_keeps trace server at None orderly is settled = keeps_same server
 arrived_keeps trace server at (Some None) orderly is settled = keeps_same server
@@ -118,16 +118,16 @@ arrived_keeps trace server at (Some (Some send)) orderly is settled =
     let keeps = served_keeps send (orderly.either send (settled.waiting at send is)) less usual in
     record { more = keeps.more; log = keeps.log; trace = keeps.trace }
 
-delivered_keeps : (trace : List Send) (server : Server) (pick : ℕ) → IsOrderly trace → IsSettled trace server → Keeps server (delivered server pick)
+delivered_keeps : (trace : List Send) (server : Server) (pick : ℕ) → IsOrderly trace → IsSettled trace server → KeepsEntries server (delivered server pick)
 unfolding delivered
 delivered_keeps trace server pick orderly settled = arrived_keeps trace server pick (slice_get server.waiting pick) orderly refl settled
 
 -- late deliveries
-pub after_keeps : (trace : List Send) (server : Server) (picks : List ℕ) → IsOrderly trace → IsSettled trace server → Keeps server (after_picks server picks)
+pub after_keeps : (trace : List Send) (server : Server) (picks : List ℕ) → IsOrderly trace → IsSettled trace server → KeepsEntries server (after_picks server picks)
 unfolding after_picks
 after_keeps trace server [] orderly settled = keeps_same server
 after_keeps trace server (pick ∷ picks) orderly settled =
-    keeps_twice server (delivered server pick) (after_picks (delivered server pick) picks) (delivered_keeps trace server pick orderly settled)
+    keeps_entries_twice server (delivered server pick) (after_picks (delivered server pick) picks) (delivered_keeps trace server pick orderly settled)
     (after_keeps trace (delivered server pick) picks orderly (after_settled trace server (pick ∷ []) orderly settled))
 
 -- what one exchange keeps of the log, and the trace after it

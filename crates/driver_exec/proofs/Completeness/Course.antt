@@ -31,9 +31,9 @@ use Rattle.driver_exec.proofs.RetryFold.{came_of}
 use Rattle.driver_exec.proofs.HeldSessions.{draws_on, not_both}
 use Rattle.driver_exec.proofs.Moments.{IsBefore, Leads, before_refl, before_twice, connects_lead, fails_lead, leads_same, leads_twice, one_moment, selects_lead}
 use Rattle.driver_exec.proofs.StoreDraws.{back_apart, ends_apart, fails_apart}
-use Rattle.driver_exec.proofs.Completing.Ends.{ok_err, allows, draws_write}
-use Rattle.driver_exec.proofs.Completing.Sessions.{KnownCommand, attempted, IsPrepared, first_prepared, is_conn, refused_memory}
-use Rattle.driver_exec.proofs.Completing.Losses.{Lost, again_prepared, unselected_none, LosesWell, fails_well}
+use Rattle.driver_exec.proofs.Completeness.Ends.{ok_err, allows, draws_write}
+use Rattle.driver_exec.proofs.Completeness.Sessions.{KnownCommand, attempted, IsPrepared, first_prepared, is_conn, refused_memory}
+use Rattle.driver_exec.proofs.Completeness.Losses.{Lost, again_prepared, unselected_none, LosesWell, fails_well}
 
 module _ {A : Type 0} (known : KnownCommand A) where
   open known use {body, does, retryability, store, told, link, link_is, unrefused}

@@ -23,10 +23,10 @@ use Rattle.driver_link.specs.Exchange.{after_picks, answered, exchanged, interru
 use Rattle.driver_link.specs.Replies.{body_reply, reply_in, served_reply}
 use Rattle.driver_link.specs.Serving.{Plan, done_in, served, served_in}
 use Rattle.driver_link.specs.Settled.{Has, IsUnnumbered}
-use Rattle.driver_link.specs.Statements.{code_at, counted, planned_at, statement_at, statement_of, statements, entry_of, is_failed, no_results}
-use Rattle.driver_link.proofs.Following.{entry_there}
+use Rattle.driver_link.specs.Statements.{code_at, counts_by_plan, planned_at, statement_at, statement_of, statements, entry_of, is_failed, no_results}
+use Rattle.driver_link.proofs.KeptStatements.{entry_there}
 use Rattle.driver_link.proofs.Lists.{has_right, none_is_some, some_is_some}
-use Rattle.driver_link.proofs.Replying.{IsError, both_nothing, one_reply}
+use Rattle.driver_link.proofs.OneWriteReplies.{IsError, both_nothing, one_reply}
 use Rattle.driver_link.proofs.Unnumbered.{RunsOnly, case_free, planned_only, results_free, served_free, served_runs_only}
 
 -- a send of one write by a command without a number
@@ -46,7 +46,7 @@ pub record StandsOnce (send : Send) (write : PlacedWrite) (log : List Entry) : T
 
 -- it runs, or it failed
 ran_or_failed : (plan : Plan) (write : PlacedWrite) → ((code : ℤ) × (only_statement plan write ≡ Failed code)) ⊎ ((result : Counted) × (only_statement plan write ≡ Ran result))
-ran_or_failed plan write = by_code (finite.get no_results 0) (code_at plan.fail 0) (counted write.written.kind (planned_at plan.results 0)) (finite.get-empty nat_cmp 0)
+ran_or_failed plan write = by_code (finite.get no_results 0) (code_at plan.fail 0) (counts_by_plan write.written.kind (planned_at plan.results 0)) (finite.get-empty nat_cmp 0)
   where
     by_code : (kept : Option Counted) (code : Option ℤ) (now : Counted) → kept ≡ None
         → ((failed : ℤ) × (statement_of kept code now ≡ Failed failed)) ⊎ ((result : Counted) × (statement_of kept code now ≡ Ran result))

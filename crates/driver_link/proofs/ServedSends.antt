@@ -20,12 +20,12 @@ use Rattle.driver_link.specs.declared.machine.ServerTransaction.TheVariants as t
 use Rattle.driver_link.specs.declared.machine.Statement.{Statement}
 use Rattle.driver_link.specs.Once.{Once}
 use Rattle.driver_link.specs.Cases.{writes_of}
-use Rattle.driver_link.specs.Sessions.{begun, is_below, taken}
+use Rattle.driver_link.specs.Sessions.{begin_session, is_below, taken}
 use Rattle.driver_link.specs.Settled.{Has, HasFreeOrigin, HasOrigin, HasRun, IsOrderly, IsSettled, IsSettledSession, IsUnder, IsUnnumbered, IsUnserved}
 use Rattle.driver_link.specs.Statements.{entry_of, entries_of, has_run, kept_with}
-use Rattle.driver_link.proofs.Following.{Follows, IsEntryOf, entry_from, entry_there, kept_from, kept_ran, kept_still, ran_free}
+use Rattle.driver_link.proofs.KeptStatements.{Follows, IsEntryOf, entry_from, entry_there, kept_from, kept_ran, kept_still, ran_free}
 use Rattle.driver_link.proofs.Lists.{has_left, has_right, has_either, none_is_some, some_is_some}
-use Rattle.driver_link.proofs.Orderly.{alike, all_places, free_apart, plain_under}
+use Rattle.driver_link.proofs.OrderlyTraces.{alike, all_places, free_apart, plain_under}
 use Rattle.driver_link.proofs.Placing.{once_append, once_entries}
 
 -- two ids are the same or differ
@@ -55,7 +55,7 @@ id_other known id value other differs =
 -- session that was known, or one that begins anew under a greater number
 pub record IsTaken (number : ℤ) (before : Option KnownSession) (known : KnownSession) : Type 0 where
   pub greatest : known.greatest ≡ number
-  pub is : (before ≡ Some known) ⊎ ((known ≡ begun number false false) × ((old : KnownSession) → before ≡ Some old → old.greatest <ℤ number))
+  pub is : (before ≡ Some known) ⊎ ((known ≡ begin_session number false false) × ((old : KnownSession) → before ≡ Some old → old.greatest <ℤ number))
 
 pub taken_is : (number : ℤ) (before : Option KnownSession) → is_below number before ≡ false → IsTaken number before (taken number false false before)
 unfolding taken is_below
@@ -71,7 +71,7 @@ taken_is number (Some old) above = by_test (int_lt old.greatest number) refl
     of_some : (other : KnownSession) → ◌≡◌ {A = Option KnownSession} (Some old) (Some other) → int_lt old.greatest number ≡ true → other.greatest <ℤ number
     of_some other is test = let same : old ≡ other = cc is in subst (λ k. k.greatest <ℤ number) same (less number old.greatest test)
 
-    by_test : (b : Bool) → int_lt old.greatest number ≡ b → IsTaken number (Some old) (if b then begun number false false else old)
+    by_test : (b : Bool) → int_lt old.greatest number ≡ b → IsTaken number (Some old) (if b then begin_session number false false else old)
     by_test true test = record { greatest = refl; is = inr (refl, λ other is. of_some other is test) }
     by_test false test = record { greatest = equal number old.greatest above test; is = inl refl }
 

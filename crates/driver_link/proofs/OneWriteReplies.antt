@@ -22,11 +22,11 @@ use Rattle.driver_link.specs.Replies.{body_reply, error_reply, reply_in, served_
 use Rattle.driver_link.specs.Serving.{Plan, usual, done_in, served, served_in}
 use Rattle.driver_link.specs.Sessions.{is_below}
 use Rattle.driver_link.specs.Settled.{Has, IsOrderly, IsPlain, IsSettled}
-use Rattle.driver_link.specs.Statements.{code_at, counted, planned_at, statement_at, statement_of, statements, entry_of, is_failed}
-use Rattle.driver_link.proofs.Following.{Follows, entry_there, follows_statements}
+use Rattle.driver_link.specs.Statements.{code_at, counts_by_plan, planned_at, statement_at, statement_of, statements, entry_of, is_failed}
+use Rattle.driver_link.proofs.KeptStatements.{Follows, entry_there, follows_statements}
 use Rattle.driver_link.proofs.Lists.{has_right, none_is_some, some_is_some}
 use Rattle.driver_link.proofs.Plain.{case_above, case_below, known, none_known, planned, results_here, served_above, served_runs}
-use Rattle.driver_link.proofs.Serving.{Runs, kept_entry, taken_is}
+use Rattle.driver_link.proofs.ServedSends.{Runs, kept_entry, taken_is}
 
 -- the reply spells an error
 pub record IsError (found : Reply) : Type 0 where
@@ -181,7 +181,7 @@ module _ {asks : SendCommand} (send : Send) (write : PlacedWrite) (one : IsOneWr
   unfolding known
   stands_kept result is =
       let entry = entry_of (Some one.plain.id) (Some one.plain.number) write result in
-      let kept = kept_of (finite.get (known send one.plain server).kept 0) (code_at plan.fail 0) (counted write.written.kind (planned_at plan.results 0)) result is in
+      let kept = kept_of (finite.get (known send one.plain server).kept 0) (code_at plan.fail 0) (counts_by_plan write.written.kind (planned_at plan.results 0)) result is in
       record {
         result = result;
         has = in_now entry

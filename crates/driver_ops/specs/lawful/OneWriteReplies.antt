@@ -18,7 +18,7 @@ use Rattle.driver_link.specs.Exchange.{after_picks, reply, traced}
 use Rattle.driver_link.specs.Replies.{body_reply, result_of}
 use Rattle.driver_link.specs.Serving.{Plan, done_in}
 use Rattle.driver_link.specs.Statements.{Results, entry_of, has_failed, is_failed, statement_at, statements}
-use Rattle.driver_link.proofs.Replying.{both_nothing, one_reply}
+use Rattle.driver_link.proofs.OneWriteReplies.{both_nothing, one_reply}
 use Rattle.driver_ops.specs.Served.{RanOrKept, entries_counted, entry_counted, met_statements, statements_in}
 use Rattle.driver_ops.specs.lawful.Statements.{told_outside, told_reply}
 
@@ -37,7 +37,7 @@ one_done does send write one plan kept =
     (both_nothing (is_ordered (Write does true (write ∷ [])) && is_failed (statement_at plan.results plan.fail kept 0 write)))
 
 -- the reply to such a send tells of the one statement
-pub record IsOneTold (does : SendCommand) (server : Server) (write : PlacedWrite) (item : Item) (done : List Statement) (found : Reply) : Type 0 where
+pub record TellsOneStatement (does : SendCommand) (server : Server) (write : PlacedWrite) (item : Item) (done : List Statement) (found : Reply) : Type 0 where
   pub plan : Plan
   pub item_is : item ≡ Serve plan.results plan.fail plan.concern plan.page
   pub statement : Statement
@@ -46,7 +46,7 @@ pub record IsOneTold (does : SendCommand) (server : Server) (write : PlacedWrite
 
 -- where its statements are told it is one, of which the reply tells
 pub one_told : (does : SendCommand) (server : Server) (send : Send) (write : PlacedWrite) → IsOneOf does send write → (item : Item) (done : List Statement) (found : Reply)
-    → met_statements server send item ≡ Some done → reply server send item ≡ Some found → IsOneTold does server write item done found
+    → met_statements server send item ≡ Some done → reply server send item ≡ Some found → TellsOneStatement does server write item done found
 one_told does server send write one item done found told is =
     let served_so = told_outside server send item done told in
     let plan = served_so.plan in
@@ -72,7 +72,7 @@ counted_unfailed (Failed code) result is = let e : ◌≡◌ {A = Option Counted
 pub record IsOneCounted (does : SendCommand) (server : Server) (send : Send) (step : Scheduled) (write : PlacedWrite) (found : Reply) : Type 0 where
   pub done : List Statement
   pub told : statements_in server send step ≡ Some done
-  pub alone : IsOneTold does (traced (after_picks server step.deliver) send) write step.item done found
+  pub alone : TellsOneStatement does (traced (after_picks server step.deliver) send) write step.item done found
   pub result : Counted
   pub counts : result_of alone.statement ≡ Some result
 

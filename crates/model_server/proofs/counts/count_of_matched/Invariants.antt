@@ -2,7 +2,7 @@
 use Rattle.std.proofs.Common.{◌≡◌, ◌+ℤ◌, filter, is_none, drop}
 use Rattle.driver_link.specs.Replies.{results_of_kind, sum_of}
 use Rattle.driver_link.specs.declared.machine.WriteKind.TheVariants as kind
-use Rattle.model_server.proofs.counts.matched.Given as goal
+use Rattle.model_server.proofs.counts.count_of_matched.Given as goal
 
 abbrev pub invariant-loop-at : goal.invariant-loop-at
 invariant-loop-at l =

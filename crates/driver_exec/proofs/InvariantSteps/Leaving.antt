@@ -13,16 +13,16 @@ use Rattle.driver_link.specs.Settled.{Has, IsEither, IsPlain, IsSettled, IsUnder
 use Rattle.driver_link.specs.ServerRun.{ServerRun}
 use Rattle.driver_session.specs.Pool.{Pool, taken_back}
 use Rattle.driver_session.specs.Session.{Session}
-use Rattle.driver_session.proofs.Drawing.{drawn_back}
+use Rattle.driver_session.proofs.IdDraws.{drawn_back}
 use Rattle.driver_session.proofs.PoolTells.{TurnsPool, same_told, turns_told}
 use Rattle.driver_ops.specs.Fields.{under}
 use Rattle.driver_ops.specs.Operations.{send_of}
 use Rattle.driver_exec.specs.BetweenCalls.{Between, SentUpTo, Sound}
 use Rattle.driver_exec.specs.Keeping.{StandsBefore}
 use Rattle.driver_exec.specs.Moment.{Moment}
-use Rattle.driver_exec.specs.Resending.{Borrowed, Borrows, SendsTold, SentTimes}
-use Rattle.driver_exec.proofs.Knowing.{Holding, joined_holds, lends_holds, number_raised, taken_between}
-use Rattle.driver_exec.proofs.Keeping.Sends.{Going, begins, between_free, holding_free, numbered_goes, numbered_joins, numbered_new, numbered_send, unnumbered_goes, unnumbered_new, unnumbered_send}
+use Rattle.driver_exec.specs.Resending.{Borrowed, Borrows, SendsWhereTold, SentTimes}
+use Rattle.driver_exec.proofs.TraceSessions.{Holding, joined_holds, lends_holds, number_raised, taken_between}
+use Rattle.driver_exec.proofs.InvariantSteps.Sends.{Going, begins, between_free, holding_free, numbered_goes, numbered_joins, numbered_new, numbered_send, unnumbered_goes, unnumbered_new, unnumbered_send}
 
 -- what sends of a command leave of a told pool and a told server
 pub record Left (session : Option (List ℕ)) (number : Option ℤ) (body : SendBody) (pool_now : Pool) (old now : Server) : Type 0 where
@@ -67,7 +67,7 @@ came_back now old trace session back lent holds =
 
 -- the sends of told servers
 sends_told : (link link_now : Option ServerRun) (run run_now : ServerRun) (send : Send) (count : ℕ) → link ≡ Some run → link_now ≡ Some run_now
-    → SentTimes link link_now send count → SendsTold run run_now send count
+    → SentTimes link link_now send count → SendsWhereTold run run_now send count
 sends_told link link_now run run_now send count is now_is sends =
     subst (λ now. SentTimes (Some run) now send count) now_is (subst (λ old. SentTimes old link_now send count) is sends)
 
@@ -144,12 +144,12 @@ module _ (before now : Moment) (pool pool_now : Pool) (run run_now : ServerRun) 
     start_going : Going (Some id) (Some number) body HoldsNumbered keep_numbered run.server run.server
     start_going = begins (Some id) (Some number) body HoldsNumbered keep_numbered run.server sound start_numbered
 
-    numbered_left : (count : ℕ) → SendsTold run run_now own_send count → Left (Some id) (Some number) body pool_now run.server run_now.server
+    numbered_left : (count : ℕ) → SendsWhereTold run run_now own_send count → Left (Some id) (Some number) body pool_now run.server run_now.server
     unfolding HoldsNumbered
     numbered_left count sends = left_by id (Some number) borrowed keep_numbered
         (numbered_goes (Some id) (Some number) body HoldsNumbered keep_numbered run start_going join_numbered plain count run_now sends)
 
-    numbered_may : (earlier : ℕ) (mid : ServerRun) → SendsTold run mid own_send earlier → MayGo own_send mid.server
+    numbered_may : (earlier : ℕ) (mid : ServerRun) → SendsWhereTold run mid own_send earlier → MayGo own_send mid.server
     numbered_may earlier mid sends = record {
       either = inl plain;
       joins = numbered_joins (Some id) (Some number) body HoldsNumbered keep_numbered run start_going join_numbered plain earlier mid sends;
@@ -174,7 +174,7 @@ module _ (before now : Moment) (pool pool_now : Pool) (run run_now : ServerRun) 
         let held = lent id None borrowed in
         number_raised held.pool run.server.trace borrowed.session borrowed.back borrowed.same borrowed.numbered.0 held.holds
 
-    free_left : (count : ℕ) → count ≤ 1 → SendsTold run run_now free_send count → Left (Some id) None body pool_now run.server run_now.server
+    free_left : (count : ℕ) → count ≤ 1 → SendsWhereTold run run_now free_send count → Left (Some id) None body pool_now run.server run_now.server
     unfolding HoldsFree
     free_left count one sends = left_by id None borrowed keep_free
         (unnumbered_goes (Some id) None body HoldsFree keep_free run
@@ -193,7 +193,7 @@ module _ (before now : Moment) (pool pool_now : Pool) (run run_now : ServerRun) 
     unfolding BetweenOld
     keep_bare trace holds = between_free trace bare_send refl pool holds
 
-    bare_left : (count : ℕ) → count ≤ 1 → SendsTold run run_now bare_send count → Left None None body pool_now run.server run_now.server
+    bare_left : (count : ℕ) → count ≤ 1 → SendsWhereTold run run_now bare_send count → Left None None body pool_now run.server run_now.server
     unfolding BetweenOld
     bare_left count one sends =
         let going = unnumbered_goes None None body BetweenOld keep_bare run
@@ -208,7 +208,7 @@ module _ (before now : Moment) (pool pool_now : Pool) (run run_now : ServerRun) 
         }
 
   -- the one send without a number may go out
-  unnumbered_may : (session : Option (List ℕ)) (mid : ServerRun) → SendsTold run mid (send_of (under session None) body) 0 → MayGo (send_of (under session None) body) mid.server
+  unnumbered_may : (session : Option (List ℕ)) (mid : ServerRun) → SendsWhereTold run mid (send_of (under session None) body) 0 → MayGo (send_of (under session None) body) mid.server
   unnumbered_may session mid sends = record {
     either = inr (unnumbered_send session body may_send.writes);
     joins = subst (λ s. MayJoin s.trace (send_of (under session None) body)) (sym sends.server) (unnumbered_new run.server.trace body may_send sound.orderly session);
@@ -227,7 +227,7 @@ module _ (before now : Moment) (pool pool_now : Pool) (run run_now : ServerRun) 
       by_session session number borrows once (sends_told (server_run before.link) (server_run now.link) run run_now (send_of (under session number) body) count run_is run_now_is sends)
     where
       by_session : (session : Option (List ℕ)) (number : Option ℤ) → Borrows before.store now.store session number → (number ≡ None → count ≤ 1)
-          → SendsTold run run_now (send_of (under session number) body) count → Left session number body pool_now run.server run_now.server
+          → SendsWhereTold run run_now (send_of (under session number) body) count → Left session number body pool_now run.server run_now.server
       by_session (Some id) (Some number) borrows once sends = numbered_left id number borrows count sends
       by_session (Some id) None borrows once sends = free_left id borrows count (once refl) sends
       by_session None (Some number) borrows once sends = absurd (let e : ◌≡◌ {A = Option ℤ} (Some number) None = borrows.1 in cc)
@@ -235,8 +235,8 @@ module _ (before now : Moment) (pool pool_now : Pool) (run run_now : ServerRun) 
 
   -- after so many sends one more may go out: any with a number, and the first without one
   pub may_go : (session : Option (List ℕ)) (number : Option ℤ) (earlier : ℕ) (mid : ServerRun) → Borrows before.store now.store session number → (number ≡ None → earlier ≡ 0)
-      → SendsTold run mid (send_of (under session number) body) earlier → MayGo (send_of (under session number) body) mid.server
+      → SendsWhereTold run mid (send_of (under session number) body) earlier → MayGo (send_of (under session number) body) mid.server
   may_go (Some id) (Some number) earlier mid borrows once sends = numbered_may id number borrows earlier mid sends
   may_go None (Some number) earlier mid borrows once sends = absurd (let e : ◌≡◌ {A = Option ℤ} (Some number) None = borrows.1 in cc)
   may_go session None earlier mid borrows once sends =
-      unnumbered_may session mid (subst (SendsTold run mid (send_of (under session None) body)) (once refl) sends)
+      unnumbered_may session mid (subst (SendsWhereTold run mid (send_of (under session None) body)) (once refl) sends)

@@ -29,14 +29,14 @@ use Rattle.driver_link.specs.Replies.{concern_field, done_field, error_reply, er
 use Rattle.driver_link.specs.Serving.{Plan}
 use Rattle.driver_link.proofs.Forms.{array_is, document_is}
 use Rattle.driver_link.proofs.Lists.{none_is_some, some_is_some}
-use Rattle.driver_link.proofs.Replying.{one_reply}
+use Rattle.driver_link.proofs.OneWriteReplies.{one_reply}
 use Rattle.driver_ops.specs.declared.delete.DeleteReply.{DeleteReply}
 use Rattle.driver_ops.specs.declared.failed_write.FailedWrite.{FailedWrite}
 use Rattle.driver_ops.specs.declared.update.UpdateReply.{UpdateReply}
 use Rattle.driver_ops.specs.CountAnswers.{AnswersDelete, AnswersUpdate, delete_reply, delete_result, deleted_by, failed_write_in, first_id, update_reply, update_result, updated_by, upserted_in}
 use Rattle.driver_ops.specs.Inserts.{int_at, is_one}
 use Rattle.driver_ops.specs.Readings.{labels_in, natural, natural_of}
-use Rattle.driver_ops.specs.WriteReplies.{concern_in, indexed_error_of, indexed_errors, indexed_errors_of, write_errors_in}
+use Rattle.driver_ops.specs.WriteReplies.{indexed_error_of, indexed_errors, indexed_errors_of, reply_concern_error, write_errors_in}
 
 -- an error says that its command was not done
 pub error_not_one : (code : ℤ) (labels : List (List ℕ)) → is_one (int_at OK.now (error_reply code labels)) ≡ false
@@ -138,12 +138,12 @@ pub errors_fail : (reply : Reply) (value : Bson) (failed : FailedWrite) → valu
     → failed.failure ≡ None → ⊥
 unfolding failed_write_in write_errors_in
 errors_fail reply value failed at read none =
-    by_errors (indexed_errors (value ∷ [])) refl (concern_in reply) (labels_in reply) (subst (λ found.
+    by_errors (indexed_errors (value ∷ [])) refl (reply_concern_error reply) (labels_in reply) (subst (λ found.
     option_and_then (λ errors.
     option_and_then (λ concern.
     option_map (λ labels. record { failure = first_failure (Some errors) concern; labels = labels })
     (labels_in reply))
-    (concern_in reply))
+    (reply_concern_error reply))
     (option_map (λ list. unwrap_or list []) found) ≡ Some failed) (ap (optional_value indexed_errors_of) at ∙ array_read value) read)
   where
     by_errors : (errors : Option (List IndexedWriteError)) → indexed_errors (value ∷ []) ≡ errors → (concern : Option (Option WriteConcernError)) (labels : Option (List (List ℕ)))

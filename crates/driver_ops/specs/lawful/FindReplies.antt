@@ -25,12 +25,12 @@ use Rattle.driver_link.specs.Serving.{Plan}
 use Rattle.driver_link.specs.Values.{as_document}
 use Rattle.driver_link.proofs.Forms.{document_is}
 use Rattle.driver_link.proofs.Lists.{none_is_some, some_is_some}
-use Rattle.driver_link.proofs.Replying.{one_reply}
+use Rattle.driver_link.proofs.OneWriteReplies.{one_reply}
 use Rattle.driver_ops.specs.declared.failed_write.FailedWrite.{FailedWrite}
 use Rattle.driver_ops.specs.declared.find_and_modify.FindReply.{FindReply}
 use Rattle.driver_ops.specs.CountAnswers.{failed_write_in}
 use Rattle.driver_ops.specs.FoundAnswers.{AnswersFind, as_found, find_reply, found_by, found_of}
-use Rattle.driver_ops.specs.lawful.CountsTold.{errors_fail}
+use Rattle.driver_ops.specs.lawful.CountReplies.{errors_fail}
 
 -- a findAndModify that was read as done
 pub record IsFindRead (found : Reply) (output : Option (List (Pair Bson))) : Type 0 where

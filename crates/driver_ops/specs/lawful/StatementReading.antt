@@ -21,14 +21,15 @@ use Rattle.driver_link.specs.Replies.{result_of}
 use Rattle.driver_link.specs.Serving.{Plan}
 use Rattle.driver_link.specs.Settled.{IsWrite}
 use Rattle.driver_link.specs.Statements.{entry_of}
+use Rattle.driver_link.proofs.OneWriteReplies.{one_reply}
 use Rattle.driver_ops.specs.declared.operation.Reading.TheVariants.{Done}
 use Rattle.driver_ops.specs.Inserts.{int_at, is_one}
 use Rattle.driver_ops.specs.OperationLaw.{IsLawful, TellsOutput}
 use Rattle.driver_ops.specs.Operations.{OperationSpec, ReadsOutput, send_of}
 use Rattle.driver_ops.specs.Served.{statements_in}
-use Rattle.driver_ops.specs.lawful.CountsTold.{error_not_one}
+use Rattle.driver_ops.specs.lawful.CountReplies.{error_not_one}
 use Rattle.driver_ops.specs.lawful.InsertRead.{differ, ok_is_one, spells_one}
-use Rattle.driver_ops.specs.lawful.OneTold.{IsOneCounted, IsOneOf, one_stands, one_told, reply_of_one}
+use Rattle.driver_ops.specs.lawful.OneWriteReplies.{IsOneCounted, IsOneOf, one_stands, one_told}
 use Rattle.driver_ops.specs.lawful.Statements.{TellsStatements, reply_of_writes}
 
 -- how an operation of one statement reads: it asks for one write; what it reads as its output in a reply is read so (`IsRead`); a
@@ -36,14 +37,14 @@ use Rattle.driver_ops.specs.lawful.Statements.{TellsStatements, reply_of_writes}
 pub record ReadsStatement {A : Type 0} (does : SendCommand) (spec : OperationSpec A) (IsRead : Reply → A → Type 0) (counted_by : Counted → Option A) : Type 0 where
   pub asks : (statements : ℕ) (places : List Place) (body : SendBody) → spec.bodies statements places body → (write : PlacedWrite) × (body ≡ Write does true (write ∷ []))
   pub reads : (reply : Reply) (output : A) → spec.reads (Ok reply ∷ []) (Ok (Done output)) → IsRead reply output
-  pub has_result : (plan : Plan) (server : Server) (write : PlacedWrite) (statement : Statement) (output : A) → IsRead (reply_of_one does plan server write statement) output
+  pub has_result : (plan : Plan) (server : Server) (write : PlacedWrite) (statement : Statement) (output : A) → IsRead (one_reply does plan server write statement) output
       → (result : Counted) × (result_of statement ≡ Some result)
   pub counts : (plan : Plan) (server : Server) (write : PlacedWrite) (statement : Statement) (result : Counted) (output : A) → result_of statement ≡ Some result
-      → IsRead (reply_of_one does plan server write statement) output → counted_by result ≡ Some output
+      → IsRead (one_reply does plan server write statement) output → counted_by result ≡ Some output
   pub tells : (entry : Entry) (output : A) → counted_by entry.result ≡ Some output → spec.output (entry ∷ []) output
 
 -- a command of one statement whose reply is read as done: that statement is told, and its result counts what is read
-pub record IsTold {A : Type 0} (does : SendCommand) (IsRead : Reply → A → Type 0) (counted_by : Counted → Option A) (server : Server) (send : Send) (step : Scheduled) (write : PlacedWrite)
+pub record IsDoneAsRead {A : Type 0} (does : SendCommand) (IsRead : Reply → A → Type 0) (counted_by : Counted → Option A) (server : Server) (send : Send) (step : Scheduled) (write : PlacedWrite)
     (found : Reply) (output : A) : Type 0 where
   pub one : IsOneCounted does server send step write found
   pub read : IsRead found output
@@ -53,7 +54,7 @@ module _ {A : Type 0} {does : SendCommand} {spec : OperationSpec A} {IsRead : Re
   -- by what its reply tells
   told_by : (server : Server) (send : Send) (step : Scheduled) (write : PlacedWrite) (found : Reply) (output : A) → IsOneOf does send write
       → answered server send step ≡ Some found → IsRead found output
-      → TellsStatements (traced (after_picks server step.deliver) send) send step.item found → IsTold does IsRead counted_by server send step write found output
+      → TellsStatements (traced (after_picks server step.deliver) send) send step.item found → IsDoneAsRead does IsRead counted_by server send step write found output
   unfolding statements_in answered
   told_by server send step write found output one answer read tells =
       let before = traced (after_picks server step.deliver) send in
@@ -68,7 +69,7 @@ module _ {A : Type 0} {does : SendCommand} {spec : OperationSpec A} {IsRead : Re
 
   -- a reply that is read as done is none that spells an error
   told : (server : Server) (send : Send) (step : Scheduled) (write : PlacedWrite) (found : Reply) (output : A) → IsOneOf does send write
-      → answered server send step ≡ Some found → is_one (int_at OK.now found) ≡ true → IsRead found output → IsTold does IsRead counted_by server send step write found output
+      → answered server send step ≡ Some found → is_one (int_at OK.now found) ≡ true → IsRead found output → IsDoneAsRead does IsRead counted_by server send step write found output
   unfolding answered
   told server send step write found output one answer done read =
       let before = traced (after_picks server step.deliver) send in
@@ -80,7 +81,7 @@ module _ {A : Type 0} {does : SendCommand} {spec : OperationSpec A} {IsRead : Re
   -- an exchange whose reply is read as done
   pub told_by_reading : (server : Server) (send : Send) (step : Scheduled) (write : PlacedWrite) (found : Reply)
       → IsOneOf does send write → answered server send step ≡ Some found → (bytes : List ℕ) → Spells found bytes → (output : A)
-      → ReadsOutput spec bytes output → IsTold does IsRead counted_by server send step write found output
+      → ReadsOutput spec bytes output → IsDoneAsRead does IsRead counted_by server send step write found output
   told_by_reading server send step write found one answer bytes spelled output reads =
       let same = spells_one reads.response.body found bytes reads.done.spelled spelled in
       let done = subst (λ reply. is_one (int_at OK.now reply) ≡ true) same (ok_is_one reads.response.body reads.done.is) in

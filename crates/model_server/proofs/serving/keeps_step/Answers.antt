@@ -1,7 +1,7 @@
 use Rattle.std.proofs.Common.{ap, ◌∙◌}
 use Rattle.driver_link.specs.Statements.{entries_of}
 use Rattle.model_server.proofs.SessionStepLaws.{keeps_does}
-use Rattle.model_server.proofs.serving.keeps.Goals as goal
+use Rattle.model_server.proofs.serving.keeps_step.Goals as goal
 
 pub returns : goal.returns
 returns c = λ known.

@@ -35,7 +35,7 @@ use Rattle.driver_exec.specs.OperationCauses.{DrawsNumbers}
 use Rattle.driver_exec.specs.Retry.{RetryState}
 use Rattle.driver_exec.proofs.HeldSessions.{IsOf, draws_on, is_of, not_both}
 use Rattle.driver_exec.proofs.Moments.{IsBefore, LeadsCalling, before_refl, connects_lead}
-use Rattle.driver_exec.proofs.Completing.Ends.{AnswersPlainly, err_ok, HasNumber, no_read, no_none, undrawn, held_again}
+use Rattle.driver_exec.proofs.Completeness.Ends.{AnswersPlainly, err_ok, HasNumber, no_read, no_none, undrawn, held_again}
 
 -- an operation over what is told, with what is known of its sends
 pub record KnownCommand (A : Type 0) : Type 1 where

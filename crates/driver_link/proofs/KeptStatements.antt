@@ -15,7 +15,7 @@ use Rattle.driver_link.specs.declared.machine.Planned.{Planned}
 use Rattle.driver_link.specs.declared.machine.Statement.{Statement}
 use Rattle.driver_link.specs.declared.machine.Statement.TheVariants.{Kept, Ran, Failed}
 use Rattle.driver_link.specs.Settled.{Has}
-use Rattle.driver_link.specs.Statements.{Results, kept_by, kept_with, entry_of, entries_by, entries_of, statement_at, statement_of, statements, front, code_at, counted, planned_at, is_failed}
+use Rattle.driver_link.specs.Statements.{Results, kept_by, kept_with, entry_of, entries_by, entries_of, statement_at, statement_of, statements, front_to_run, code_at, counts_by_plan, planned_at, is_failed}
 
 -- a statement fits what is kept at its position
 abbrev pub FitsKept : Option Counted → Statement → Type 0
@@ -40,7 +40,7 @@ pub follows_statements : (results : List Planned) (fail : List Failing) (ordered
 unfolding statements
 follows_statements results fail ordered kept at [] = tt
 follows_statements results fail ordered kept at (write ∷ writes) = (
-  fits_of (finite.get kept at) (code_at fail at) (counted write.written.kind (planned_at results at)),
+  fits_of (finite.get kept at) (code_at fail at) (counts_by_plan write.written.kind (planned_at results at)),
   elim (ordered && is_failed (statement_at results fail kept at write))
       as (λ stop. Follows kept (at + 1) writes (cond stop [] (statements results fail ordered kept (at + 1) writes))) [
         | true ↦ nothing (at + 1) writes
@@ -54,21 +54,21 @@ follows_statements results fail ordered kept at (write ∷ writes) = (
 
 -- statements of a front of the writes follow too
 front_more : (kept : Results) (at n : ℕ) (write : PlacedWrite) (writes : List PlacedWrite)
-    → Follows kept (at + 1) writes (statements [] [] false kept (at + 1) (front kept (at + 1) n writes))
-    → Follows kept at (write ∷ writes) (statements [] [] false kept at (write ∷ front kept (at + 1) n writes))
+    → Follows kept (at + 1) writes (statements [] [] false kept (at + 1) (front_to_run kept (at + 1) n writes))
+    → Follows kept at (write ∷ writes) (statements [] [] false kept at (write ∷ front_to_run kept (at + 1) n writes))
 unfolding statements
-front_more kept at n write writes follows = (fits_of (finite.get kept at) (code_at [] at) (counted write.written.kind (planned_at [] at)), follows)
+front_more kept at n write writes follows = (fits_of (finite.get kept at) (code_at [] at) (counts_by_plan write.written.kind (planned_at [] at)), follows)
 
 front_by : (kept : Results) (at after : ℕ) (write : PlacedWrite) (writes : List PlacedWrite) (is_kept is_over : Bool)
-    → ((n : ℕ) → Follows kept (at + 1) writes (statements [] [] false kept (at + 1) (front kept (at + 1) n writes)))
-    → Follows kept at (write ∷ writes) (statements [] [] false kept at (cond is_kept (write ∷ front kept (at + 1) after writes) (cond is_over [] (write ∷ front kept (at + 1) (after - 1) writes))))
+    → ((n : ℕ) → Follows kept (at + 1) writes (statements [] [] false kept (at + 1) (front_to_run kept (at + 1) n writes)))
+    → Follows kept at (write ∷ writes) (statements [] [] false kept at (cond is_kept (write ∷ front_to_run kept (at + 1) after writes) (cond is_over [] (write ∷ front_to_run kept (at + 1) (after - 1) writes))))
 unfolding statements
 front_by kept at after write writes true is_over rest = front_more kept at after write writes (rest after)
 front_by kept at after write writes false true rest = tt
 front_by kept at after write writes false false rest = front_more kept at (after - 1) write writes (rest (after - 1))
 
-pub follows_front : (kept : Results) (at after : ℕ) (writes : List PlacedWrite) → Follows kept at writes (statements [] [] false kept at (front kept at after writes))
-unfolding statements front
+pub follows_front : (kept : Results) (at after : ℕ) (writes : List PlacedWrite) → Follows kept at writes (statements [] [] false kept at (front_to_run kept at after writes))
+unfolding statements front_to_run
 follows_front kept at after [] = tt
 follows_front kept at after (write ∷ writes) =
     front_by kept at after write writes (is_some (finite.get kept at)) (after == 0) (λ n. follows_front kept (at + 1) n writes)

@@ -26,7 +26,7 @@ use Rattle.driver_link.specs.Replies.{body_reply, error_reply, result_of, sum_of
 use Rattle.driver_link.specs.Serving.{Plan, done_in}
 use Rattle.driver_link.specs.Settled.{IsWrite}
 use Rattle.driver_link.specs.Statements.{Results, has_failed, is_failed, statement_at, statements}
-use Rattle.driver_link.proofs.Replying.{both_nothing, one_reply}
+use Rattle.driver_link.proofs.OneWriteReplies.{both_nothing, one_reply}
 use Rattle.driver_link.specs.declared.write_options.InsertManyOptions.{InsertManyOptions}
 use Rattle.driver_ops.specs.declared.target.OperationTarget.{OperationTarget}
 use Rattle.driver_ops.specs.InsertSpec.{insert_spec}
@@ -34,7 +34,7 @@ use Rattle.driver_ops.specs.Inserts.{is_done_reply}
 use Rattle.driver_ops.specs.Operations.{ReadsOutput}
 use Rattle.driver_ops.specs.Served.{met_statements, statements_in}
 use Rattle.driver_ops.specs.lawful.InsertRead.{differ, output_done, spells_one}
-use Rattle.driver_ops.specs.lawful.OneTold.{counted_unfailed}
+use Rattle.driver_ops.specs.lawful.OneWriteReplies.{counted_unfailed}
 use Rattle.driver_ops.specs.lawful.Statements.{TellsStatements, reply_of_writes, told_outside, told_reply}
 
 -- an error tells of no insert
@@ -62,7 +62,7 @@ one_done send write one plan kept =
     ∙ ap (λ rest. statement_at plan.results plan.fail kept 0 write ∷ rest) (both_nothing (one.ordered && is_failed (statement_at plan.results plan.fail kept 0 write)))
 
 -- the reply to such a send tells of the one statement
-pub record IsOneTold (server : Server) (write : PlacedWrite) (item : Item) (done : List Statement) (found : Reply) : Type 0 where
+pub record TellsOneStatement (server : Server) (write : PlacedWrite) (item : Item) (done : List Statement) (found : Reply) : Type 0 where
   pub plan : Plan
   pub item_is : item ≡ Serve plan.results plan.fail plan.concern plan.page
   pub statement : Statement
@@ -71,7 +71,7 @@ pub record IsOneTold (server : Server) (write : PlacedWrite) (item : Item) (done
 
 -- where its statements are told it is one, of which the reply tells
 pub one_told : (server : Server) (send : Send) (write : PlacedWrite) → IsInsertOf send write → (item : Item) (done : List Statement) (found : Reply)
-    → met_statements server send item ≡ Some done → reply server send item ≡ Some found → IsOneTold server write item done found
+    → met_statements server send item ≡ Some done → reply server send item ≡ Some found → TellsOneStatement server write item done found
 one_told server send write one item done found told is =
     let served_so = told_outside server send item done told in
     let plan = served_so.plan in
@@ -98,7 +98,7 @@ done_counts plan server write (Failed code) done = absurd (differ (sym (failed_n
 pub record IsReadDone (server : Server) (send : Send) (step : Scheduled) (write : PlacedWrite) (found : Reply) : Type 0 where
   pub done : List Statement
   pub told : statements_in server send step ≡ Some done
-  pub alone : IsOneTold (traced (after_picks server step.deliver) send) write step.item done found
+  pub alone : TellsOneStatement (traced (after_picks server step.deliver) send) write step.item done found
   pub says : is_done_reply found ≡ true
   pub result : Counted
   pub counts : result_of alone.statement ≡ Some result

@@ -12,18 +12,18 @@ use Rattle.driver_link.specs.Counting.{KeepsServer}
 use Rattle.driver_link.specs.Exchange.{exchanged, next_step}
 use Rattle.driver_link.specs.Settled.{Has, IsOrderly, IsPlain, IsSettled, IsUnder, IsUnnumbered, IsWrite, MayJoin, SharePlace}
 use Rattle.driver_link.specs.ServerRun.{ServerRun, run_after}
-use Rattle.driver_link.proofs.Exchanged.{exchanged_settled}
-use Rattle.driver_link.proofs.Growing.{exchanged_keeps}
 use Rattle.driver_link.proofs.Lists.{has_either, has_last}
-use Rattle.driver_link.proofs.Orderly.{orderly_again, orderly_new}
+use Rattle.driver_link.proofs.LogGrowth.{exchanged_keeps}
+use Rattle.driver_link.proofs.OrderlyTraces.{orderly_again, orderly_new}
+use Rattle.driver_link.proofs.SettledExchanges.{exchanged_settled}
 use Rattle.driver_session.specs.declared.pool.IdleSession.{IdleSession}
 use Rattle.driver_session.specs.Pool.{Pool}
 use Rattle.driver_session.specs.Session.{Session}
 use Rattle.driver_ops.specs.Fields.{under}
 use Rattle.driver_ops.specs.Operations.{send_of}
 use Rattle.driver_exec.specs.BetweenCalls.{Between, FitsIdle, Knows, MaySendPlaces, NoneOf, SentUpTo, Sound}
-use Rattle.driver_exec.specs.Resending.{SendsTold}
-use Rattle.driver_exec.proofs.Knowing.{Holding}
+use Rattle.driver_exec.specs.Resending.{SendsWhereTold}
+use Rattle.driver_exec.proofs.TraceSessions.{Holding}
 
 -- sends of one command keep what holds of the trace
 module _ (session : Option (List ℕ)) (number : Option ℤ) (body : SendBody)
@@ -94,17 +94,17 @@ module _ (session : Option (List ℕ)) (number : Option ℤ) (body : SendBody)
         let has : Has (exchanged mid.server sent step).trace sent = subst (λ t. Has t sent) (sym exchanges.trace) (has_last mid.server.trace sent) in
         (going, orderly_again (exchanged mid.server sent step).trace sent has plain going.orderly)
 
-    numbered_keeps : IsPlain sent → (count : ℕ) (now : ServerRun) → SendsTold told now sent count → Keeping now
+    numbered_keeps : IsPlain sent → (count : ℕ) (now : ServerRun) → SendsWhereTold told now sent count → Keeping now
     unfolding Keeping
     numbered_keeps plain zero now sends = kept told now sends (start, first)
     numbered_keeps plain (suc count) now sends = kept (run_after sends.0 sent) now sends.1.1 (one_more plain sends.0 (numbered_keeps plain count sends.0 sends.1.0))
 
-    pub numbered_goes : IsPlain sent → (count : ℕ) (now : ServerRun) → SendsTold told now sent count → Going told.server now.server
+    pub numbered_goes : IsPlain sent → (count : ℕ) (now : ServerRun) → SendsWhereTold told now sent count → Going told.server now.server
     unfolding Keeping
     numbered_goes plain count now sends = (numbered_keeps plain count now sends).0
 
     -- without a number there is one send at most
-    pub unnumbered_goes : (count : ℕ) (now : ServerRun) → count ≤ 1 → SendsTold told now sent count → Going told.server now.server
+    pub unnumbered_goes : (count : ℕ) (now : ServerRun) → count ≤ 1 → SendsWhereTold told now sent count → Going told.server now.server
     unnumbered_goes zero now one sends = subst (Going told.server) (sym sends.server) start
     unnumbered_goes (suc zero) now one sends =
         let mid = sends.0 in
@@ -114,7 +114,7 @@ module _ (session : Option (List ℕ)) (number : Option ℤ) (body : SendBody)
     unnumbered_goes (suc (suc count)) now one sends = absurd (omega arith)
 
     -- before the last send
-    pub numbered_joins : IsPlain sent → (count : ℕ) (now : ServerRun) → SendsTold told now sent count → MayJoin now.server.trace sent
+    pub numbered_joins : IsPlain sent → (count : ℕ) (now : ServerRun) → SendsWhereTold told now sent count → MayJoin now.server.trace sent
     unfolding Keeping
     numbered_joins plain count now sends = (numbered_keeps plain count now sends).1
 
