@@ -30,7 +30,7 @@ pub fn execute_in_place<O: Operation, S: SessionStore, L: Link, K: Clock, R: Rng
         (moment_of S.tells L.tells K.tells R.stream client.old outside.old)
         (moment_of S.tells L.tells K.tells R.stream client.new outside.new)
         result }
-    ensures caused { Caused (O.spec op.old) (O.next op.old)
+    ensures caused { Caused (O.spec op.old) (O.next op.old) (O.built op.old)
         (moment_of S.tells L.tells K.tells R.stream client.old outside.old)
         (moment_of S.tells L.tells K.tells R.stream client.new outside.new)
         (end_of result) }

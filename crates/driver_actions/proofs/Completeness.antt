@@ -139,7 +139,7 @@ module _ (made : ℕ) (place : Place) (before now : Moment) (form : WriteForm) (
       -- what the operation tells, and that it reads a reply which says that its command was done
       module _ {A : Type 0} (spec : OperationSpec A) (sessions : spec.sessions ≡ true) (own_is : repeats_in form mid.client.options ≡ spec.retryability mid.client.options)
           (concern_is : concern_in form mid.client.options ≡ concern_of spec first mid.client.options)
-          (unrefused : (description : Description) (error : Error) → Refuses spec description error → ⊥)
+          (unrefused : (fixed : Option ℕ) (description : Description) (error : Error) → Refuses spec fixed description error → ⊥)
           (bodies : (which : SendKind) (statements : ℕ) (made : Command) → spec.commands which statements made → (made.database ≡ (namespace_in form).db) × (made.body ≡ command_body form))
           (plain : (found : Reply) → IsDoneReply (command_in form) (kind_in form) (placed_at place sent) found → (bytes : List ℕ) → Spells found bytes
           → (error : Error) → ReadsAnswer spec bytes (Err error) → kind_of error ≡ kind.Memory) where
@@ -194,7 +194,7 @@ module _ (made : ℕ) (place : Place) (before now : Moment) (form : WriteForm) (
           unfolding known
           ended_quietly =
               single_quiet runs.executed ended runs.becomes
-              (gentle_ends known mid now told_now refl refl own_is concern_is now_is apart gentle_mid 0 runs.count runs.executed runs.executes)
+              (gentle_ends known mid now told_now refl refl own_is concern_is now_is apart gentle_mid 0 runs.count (Some 1) (Some 1) runs.executed runs.executes)
 
           -- and so does its call
           ends_well : (answers : A → SingleAnswer) (error : Error) → Tells answers ended (Err error) → kind_of error ≡ kind.Memory
@@ -219,7 +219,7 @@ made_well made place before now (inserts namespace document options) valid pool 
     let run = write.runs in
     let spec = insert_spec (in_collection namespace) run.bytes run.value options in
     ends_well made place before now form valid pool told told_now ready pool_is link_is now_is apart gentle write.mid (made_drew form write) write.sent spec refl refl
-    (feature_else options.write_concern namespace write.mid.client.options.write_concern) (λ description error refuses. refuses.refused) (λ which statements command is. (is.database, is.body))
+    (feature_else options.write_concern namespace write.mid.client.options.write_concern) (λ fixed description error refuses. refuses.refused) (λ which statements command is. (is.database, is.body))
     (λ found tells bytes spelled error reads.
     plain_read (in_collection namespace) run.bytes run.value options bytes one_inserted inserted_plain
     (subst (λ reply. Spells reply bytes) (inserted_is (placed_at place write.sent) found tells) spelled) error reads) run.ended run.runs (λ output. Inserted (record { inserted_id = run.value })) error run.tells
@@ -228,7 +228,7 @@ made_well made place before now (updates namespace filter change multi options) 
     let run = write.runs in
     ends_well made place before now form valid pool told told_now ready pool_is link_is now_is apart gentle write.mid (made_drew form write) write.sent
     (update_spec (in_collection namespace) filter change multi options) refl refl (feature_else options.write_concern namespace write.mid.client.options.write_concern)
-    (λ description error refuses. refuses.refused) (λ which statements command is. (is.database, is.body))
+    (λ fixed description error refuses. refuses.refused) (λ which statements command is. (is.database, is.body))
     (λ found tells bytes spelled error reads. update_plain (in_collection namespace) filter change multi options (placed_at place write.sent) found tells bytes spelled error reads)
     run.ended run.runs (λ output. Updated output) error run.tells
 made_well made place before now (deletes namespace filter multi options) valid pool told told_now ready pool_is link_is now_is apart gentle error write =
@@ -236,7 +236,7 @@ made_well made place before now (deletes namespace filter multi options) valid p
     let run = write.runs in
     ends_well made place before now form valid pool told told_now ready pool_is link_is now_is apart gentle write.mid (made_drew form write) write.sent
     (delete_spec (in_collection namespace) filter multi options) refl refl (feature_else options.write_concern namespace write.mid.client.options.write_concern)
-    (λ description error refuses. refuses.refused) (λ which statements command is. (is.database, is.body))
+    (λ fixed description error refuses. refuses.refused) (λ which statements command is. (is.database, is.body))
     (λ found tells bytes spelled error reads. delete_plain (in_collection namespace) filter multi options (placed_at place write.sent) found tells bytes spelled error reads)
     run.ended run.runs (λ output. Deleted output) error run.tells
 made_well made place before now (finds namespace filter modification options) valid pool told told_now ready pool_is link_is now_is apart gentle error write =
@@ -244,7 +244,7 @@ made_well made place before now (finds namespace filter modification options) va
     let run = write.runs in
     ends_well made place before now form valid pool told told_now ready pool_is link_is now_is apart gentle write.mid (made_drew form write) write.sent
     (find_spec (in_collection namespace) filter modification options) refl refl (feature_else options.write_concern namespace write.mid.client.options.write_concern)
-    (λ description error refuses. refuses.refused) (λ which statements command is. (is.database, is.body))
+    (λ fixed description error refuses. refuses.refused) (λ which statements command is. (is.database, is.body))
     (λ found tells bytes spelled error reads. find_plain (in_collection namespace) filter modification options (placed_at place write.sent) found tells bytes spelled error reads)
     run.ended run.runs (λ output. Found output) error run.tells
 

@@ -60,10 +60,10 @@ BecomesEnd (Ok output) (Ok given) = Unit {0}
 BecomesEnd (Err error) (Err now) = Converts error now
 BecomesEnd executed result = ⊥
 
--- an operation ended with its cause, and so did its call
+-- an operation of one statement ended with its cause, and so did its call
 pub record EndsAsCaused {A B : Type 0} (spec : OperationSpec B) (before now : Moment) (result : Result A Error) : Type 0 where
   pub executed : Result B Error
-  pub caused : Caused spec first before now (end_of executed)
+  pub caused : Caused spec first (Some 1) before now (end_of executed)
   pub becomes : BecomesEnd executed result
 
 -- so did the operation of an insert of the caller's document with its id, its own or the one that was drawn

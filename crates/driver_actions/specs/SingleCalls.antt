@@ -35,16 +35,16 @@ use Rattle.driver_actions.specs.Inputs.{IsAccepted, TellsInput}
 use Rattle.driver_actions.specs.OwnIds.{DrawsOwn, MayDrawBy}
 use Rattle.driver_actions.specs.Singles.{BecomesSingle}
 
--- the operation of a write was executed, in one place and with two sends of one command at most; it ended with its cause, and its
--- error took the form of a single write's; it kept what stands, and has its entry where it was done
+-- the operation of a write of one statement was executed, in one place and with two sends of one command at most; it ended with
+-- its cause, and its error took the form of a single write's; it kept what stands, and has its entry where it was done
 pub record Runs {A : Type 0} (spec : OperationSpec A) (asked : SendBody) (place : Place) (before now : Moment) (ended : Result A Error) : Type 0 where
   pub asks : AsksFor spec (batch_of (place ∷ []) 1) asked
   pub executed : Result A Error
   pub count : ℕ
-  pub executes : Executes spec (batch_of (place ∷ []) 1) first before now 0 count executed
+  pub executes : Executes spec (batch_of (place ∷ []) 1) first before now 0 count (Some 1) (Some 1) executed
   pub twice : count ≤ 2
   pub one_command : SendsOneCommand spec (batch_of (place ∷ []) 1) before now executed
-  pub caused : Caused spec first before now (end_of executed)
+  pub caused : Caused spec first (Some 1) before now (end_of executed)
   pub becomes : BecomesSingle executed ended
   pub keeps : KeepsInvariant before now asked
   pub entries : OkHasEntries spec asked before now executed

@@ -139,9 +139,13 @@ same_twice a b c first second = record {
     λ x. (second.bodies statements places body).0 ((first.bodies statements places body).0 x),
     λ x. (first.bodies statements places body).1 ((second.bodies statements places body).1 x),
   );
-  refused = λ description error. (
-    λ x. (second.refused description error).0 ((first.refused description error).0 x),
-    λ x. (first.refused description error).1 ((second.refused description error).1 x),
+  takes = λ fixed description statements. (
+    λ x. (second.takes fixed description statements).0 ((first.takes fixed description statements).0 x),
+    λ x. (first.takes fixed description statements).1 ((second.takes fixed description statements).1 x),
+  );
+  refused = λ fixed description error. (
+    λ x. (second.refused fixed description error).0 ((first.refused fixed description error).0 x),
+    λ x. (first.refused fixed description error).1 ((second.refused fixed description error).1 x),
   );
   write_concern = λ which. second.write_concern which ∙ first.write_concern which;
   read_concern = second.read_concern ∙ first.read_concern;

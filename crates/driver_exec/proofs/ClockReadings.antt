@@ -122,11 +122,11 @@ module _ {A : Type 0} (op : AttemptedOperation A) (sharded : Bool) (before : Att
   ]
 
 -- so it is of an operation that is not refused for its concern
-pub proceeds_read : {A : Type 0} (spec : OperationSpec A) (batch : Batch) (which : SendKind) (before now : Moment) (count count_now : ℕ) (result : Result A Error)
-    → Proceeds spec batch which before now count count_now result → OnlyRead before.clock now.clock
-proceeds_read spec batch which before now count count_now result executes =
+pub proceeds_read : {A : Type 0} (spec : OperationSpec A) (batch : Batch) (which : SendKind) (before now : Moment) (count count_now : ℕ) (fixed fixed_now : Option ℕ) (result : Result A Error)
+    → Proceeds spec batch which before now count count_now fixed fixed_now result → OnlyRead before.clock now.clock
+proceeds_read spec batch which before now count count_now fixed fixed_now result executes =
     let op = attempted_operation spec batch which (spec.retryability before.client.options) (concern_of spec which before.client.options) in
-    let first = first_state before.store (besides_out before.link) before.clock count in
+    let first = first_state before.store (besides_out before.link) before.clock count fixed in
     let last = executes.last in
     let came = came_of op executes.sharded first last result executes.attempts in
     let so_far = reached_read op executes.sharded first came.0 executes.attempts.kept executes.attempts.mid came.1 in

@@ -10,6 +10,7 @@ use Rattle.driver_link.specs.declared.machine.Send.{Send}
 use Rattle.driver_link.specs.declared.options.Address.{Address}
 use Rattle.driver_link.specs.declared.options.ClientOptions.{ClientOptions}
 use Rattle.driver_link.specs.declared.options.Conn.{Conn}
+use Rattle.driver_link.specs.declared.options.Description.{Description}
 use Rattle.driver_link.specs.Framed.{Framed}
 use Rattle.driver_link.specs.LinkCalls.{ExchangesFrame}
 use Rattle.driver_link.specs.LinkState.{LinkState}
@@ -30,7 +31,7 @@ use Rattle.driver_exec.specs.inside.Attempting.{EndsUnbuilt, ExchangesOnce, Send
 use Rattle.driver_exec.proofs.OneAttempt.{comes_same}
 
 -- once a build was Ok, the number that it fixed stays, also where it was fixed before
-pub build_fixes : {A : Type 0} {spec : OperationSpec A} {which : SendKind} {before now : Option ℕ} {command : Command} → BuildsCommand spec which before now command → StaysFixed before now
+pub build_fixes : {A : Type 0} {spec : OperationSpec A} {which : SendKind} {description : Description} {before now : Option ℕ} {command : Command} → BuildsCommand spec which description before now command → StaysFixed before now
 build_fixes {before = before} built = λ statements fixed.
     let same : built.statements ≡ statements = subst (λ n. IsFixed n statements) built.now_is fixed in
     subst (IsFixed before) same built.fixed
@@ -57,7 +58,7 @@ pub fixes_twice : (a b c : Option ℕ) → StaysFixed a b → StaysFixed b c →
 fixes_twice a b c first second = λ statements fixed. first statements (second statements fixed)
 
 -- a build that was Ok fixes a number
-pub build_some : {A : Type 0} {spec : OperationSpec A} {which : SendKind} {before now : Option ℕ} {command : Command} → BuildsCommand spec which before now command → IsSome now
+pub build_some : {A : Type 0} {spec : OperationSpec A} {which : SendKind} {description : Description} {before now : Option ℕ} {command : Command} → BuildsCommand spec which description before now command → IsSome now
 build_some built = subst (λ o. IsSome o) (sym built.now_is) refl
 
 -- a number that is fixed stays so
@@ -83,20 +84,20 @@ bodies_same places same bodies = λ which statements command is.
     (body.0, (same.bodies statements places body.0).0 body.1)
 
 -- the operation tells how many statements were built
-pub so_many : {A : Type 0} {spec : OperationSpec A} {which : SendKind} {before now : Option ℕ} {command : Command} (built : BuildsCommand spec which before now command) (told : ℕ)
+pub so_many : {A : Type 0} {spec : OperationSpec A} {which : SendKind} {description : Description} {before now : Option ℕ} {command : Command} (built : BuildsCommand spec which description before now command) (told : ℕ)
     → IfSome now (λ statements. told ≡ statements) → told ≡ built.statements
 so_many built told is = subst (λ o. IfSome o (λ statements. told ≡ statements)) built.now_is is
 
 -- there are as many places as statements
-pub within_places : {A : Type 0} {spec : OperationSpec A} {which : SendKind} {before now : Option ℕ} {command : Command} (places : List Place) → HasBodies spec places
-    → (built : BuildsCommand spec which before now command) → built.statements ≤ length places
+pub within_places : {A : Type 0} {spec : OperationSpec A} {which : SendKind} {description : Description} {before now : Option ℕ} {command : Command} (places : List Place) → HasBodies spec places
+    → (built : BuildsCommand spec which description before now command) → built.statements ≤ length places
 within_places {which = which} {command = command} places bodies built =
     let body = bodies which built.statements command built.built.is in
     built.built.within places body.0 body.1
 
 -- a frame of the built command reads as a send, with the front of the places
-pub reads_some : {A : Type 0} {spec : OperationSpec A} {which : SendKind} {before now : Option ℕ} {command : Command} {frame : Framed} (places found : List Place) (context : SendContext)
-    → HasBodies spec places → (built : BuildsCommand spec which before now command) → FramesUnder context command (Ok frame) → (told : ℕ) → IfSome now (λ statements. told ≡ statements)
+pub reads_some : {A : Type 0} {spec : OperationSpec A} {which : SendKind} {description : Description} {before now : Option ℕ} {command : Command} {frame : Framed} (places found : List Place) (context : SendContext)
+    → HasBodies spec places → (built : BuildsCommand spec which description before now command) → FramesUnder context command (Ok frame) → (told : ℕ) → IfSome now (λ statements. told ≡ statements)
     → found ≡ take told places → (sent : Send) × Reads frame found sent
 reads_some {spec = spec} {which = which} {command = command} {frame = frame} places found context bodies built framed told tells is =
     let body = bodies which built.statements command built.built.is in (
@@ -106,18 +107,18 @@ reads_some {spec = spec} {which = which} {command = command} {frame = frame} pla
     )
 
 module _ {A : Type 0} (spec : OperationSpec A) (which : SendKind) (concern : Option WriteConcern) (places : List Place) (statements : ℕ) (again : Bool) (link link_now : LinkState) (connection_retryability : Retryability) (conn : Conn) (address : Address)
-    (held numbered : ExecutionSession) (number : Option ℤ) (draws : DrawsNumber held.sent connection_retryability held numbered (Ok number)) (count count_now : ℕ) where
+    (held numbered : ExecutionSession) (number : Option ℤ) (draws : DrawsNumber held.sent connection_retryability held numbered (Ok number)) (count count_now : ℕ) (before after : Option ℕ) where
   abbrev Sends : ExecutionSession → AttemptEnd A → Type 0
-  Sends held_now attempt = Sending spec which concern (batch_of places statements) again link link_now connection_retryability conn address held held_now count count_now attempt
+  Sends held_now attempt = Sending spec which concern (batch_of places statements) again link link_now connection_retryability conn address held held_now count count_now before after attempt
 
   -- why there is no frame
   abbrev Why : Error → Type 0
-  Why error = ((builds_again again held ≡ false) × Refuses spec conn.description error) ⊎ (IsUnframed spec (in_context (held_id numbered) number concern) error ⊎ (kind_of error ≡ kind.Memory))
+  Why error = ((builds_again again held ≡ false) × Refuses spec before conn.description error × (after ≡ before)) ⊎ (IsUnframed spec (in_context (held_id numbered) number concern) error ⊎ (kind_of error ≡ kind.Memory))
 
   -- the build was refused, or there was no memory for it
-  pub ends_unbuilt : (error : Error) (found : Bool) (attempt : AttemptEnd A) → found ≡ builds_again again held → (Refuses spec conn.description error ⊎ (kind_of error ≡ kind.Memory))
-      → EndsUnbuilt found error attempt → link_now ≡ link → count_now ≡ count → Sends numbered attempt
-  ends_unbuilt error found (Ended now) is refused ends same uncounted =
+  pub ends_unbuilt : (error : Error) (found : Bool) (attempt : AttemptEnd A) → found ≡ builds_again again held → (Refuses spec before conn.description error ⊎ (kind_of error ≡ kind.Memory))
+      → EndsUnbuilt found error attempt → link_now ≡ link → count_now ≡ count → after ≡ before → Sends numbered attempt
+  ends_unbuilt error found (Ended now) is refused ends same uncounted unfixed =
       inr (inl (record {
         error = error;
         number = number;
@@ -130,10 +131,10 @@ module _ {A : Type 0} (spec : OperationSpec A) (which : SendKind) (concern : Opt
     where
       why : Why error
       why = elim refused [
-        | inl is_refused ↦ elim ends.1 [ inl first ↦ inl (sym is ∙ first, is_refused) | inr memory ↦ inr (inr memory) ]
+        | inl is_refused ↦ elim ends.1 [ inl first ↦ inl (sym is ∙ first, is_refused, unfixed) | inr memory ↦ inr (inr memory) ]
         | inr memory ↦ inr (inr memory)
       ]
-  ends_unbuilt error found Unfit is refused ends same uncounted = elim refused [
+  ends_unbuilt error found Unfit is refused ends same uncounted unfixed = elim refused [
     | inl is_refused ↦ inr (inr (inl (record {
       error = error;
       number = number;
@@ -142,6 +143,7 @@ module _ {A : Type 0} (spec : OperationSpec A) (which : SendKind) (concern : Opt
       refused = is_refused;
       link_is = same;
       uncounted = uncounted;
+      unfixed = unfixed;
       ends = refl;
     })))
     | inr memory ↦ absurd (true_false (ap is_memory (sym memory) ∙ ends.1))
@@ -149,9 +151,9 @@ module _ {A : Type 0} (spec : OperationSpec A) (which : SendKind) (concern : Opt
     where
       true_false : true ≡ false → ⊥
       true_false same = cc
-  ends_unbuilt error found _ is refused ends same uncounted = absurd ends
+  ends_unbuilt error found _ is refused ends same uncounted unfixed = absurd ends
 
-  module _ (before now : Option ℕ) (command : Command) (built : BuildsCommand spec which before now command) where
+  module _ (now : Option ℕ) (command : Command) (built : BuildsCommand spec which conn.description before now command) where
     -- the built command has no spelling, or there was no memory
     pub ends_unframed : (error : Error) (attempt : AttemptEnd A) → FramesUnder (in_context (held_id numbered) number concern) command (Err error)
         → attempt ≡ Ended error → link_now ≡ link → count_now ≡ count → Sends numbered attempt
@@ -171,14 +173,16 @@ module _ {A : Type 0} (spec : OperationSpec A) (which : SendKind) (concern : Opt
     -- it went out with the front of the places
     pub sends_out : (fixed : IsFixed now statements) (mid : OperationSpec A) (same : SameSpec spec mid) (frame : Framed) (found : List Place) (held_now : ExecutionSession) (attempt : AttemptEnd A)
         → FramesUnder (in_context (held_id numbered) number concern) command (Ok frame) → (told : ℕ) → IfSome now (λ n. told ≡ n) → found ≡ take told places
-        → ExchangesOnce mid link link_now connection_retryability conn address frame found (record numbered { sent = Some number }) held_now attempt → count_now ≡ count + 1 → Sends held_now attempt
-    sends_out fixed mid same frame found held_now attempt framed told tells front_is once counted =
+        → ExchangesOnce mid link link_now connection_retryability conn address frame found (record numbered { sent = Some number }) held_now attempt → count_now ≡ count + 1 → after ≡ now
+        → Sends held_now attempt
+    sends_out fixed mid same frame found held_now attempt framed told tells front_is once counted stays =
         let same_number : built.statements ≡ statements = subst (λ n. IsFixed n statements) built.now_is fixed in
         let here = subst (λ n. IsBuilt spec which n command) same_number built.built in
         inr (inr (inr (record {
           numbered = numbered;
           number = number;
           draws = draws;
+          takes = subst (λ n. spec.takes before conn.description n) same_number built.takes;
           exchanging = record {
             result = once.result;
             exchanges = record {
@@ -191,4 +195,5 @@ module _ {A : Type 0} (spec : OperationSpec A) (which : SendKind) (concern : Opt
             comes = comes_same spec mid same connection_retryability conn.description.max_wire_version address number once.result attempt once.comes;
           };
           counted = counted;
+          fixed_is = stays ∙ built.now_is ∙ ap (λ n. Some n) same_number;
         })))

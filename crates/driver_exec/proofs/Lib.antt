@@ -9,6 +9,7 @@ pub mod Concerns
 pub mod Courses
 pub mod EndNeeds
 pub mod FaultErrors
+pub mod FixedNumbers
 pub mod HeldSessions
 pub mod InvariantSteps
 pub mod Moments

@@ -186,7 +186,8 @@ same_back old now same = record {
   target = sym same.target;
   commands = λ which statements command. ((same.commands which statements command).1, (same.commands which statements command).0);
   bodies = λ statements places body. ((same.bodies statements places body).1, (same.bodies statements places body).0);
-  refused = λ description error. ((same.refused description error).1, (same.refused description error).0);
+  takes = λ fixed description statements. ((same.takes fixed description statements).1, (same.takes fixed description statements).0);
+  refused = λ fixed description error. ((same.refused fixed description error).1, (same.refused fixed description error).0);
   write_concern = λ which. sym (same.write_concern which);
   read_concern = sym same.read_concern;
   selection_criteria = λ which. sym (same.selection_criteria which);
@@ -215,8 +216,8 @@ module _ {A : Type 0} (old now : OperationSpec A) (same : SameSpec old now) wher
       record { command = framed.command; built = built_same which statements framed.command framed.built; is = framed.is }
 
   -- so is a refused build
-  pub refuses_same : (description : Description) (error : Error) → Refuses now description error → Refuses old description error
-  refuses_same description error refuses = record { refused = (same.refused description error).1 refuses.refused; may = refuses.may; alone = refuses.alone }
+  pub refuses_same : (fixed : Option ℕ) (description : Description) (error : Error) → Refuses now fixed description error → Refuses old fixed description error
+  refuses_same fixed description error refuses = record { refused = (same.refused fixed description error).1 refuses.refused; may = refuses.may; alone = refuses.alone }
 
   -- so is a command without a spelling
   pub unspelled_same : (context : SendContext) (error : Error) → IsUnframed now context error → IsUnframed old context error
@@ -275,42 +276,42 @@ module _ {A : Type 0} (spec : OperationSpec A) (batch : Batch) (which : SendKind
   op = attempted_operation spec batch which retryability concern
 
   -- no server was selected
-  pub unselected_attempt_made : (store : StoreTells) (link now : LinkState) (clock : ClockTells) (held : ExecutionSession) (count : ℕ) (failure : LinkError) (attempt : AttemptEnd A)
-      → Selects (avoided past) (besides_out link) (besides_out now) (Err failure) → EndsUnselected failure attempt → MakesAttempt op past (attempt_state store link clock held count) (attempt_state store now clock held count) attempt
-  unselected_attempt_made store link now clock held count (Fault fault labels) (Unselected error) selects is =
-      record { fault = fault; labels = labels; selects = selects; is = is; rest = record { store = refl; clock = refl; held = refl; count = refl } }
-  unselected_attempt_made store link now clock held count (Fault fault labels) (Ended error) selects memory =
-      inl (record { asks = inl (record { failure = Fault fault labels; selects = selects }); store = refl; clock = inl refl; held = refl; count = refl; why = memory })
-  unselected_attempt_made store link now clock held count Memory (Ended error) selects memory =
-      inl (record { asks = inl (record { failure = Memory; selects = selects }); store = refl; clock = inl refl; held = refl; count = refl; why = memory })
-  unselected_attempt_made store link now clock held count (Fault fault labels) _ selects ends = absurd ends
-  unselected_attempt_made store link now clock held count Memory _ selects ends = absurd ends
+  pub unselected_attempt_made : (store : StoreTells) (link now : LinkState) (clock : ClockTells) (held : ExecutionSession) (count : ℕ) (fixed : Option ℕ) (failure : LinkError) (attempt : AttemptEnd A)
+      → Selects (avoided past) (besides_out link) (besides_out now) (Err failure) → EndsUnselected failure attempt → MakesAttempt op past (attempt_state store link clock held count fixed) (attempt_state store now clock held count fixed) attempt
+  unselected_attempt_made store link now clock held count fixed (Fault fault labels) (Unselected error) selects is =
+      record { fault = fault; labels = labels; selects = selects; is = is; rest = record { store = refl; clock = refl; held = refl; count = refl; fixed = refl } }
+  unselected_attempt_made store link now clock held count fixed (Fault fault labels) (Ended error) selects memory =
+      inl (record { asks = inl (record { failure = Fault fault labels; selects = selects }); store = refl; clock = inl refl; held = refl; count = refl; fixed = refl; why = memory })
+  unselected_attempt_made store link now clock held count fixed Memory (Ended error) selects memory =
+      inl (record { asks = inl (record { failure = Memory; selects = selects }); store = refl; clock = inl refl; held = refl; count = refl; fixed = refl; why = memory })
+  unselected_attempt_made store link now clock held count fixed (Fault fault labels) _ selects ends = absurd ends
+  unselected_attempt_made store link now clock held count fixed Memory _ selects ends = absurd ends
 
   -- no connection was had
-  pub unconnected_attempt_made : (store : StoreTells) (link mid now : LinkState) (clock : ClockTells) (held : ExecutionSession) (count : ℕ) (address : Address) (failure : LinkError) (attempt : AttemptEnd A)
+  pub unconnected_attempt_made : (store : StoreTells) (link mid now : LinkState) (clock : ClockTells) (held : ExecutionSession) (count : ℕ) (fixed : Option ℕ) (address : Address) (failure : LinkError) (attempt : AttemptEnd A)
       → Selects (avoided past) (besides_out link) mid (Ok address) → ChecksOutConnection mid (besides_out now) address (Err failure) → EndsUnconnected retryability address (number_before held) failure attempt
-      → MakesAttempt op past (attempt_state store link clock held count) (attempt_state store now clock held count) attempt
-  unconnected_attempt_made store link mid now clock held count address (Fault fault labels) (Failed attempt_failure) selects checks ends = (
-    subst (λ phase. FailsIn op past (attempt_state store link clock held count) (attempt_state store now clock held count) attempt_failure.address phase attempt_failure.error) (sym ends.phase_is)
-        (subst (λ at. NotConnected op past (attempt_state store link clock held count) (attempt_state store now clock held count) at attempt_failure.error) (sym ends.address_is) (record {
+      → MakesAttempt op past (attempt_state store link clock held count fixed) (attempt_state store now clock held count fixed) attempt
+  unconnected_attempt_made store link mid now clock held count fixed address (Fault fault labels) (Failed attempt_failure) selects checks ends = (
+    subst (λ phase. FailsIn op past (attempt_state store link clock held count fixed) (attempt_state store now clock held count fixed) attempt_failure.address phase attempt_failure.error) (sym ends.phase_is)
+        (subst (λ at. NotConnected op past (attempt_state store link clock held count fixed) (attempt_state store now clock held count fixed) at attempt_failure.error) (sym ends.address_is) (record {
           mid = mid;
           selects = selects;
           fault = fault;
           labels = labels;
           checks_out = checks;
           is = ends.error;
-          rest = record { store = refl; clock = refl; held = refl; count = refl };
+          rest = record { store = refl; clock = refl; held = refl; count = refl; fixed = refl };
         })),
     ends.number_is,
   )
-  unconnected_attempt_made store link mid now clock held count address (Fault fault labels) (Ended error) selects checks memory =
-      inl (record { asks = asks_connection (avoided past) (besides_out link) mid (besides_out now) address (Err (Fault fault labels)) selects checks; store = refl; clock = inl refl; held = refl; count = refl; why = memory })
-  unconnected_attempt_made store link mid now clock held count address Memory (Ended error) selects checks memory =
-      inl (record { asks = asks_connection (avoided past) (besides_out link) mid (besides_out now) address (Err Memory) selects checks; store = refl; clock = inl refl; held = refl; count = refl; why = memory })
-  unconnected_attempt_made store link mid now clock held count address (Fault fault labels) _ selects checks ends = absurd ends
-  unconnected_attempt_made store link mid now clock held count address Memory _ selects checks ends = absurd ends
+  unconnected_attempt_made store link mid now clock held count fixed address (Fault fault labels) (Ended error) selects checks memory =
+      inl (record { asks = asks_connection (avoided past) (besides_out link) mid (besides_out now) address (Err (Fault fault labels)) selects checks; store = refl; clock = inl refl; held = refl; count = refl; fixed = refl; why = memory })
+  unconnected_attempt_made store link mid now clock held count fixed address Memory (Ended error) selects checks memory =
+      inl (record { asks = asks_connection (avoided past) (besides_out link) mid (besides_out now) address (Err Memory) selects checks; store = refl; clock = inl refl; held = refl; count = refl; fixed = refl; why = memory })
+  unconnected_attempt_made store link mid now clock held count fixed address (Fault fault labels) _ selects checks ends = absurd ends
+  unconnected_attempt_made store link mid now clock held count fixed address Memory _ selects checks ends = absurd ends
 
-  module _ (store store_now : StoreTells) (before link : LinkState) (clock clock_now : ClockTells) (held ready : ExecutionSession) (count : ℕ) (address : Address) (conn : Conn) (connects : Connects (avoided past) (besides_out before) (besides_out link) address conn)
+  module _ (store store_now : StoreTells) (before link : LinkState) (clock clock_now : ClockTells) (held ready : ExecutionSession) (count : ℕ) (fixed : Option ℕ) (address : Address) (conn : Conn) (connects : Connects (avoided past) (besides_out before) (besides_out link) address conn)
       (asked sessions : Bool) (sessions_is : sessions ≡ spec.sessions) (asked_is : asked ≡ asks_session sessions conn.description) (given : Result (Unit {0}) Error)
       (lent : HoldsAt (needs_session asked held) store store_now clock clock_now held ready given) where
     -- a session was asked for where both sides take one
@@ -322,28 +323,28 @@ module _ {A : Type 0} (spec : OperationSpec A) (batch : Batch) (which : SendKind
 
     -- there was no memory for a session
     pub unready_attempt_made : (error : Error) → given ≡ Err error
-        → MakesAttempt op past (attempt_state store before clock held count) (attempt_state store_now link clock_now ready count) (Ended error)
+        → MakesAttempt op past (attempt_state store before clock held count fixed) (attempt_state store_now link clock_now ready count fixed) (Ended error)
     unready_attempt_made error is_given = by_need (needs_session (asks_session spec.sessions conn.description) held) (holds_asked (Err error) is_given)
       where
         ok_err : ◌≡◌ {A = Result (Unit {0}) Error} (Ok tt) (Err error) → ⊥
         ok_err same = cc
 
-        by_need : (needed : Bool) → HoldsAt needed store store_now clock clock_now held ready (Err error) → MakesAttempt op past (attempt_state store before clock held count) (attempt_state store_now link clock_now ready count) (Ended error)
+        by_need : (needed : Bool) → HoldsAt needed store store_now clock clock_now held ready (Err error) → MakesAttempt op past (attempt_state store before clock held count fixed) (attempt_state store_now link clock_now ready count fixed) (Ended error)
         by_need false holds = absurd (ok_err (sym holds.holds.2))
-        by_need true holds = inl (record { asks = asks_connection (avoided past) (besides_out before) connects.mid (besides_out link) address (Ok conn) connects.selects connects.checks_out; store = holds.holds.0; clock = inr holds.lent_at; held = holds.holds.1; count = refl; why = holds.holds.2 })
+        by_need true holds = inl (record { asks = asks_connection (avoided past) (besides_out before) connects.mid (besides_out link) address (Ok conn) connects.selects connects.checks_out; store = holds.holds.0; clock = inr holds.lent_at; held = holds.holds.1; count = refl; fixed = refl; why = holds.holds.2 })
 
     module _ (is_given : given ≡ Ok tt) where
       holds : HoldsAt (needs_session (asks_session spec.sessions conn.description) held) store store_now clock clock_now held ready (Ok tt)
       holds = holds_asked (Ok tt) is_given
 
-      readied : Readies op past (attempt_state store before clock held count) (attempt_state store_now link clock_now ready count) address conn
-      readied = record { connects = connects; holds = holds.holds; lent_at = holds.lent_at; count = refl }
+      readied : Readies op past (attempt_state store before clock held count fixed) (attempt_state store_now link clock_now ready count fixed) address conn
+      readied = record { connects = connects; holds = holds.holds; lent_at = holds.lent_at; count = refl; fixed = refl }
 
       -- a session is held, and the connection takes none
       pub sessionless_attempt_made : (error : Error) → may_use ready conn.description ≡ false → IsAlone kind.SessionsNotSupported no_labels error
-          → MakesAttempt op past (attempt_state store before clock held count) (attempt_state store_now link clock_now ready count) (Ended error)
+          → MakesAttempt op past (attempt_state store before clock held count fixed) (attempt_state store_now link clock_now ready count fixed) (Ended error)
       sessionless_attempt_made error none is = inr (inl (record {
-        ready = attempt_state store_now link clock_now ready count;
+        ready = attempt_state store_now link clock_now ready count fixed;
         address = address;
         conn = conn;
         readies = readied;
@@ -351,14 +352,14 @@ module _ {A : Type 0} (spec : OperationSpec A) (batch : Batch) (which : SendKind
         store = refl;
         clock = refl;
         count = refl;
-        refused = inl (record { none = none; same = refl; is = is });
+        refused = inl (record { none = none; same = refl; unfixed = refl; is = is });
       }))
 
       -- nothing may be repeated
-      pub stopped_attempt_made : is_some past ≡ true → may_use ready conn.description ≡ true → is_nothing (on_connection retryability conn.description) ≡ true → MakesAttempt op past (attempt_state store before clock held count) (attempt_state store_now link clock_now ready count) Stopped
+      pub stopped_attempt_made : is_some past ≡ true → may_use ready conn.description ≡ true → is_nothing (on_connection retryability conn.description) ≡ true → MakesAttempt op past (attempt_state store before clock held count fixed) (attempt_state store_now link clock_now ready count fixed) Stopped
       stopped_attempt_made is allowed nothing = (is, record { address = address; conn = conn; readies = readied; allowed = allowed; nothing = nothing })
 
-      module _ (allowed : may_use ready conn.description ≡ true) (goes : stops (is_some past) (on_connection retryability conn.description) ≡ false) (link_now : LinkState) (held_now : ExecutionSession) (count_now : ℕ) where
+      module _ (allowed : may_use ready conn.description ≡ true) (goes : stops (is_some past) (on_connection retryability conn.description) ≡ false) (link_now : LinkState) (held_now : ExecutionSession) (count_now : ℕ) (fixed_now : Option ℕ) where
         abbrev connection_retryability : Retryability
         connection_retryability = on_connection retryability conn.description
 
@@ -366,10 +367,10 @@ module _ {A : Type 0} (spec : OperationSpec A) (batch : Batch) (which : SendKind
         version = conn.description.max_wire_version
 
         abbrev began : AttemptState
-        began = attempt_state store before clock held count
+        began = attempt_state store before clock held count fixed
 
         abbrev came : AttemptState
-        came = attempt_state store_now link_now clock_now held_now count_now
+        came = attempt_state store_now link_now clock_now held_now count_now fixed_now
 
         -- the command's reply was read
         read_attempt_made : (reply : List ℕ) (answer : Result A Error) (attempt : AttemptEnd A) (sends : Sends op past began came address conn (Ok reply)) → ReadsAnswer spec reply answer
@@ -419,10 +420,10 @@ module _ {A : Type 0} (spec : OperationSpec A) (batch : Batch) (which : SendKind
         came_attempt_made (Ok reply) attempt sends comes = read_attempt_made reply comes.answer attempt sends comes.reads comes.ends
         came_attempt_made (Err failure) attempt sends comes = lost_attempt_made failure attempt sends comes
 
-        sending_attempt_made : (attempt : AttemptEnd A) → Sending spec which concern batch (is_some past) (besides_out link) (besides_out link_now) connection_retryability conn address ready held_now count count_now attempt → MakesAttempt op past began came attempt
+        sending_attempt_made : (attempt : AttemptEnd A) → Sending spec which concern batch (is_some past) (besides_out link) (besides_out link_now) connection_retryability conn address ready held_now count count_now fixed fixed_now attempt → MakesAttempt op past began came attempt
         sending_attempt_made attempt sending = elim sending [
           | inl none ↦ subst (λ a. MakesAttempt op past began came a) (sym none.ends) (inr (inl (record {
-            ready = attempt_state store_now link clock_now ready count;
+            ready = attempt_state store_now link clock_now ready count fixed;
             address = address;
             conn = conn;
             readies = readied;
@@ -430,11 +431,11 @@ module _ {A : Type 0} (spec : OperationSpec A) (batch : Batch) (which : SendKind
             store = refl;
             clock = refl;
             count = none.uncounted;
-            refused = inr (inl (record { allowed = allowed; goes = goes; draws = none.draws }));
+            refused = inr (inl (record { allowed = allowed; goes = goes; draws = none.draws; unfixed = none.unfixed }));
           })))
           | inr other ↦ elim other [
             | inl none ↦ subst (λ a. MakesAttempt op past began came a) (sym none.ends) (inr (inl (record {
-              ready = attempt_state store_now link clock_now ready count;
+              ready = attempt_state store_now link clock_now ready count fixed;
               address = address;
               conn = conn;
               readies = readied;
@@ -448,7 +449,7 @@ module _ {A : Type 0} (spec : OperationSpec A) (batch : Batch) (which : SendKind
               | inl unfit ↦ subst (λ a. MakesAttempt op past began came a) (sym unfit.ends) (
                 (and_parts (is_some past) (is_some ready.sent) unfit.again_is).0,
                 record {
-                  ready = attempt_state store_now link clock_now ready count;
+                  ready = attempt_state store_now link clock_now ready count fixed;
                   address = address;
                   conn = conn;
                   readies = readied;
@@ -456,6 +457,7 @@ module _ {A : Type 0} (spec : OperationSpec A) (batch : Batch) (which : SendKind
                   store = refl;
                   clock = refl;
                   count = unfit.uncounted;
+                  fixed = unfit.unfixed;
                   allowed = allowed;
                   goes = goes;
                   number = unfit.number;
@@ -466,18 +468,20 @@ module _ {A : Type 0} (spec : OperationSpec A) (batch : Batch) (which : SendKind
                 },
               )
               | inr out ↦ came_attempt_made out.exchanging.result attempt (record {
-                ready = attempt_state store_now link clock_now ready count;
+                ready = attempt_state store_now link clock_now ready count fixed;
                 readies = readied;
                 allowed = allowed;
                 goes = goes;
                 numbered = out.numbered;
                 number = out.number;
                 draws = out.draws;
+                takes = out.takes;
                 exchanges = out.exchanging.exchanges;
                 store_is = refl;
                 clock_is = refl;
                 held_is = out.exchanging.held_is;
                 counted = out.counted;
+                fixed_is = out.fixed_is;
               }) out.exchanging.comes
             ]
           ]
@@ -485,8 +489,8 @@ module _ {A : Type 0} (spec : OperationSpec A) (batch : Batch) (which : SendKind
 
         -- the command of an attempt on its connection
         pub sent_attempt_made : (found : Retryability) (again : Bool) (attempt : AttemptEnd A) → found ≡ connection_retryability → again ≡ is_some past
-            → Sending spec which concern batch again (besides_out link) (besides_out link_now) found conn address ready held_now count count_now attempt → MakesAttempt op past began came attempt
+            → Sending spec which concern batch again (besides_out link) (besides_out link_now) found conn address ready held_now count count_now fixed fixed_now attempt → MakesAttempt op past began came attempt
         sent_attempt_made found again attempt is again_is sending =
             sending_attempt_made attempt
-            (subst (λ a. Sending spec which concern batch a (besides_out link) (besides_out link_now) connection_retryability conn address ready held_now count count_now attempt) again_is
-            (subst (λ t. Sending spec which concern batch again (besides_out link) (besides_out link_now) t conn address ready held_now count count_now attempt) is sending))
+            (subst (λ a. Sending spec which concern batch a (besides_out link) (besides_out link_now) connection_retryability conn address ready held_now count count_now fixed fixed_now attempt) again_is
+            (subst (λ t. Sending spec which concern batch again (besides_out link) (besides_out link_now) t conn address ready held_now count count_now fixed fixed_now attempt) is sending))

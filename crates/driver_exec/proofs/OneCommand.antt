@@ -37,15 +37,15 @@ use Rattle.driver_exec.proofs.Progress.{CourseAt, OverAt, failed_course, goes_ph
 
 module _ {A : Type 0} (op : AttemptedOperation A) (sharded : Bool) (store : StoreTells) (link : LinkState) where
   -- where an operation has come so far
-  reaches_course : (clock : ClockTells) (count : ℕ) (failures : List AttemptFailure) (kept : Option RetryState) (now : AttemptState) → Reaches op sharded (first_state store link clock count) failures kept now
+  reaches_course : (clock : ClockTells) (count : ℕ) (fixed : Option ℕ) (failures : List AttemptFailure) (kept : Option RetryState) (now : AttemptState) → Reaches op sharded (first_state store link clock count fixed) failures kept now
       → CourseAt op store link (length failures) now × MayGoOn now.held.sent
-  reaches_course clock count [] kept now reaches =
+  reaches_course clock count fixed [] kept now reaches =
       subst (λ s. CourseAt op store link 0 s × MayGoOn s.held.sent) (sym reaches.1) (starts op.spec op.batch store (server_run link), tt)
-  reaches_course clock count (failure ∷ failures) kept now reaches =
+  reaches_course clock count fixed (failure ∷ failures) kept now reaches =
       let mid = reaches.1.1.0 in
       let rest = reaches.1.1.1 in
       let earlier = rest.0 in
-      let came = reaches_course clock count failures earlier mid rest.1.0 in
+      let came = reaches_course clock count fixed failures earlier mid rest.1.0 in
       let fails = rest.1.1 in (
         failed_course op store link earlier (length failures) mid came.1 came.0 now failure fails.makes,
         goes_phase op store link earlier (length failures) mid came.1 came.0 now failure.address failure.phase failure.error fails.makes.0
@@ -57,13 +57,13 @@ module _ {A : Type 0} (op : AttemptedOperation A) (sharded : Bool) (store : Stor
     pub once : AtMostOne kept
     pub left : length failures + attempts_left kept ≤ 2
 
-  pub reaches_few : (clock : ClockTells) (count : ℕ) (failures : List AttemptFailure) (kept : Option RetryState) (now : AttemptState) → Reaches op sharded (first_state store link clock count) failures kept now → Few failures kept
-  reaches_few clock count [] kept now reaches = subst (Few []) (sym reaches.0) (record { once = tt; left = omega arith })
-  reaches_few clock count (failure ∷ failures) kept now reaches =
+  pub reaches_few : (clock : ClockTells) (count : ℕ) (fixed : Option ℕ) (failures : List AttemptFailure) (kept : Option RetryState) (now : AttemptState) → Reaches op sharded (first_state store link clock count fixed) failures kept now → Few failures kept
+  reaches_few clock count fixed [] kept now reaches = subst (Few []) (sym reaches.0) (record { once = tt; left = omega arith })
+  reaches_few clock count fixed (failure ∷ failures) kept now reaches =
       let mid = reaches.1.1.0 in
       let rest = reaches.1.1.1 in
       let earlier = rest.0 in
-      let few = reaches_few clock count failures earlier mid rest.1.0 in
+      let few = reaches_few clock count fixed failures earlier mid rest.1.0 in
       let fails = rest.1.1 in
       let fewer = decided_fewer failure op.retryability sharded earlier reaches.0 few.once fails.goes_on fails.decides in
       subst (Few (failure ∷ failures)) (sym reaches.1.0) (record { once = fewer.once; left = omega (arith, few.left, fewer.fewer) })
@@ -233,11 +233,11 @@ module _ {A : Type 0} (op : AttemptedOperation A) (sharded : Bool) (store : Stor
     over : OverAt op store link most now
     ends : EndsWithReading op.spec op.batch (server_run link) (server_run now.link) (id_of now.held.session) (number_of now.held.sent) result
 
-  finishes : (clock : ClockTells) (count : ℕ) (failures : List AttemptFailure) (kept : Option RetryState) (mid now : AttemptState) (result : Result A Error) → Reaches op sharded (first_state store link clock count) failures kept mid
+  finishes : (clock : ClockTells) (count : ℕ) (fixed : Option ℕ) (failures : List AttemptFailure) (kept : Option RetryState) (mid now : AttemptState) (result : Result A Error) → Reaches op sharded (first_state store link clock count fixed) failures kept mid
       → Ends op sharded kept mid now result → Finished now result
-  finishes clock count failures kept mid now result reaches ends =
-      let came = reaches_course clock count failures kept mid reaches in
-      let few = reaches_few clock count failures kept mid reaches in
+  finishes clock count fixed failures kept mid now result reaches ends =
+      let came = reaches_course clock count fixed failures kept mid reaches in
+      let few = reaches_few clock count fixed failures kept mid reaches in
       elim ends [
         | inl last ↦
             let left = one_left kept few.once last.goes_on in
@@ -296,18 +296,18 @@ borrows_draws store now (Some id) number borrows =
     (draws_taking borrows.lent now borrows.back borrows.back_at borrows.takes)
 
 -- an operation as a whole, which is not refused for its concern
-module _ {A : Type 0} (spec : OperationSpec A) (batch : Batch) (which : SendKind) (before now : Moment) (count count_now : ℕ) (result : Result A Error)
-    (executes : Proceeds spec batch which before now count count_now result) where
+module _ {A : Type 0} (spec : OperationSpec A) (batch : Batch) (which : SendKind) (before now : Moment) (count count_now : ℕ) (fixed fixed_now : Option ℕ) (result : Result A Error)
+    (executes : Proceeds spec batch which before now count count_now fixed fixed_now result) where
   abbrev op : AttemptedOperation A
   op = attempted_operation spec batch which (spec.retryability before.client.options) (concern_of spec which before.client.options)
 
   -- its attempts are those of a loop
-  came : Came op executes.sharded (first_state before.store (besides_out before.link) before.clock count) executes.attempts.kept executes.attempts.mid
-  came = came_of op executes.sharded (first_state before.store (besides_out before.link) before.clock count) executes.last result executes.attempts
+  came : Came op executes.sharded (first_state before.store (besides_out before.link) before.clock count fixed) executes.attempts.kept executes.attempts.mid
+  came = came_of op executes.sharded (first_state before.store (besides_out before.link) before.clock count fixed) executes.last result executes.attempts
 
   -- so it is over
   done : Finished op executes.sharded before.store (besides_out before.link) executes.last result
-  done = finishes op executes.sharded before.store (besides_out before.link) before.clock count came.0 executes.attempts.kept executes.attempts.mid executes.last result came.1 executes.attempts.ends
+  done = finishes op executes.sharded before.store (besides_out before.link) before.clock count fixed came.0 executes.attempts.kept executes.attempts.mid executes.last result came.1 executes.attempts.ends
 
   -- the server is that of the last attempt
   server_is : server_run now.link ≡ server_run executes.last.link
@@ -318,7 +318,7 @@ module _ {A : Type 0} (spec : OperationSpec A) (batch : Batch) (which : SendKind
     session = id_of executes.last.held.session;
     number = number_of executes.last.held.sent;
     unnumbered = λ nothing.
-        ended_bare op executes.sharded nothing (first_state before.store (besides_out before.link) before.clock count) refl came.0 executes.attempts.kept executes.attempts.mid executes.last result came.1
+        ended_bare op executes.sharded nothing (first_state before.store (besides_out before.link) before.clock count fixed) refl came.0 executes.attempts.kept executes.attempts.mid executes.last result came.1
         executes.attempts.ends;
     borrows = borrows op executes.sharded before.store (besides_out before.link) executes.last.store now.store (number_of executes.last.held.sent) executes.last.held.session done.over.holds executes.comes_back;
     sends = λ body asked.

@@ -1,6 +1,6 @@
 -- Why an operation ended as it did, from its attempts and from what was decided after each.
 use Rattle.std.proofs.Common.{◌≡◌, ℕ, ◌≤◌, List, [], ◌∷◌, ◌++◌, refl, sym, ap, subst, ◌∙◌, inl, inr, arith}
-use Rattle.std.specs.Prelude.{ℤ, Bool, true, false, Option, None, Some, IfSome, is_some, ◌⊎◌, Result, Ok, Err, if◌then◌else◌}
+use Rattle.std.specs.Prelude.{ℤ, Bool, true, false, ◌&&◌, Option, None, Some, IfSome, is_some, ◌⊎◌, Result, Ok, Err, if◌then◌else◌}
 use Rattle.driver_error.specs.declared.error.Error.{Error, out-Error, out-roll-Error}
 use Rattle.driver_error.specs.declared.kind.ErrorKind.TheVariants as kind
 use Rattle.driver_error.specs.declared.labels.TheConstants.{RETRYABLE_WRITE_ERROR}
@@ -40,7 +40,7 @@ use Rattle.driver_exec.specs.declared.attempt_end.AttemptEnd.TheVariants.{Done, 
 use Rattle.driver_exec.specs.declared.failure.AttemptFailure.{AttemptFailure}
 use Rattle.driver_exec.specs.declared.failure.FailurePhase.{FailurePhase}
 use Rattle.driver_exec.specs.declared.failure.FailurePhase.TheVariants.{ConnectionEstablishment, Execution}
-use Rattle.driver_exec.specs.Attempting.{Connects, EndsAtOnce, EndsRefused, EndsSent, EndsUnready, FailsIn, IsAnswered, LosesExchange, NoFrame, NoNumber, NoSessions, NotConnected, NotSelected, Readies, AttemptState, Sends, SpellsFailure, AttemptedOperation, MakesAttempt, besides_out, on_connection, attempted_operation}
+use Rattle.driver_exec.specs.Attempting.{Connects, EndsAtOnce, EndsRefused, EndsSent, EndsUnready, FailsIn, IsAnswered, LosesExchange, NoFrame, NoNumber, NoSessions, NotConnected, NotSelected, Readies, AttemptState, Sends, SpellsFailure, AttemptedOperation, MakesAttempt, besides_out, builds_again, on_connection, attempted_operation}
 use Rattle.driver_exec.specs.Causes as causes
 use Rattle.driver_exec.specs.Causes.{AllEarly, IsLast, KindAtLast, end_of, outline_of, next_number}
 use Rattle.driver_exec.specs.Executing.{Ends, EndsWith, Proceeds, first_state}
@@ -57,6 +57,7 @@ use Rattle.driver_exec.proofs.RetryFold.{came_of}
 use Rattle.driver_exec.proofs.Causes.{notes_nothing}
 use Rattle.driver_exec.proofs.HeldSessions.{AtEnd, HeldSoFar, IsOf, draw_holds, draws_on, exchange_holds, held_at_first, is_of, last_draws_none, none_draws, ready_held, ready_holds, sent_held, sessionless, unnumbered_at_end}
 use Rattle.driver_exec.proofs.EndNeeds.{early_twice, end_after, end_before, last_after, notes_twice}
+use Rattle.driver_exec.proofs.FixedNumbers.{first_fixed, ready_sent}
 use Rattle.driver_exec.proofs.OneAttempt.{early_counted, later_of}
 
 -- a link noted these; its count of faults did not fall, and its setup stays
@@ -248,7 +249,7 @@ module _ {A : Type 0} (on : Grounds A) (before now : ℕ) (items : List Answered
   ]
 
   -- a build that was refused
-  refused_needs : (description : Description) → IsOf on.setup description → Refuses on.spec description error → EndNeeds on before now items (Some (outline_of error))
+  refused_needs : (description : Description) → IsOf on.setup description → Refuses on.spec on.fixed description error → EndNeeds on before now items (Some (outline_of error))
   refused_needs description is refuses = inr (inr (record { description = description; told = told on.setup is; error = error; refuses = refuses; is = refl }))
     where
       told : (setup : Option Setup) → IsOf setup description → IfSome setup (λ found. description ≡ found.description)
@@ -269,14 +270,14 @@ module _ {A : Type 0} (on : Grounds A) (before now : ℕ) (items : List Answered
     | inr ends ↦ subst (KindAtLast) (sym ends.is.kind_is) tt
   ]
 
-module _ {A : Type 0} (spec : OperationSpec A) (batch : Batch) (which : SendKind) (retryability : Retryability) (concern : Option WriteConcern) (store : StoreTells) (link : LinkState) where
+module _ {A : Type 0} (spec : OperationSpec A) (batch : Batch) (which : SendKind) (retryability : Retryability) (concern : Option WriteConcern) (store : StoreTells) (link : LinkState) (fixed : Option ℕ) where
   -- the operation as its attempts see it
   abbrev op : AttemptedOperation A
   op = attempted_operation spec batch which retryability concern
 
   -- what its end is judged by
   abbrev on : Grounds A
-  on = record { spec = spec; retryability = retryability; concern = concern; setup = setup_of link; number = next_number store }
+  on = record { spec = spec; fixed = fixed; retryability = retryability; concern = concern; setup = setup_of link; number = next_number store }
 
   -- what it holds at a moment
   abbrev HeldAt : AttemptState → Type 0
@@ -294,6 +295,10 @@ module _ {A : Type 0} (spec : OperationSpec A) (batch : Batch) (which : SendKind
   -- an error that may end the operation where the numbers are at their end
   abbrev Lasts : Error → Type 0
   Lasts error = KindAtLast (kind_of error)
+
+  -- a command that is not built again is built by the number that was fixed when the operation began
+  abbrev BuildsFirst : Option RetryState → AttemptState → Type 0
+  BuildsFirst past mid = builds_again (is_some past) mid.held ≡ false → mid.fixed ≡ fixed
 
   -- one attempt
   module _ (past : Option RetryState) (mid : AttemptState) (setup_is : (setup_of mid.link) ≡ (setup_of link)) (held_so_far : HeldAt mid) where
@@ -488,7 +493,7 @@ module _ {A : Type 0} (spec : OperationSpec A) (batch : Batch) (which : SendKind
       refused_adds = subst (λ l. Adds mid.link l []) (sym same) (ready_adds ready address conn readies)
 
       -- a session is held, and the connection takes none
-      finishes_sessionless : NoSessions conn.description ready.held now.held error → Finishes now (Some (outline_of error))
+      finishes_sessionless : NoSessions conn.description ready.held now.held ready.fixed now.fixed error → Finishes now (Some (outline_of error))
       finishes_sessionless refused =
           let none = sessionless (setup_of link) conn.description ready.held.session (is_conn ready address conn readies) (held_ready ready address conn readies).takes refused.none in record {
             more = [];
@@ -498,7 +503,7 @@ module _ {A : Type 0} (spec : OperationSpec A) (batch : Batch) (which : SendKind
           }
 
       -- there was no number
-      finishes_unnumbered : NoNumber past conn.description (on_connection retryability conn.description) ready.held now.held error → Finishes now (Some (outline_of error))
+      finishes_unnumbered : NoNumber past conn.description (on_connection retryability conn.description) ready.held now.held ready.fixed now.fixed error → Finishes now (Some (outline_of error))
       finishes_unnumbered refused =
           let tells = unnumbered_at_end (next_number store) (on_connection retryability conn.description) ready.held now.held error (held_ready ready address conn readies).first refused.draws in record {
             more = [];
@@ -507,34 +512,40 @@ module _ {A : Type 0} (spec : OperationSpec A) (batch : Batch) (which : SendKind
             early = λ at unsent. (tt, end_at_last on mid.link.faults now.link.faults [] error tells);
           }
 
+      -- the number by which a command that is not built again is built
+      ready_fixed : BuildsFirst past mid → builds_again (is_some past) ready.held ≡ false → ready.fixed ≡ fixed
+      ready_fixed begun first = readies.fixed ∙ begun (sym (ap (λ sent. is_some past && is_some sent) (ready_sent op mid ready address conn readies)) ∙ first)
+
       -- there was no frame
-      finishes_unframed : NoFrame spec concern past conn.description (on_connection retryability conn.description) ready.held now.held error → Finishes now (Some (outline_of error))
-      finishes_unframed refused = record {
+      finishes_unframed : BuildsFirst past mid → NoFrame spec concern past conn.description (on_connection retryability conn.description) ready.held now.held ready.fixed now.fixed error
+          → Finishes now (Some (outline_of error))
+      finishes_unframed begun refused = record {
         more = [];
         adds = refused_adds;
         needs = elim refused.why [
-          | inl early ↦ refused_needs on mid.link.faults now.link.faults [] error conn.description (is_conn ready address conn readies) early.1
+          | inl early ↦ refused_needs on mid.link.faults now.link.faults [] error conn.description (is_conn ready address conn readies)
+              (subst (λ number. Refuses spec number conn.description error) (ready_fixed begun early.0) early.1)
           | inr none ↦ unspelled_needs on mid.link.faults now.link.faults [] error (in_context (held_id now.held) refused.number concern) refl none
         ];
         early = λ at unsent. absurd (draws_none ready address conn readies at unsent now.held refused.number refused.draws);
       }
 
     -- the command was refused before it went out
-    finishes_refused : (now : AttemptState) (error : Error) → EndsRefused op past mid now error → Finishes now (Some (outline_of error))
-    finishes_refused now error ends = elim ends.refused [
+    finishes_refused : BuildsFirst past mid → (now : AttemptState) (error : Error) → EndsRefused op past mid now error → Finishes now (Some (outline_of error))
+    finishes_refused begun now error ends = elim ends.refused [
       | inl none ↦ finishes_sessionless now ends.ready ends.address ends.conn ends.readies ends.link error none
       | inr other ↦ elim other [
         | inl none ↦ finishes_unnumbered now ends.ready ends.address ends.conn ends.readies ends.link error none
-        | inr none ↦ finishes_unframed now ends.ready ends.address ends.conn ends.readies ends.link error none
+        | inr none ↦ finishes_unframed now ends.ready ends.address ends.conn ends.readies ends.link error begun none
       ]
     ]
 
     -- the attempt ended the operation at once
-    finishes_ended : (now : AttemptState) (error : Error) → EndsAtOnce op past mid now error → Finishes now (Some (outline_of error))
-    finishes_ended now error ends = elim ends [
+    finishes_ended : BuildsFirst past mid → (now : AttemptState) (error : Error) → EndsAtOnce op past mid now error → Finishes now (Some (outline_of error))
+    finishes_ended begun now error ends = elim ends [
       | inl unready ↦ finishes_unready now error unready
       | inr other ↦ elim other [
-        | inl refused ↦ finishes_refused now error refused
+        | inl refused ↦ finishes_refused begun now error refused
         | inr sent ↦ finishes_sent now error sent
       ]
     ]
@@ -548,7 +559,7 @@ module _ {A : Type 0} (spec : OperationSpec A) (batch : Batch) (which : SendKind
     early : AtLast → AllEarly items × (now.held.sent ≡ None) × KeptHas Lasts kept
 
   -- an operation that has not begun
-  begins : (clock : ClockTells) (count : ℕ) → SoFar None (first_state store link clock count)
+  begins : (clock : ClockTells) (count : ℕ) → SoFar None (first_state store link clock count fixed)
   begins clock count = record { items = []; adds = adds_nothing link; held_so_far = held_at_first store (setup_of link); needs = tt; early = λ at. (tt, refl, tt) }
 
   -- one more failure, and what is decided after it
@@ -605,7 +616,7 @@ module _ {A : Type 0} (spec : OperationSpec A) (batch : Batch) (which : SendKind
     }
 
   -- each moment that an operation reaches
-  reaches_far : (clock : ClockTells) (count : ℕ) (sharded : Bool) (failures : List AttemptFailure) (kept : Option RetryState) (now : AttemptState) → Reaches op sharded (first_state store link clock count) failures kept now → SoFar kept now
+  reaches_far : (clock : ClockTells) (count : ℕ) (sharded : Bool) (failures : List AttemptFailure) (kept : Option RetryState) (now : AttemptState) → Reaches op sharded (first_state store link clock count fixed) failures kept now → SoFar kept now
   reaches_far clock count sharded [] kept now reaches = subst (λ k. SoFar k now) (sym reaches.0) (subst (SoFar None) (sym reaches.1) (begins clock count))
   reaches_far clock count sharded (failure ∷ failures) kept now reaches =
       let mid = reaches.1.1.0 in
@@ -623,7 +634,7 @@ module _ {A : Type 0} (spec : OperationSpec A) (batch : Batch) (which : SendKind
   at_last : (draws : DrawsNumbers spec.sessions retryability (setup_of link)) → IsLast (next_number store) → AtLast
   at_last draws last = record { draws = draws; last = last }
 
-  module _ (sharded : Bool) (kept : Option RetryState) (mid now : AttemptState) (far : SoFar kept mid) where
+  module _ (sharded : Bool) (kept : Option RetryState) (mid now : AttemptState) (far : SoFar kept mid) (begun : BuildsFirst kept mid) where
     -- the last attempt ended the operation so
     abbrev FinishesAt : Option causes.ErrorOutline → Type 0
     FinishesAt ended = Finishes kept mid far.adds.setup far.held_so_far now ended
@@ -697,7 +708,7 @@ module _ {A : Type 0} (spec : OperationSpec A) (batch : Batch) (which : SendKind
         kept_unfit result (subst (λ l. Adds mid.link l []) (sym makes.1.link)
         (ready_adds kept mid far.adds.setup far.held_so_far makes.1.ready makes.1.address makes.1.conn makes.1.readies)) ends
     caused_last (Ended error) result makes ends =
-        subst CausedBy (sym ends) (caused_new (Some (outline_of error)) (finishes_ended kept mid far.adds.setup far.held_so_far now error makes))
+        subst CausedBy (sym ends) (caused_new (Some (outline_of error)) (finishes_ended kept mid far.adds.setup far.held_so_far begun now error makes))
 
     -- the last failure may not be followed by another attempt
     caused_refused : (failure : AttemptFailure) (past : Option RetryState) (error : Error) → MakesAttempt op past mid now (Failed failure)
@@ -737,15 +748,18 @@ module _ {A : Type 0} (spec : OperationSpec A) (batch : Batch) (which : SendKind
     ]
 
 -- an operation that is not refused for its concern has its cause
-pub proceeds_caused : {A : Type 0} (spec : OperationSpec A) (batch : Batch) (which : SendKind) (before now : Moment) (count count_now : ℕ) (result : Result A Error)
-    → Proceeds spec batch which before now count count_now result → Caused spec which before now (end_of result)
-proceeds_caused spec batch which before now count count_now result executes =
+pub proceeds_caused : {A : Type 0} (spec : OperationSpec A) (batch : Batch) (which : SendKind) (before now : Moment) (count count_now : ℕ) (fixed fixed_now : Option ℕ) (result : Result A Error)
+    → Proceeds spec batch which before now count count_now fixed fixed_now result → Caused spec which fixed before now (end_of result)
+proceeds_caused spec batch which before now count count_now fixed fixed_now result executes =
     let retryability = spec.retryability before.client.options in
     let concern = concern_of spec which before.client.options in
     let link = besides_out before.link in
     let attempts = executes.attempts in
-    let came = came_of (attempted_operation spec batch which retryability concern) executes.sharded (first_state before.store link before.clock count) executes.last result attempts in
-    let far = reaches_far spec batch which retryability concern before.store link before.clock count executes.sharded came.0 attempts.kept attempts.mid came.1 in
-    let caused = caused_ends spec batch which retryability concern before.store link executes.sharded attempts.kept attempts.mid executes.last far result attempts.ends in
-    let ends = subst (λ l. EndsCaused (grounds spec which before) link l (end_of result)) (sym executes.link_is) caused in
+    let attempted = attempted_operation spec batch which retryability concern in
+    let first = first_state before.store link before.clock count fixed in
+    let came = came_of attempted executes.sharded first executes.last result attempts in
+    let far = reaches_far spec batch which retryability concern before.store link fixed before.clock count executes.sharded came.0 attempts.kept attempts.mid came.1 in
+    let begun = first_fixed attempted executes.sharded first attempts.mid attempts.failures came.0 attempts.kept attempts.fails came.1 in
+    let caused = caused_ends spec batch which retryability concern before.store link fixed executes.sharded attempts.kept attempts.mid executes.last far begun result attempts.ends in
+    let ends = subst (λ l. EndsCaused (grounds spec which fixed before) link l (end_of result)) (sym executes.link_is) caused in
     record { items = ends.items; noted = ends.noted; never_falls = ends.never_falls; needs = ends.needs; at_last = ends.at_last }

@@ -1,6 +1,6 @@
 -- One attempt more of an operation, and what it has done then.
-use Rattle.std.proofs.Common.{◌≡◌, ℕ, suc, ◌≤◌, List, refl, sym, ap, subst, inl, inr, arith}
-use Rattle.std.specs.Prelude.{ℤ, Bool, true, false, Option, None, Some, is_some, Result, Ok, Err}
+use Rattle.std.proofs.Common.{◌≡◌, ℕ, suc, ◌≤◌, List, refl, sym, subst, inl, inr, arith}
+use Rattle.std.specs.Prelude.{ℤ, true, false, Option, None, Some, is_some, Result, Ok, Err}
 use Rattle.driver_error.specs.declared.error.Error.{Error}
 use Rattle.driver_link.specs.declared.fault.LinkError.{LinkError}
 use Rattle.driver_link.specs.declared.fault.LinkError.TheVariants.{Fault}
@@ -18,9 +18,10 @@ use Rattle.driver_exec.specs.declared.failure.AttemptFailure.{AttemptFailure}
 use Rattle.driver_exec.specs.declared.failure.FailurePhase.{FailurePhase}
 use Rattle.driver_exec.specs.declared.failure.FailurePhase.TheVariants.{ConnectionEstablishment, Execution}
 use Rattle.driver_exec.specs.Attempting.{FailsIn, OnlyLink, Readies, AttemptState, Sends, AttemptedOperation, MakesAttempt, asks_session, held_after, on_connection}
-use Rattle.driver_exec.specs.Holding.{ExecutionSession, HoldsSession, needs_session, number_before}
+use Rattle.driver_exec.specs.Holding.{ExecutionSession, number_before}
 use Rattle.driver_exec.specs.Resending.{AnsweredLast, ReadsLast}
 use Rattle.driver_exec.specs.Retry.{RetryState, may_be_sent}
+use Rattle.driver_exec.proofs.FixedNumbers.{ready_sent}
 use Rattle.driver_exec.proofs.OneAttempt.{checked_counted, connected_counted}
 use Rattle.driver_exec.proofs.BorrowedSession.{MayGoOn, id_of, number_of}
 use Rattle.driver_exec.proofs.Courses.{Course, Over, answered_course, answered_now, counted, first_alone, lost_course, one_more, readied, sent_over}
@@ -38,14 +39,6 @@ module _ {A : Type 0} (op : AttemptedOperation A) (store : StoreTells) (link : L
       (counted op.spec op.batch store (server_run link) most mid.store (server_run mid.link) (server_run ready.link) mid.held.session mid.held.sent
       (connected_counted mid.link ready.link address conn readies.connects).server course)
 
-  -- nothing is sent until a session is there
-  ready_sent : {past : Option RetryState} (mid ready : AttemptState) (address : Address) (conn : Conn) → Readies op past mid ready address conn → ready.held.sent ≡ mid.held.sent
-  ready_sent mid ready address conn readies = by_need (needs_session (asks_session op.spec.sessions conn.description) mid.held) readies.holds
-    where
-      by_need : (needed : Bool) → HoldsSession needed mid.store ready.store mid.held ready.held (Ok tt) → ready.held.sent ≡ mid.held.sent
-      by_need false holds = ap (λ h. h.sent) holds.1
-      by_need true holds = ap (λ h. h.sent) holds.is
-
   -- calls of the link alone
   pub only_link : (most : ℕ) (mid now : AttemptState) → OnlyLink mid now → OnlyCounts (server_run mid.link) (server_run now.link) → CourseAt most mid → CourseAt most now
   only_link most mid now rest counts course =
@@ -60,7 +53,7 @@ module _ {A : Type 0} (op : AttemptedOperation A) (store : StoreTells) (link : L
       connection_retryability = on_connection op.retryability conn.description
 
       ready_goes : MayGoOn sends.ready.held.sent
-      ready_goes = subst MayGoOn (sym (ready_sent mid sends.ready address conn sends.readies)) goes
+      ready_goes = subst MayGoOn (sym (ready_sent op mid sends.ready address conn sends.readies)) goes
 
       ready_here : CourseAt most sends.ready
       ready_here = ready_course most mid sends.ready address conn sends.readies course

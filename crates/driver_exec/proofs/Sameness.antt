@@ -32,7 +32,7 @@ module _ {A : Type 0} (old now : OperationSpec A) (same : SameSpec old now) (bat
   readies_same before after address conn readies =
       let holds = subst (λ sessions. HoldsAt (needs_session (asks_session sessions conn.description) before.held) before.store after.store before.clock after.clock before.held after.held (Ok tt))
       same.sessions (record { holds = readies.holds; lent_at = readies.lent_at }) in
-      record { connects = readies.connects; holds = holds.holds; lent_at = holds.lent_at; count = readies.count }
+      record { connects = readies.connects; holds = holds.holds; lent_at = holds.lent_at; count = readies.count; fixed = readies.fixed }
 
   exchanges_same : (link link_now : LinkState) (conn : Conn) (context : SendContext) (result : Result (List ℕ) LinkError)
       → Exchanges now which batch link link_now conn context result → Exchanges old which batch link link_now conn context result
@@ -53,11 +53,13 @@ module _ {A : Type 0} (old now : OperationSpec A) (same : SameSpec old now) (bat
     numbered = sends.numbered;
     number = sends.number;
     draws = sends.draws;
+    takes = (same.takes sends.ready.fixed conn.description batch.statements).1 sends.takes;
     exchanges = exchanges_same _ _ _ _ result sends.exchanges;
     store_is = sends.store_is;
     clock_is = sends.clock_is;
     held_is = sends.held_is;
     counted = sends.counted;
+    fixed_is = sends.fixed_is;
   }
 
   fails_same : (past : Option RetryState) (before after : AttemptState) (address : Address) (phase : FailurePhase) (error : Error) → FailsIn told past before after address phase error
@@ -118,7 +120,7 @@ module _ {A : Type 0} (old now : OperationSpec A) (same : SameSpec old now) (bat
               draws = none.draws;
               allowed = none.allowed;
               why = elim none.why [
-                | inl early ↦ inl (early.0, refuses_same old now same refused.conn.description error early.1)
+                | inl early ↦ inl (early.0, refuses_same old now same refused.ready.fixed refused.conn.description error early.1, early.2)
                 | inr late ↦ inr (elim late [
                   | inl unspelled ↦ inl (unspelled_same old now same _ error unspelled)
                   | inr memory ↦ inr memory
@@ -169,13 +171,14 @@ module _ {A : Type 0} (old now : OperationSpec A) (same : SameSpec old now) (bat
       store = makes.1.store;
       clock = makes.1.clock;
       count = makes.1.count;
+      fixed = makes.1.fixed;
       allowed = makes.1.allowed;
       goes = makes.1.goes;
       number = makes.1.number;
       draws = makes.1.draws;
       again = makes.1.again;
       error = makes.1.error;
-      refused = refuses_same old now same makes.1.conn.description makes.1.error makes.1.refused;
+      refused = refuses_same old now same makes.1.ready.fixed makes.1.conn.description makes.1.error makes.1.refused;
     },
   )
   attempt_same past before after (Ended error) makes = ends_same past before after error makes

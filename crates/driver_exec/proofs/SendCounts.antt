@@ -61,8 +61,8 @@ module _ {A : Type 0} (op : AttemptedOperation A) (kept : Option RetryState) (be
   attempt_counted (Ended error) makes = ended_counted error makes
 
 -- so many as there were failures, and one more
-module _ {A : Type 0} (op : AttemptedOperation A) (sharded : Bool) (store : StoreTells) (link : LinkState) (clock : ClockTells) (count : ℕ) where
-  reached_counted : (failures : List AttemptFailure) (kept : Option RetryState) (now : AttemptState) → Reaches op sharded (first_state store link clock count) failures kept now
+module _ {A : Type 0} (op : AttemptedOperation A) (sharded : Bool) (store : StoreTells) (link : LinkState) (clock : ClockTells) (count : ℕ) (fixed : Option ℕ) where
+  reached_counted : (failures : List AttemptFailure) (kept : Option RetryState) (now : AttemptState) → Reaches op sharded (first_state store link clock count fixed) failures kept now
       → now.count ≤ count + length failures
   reached_counted [] kept now reaches = let same : now.count ≡ count = ap (λ s. s.count) reaches.1 in omega (arith, same)
   reached_counted (failure ∷ failures) kept now reaches =
@@ -72,11 +72,11 @@ module _ {A : Type 0} (op : AttemptedOperation A) (sharded : Bool) (store : Stor
       let more = failed_counted op rest.0 mid now failure.address failure.phase failure.error rest.1.1.makes.0 in
       omega (arith, before, more)
 
-  ended_few : (failures : List AttemptFailure) (kept : Option RetryState) (mid now : AttemptState) (result : Result A Error) → Reaches op sharded (first_state store link clock count) failures kept mid
+  ended_few : (failures : List AttemptFailure) (kept : Option RetryState) (mid now : AttemptState) (result : Result A Error) → Reaches op sharded (first_state store link clock count fixed) failures kept mid
       → Ends op sharded kept mid now result → now.count ≤ count + 2
   ended_few failures kept mid now result reaches ends =
       let so_far = reached_counted failures kept mid reaches in
-      let few = reaches_few op sharded store link clock count failures kept mid reaches in
+      let few = reaches_few op sharded store link clock count fixed failures kept mid reaches in
       elim ends [
         | inl last ↦
             let left = one_left kept few.once last.goes_on in
@@ -92,21 +92,21 @@ module _ {A : Type 0} (op : AttemptedOperation A) (sharded : Bool) (store : Stor
       ]
 
 -- an operation that is not refused for its concern counts two sends at most
-pub proceeds_few : {A : Type 0} (spec : OperationSpec A) (batch : Batch) (which : SendKind) (before now : Moment) (count count_now : ℕ) (result : Result A Error)
-    → Proceeds spec batch which before now count count_now result → count_now ≤ count + 2
-proceeds_few spec batch which before now count count_now result executes =
+pub proceeds_few : {A : Type 0} (spec : OperationSpec A) (batch : Batch) (which : SendKind) (before now : Moment) (count count_now : ℕ) (fixed fixed_now : Option ℕ) (result : Result A Error)
+    → Proceeds spec batch which before now count count_now fixed fixed_now result → count_now ≤ count + 2
+proceeds_few spec batch which before now count count_now fixed fixed_now result executes =
     let op = attempted_operation spec batch which (spec.retryability before.client.options) (concern_of spec which before.client.options) in
-    let came = came_of op executes.sharded (first_state before.store (besides_out before.link) before.clock count) executes.last result executes.attempts in
-    let few = ended_few op executes.sharded before.store (besides_out before.link) before.clock count came.0 executes.attempts.kept executes.attempts.mid executes.last result came.1 executes.attempts.ends in
+    let came = came_of op executes.sharded (first_state before.store (besides_out before.link) before.clock count fixed) executes.last result executes.attempts in
+    let few = ended_few op executes.sharded before.store (besides_out before.link) before.clock count fixed came.0 executes.attempts.kept executes.attempts.mid executes.last result came.1 executes.attempts.ends in
     omega (arith, few, executes.count_is)
 
 -- where nothing may be repeated there was no failure before the last attempt
-module _ {A : Type 0} (op : AttemptedOperation A) (sharded : Bool) (nothing : op.retryability ≡ may.None) (store : StoreTells) (link : LinkState) (clock : ClockTells) (count : ℕ) where
-  ended_once : (failures : List AttemptFailure) (kept : Option RetryState) (mid now : AttemptState) (result : Result A Error) → Reaches op sharded (first_state store link clock count) failures kept mid
+module _ {A : Type 0} (op : AttemptedOperation A) (sharded : Bool) (nothing : op.retryability ≡ may.None) (store : StoreTells) (link : LinkState) (clock : ClockTells) (count : ℕ) (fixed : Option ℕ) where
+  ended_once : (failures : List AttemptFailure) (kept : Option RetryState) (mid now : AttemptState) (result : Result A Error) → Reaches op sharded (first_state store link clock count fixed) failures kept mid
       → Ends op sharded kept mid now result → now.count ≤ count + 1
   ended_once failures kept mid now result reaches ends =
-      let so_far = reached_counted op sharded store link clock count failures kept mid reaches in
-      let none = no_failure op sharded nothing (first_state store link clock count) failures kept mid reaches in
+      let so_far = reached_counted op sharded store link clock count fixed failures kept mid reaches in
+      let none = no_failure op sharded nothing (first_state store link clock count fixed) failures kept mid reaches in
       elim ends [
         | inl last ↦ let more = attempt_counted op kept mid now last.attempt last.makes in omega (arith, so_far, none, more)
         | inr other ↦ elim other [
@@ -116,10 +116,10 @@ module _ {A : Type 0} (op : AttemptedOperation A) (sharded : Bool) (nothing : op
       ]
 
 -- such an operation counts one send at most
-pub proceeds_once : {A : Type 0} (spec : OperationSpec A) (batch : Batch) (which : SendKind) (before now : Moment) (count count_now : ℕ) (result : Result A Error)
-    → spec.retryability before.client.options ≡ may.None → Proceeds spec batch which before now count count_now result → count_now ≤ count + 1
-proceeds_once spec batch which before now count count_now result nothing executes =
+pub proceeds_once : {A : Type 0} (spec : OperationSpec A) (batch : Batch) (which : SendKind) (before now : Moment) (count count_now : ℕ) (fixed fixed_now : Option ℕ) (result : Result A Error)
+    → spec.retryability before.client.options ≡ may.None → Proceeds spec batch which before now count count_now fixed fixed_now result → count_now ≤ count + 1
+proceeds_once spec batch which before now count count_now fixed fixed_now result nothing executes =
     let op = attempted_operation spec batch which (spec.retryability before.client.options) (concern_of spec which before.client.options) in
-    let came = came_of op executes.sharded (first_state before.store (besides_out before.link) before.clock count) executes.last result executes.attempts in
-    let once = ended_once op executes.sharded nothing before.store (besides_out before.link) before.clock count came.0 executes.attempts.kept executes.attempts.mid executes.last result came.1 executes.attempts.ends in
+    let came = came_of op executes.sharded (first_state before.store (besides_out before.link) before.clock count fixed) executes.last result executes.attempts in
+    let once = ended_once op executes.sharded nothing before.store (besides_out before.link) before.clock count fixed came.0 executes.attempts.kept executes.attempts.mid executes.last result came.1 executes.attempts.ends in
     omega (arith, once, executes.count_is)

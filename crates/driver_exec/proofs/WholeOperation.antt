@@ -24,9 +24,9 @@ use Rattle.driver_exec.proofs.OneCommand.{proceeds_draws, proceeds_lends, procee
 use Rattle.driver_exec.proofs.SendRelations.{begins_unsent}
 use Rattle.driver_exec.proofs.SendCounts.{proceeds_few, proceeds_once}
 
-module _ {A : Type 0} (spec : OperationSpec A) (batch : Batch) (which : SendKind) (before now : Moment) (count count_now : ℕ) (result : Result A Error) where
+module _ {A : Type 0} (spec : OperationSpec A) (batch : Batch) (which : SendKind) (before now : Moment) (count count_now : ℕ) (fixed fixed_now : Option ℕ) (result : Result A Error) where
   -- one that is refused sends nothing
-  refused_sends_one_command : RefusesConcern spec which before now count count_now result → SendsOneCommand spec batch before now result
+  refused_sends_one_command : RefusesConcern spec which before now count count_now fixed fixed_now result → SendsOneCommand spec batch before now result
   refused_sends_one_command refuses = record {
     session = None;
     number = None;
@@ -43,10 +43,10 @@ module _ {A : Type 0} (spec : OperationSpec A) (batch : Batch) (which : SendKind
   }
 
   -- its error is that of the concern, or of want of memory
-  refused_caused : RefusesConcern spec which before now count count_now result → Caused spec which before now (end_of result)
+  refused_caused : RefusesConcern spec which before now count count_now fixed fixed_now result → Caused spec which fixed before now (end_of result)
   refused_caused refuses =
-      subst (λ moment. Caused spec which before moment (end_of result)) (sym refuses.same)
-      (subst (λ ended. Caused spec which before before (end_of ended)) (sym refuses.result_is) (record {
+      subst (λ moment. Caused spec which fixed before moment (end_of result)) (sym refuses.same)
+      (subst (λ ended. Caused spec which fixed before before (end_of ended)) (sym refuses.result_is) (record {
         items = [];
         noted = notes_nothing before.link.answers;
         never_falls = omega arith;
@@ -58,66 +58,66 @@ module _ {A : Type 0} (spec : OperationSpec A) (batch : Batch) (which : SendKind
       }))
     where
       on : Grounds A
-      on = grounds spec which before
+      on = grounds spec which fixed before
 
   -- an operation has its cause
-  pub executes_caused : Executes spec batch which before now count count_now result → Caused spec which before now (end_of result)
+  pub executes_caused : Executes spec batch which before now count count_now fixed fixed_now result → Caused spec which fixed before now (end_of result)
   executes_caused executes = elim executes [
     | inl refuses ↦ refused_caused refuses
-    | inr proceeds ↦ proceeds_caused spec batch which before now count count_now result proceeds
+    | inr proceeds ↦ proceeds_caused spec batch which before now count count_now fixed fixed_now result proceeds
   ]
 
   -- its sends are one command
-  pub executes_sends_one_command : Executes spec batch which before now count count_now result → SendsOneCommand spec batch before now result
+  pub executes_sends_one_command : Executes spec batch which before now count count_now fixed fixed_now result → SendsOneCommand spec batch before now result
   executes_sends_one_command executes = elim executes [
     | inl refuses ↦ refused_sends_one_command refuses
-    | inr proceeds ↦ proceeds_sends_one_command spec batch which before now count count_now result proceeds
+    | inr proceeds ↦ proceeds_sends_one_command spec batch which before now count count_now fixed fixed_now result proceeds
   ]
 
   -- each session is lent as often as before
-  pub executes_lends : Executes spec batch which before now count count_now result → LendsAsBefore before.store now.store
+  pub executes_lends : Executes spec batch which before now count count_now fixed fixed_now result → LendsAsBefore before.store now.store
   executes_lends executes = elim executes [
     | inl refuses ↦ lends_staying before.store now.store (ap (λ moment. moment.store) refuses.same)
-    | inr proceeds ↦ proceeds_lends spec batch which before now count count_now result proceeds
+    | inr proceeds ↦ proceeds_lends spec batch which before now count count_now fixed fixed_now result proceeds
   ]
 
   -- the ids that were drawn are the next ones
-  pub executes_draws : Executes spec batch which before now count count_now result → Draws before.store now.store
+  pub executes_draws : Executes spec batch which before now count count_now fixed fixed_now result → Draws before.store now.store
   executes_draws executes = elim executes [
     | inl refuses ↦ draws_staying before.store now.store (ap (λ moment. moment.store) refuses.same)
-    | inr proceeds ↦ proceeds_draws spec batch which before now count count_now result proceeds
+    | inr proceeds ↦ proceeds_draws spec batch which before now count count_now fixed fixed_now result proceeds
   ]
 
   -- two sends are counted at most
-  pub executes_few : Executes spec batch which before now count count_now result → count_now ≤ count + 2
+  pub executes_few : Executes spec batch which before now count count_now fixed fixed_now result → count_now ≤ count + 2
   executes_few executes = elim executes [
     | inl refuses ↦ omega (arith, refuses.uncounted)
-    | inr proceeds ↦ proceeds_few spec batch which before now count count_now result proceeds
+    | inr proceeds ↦ proceeds_few spec batch which before now count count_now fixed fixed_now result proceeds
   ]
 
   -- and one where nothing may be repeated
-  pub executes_once : spec.retryability before.client.options ≡ may.None → Executes spec batch which before now count count_now result → count_now ≤ count + 1
+  pub executes_once : spec.retryability before.client.options ≡ may.None → Executes spec batch which before now count count_now fixed fixed_now result → count_now ≤ count + 1
   executes_once nothing executes = elim executes [
     | inl refuses ↦ omega (arith, refuses.uncounted)
-    | inr proceeds ↦ proceeds_once spec batch which before now count count_now result nothing proceeds
+    | inr proceeds ↦ proceeds_once spec batch which before now count count_now fixed fixed_now result nothing proceeds
   ]
 
   -- the clock was only read
-  pub executes_read : Executes spec batch which before now count count_now result → OnlyRead before.clock now.clock
+  pub executes_read : Executes spec batch which before now count count_now fixed fixed_now result → OnlyRead before.clock now.clock
   executes_read executes = elim executes [
     | inl refuses ↦ read_same before.clock now.clock (ap (λ moment. moment.clock) refuses.same)
-    | inr proceeds ↦ proceeds_read spec batch which before now count count_now result proceeds
+    | inr proceeds ↦ proceeds_read spec batch which before now count count_now fixed fixed_now result proceeds
   ]
 
   -- the client's options stay
-  pub executes_client : Executes spec batch which before now count count_now result → now.client ≡ before.client
+  pub executes_client : Executes spec batch which before now count count_now fixed fixed_now result → now.client ≡ before.client
   executes_client executes = elim executes [
     | inl refuses ↦ ap (λ moment. moment.client) refuses.same
     | inr proceeds ↦ proceeds.client_is
   ]
 
   -- no random word was drawn
-  pub executes_words : Executes spec batch which before now count count_now result → now.words ≡ before.words
+  pub executes_words : Executes spec batch which before now count count_now fixed fixed_now result → now.words ≡ before.words
   executes_words executes = elim executes [
     | inl refuses ↦ ap (λ moment. moment.words) refuses.same
     | inr proceeds ↦ proceeds.words_are

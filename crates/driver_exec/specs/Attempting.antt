@@ -37,13 +37,15 @@ abbrev pub besides_out : LinkState → LinkState
 besides_out link = record link { out = None }
 
 -- the state of an operation's attempts at one moment: what store and clock tell, and the link besides the connections that
--- are out, what the operation holds, and how many sends were counted by then
+-- are out, what the operation holds, how many sends were counted by then, and how many statements its command has, once that
+-- is fixed
 pub record AttemptState : Type 0 where
   pub store : StoreTells
   pub link : LinkState
   pub clock : ClockTells
   pub held : ExecutionSession
   pub count : ℕ
+  pub fixed : Option ℕ
 
 -- an operation as its attempts see it: what it tells, the places of its writes with the number of its command's statements,
 -- the kind of its sends, what of it may be repeated by its own rules, and the write concern that it goes out with
@@ -85,12 +87,13 @@ asked_for avoid = record { criteria = None; deprioritized = avoid }
 abbrev pub Selects : List Address → LinkState → LinkState → Result Address LinkError → Type 0
 Selects avoid link now result = SelectsServer link now (asked_for avoid) result
 
--- store, clock and what is held are as before, and nothing was sent
+-- store, clock and what is held are as before, and nothing was built or sent
 pub record OnlyLink (before now : AttemptState) : Type 0 where
   pub store : now.store ≡ before.store
   pub clock : now.clock ≡ before.clock
   pub held : now.held ≡ before.held
   pub count : now.count ≡ before.count
+  pub fixed : now.fixed ≡ before.fixed
 
 -- no server was selected: the fault has its own labels alone
 pub record NotSelected (kept : Option RetryState) (before now : AttemptState) (error : Error) : Type 0 where
@@ -130,6 +133,7 @@ pub record Readies {A : Type 0} (op : AttemptedOperation A) (kept : Option Retry
   pub holds : HoldsSession (needs_session (asks_session op.spec.sessions conn.description) before.held) before.store now.store before.held now.held (Ok tt)
   pub lent_at : IsLentAt (needs_session (asks_session op.spec.sessions conn.description) before.held) before.store now.store before.held now.held (Ok tt) holds before.clock now.clock
   pub count : now.count ≡ before.count
+  pub fixed : now.fixed ≡ before.fixed
 
 -- a command went out over a connection with the front of the places, and this came of the exchange: the frame was the built
 -- command with the executor's fields, and it reads as the send of what was asked
@@ -144,8 +148,9 @@ abbrev pub held_after : Result (List ℕ) LinkError → ExecutionSession → Exe
 held_after (Ok reply) held = held
 held_after (Err failure) held = held_after_failure failure held
 
--- the command went out on a connection, under the number of the send before or a first one, and was counted; a further
--- attempt sends it only where it may be repeated there
+-- the command went out on a connection, under the number of the send before or a first one, and was counted; it has as many
+-- statements as a build for the connection takes, which are fixed then; a further attempt sends it only where it may be
+-- repeated there
 pub record Sends {A : Type 0} (op : AttemptedOperation A) (kept : Option RetryState) (before now : AttemptState) (address : Address) (conn : Conn) (result : Result (List ℕ) LinkError) : Type 0 where
   pub ready : AttemptState
   pub readies : Readies op kept before ready address conn
@@ -154,11 +159,13 @@ pub record Sends {A : Type 0} (op : AttemptedOperation A) (kept : Option RetrySt
   pub numbered : ExecutionSession
   pub number : Option ℤ
   pub draws : DrawsNumber ready.held.sent (on_connection op.retryability conn.description) ready.held numbered (Ok number)
+  pub takes : op.spec.takes ready.fixed conn.description op.batch.statements
   pub exchanges : Exchanges op.spec op.which op.batch ready.link now.link conn (in_context (held_id numbered) number op.concern) result
   pub store_is : now.store ≡ ready.store
   pub clock_is : now.clock ≡ ready.clock
   pub held_is : now.held ≡ held_after result (record numbered { sent = Some number })
   pub counted : now.count ≡ ready.count + 1
+  pub fixed_is : now.fixed ≡ Some op.batch.statements
 
 -- the attempt's reply was read
 pub record IsAnswered {A : Type 0} (op : AttemptedOperation A) (kept : Option RetryState) (before now : AttemptState) (output : A) : Type 0 where
@@ -226,31 +233,36 @@ pub record EndsUnready (kept : Option RetryState) (before now : AttemptState) (e
   pub clock : MayRead before.clock now.clock
   pub held : now.held ≡ before.held
   pub count : now.count ≡ before.count
+  pub fixed : now.fixed ≡ before.fixed
   pub why : kind_of error ≡ kind.Memory
 
 -- a session is held, and the connection takes none; the error tells so and nothing else
-pub record NoSessions (description : Description) (ready now : ExecutionSession) (error : Error) : Type 0 where
+pub record NoSessions (description : Description) (ready now : ExecutionSession) (fixed fixed_now : Option ℕ) (error : Error) : Type 0 where
   pub none : may_use ready description ≡ false
   pub same : now ≡ ready
+  pub unfixed : fixed_now ≡ fixed
   pub is : IsAlone kind.SessionsNotSupported no_labels error
 
 -- there was no number
-pub record NoNumber (kept : Option RetryState) (description : Description) (connection_retryability : Retryability) (ready now : ExecutionSession) (error : Error) : Type 0 where
+pub record NoNumber (kept : Option RetryState) (description : Description) (connection_retryability : Retryability) (ready now : ExecutionSession) (fixed fixed_now : Option ℕ) (error : Error) : Type 0 where
   pub allowed : may_use ready description ≡ true
   pub goes : stops (is_some kept) connection_retryability ≡ false
   pub draws : DrawsNumber ready.sent connection_retryability ready now (Err error)
+  pub unfixed : fixed_now ≡ fixed
 
 -- the command is built again: it went out before, and a failure is kept
 abbrev pub builds_again : Bool → ExecutionSession → Bool
 builds_again again held = again && is_some held.sent
 
--- there was no frame under the number: the first build was refused, what was built has no spelling, or memory ran out
-pub record NoFrame {A : Type 0} (spec : OperationSpec A) (concern : Option WriteConcern) (kept : Option RetryState) (description : Description) (connection_retryability : Retryability) (ready now : ExecutionSession) (error : Error) : Type 0 where
+-- there was no frame under the number: the first build was refused, which fixes no number of statements, what was built has no
+-- spelling, or memory ran out
+pub record NoFrame {A : Type 0} (spec : OperationSpec A) (concern : Option WriteConcern) (kept : Option RetryState) (description : Description) (connection_retryability : Retryability) (ready now : ExecutionSession)
+    (fixed fixed_now : Option ℕ) (error : Error) : Type 0 where
   pub goes : stops (is_some kept) connection_retryability ≡ false
   pub number : Option ℤ
   pub draws : DrawsNumber ready.sent connection_retryability ready now (Ok number)
   pub allowed : may_use ready description ≡ true
-  pub why : ((builds_again (is_some kept) ready ≡ false) × Refuses spec description error) ⊎ (IsUnframed spec (in_context (held_id now) number concern) error ⊎ (kind_of error ≡ kind.Memory))
+  pub why : ((builds_again (is_some kept) ready ≡ false) × Refuses spec fixed description error × (fixed_now ≡ fixed)) ⊎ (IsUnframed spec (in_context (held_id now) number concern) error ⊎ (kind_of error ≡ kind.Memory))
 
 -- a connection was had, and the command was refused before it went out
 pub record EndsRefused {A : Type 0} (op : AttemptedOperation A) (kept : Option RetryState) (before now : AttemptState) (error : Error) : Type 0 where
@@ -262,8 +274,9 @@ pub record EndsRefused {A : Type 0} (op : AttemptedOperation A) (kept : Option R
   pub store : now.store ≡ ready.store
   pub clock : now.clock ≡ ready.clock
   pub count : now.count ≡ ready.count
-  pub refused : NoSessions conn.description ready.held now.held error
-      ⊎ (NoNumber kept conn.description (on_connection op.retryability conn.description) ready.held now.held error ⊎ NoFrame op.spec op.concern kept conn.description (on_connection op.retryability conn.description) ready.held now.held error)
+  pub refused : NoSessions conn.description ready.held now.held ready.fixed now.fixed error
+      ⊎ (NoNumber kept conn.description (on_connection op.retryability conn.description) ready.held now.held ready.fixed now.fixed error
+      ⊎ NoFrame op.spec op.concern kept conn.description (on_connection op.retryability conn.description) ready.held now.held ready.fixed now.fixed error)
 
 -- a connection was had for which the command, which went out before, was not built again: that was refused
 pub record RefusedAgain {A : Type 0} (op : AttemptedOperation A) (kept : Option RetryState) (before now : AttemptState) : Type 0 where
@@ -275,13 +288,14 @@ pub record RefusedAgain {A : Type 0} (op : AttemptedOperation A) (kept : Option 
   pub store : now.store ≡ ready.store
   pub clock : now.clock ≡ ready.clock
   pub count : now.count ≡ ready.count
+  pub fixed : now.fixed ≡ ready.fixed
   pub allowed : may_use ready.held conn.description ≡ true
   pub goes : stops (is_some kept) (on_connection op.retryability conn.description) ≡ false
   pub number : Option ℤ
   pub draws : DrawsNumber ready.held.sent (on_connection op.retryability conn.description) ready.held now.held (Ok number)
   pub again : builds_again (is_some kept) ready.held ≡ true
   pub error : Error
-  pub refused : Refuses op.spec conn.description error
+  pub refused : Refuses op.spec ready.fixed conn.description error
 
 -- the command went out, and there was no memory for what came of it
 pub record EndsSent {A : Type 0} (op : AttemptedOperation A) (kept : Option RetryState) (before now : AttemptState) (error : Error) : Type 0 where

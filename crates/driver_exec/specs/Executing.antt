@@ -83,8 +83,9 @@ abbrev pub Ends : {A : Type 0} → AttemptedOperation A → Bool → Option Retr
 Ends op sharded kept mid now result = EndsLast op kept mid now result ⊎ (EndsAtLimit kept mid now result ⊎ EndsNotAllowed op sharded kept mid now result)
 
 -- the state of an operation that begins
-abbrev pub first_state : StoreTells → LinkState → ClockTells → ℕ → AttemptState
-first_state store link clock count = record { store = store; link = link; clock = clock; held = holds_nothing; count = count }
+abbrev pub first_state : StoreTells → LinkState → ClockTells → ℕ → Option ℕ → AttemptState
+first_state store link clock count fixed =
+    record { store = store; link = link; clock = clock; held = holds_nothing; count = count; fixed = fixed }
 
 -- the attempts of an operation: its failures, the oldest first, what is kept of them all, and its end
 pub record Attempts {A : Type 0} (op : AttemptedOperation A) (sharded : Bool) (before now : AttemptState) (result : Result A Error) : Type 0 where
@@ -95,26 +96,29 @@ pub record Attempts {A : Type 0} (op : AttemptedOperation A) (sharded : Bool) (b
   pub kept_is : kept_after op sharded failures ≡ Ok kept
   pub ends : Ends op sharded kept mid now result
 
--- an operation whose concern is refused ends with that error: nothing is asked, drawn, sent or counted
-pub record RefusesConcern {A : Type 0} (spec : OperationSpec A) (which : SendKind) (before now : Moment) (count count_now : ℕ) (result : Result A Error) : Type 0 where
+-- an operation whose concern is refused ends with that error: nothing is asked, drawn, built, sent or counted
+pub record RefusesConcern {A : Type 0} (spec : OperationSpec A) (which : SendKind) (before now : Moment) (count count_now : ℕ) (fixed fixed_now : Option ℕ) (result : Result A Error) : Type 0 where
   pub error : Error
   pub result_is : result ≡ Err error
   pub is : IsConcernError (concern_of spec which before.client.options) error
   pub same : now ≡ before
   pub uncounted : count_now ≡ count
+  pub unfixed : fixed_now ≡ fixed
 
--- an operation whose concern is not refused: its attempts, under one kind of send, and with a count of all its sends, where the
--- link tells its setup by whether that has routers of shards; then the session that it was lent comes back, at a reading of the
--- clock. The connections that are out, the client's options and the words to come are as before
-pub record Proceeds {A : Type 0} (spec : OperationSpec A) (batch : Batch) (which : SendKind) (before now : Moment) (count count_now : ℕ) (result : Result A Error) : Type 0 where
+-- an operation whose concern is not refused: its attempts, under one kind of send, with a count of all its sends, and with the
+-- number of its command's statements, once that is fixed, where the link tells its setup by whether that has routers of shards;
+-- then the session that it was lent comes back, at a reading of the clock. The connections that are out, the client's options
+-- and the words to come are as before
+pub record Proceeds {A : Type 0} (spec : OperationSpec A) (batch : Batch) (which : SendKind) (before now : Moment) (count count_now : ℕ) (fixed fixed_now : Option ℕ) (result : Result A Error) : Type 0 where
   pub accepted : concern_refusal (concern_of spec which before.client.options) ≡ None
   pub sharded : Bool
   pub sharded_is : IfSome (setup_of before.link) (λ setup. sharded ≡ setup.description.sharded)
   pub last : AttemptState
-  pub attempts : Attempts (attempted_operation spec batch which (spec.retryability before.client.options) (concern_of spec which before.client.options)) sharded (first_state before.store (besides_out before.link) before.clock count) last result
+  pub attempts : Attempts (attempted_operation spec batch which (spec.retryability before.client.options) (concern_of spec which before.client.options)) sharded (first_state before.store (besides_out before.link) before.clock count fixed) last result
   pub link_is : besides_out now.link ≡ last.link
   pub out : now.link.out ≡ before.link.out
   pub count_is : count_now ≡ last.count
+  pub fixed_is : fixed_now ≡ last.fixed
   pub comes_back : GivesBack last.store now.store last.held.session
   pub back_at : IsBackAt last.store now.store last.held.session comes_back last.clock now.clock
   pub client_is : now.client ≡ before.client
@@ -122,6 +126,6 @@ pub record Proceeds {A : Type 0} (spec : OperationSpec A) (batch : Batch) (which
 
 -- an operation outside transactions, with the places of its writes and the number of its command's statements: it is refused
 -- for its concern, before anything is asked, else it goes its way
-abbrev pub Executes : {A : Type 0} → OperationSpec A → Batch → SendKind → Moment → Moment → ℕ → ℕ → Result A Error → Type 0
-Executes spec batch which before now count count_now result =
-    RefusesConcern spec which before now count count_now result ⊎ Proceeds spec batch which before now count count_now result
+abbrev pub Executes : {A : Type 0} → OperationSpec A → Batch → SendKind → Moment → Moment → ℕ → ℕ → Option ℕ → Option ℕ → Result A Error → Type 0
+Executes spec batch which before now count count_now fixed fixed_now result =
+    RefusesConcern spec which before now count count_now fixed fixed_now result ⊎ Proceeds spec batch which before now count count_now fixed fixed_now result

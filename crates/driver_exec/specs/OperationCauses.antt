@@ -67,31 +67,35 @@ pub record Unspelled {A : Type 0} (spec : OperationSpec A) (concern : Option Wri
   pub goes_with : context.concern ≡ concern
   pub is : HasNoSpelling spec context fault
 
--- a build of the operation is refused so for a connection, which has the setup's description where the link tells its setup
-pub record RefusesBuild {A : Type 0} (spec : OperationSpec A) (setup : Option Setup) (why : ErrorOutline) : Type 0 where
+-- a build of the operation, by the number of statements that is fixed, is refused so for a connection, which has the setup's
+-- description where the link tells its setup
+pub record RefusesBuild {A : Type 0} (spec : OperationSpec A) (fixed : Option ℕ) (setup : Option Setup) (why : ErrorOutline) : Type 0 where
   pub description : Description
   pub told : IfSome setup (λ told. description ≡ told.description)
   pub error : Error
-  pub refuses : Refuses spec description error
+  pub refuses : Refuses spec fixed description error
   pub is : why ≡ outline_of error
 
 -- an operation reads a reply
 abbrev pub IsRead : {A : Type 0} → OperationSpec A → List ℕ → Type 0
 IsRead {A} spec bytes = (output : A) × ReadsAnswer spec bytes (Ok output)
 
--- what an end is judged by: what the operation tells, what it may repeat by its own rules, the concern that it goes out with,
--- what the link tells of its setup, and the number of the session that is lent next
+-- what an end is judged by: what the operation tells, the number of its command's statements, where that was fixed when it
+-- began, what it may repeat by its own rules, the concern that it goes out with, what the link tells of its setup, and the number
+-- of the session that is lent next
 pub record Grounds (A : Type 0) : Type 1 where
   pub spec : OperationSpec A
+  pub fixed : Option ℕ
   pub retryability : Retryability
   pub concern : Option WriteConcern
   pub setup : Option Setup
   pub number : Option ℤ
 
 -- what the end of an operation that begins at a moment is judged by
-abbrev pub grounds : {A : Type 0} → OperationSpec A → SendKind → Moment → Grounds A
-grounds spec which before = record {
+abbrev pub grounds : {A : Type 0} → OperationSpec A → SendKind → Option ℕ → Moment → Grounds A
+grounds spec which fixed before = record {
   spec = spec;
+  fixed = fixed;
   retryability = spec.retryability before.client.options;
   concern = concern_of spec which before.client.options;
   setup = setup_of before.link;
@@ -115,7 +119,7 @@ KindNeeds on before now items labels _ = ⊥
 -- spells it, or where a build is refused so
 abbrev pub EndNeeds : {A : Type 0} → Grounds A → ℕ → ℕ → List Answered → Option ErrorOutline → Type 0
 EndNeeds on before now items None = HasReply (IsRead on.spec) items
-EndNeeds on before now items (Some why) = KindNeeds on before now items why.labels why.kind ⊎ (HasReply (SpellsEnd on.spec why) items ⊎ RefusesBuild on.spec on.setup why)
+EndNeeds on before now items (Some why) = KindNeeds on before now items why.labels why.kind ⊎ (HasReply (SpellsEnd on.spec why) items ⊎ RefusesBuild on.spec on.fixed on.setup why)
 
 -- each send has a number: the operation takes a session and may repeat its write, and the link tells that its connections
 -- take sessions and retryable writes
@@ -138,5 +142,5 @@ pub record EndsCaused {A : Type 0} (on : Grounds A) (link now : LinkState) (ende
   pub at_last : concern_refusal on.concern ≡ None → DrawsNumbers on.spec.sessions on.retryability on.setup → IsLast on.number → EndAtLast on items ended
 
 -- an operation that began at a moment ended so
-abbrev pub Caused : {A : Type 0} → OperationSpec A → SendKind → Moment → Moment → Option ErrorOutline → Type 0
-Caused spec which before now ended = EndsCaused (grounds spec which before) before.link now.link ended
+abbrev pub Caused : {A : Type 0} → OperationSpec A → SendKind → Option ℕ → Moment → Moment → Option ErrorOutline → Type 0
+Caused spec which fixed before now ended = EndsCaused (grounds spec which fixed before) before.link now.link ended

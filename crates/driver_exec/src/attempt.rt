@@ -45,9 +45,9 @@ pub(crate) fn make_attempt<O: Operation, S: SessionStore, L: Link, K: Clock, R, 
         (concern_of (O.spec op.old) (O.next op.old) (options_of client.old)))
         (option_copied kept.entry)
         (attempt_state (S.tells (store_of client.old)) (L.tells outside.old.link)
-        (K.tells outside.old.clock) held sends.old)
+        (K.tells outside.old.clock) held sends.old (O.built op.old))
         (attempt_state (S.tells (store_of client.new)) (L.tells outside.new.link)
-        (K.tells outside.new.clock) result.0 sends.new)
+        (K.tells outside.new.clock) result.0 sends.new (O.built op.new))
         result.1 }
     ensures options { options_of client.new ≡ options_of client.old }
     ensures spec { SameSpec (O.spec op.old) (O.spec op.new) }
@@ -187,9 +187,10 @@ fn execute_operation_on_connection<O: Operation, S: SessionStore, L: Link, K: Cl
         address on.now.conn.now →
         MakesAttempt (attempted_operation (O.spec op.old) (batch_of places.now statements) (O.next op.old)
         retryability (concern_of (O.spec op.old) (O.next op.old) (options_of client.old))) kept
-        (attempt_state (S.tells (store_of client.old)) before (K.tells outside.old.clock) held sends.old)
+        (attempt_state (S.tells (store_of client.old)) before (K.tells outside.old.clock) held sends.old
+        (O.built op.old))
         (attempt_state (S.tells (store_of client.new)) (L.tells outside.new.link)
-        (K.tells outside.new.clock) result.0 sends.new)
+        (K.tells outside.new.clock) result.0 sends.new (O.built op.new))
         result.1 }
     ensures options { options_of client.new ≡ options_of client.old }
     ensures spec { SameSpec (O.spec op.old) (O.spec op.new) }

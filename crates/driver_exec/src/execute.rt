@@ -53,7 +53,7 @@ pub fn execute_operation<O: Operation, S: SessionStore, L: Link, K: Clock, R: Rn
         Executes (O.spec op.old) (batch_of places.now statements) (O.next op.old)
         (moment_of S.tells L.tells K.tells R.stream client.old outside.old)
         (moment_of S.tells L.tells K.tells R.stream client.new outside.new)
-        sends.old sends.new result }
+        sends.old sends.new (O.built op.old) (O.built op.new) result }
     ensures one_command { (statements : ℕ) → IsFixed (O.built op.new) statements →
         SendsOneCommand (O.spec op.old) (batch_of places.now statements)
         (moment_of S.tells L.tells K.tells R.stream client.old outside.old)
@@ -69,7 +69,7 @@ pub fn execute_operation<O: Operation, S: SessionStore, L: Link, K: Clock, R: Rn
         (moment_of S.tells L.tells K.tells R.stream client.old outside.old)
         (moment_of S.tells L.tells K.tells R.stream client.new outside.new)
         result }
-    ensures caused { Caused (O.spec op.old) (O.next op.old)
+    ensures caused { Caused (O.spec op.old) (O.next op.old) (O.built op.old)
         (moment_of S.tells L.tells K.tells R.stream client.old outside.old)
         (moment_of S.tells L.tells K.tells R.stream client.new outside.new)
         (end_of result) }
@@ -110,9 +110,9 @@ fn execute_operation_with_retry<O: Operation, S: SessionStore, L: Link, K: Clock
         ((O.spec op.old).retryability (options_of client.old))
         (concern_of (O.spec op.old) (O.next op.old) (options_of client.old))) sharded
         (attempt_state (S.tells (store_of client.old)) (L.tells outside.old.link)
-        (K.tells outside.old.clock) holds_nothing sends.old)
+        (K.tells outside.old.clock) holds_nothing sends.old (O.built op.old))
         (attempt_state (S.tells (store_of client.new)) (L.tells outside.new.link)
-        (K.tells outside.new.clock) result.0 sends.new)
+        (K.tells outside.new.clock) result.0 sends.new (O.built op.new))
         result.1 }
     ensures options { options_of client.new ≡ options_of client.old }
     ensures spec { SameSpec (O.spec op.old) (O.spec op.new) }

@@ -1,5 +1,5 @@
 //! Laws of an operation, from how it is executed and from what its sends leave.
-ghost use Rattle.std.specs.Prelude.{◌≡◌, ℕ, ◌+◌, ◌≤◌, Result};
+ghost use Rattle.std.specs.Prelude.{◌≡◌, ℕ, ◌+◌, ◌≤◌, Option, Result};
 ghost use Rattle.driver_error.specs.declared.error.Error.{Error};
 ghost use Rattle.driver_link.specs.declared.machine.SendBody.{SendBody};
 ghost use Rattle.driver_session.specs.declared.retryability.Retryability.TheVariants.{None as Nothing};
@@ -32,21 +32,24 @@ pub fn one_command_has_its_entries<O: Operation>()
 /// An operation lends no session in the end: each is lent as often after it as before.
 pub fn an_operation_keeps_what_is_lent<O: Operation>()
     ensures { (op : O) (batch : Batch) (which : SendKind) (before now : Moment) (count more : ℕ)
-        (result : Result O.Output Error) → Executes (O.spec op) batch which before now count more result →
+        (fixed later : Option ℕ) (result : Result O.Output Error) →
+        Executes (O.spec op) batch which before now count more fixed later result →
         KeepsLent before now }
 {}
 
 /// The ids that it drew are the next of those that were to come, in order.
 pub fn an_operation_draws_in_order<O: Operation>()
     ensures { (op : O) (batch : Batch) (which : SendKind) (before now : Moment) (count more : ℕ)
-        (result : Result O.Output Error) → Executes (O.spec op) batch which before now count more result →
+        (fixed later : Option ℕ) (result : Result O.Output Error) →
+        Executes (O.spec op) batch which before now count more fixed later result →
         DrawsInOrder before now }
 {}
 
 /// Its command goes out twice at most.
 pub fn an_operation_sends_twice_at_most<O: Operation>()
     ensures { (op : O) (batch : Batch) (which : SendKind) (before now : Moment) (count more : ℕ)
-        (result : Result O.Output Error) → Executes (O.spec op) batch which before now count more result →
+        (fixed later : Option ℕ) (result : Result O.Output Error) →
+        Executes (O.spec op) batch which before now count more fixed later result →
         more ≤ count + 2 }
 {}
 
@@ -54,13 +57,15 @@ pub fn an_operation_sends_twice_at_most<O: Operation>()
 /// or a write of a client whose options forbid a retry.
 pub fn an_operation_that_may_not_be_repeated_sends_once<O: Operation>()
     ensures { (op : O) (batch : Batch) (which : SendKind) (before now : Moment) (count more : ℕ)
-        (result : Result O.Output Error) → Executes (O.spec op) batch which before now count more result →
+        (fixed later : Option ℕ) (result : Result O.Output Error) →
+        Executes (O.spec op) batch which before now count more fixed later result →
         (O.spec op).retryability before.client.options ≡ Nothing → more ≤ count + 1 }
 {}
 
 /// It only reads its clock.
 pub fn an_operation_only_reads_the_clock<O: Operation>()
     ensures { (op : O) (batch : Batch) (which : SendKind) (before now : Moment) (count more : ℕ)
-        (result : Result O.Output Error) → Executes (O.spec op) batch which before now count more result →
+        (fixed later : Option ℕ) (result : Result O.Output Error) →
+        Executes (O.spec op) batch which before now count more fixed later result →
         OnlyRead before.clock now.clock }
 {}

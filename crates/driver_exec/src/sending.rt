@@ -47,7 +47,8 @@ pub(crate) fn send<O: Operation, L: Link, Q: Ledger>(
         Sending (O.spec op.old) (O.next op.old) (concern_of (O.spec op.old) (O.next op.old) options.now)
         (batch_of places.now statements) on.now.again
         (besides_out (L.tells link.old)) (besides_out (L.tells link.new))
-        on.now.connection_retryability on.now.conn.now address held result.0 sends.old sends.new result.1 }
+        on.now.connection_retryability on.now.conn.now address held result.0 sends.old sends.new
+        (O.built op.old) (O.built op.new) result.1 }
     ensures spec { SameSpec (O.spec op.old) (O.spec op.new) }
     ensures fixed { StaysFixed (O.built op.old) (O.built op.new) }
     ensures next { O.next op.new ≡ O.next op.old }

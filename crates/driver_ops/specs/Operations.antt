@@ -38,15 +38,17 @@ abbrev pub Page : Type 0
 Page = Result (List (Pair Bson)) Error
 
 -- what an operation tells: the name of its command and what it goes to; which commands it builds, by the kind of the send and
--- the number of statements; what a command of so many statements asks for, with the places of all its remaining writes; what
--- a build is refused with, beside want of memory; its options, of which some are by the kind of the send; what of it may be
--- repeated; what the pages of an answer come to, the newest first; and what its output is by the entries of its writes, in order
+-- the number of statements; what a command of so many statements asks for, with the places of all its remaining writes; how many
+-- statements a build takes for a connection that is described so, and what it is refused with, beside want of memory, both by the
+-- number that earlier builds fixed; its options, of which some are by the kind of the send; what of it may be repeated; what the
+-- pages of an answer come to, the newest first; and what its output is by the entries of its writes, in order
 pub record OperationSpec (A : Type 0) : Type 1 where
   pub name : CommandName
   pub target : OperationTarget
   pub commands : SendKind → ℕ → Command → Type 0
   pub bodies : ℕ → List Place → SendBody → Type 0
-  pub refused : Description → Error → Type 0
+  pub takes : Option ℕ → Description → ℕ → Type 0
+  pub refused : Option ℕ → Description → Error → Type 0
   pub write_concern : SendKind → Feature WriteConcern
   pub read_concern : Feature ReadConcern
   pub selection_criteria : SendKind → Feature SelectionCriteria
@@ -63,7 +65,8 @@ pub record SameSpec {A : Type 0} (old now : OperationSpec A) : Type 0 where
   pub target : now.target ≡ old.target
   pub commands : (which : SendKind) (statements : ℕ) (command : Command) → old.commands which statements command ↔ now.commands which statements command
   pub bodies : (statements : ℕ) (places : List Place) (body : SendBody) → old.bodies statements places body ↔ now.bodies statements places body
-  pub refused : (description : Description) (error : Error) → old.refused description error ↔ now.refused description error
+  pub takes : (fixed : Option ℕ) (description : Description) (statements : ℕ) → old.takes fixed description statements ↔ now.takes fixed description statements
+  pub refused : (fixed : Option ℕ) (description : Description) (error : Error) → old.refused fixed description error ↔ now.refused fixed description error
   pub write_concern : (which : SendKind) → now.write_concern which ≡ old.write_concern which
   pub read_concern : now.read_concern ≡ old.read_concern
   pub selection_criteria : (which : SendKind) → now.selection_criteria which ≡ old.selection_criteria which
@@ -124,10 +127,11 @@ pub record IsBuilt {A : Type 0} (spec : OperationSpec A) (which : SendKind) (sta
   pub asks : (places : List Place) (body : SendBody) → spec.bodies statements places body → CommandAsks command (take statements places) body
   pub within : (places : List Place) (body : SendBody) → spec.bodies statements places body → statements ≤ length places
 
--- a built command, which has as many statements as those that were built before
-pub record BuildsCommand {A : Type 0} (spec : OperationSpec A) (which : SendKind) (before now : Option ℕ) (command : Command) : Type 0 where
+-- a built command, which has as many statements as a build for the connection takes, and as those that were built before
+pub record BuildsCommand {A : Type 0} (spec : OperationSpec A) (which : SendKind) (description : Description) (before now : Option ℕ) (command : Command) : Type 0 where
   pub statements : ℕ
   pub built : IsBuilt spec which statements command
+  pub takes : spec.takes before description statements
   pub fixed : IsFixed before statements
   pub now_is : now ≡ Some statements
 
@@ -139,16 +143,17 @@ MayRefuse (kind.IncompatibleServer message) = Unit {0}
 MayRefuse (kind.Internal message) = Unit {0}
 MayRefuse _ = ⊥
 
--- a build for a connection that is described so is refused with this error, which has its kind and nothing else
-pub record Refuses {A : Type 0} (spec : OperationSpec A) (description : Description) (error : Error) : Type 0 where
-  pub refused : spec.refused description error
+-- a build for a connection that is described so, by the number of statements that is fixed, is refused with this error, which
+-- has its kind and nothing else
+pub record Refuses {A : Type 0} (spec : OperationSpec A) (fixed : Option ℕ) (description : Description) (error : Error) : Type 0 where
+  pub refused : spec.refused fixed description error
   pub may : MayRefuse (kind_of error)
   pub alone : IsAlone (kind_of error) no_labels error
 
 -- a built command for a connection that is described so, or why there is none: then the number of statements is as before
 abbrev pub Builds : {A : Type 0} → OperationSpec A → SendKind → Description → Option ℕ → Option ℕ → Result Command Error → Type 0
-Builds spec which description before now (Ok command) = BuildsCommand spec which before now command
-Builds spec which description before now (Err error) = (now ≡ before) × (Refuses spec description error ⊎ (kind_of error ≡ kind.Memory))
+Builds spec which description before now (Ok command) = BuildsCommand spec which description before now command
+Builds spec which description before now (Err error) = (now ≡ before) × (Refuses spec before description error ⊎ (kind_of error ≡ kind.Memory))
 
 -- the send of what is asked for, outside transactions
 abbrev pub send_of : SendContext → SendBody → Send
@@ -179,9 +184,13 @@ pub record IsUnframed {A : Type 0} (spec : OperationSpec A) (context : SendConte
   pub none : HasNoSpelling spec context fault
   pub is : IsAlone (kind.BsonSerialization fault) no_labels error
 
+-- a build takes the one statement that there is
+abbrev pub takes_one : Option ℕ → Description → ℕ → Type 0
+takes_one fixed description statements = statements ≡ 1
+
 -- nothing is refused
-abbrev pub never : Description → Error → Type 0
-never description error = ⊥
+abbrev pub never : Option ℕ → Description → Error → Type 0
+never fixed description error = ⊥
 
 -- the error that an operation reads in a reply whose command was done, with the reply in it
 pub record ReadsError {A : Type 0} (spec : OperationSpec A) (bytes : List ℕ) (error : Error) : Type 0 where

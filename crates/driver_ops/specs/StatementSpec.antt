@@ -32,7 +32,7 @@ use Rattle.driver_ops.specs.Features.{feature_of}
 use Rattle.driver_ops.specs.FindingAndModifying.{find_command}
 use Rattle.driver_ops.specs.FoundAnswers.{ReadsFind, TellsFound}
 use Rattle.driver_ops.specs.InsertSpec.{ReadsAlone}
-use Rattle.driver_ops.specs.Operations.{OperationSpec, never}
+use Rattle.driver_ops.specs.Operations.{OperationSpec, never, takes_one}
 use Rattle.driver_ops.specs.Defaults.{is_repeatable, repeated_where}
 use Rattle.driver_ops.specs.Targets.{namespace_of}
 use Rattle.driver_ops.specs.Updating.{update_command, update_statement}
@@ -64,13 +64,14 @@ own_of_statement false options = repeated_where options.retry_writes
 abbrev pub under_backpressure : ClientOptions → Bool
 under_backpressure options = is_repeatable (repeated_where options.retry_writes)
 
--- an update tells this: each send has the same command, the reply is the whole answer
+-- an update tells this: each send has the same command of its one statement, the reply is the whole answer
 abbrev pub update_spec : OperationTarget → List (Pair Bson) → UpdateOrReplace → Bool → UpdateOptions → OperationSpec UpdateResult
 update_spec target filter change multi options = record {
   name = name.Update;
   target = target;
   commands = λ which. IsStatementCommand (namespace_of target) (update_command (namespace_of target) (update_statement filter change multi options) options);
   bodies = AsksStatement command.Update kind.Update (namespace_of target) (update_statement filter change multi options);
+  takes = takes_one;
   refused = never;
   write_concern = λ which. feature_of options.write_concern;
   read_concern = NotSupported;
@@ -90,6 +91,7 @@ delete_spec target filter multi options = record {
   target = target;
   commands = λ which. IsStatementCommand (namespace_of target) (delete_command (namespace_of target) (delete_statement filter multi options) options);
   bodies = AsksStatement command.Delete kind.Delete (namespace_of target) (delete_statement filter multi options);
+  takes = takes_one;
   refused = never;
   write_concern = λ which. feature_of options.write_concern;
   read_concern = NotSupported;
@@ -109,6 +111,7 @@ find_spec target filter modification options = record {
   target = target;
   commands = λ which. IsStatementCommand (namespace_of target) (find_command (namespace_of target) filter modification options);
   bodies = AsksStatement command.FindAndModify kind.FindAndModify (namespace_of target) (find_command (namespace_of target) filter modification options);
+  takes = takes_one;
   refused = never;
   write_concern = λ which. feature_of options.write_concern;
   read_concern = NotSupported;

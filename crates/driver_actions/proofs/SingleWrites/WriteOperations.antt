@@ -1,5 +1,5 @@
 -- The operation of a single write: what it asks for, what it was made with, and what it came to.
-use Rattle.std.proofs.Common.{◌≡◌, ℕ, ◌+◌, ◌≤◌, List, [], ◌∷◌, refl, sym, subst, arith}
+use Rattle.std.proofs.Common.{◌≡◌, ℕ, suc, ◌+◌, ◌≤◌, List, [], ◌∷◌, refl, sym, ap, subst, arith}
 use Rattle.std.specs.Prelude.{Bool, Option, None, Some, Result}
 use Rattle.bson_lite.specs.declared.bson.Bson.{Bson}
 use Rattle.bson_lite.specs.declared.document.Pair.{Pair}
@@ -43,29 +43,40 @@ pub still_one : (old now : Option ℕ) → old ≡ Some 1 → StaysFixed old now
 still_one old None one stays = tt
 still_one old (Some found) one stays = sym (subst (λ o. IsFixed o found) one (stays found refl))
 
+-- and is the number that is fixed
+pub still_fixed : (old now : Option ℕ) → old ≡ Some 1 → StaysFixed old now → now ≡ Some 1
+still_fixed old None one stays = absurd (none_follows 1 (subst (λ o. IsFixed o (suc 1)) one (stays (suc 1) tt)))
+  where
+    none_follows : (n : ℕ) → n ≡ suc n → ⊥
+    none_follows n is = omega arith
+still_fixed old (Some found) one stays = ap (λ n. Some n) (still_one old (Some found) one stays)
+
 -- two sends more than none are two
 two_at_most : (from count : ℕ) → from ≡ 0 → count ≤ from + 2 → count ≤ 2
 two_at_most from count none within = omega (arith, none, within)
 
 -- an operation of one statement was run where it was executed, and this is its result in a single write's form
-pub executed_runs : {A : Type 0} (spec : OperationSpec A) (which : SendKind) (asked : SendBody) (place : Place) (before now : Moment) (from count : ℕ) (executed found ended : Result A Error)
-    → which ≡ first → from ≡ 0 → AsksFor spec (batch_of (place ∷ []) 1) asked → Executes spec (batch_of (place ∷ []) 1) which before now from count executed
-    → SendsOneCommand spec (batch_of (place ∷ []) 1) before now executed → Caused spec which before now (end_of executed) → KeepsInvariant before now asked
+pub executed_runs : {A : Type 0} (spec : OperationSpec A) (which : SendKind) (asked : SendBody) (place : Place) (before now : Moment) (from count : ℕ) (fixed fixed_now : Option ℕ) (executed found ended : Result A Error)
+    → which ≡ first → from ≡ 0 → fixed ≡ Some 1 → fixed_now ≡ Some 1 → AsksFor spec (batch_of (place ∷ []) 1) asked
+    → Executes spec (batch_of (place ∷ []) 1) which before now from count fixed fixed_now executed
+    → SendsOneCommand spec (batch_of (place ∷ []) 1) before now executed → Caused spec which fixed before now (end_of executed) → KeepsInvariant before now asked
     → OkHasEntries spec asked before now executed → executed ≡ found → BecomesSingle found ended → Runs spec asked place before now ended
-executed_runs spec which asked place before now from count executed found ended kind none asks executes one_command caused keeps entries is becomes = record {
+executed_runs spec which asked place before now from count fixed fixed_now executed found ended kind none one still asks executes one_command caused keeps entries is becomes = record {
   asks = asks;
   executed = executed;
   count = count;
-  executes = subst (λ k. Executes spec (batch_of (place ∷ []) 1) k before now 0 count executed) kind
-      (subst (λ n. Executes spec (batch_of (place ∷ []) 1) which before now n count executed) none executes);
-  twice = two_at_most from count none (executes_few spec (batch_of (place ∷ []) 1) which before now from count executed executes);
+  executes = subst (λ k. Executes spec (batch_of (place ∷ []) 1) k before now 0 count (Some 1) (Some 1) executed) kind
+      (subst (λ n. Executes spec (batch_of (place ∷ []) 1) which before now n count (Some 1) (Some 1) executed) none
+      (subst (λ o. Executes spec (batch_of (place ∷ []) 1) which before now from count o (Some 1) executed) one
+      (subst (λ o. Executes spec (batch_of (place ∷ []) 1) which before now from count fixed o executed) still executes)));
+  twice = two_at_most from count none (executes_few spec (batch_of (place ∷ []) 1) which before now from count fixed fixed_now executed executes);
   one_command = one_command;
-  caused = subst (λ k. Caused spec k before now (end_of executed)) kind caused;
+  caused = subst (λ k. Caused spec k (Some 1) before now (end_of executed)) kind (subst (λ o. Caused spec which o before now (end_of executed)) one caused);
   becomes = subst (λ r. BecomesSingle r ended) (sym is) becomes;
   keeps = keeps;
   entries = entries;
-  lent = executes_lends spec (batch_of (place ∷ []) 1) which before now from count executed executes;
-  drawn = executes_draws spec (batch_of (place ∷ []) 1) which before now from count executed executes;
+  lent = executes_lends spec (batch_of (place ∷ []) 1) which before now from count fixed fixed_now executed executes;
+  drawn = executes_draws spec (batch_of (place ∷ []) 1) which before now from count fixed fixed_now executed executes;
 }
 
 -- what holds of the parts that an insert was made with holds of those that it was made from

@@ -1,6 +1,6 @@
 -- What each single write that was made left, whatever it does.
 use Rattle.std.proofs.Common.{◌≡◌, ℕ, List, [], ◌∷◌, refl, sym, ap, subst, inl}
-use Rattle.std.specs.Prelude.{ℤ, Option, Result}
+use Rattle.std.specs.Prelude.{ℤ, Option, Some, Result}
 use Rattle.driver_error.specs.declared.error.Error.{Error}
 use Rattle.driver_link.specs.declared.machine.Place.{Place}
 use Rattle.driver_link.specs.declared.machine.SendBody.{SendBody}
@@ -42,8 +42,8 @@ runs_left {spec = spec} {asked = asked} {place = place} {before = before} {now =
   keeps = runs.keeps;
   lent = runs.lent;
   drawn = runs.drawn;
-  read = executes_read spec (batch_of (place ∷ []) 1) first before now 0 runs.count runs.executed runs.executes;
-  words = executes_words spec (batch_of (place ∷ []) 1) first before now 0 runs.count runs.executed runs.executes;
+  read = executes_read spec (batch_of (place ∷ []) 1) first before now 0 runs.count (Some 1) (Some 1) runs.executed runs.executes;
+  words = executes_words spec (batch_of (place ∷ []) 1) first before now 0 runs.count (Some 1) (Some 1) runs.executed runs.executes;
 }
 
 -- nothing was drawn where all is as it was

@@ -38,7 +38,7 @@ use Rattle.driver_exec.proofs.Completeness.Losses.{Lost, again_prepared, unselec
 module _ {A : Type 0} (known : KnownCommand A) where
   open known use {body, does, retryability, store, told, link, link_is, unrefused}
 
-  module _ (clock : ClockTells) (count : ℕ) (told_now : ServerRun) (gentle : IsGentlePart does (DrawsNumbers true retryability (setup_of link)) told told_now) where
+  module _ (clock : ClockTells) (count : ℕ) (fixed : Option ℕ) (told_now : ServerRun) (gentle : IsGentlePart does (DrawsNumbers true retryability (setup_of link)) told told_now) where
     -- where an operation stands between its attempts: it has not begun, or its one exchange was lost
     record LostOnce (retry : RetryState) (now : AttemptState) : Type 0 where
       lost : Lost known told_now gentle told now
@@ -47,7 +47,7 @@ module _ {A : Type 0} (known : KnownCommand A) where
 
     -- the same by what is kept
     abbrev SoFar : Option RetryState → AttemptState → Type 0
-    SoFar None now = now ≡ first_state store link clock count
+    SoFar None now = now ≡ first_state store link clock count fixed
     SoFar (Some retry) now = LostOnce retry now
 
     -- a further attempt does not fail
@@ -84,8 +84,8 @@ module _ {A : Type 0} (known : KnownCommand A) where
 
       -- one failure more
       first_fails : (now : AttemptState) (last : ServerRun) (now_is : server_run now.link ≡ Some last) (later : IsBefore last told_now) (apart : DrawnApart now.store) (address : Address) (phase : FailurePhase) (error : Error)
-          → FailsIn (attempted known) None (first_state store link clock count) now address phase error → LosesWell known told_now gentle None told (first_state store link clock count) (first_prepared known clock count) now last now_is later apart error
-      first_fails now last now_is later apart address phase error fails = fails_well known told_now gentle None told (first_state store link clock count) (first_prepared known clock count) now last now_is later apart address phase error fails
+          → FailsIn (attempted known) None (first_state store link clock count fixed) now address phase error → LosesWell known told_now gentle None told (first_state store link clock count fixed) (first_prepared known clock count fixed) now last now_is later apart error
+      first_fails now last now_is later apart address phase error fails = fails_well known told_now gentle None told (first_state store link clock count fixed) (first_prepared known clock count fixed) now last now_is later apart address phase error fails
 
       -- and where the operation stands after it
       fails_far : (kept : Option RetryState) (mid now : AttemptState) (last : ServerRun) → SoFar kept mid → server_run now.link ≡ Some last → IsBefore last told_now → DrawnApart now.store → (failure : AttemptFailure) (retry : RetryState)
@@ -99,7 +99,7 @@ module _ {A : Type 0} (known : KnownCommand A) where
           absurd (again_none earlier mid far now last now_is later apart failure.address failure.phase failure.error makes.0)
 
       -- each moment that an operation reaches is not before the first one
-      reaches_leads : (failures : List AttemptFailure) (kept : Option RetryState) (now : AttemptState) → Reaches (attempted known) sharded (first_state store link clock count) failures kept now → Leads told link now.link
+      reaches_leads : (failures : List AttemptFailure) (kept : Option RetryState) (now : AttemptState) → Reaches (attempted known) sharded (first_state store link clock count fixed) failures kept now → Leads told link now.link
       reaches_leads [] kept now reaches = subst (λ s. Leads told link s.link) (sym reaches.1) (leads_same told link link_is)
       reaches_leads (failure ∷ failures) kept now reaches =
           let mid = reaches.1.1.0 in
@@ -109,7 +109,7 @@ module _ {A : Type 0} (known : KnownCommand A) where
           (fails_lead (attempted known) rest.0 body known.asked came.moment mid now came.is failure.address failure.phase failure.error rest.1.1.makes.0)
 
       -- what it has come to there
-      reaches_far : (failures : List AttemptFailure) (kept : Option RetryState) (now : AttemptState) (last : ServerRun) → Reaches (attempted known) sharded (first_state store link clock count) failures kept now
+      reaches_far : (failures : List AttemptFailure) (kept : Option RetryState) (now : AttemptState) (last : ServerRun) → Reaches (attempted known) sharded (first_state store link clock count fixed) failures kept now
           → server_run now.link ≡ Some last → IsBefore last told_now → DrawnApart now.store → SoFar kept now
       reaches_far [] kept now last reaches now_is later apart = subst (λ k. SoFar k now) (sym reaches.0) reaches.1
       reaches_far (failure ∷ failures) kept now last reaches now_is later apart =
@@ -123,7 +123,7 @@ module _ {A : Type 0} (known : KnownCommand A) where
           subst (λ k. SoFar k now) (sym reaches.1.0) (fails_far rest.0 mid now last far now_is later apart failure reaches.0 rest.1.1.makes rest.1.1.decides)
 
       -- the last attempt
-      module _ (failures : List AttemptFailure) (kept : Option RetryState) (mid now : AttemptState) (reaches : Reaches (attempted known) sharded (first_state store link clock count) failures kept mid)
+      module _ (failures : List AttemptFailure) (kept : Option RetryState) (mid now : AttemptState) (reaches : Reaches (attempted known) sharded (first_state store link clock count fixed) failures kept mid)
           (now_is : server_run now.link ≡ Some told_now) (apart_mid : DrawnApart mid.store) (apart : DrawnApart now.store) where
         -- the link leads there
         came_last : Leads told link mid.link
@@ -144,7 +144,7 @@ module _ {A : Type 0} (known : KnownCommand A) where
         prepares more = by_kept kept (far_last more)
           where
             by_kept : (found : Option RetryState) → SoFar found mid → Prepares
-            by_kept None far = record { moment = told; prepared = subst (IsPrepared known told) (sym far) (first_prepared known clock count) }
+            by_kept None far = record { moment = told; prepared = subst (IsPrepared known told) (sym far) (first_prepared known clock count fixed) }
             by_kept (Some retry) far = record { moment = far.lost.moment; prepared = again_prepared known told_now gentle told mid far.lost }
 
         -- want of memory is a quiet end
@@ -190,7 +190,7 @@ module _ {A : Type 0} (known : KnownCommand A) where
             let here = prepares (selects_lead came_last.moment mid.link now.link (Err (Fault makes.fault makes.labels)) came_last.is makes.selects.calls).leads in
             absurd (unselected_none known told_now gentle past here.moment mid here.prepared now told_now now_is (before_refl told_now) apart error makes)
         last_quiet past Stopped result makes ends = stopped_quiet result makes.1 ends
-        last_quiet past Unfit result makes ends = absurd (unrefused makes.1.conn.description makes.1.error makes.1.refused)
+        last_quiet past Unfit result makes ends = absurd (unrefused makes.1.ready.fixed makes.1.conn.description makes.1.error makes.1.refused)
         last_quiet past (Ended error) result makes ends = quiet_memory error result ends (ended_quiet past error makes)
 
         -- the limit is not reached
@@ -228,37 +228,37 @@ module _ {A : Type 0} (known : KnownCommand A) where
         ]
 
   -- the attempts of an operation whose part of the schedule is gentle end well
-  gentle_attempts : (clock : ClockTells) (count : ℕ) (told_now : ServerRun) (gentle : IsGentlePart does (DrawsNumbers true retryability (setup_of link)) told told_now) (sharded : Bool) (last : AttemptState)
-      → server_run last.link ≡ Some told_now → DrawnApart last.store → (result : Result A Error) → Attempts (attempted known) sharded (first_state store link clock count) last result → EndsWell result
-  gentle_attempts clock count told_now gentle sharded last last_is apart result attempts =
+  gentle_attempts : (clock : ClockTells) (count : ℕ) (fixed : Option ℕ) (told_now : ServerRun) (gentle : IsGentlePart does (DrawsNumbers true retryability (setup_of link)) told told_now) (sharded : Bool) (last : AttemptState)
+      → server_run last.link ≡ Some told_now → DrawnApart last.store → (result : Result A Error) → Attempts (attempted known) sharded (first_state store link clock count fixed) last result → EndsWell result
+  gentle_attempts clock count fixed told_now gentle sharded last last_is apart result attempts =
       let apart_mid = ends_apart (attempted known) attempts.mid last sharded attempts.kept result attempts.ends apart in
-      let came = came_of (attempted known) sharded (first_state store link clock count) last result attempts in
-      ends_quietly clock count told_now gentle sharded came.0 attempts.kept attempts.mid last came.1 last_is apart_mid apart result attempts.ends
+      let came = came_of (attempted known) sharded (first_state store link clock count fixed) last result attempts in
+      ends_quietly clock count fixed told_now gentle sharded came.0 attempts.kept attempts.mid last came.1 last_is apart_mid apart result attempts.ends
 
 -- an operation whose concern is not refused and whose part of the schedule is gentle ends well, from one moment to another
 gentle_proceeds : {A : Type 0} (known : KnownCommand A) (before now : Moment) (told_now : ServerRun) → known.store ≡ before.store → known.link ≡ besides_out before.link
     → known.retryability ≡ known.spec.retryability before.client.options → known.concern ≡ concern_of known.spec known.which before.client.options
     → server_run now.link ≡ Some told_now → DrawnApart now.store
-    → IsGentlePart known.does (DrawsNumbers true known.retryability (setup_of known.link)) known.told told_now → (count count_now : ℕ) (result : Result A Error)
-    → Proceeds known.spec known.batch known.which before now count count_now result → EndsWell result
-gentle_proceeds known before now told_now store_is link_is retryability_is concern_is now_is drawn gentle count count_now result executes =
+    → IsGentlePart known.does (DrawsNumbers true known.retryability (setup_of known.link)) known.told told_now → (count count_now : ℕ) (fixed fixed_now : Option ℕ) (result : Result A Error)
+    → Proceeds known.spec known.batch known.which before now count count_now fixed fixed_now result → EndsWell result
+gentle_proceeds known before now told_now store_is link_is retryability_is concern_is now_is drawn gentle count count_now fixed fixed_now result executes =
     let last = executes.last in
     let last_is = ap server_run (sym executes.link_is) ∙ now_is in
     let apart = back_apart last.store now.store last.held.session executes.comes_back drawn in
-    gentle_attempts known before.clock count told_now gentle executes.sharded last last_is apart result
-    (subst (λ retryability. Attempts (attempted_operation known.spec known.batch known.which retryability known.concern) executes.sharded (first_state known.store known.link before.clock count) last result) (sym retryability_is)
-    (subst (λ c. Attempts (attempted_operation known.spec known.batch known.which (known.spec.retryability before.client.options) c) executes.sharded (first_state known.store known.link before.clock count) last result) (sym concern_is)
-    (subst (λ l. Attempts (attempted_operation known.spec known.batch known.which (known.spec.retryability before.client.options) (concern_of known.spec known.which before.client.options)) executes.sharded (first_state known.store l before.clock count) last result) (sym link_is)
-    (subst (λ s. Attempts (attempted_operation known.spec known.batch known.which (known.spec.retryability before.client.options) (concern_of known.spec known.which before.client.options)) executes.sharded (first_state s (besides_out before.link) before.clock count) last result) (sym store_is)
+    gentle_attempts known before.clock count fixed told_now gentle executes.sharded last last_is apart result
+    (subst (λ retryability. Attempts (attempted_operation known.spec known.batch known.which retryability known.concern) executes.sharded (first_state known.store known.link before.clock count fixed) last result) (sym retryability_is)
+    (subst (λ c. Attempts (attempted_operation known.spec known.batch known.which (known.spec.retryability before.client.options) c) executes.sharded (first_state known.store known.link before.clock count fixed) last result) (sym concern_is)
+    (subst (λ l. Attempts (attempted_operation known.spec known.batch known.which (known.spec.retryability before.client.options) (concern_of known.spec known.which before.client.options)) executes.sharded (first_state known.store l before.clock count fixed) last result) (sym link_is)
+    (subst (λ s. Attempts (attempted_operation known.spec known.batch known.which (known.spec.retryability before.client.options) (concern_of known.spec known.which before.client.options)) executes.sharded (first_state s (besides_out before.link) before.clock count fixed) last result) (sym store_is)
     executes.attempts))))
 
 -- so it is of an operation whose concern is not refused
 pub gentle_ends : {A : Type 0} (known : KnownCommand A) (before now : Moment) (told_now : ServerRun) → known.store ≡ before.store → known.link ≡ besides_out before.link
     → known.retryability ≡ known.spec.retryability before.client.options → known.concern ≡ concern_of known.spec known.which before.client.options
     → server_run now.link ≡ Some told_now → DrawnApart now.store
-    → IsGentlePart known.does (DrawsNumbers true known.retryability (setup_of known.link)) known.told told_now → (count count_now : ℕ) (result : Result A Error)
-    → Executes known.spec known.batch known.which before now count count_now result → EndsWell result
-gentle_ends known before now told_now store_is link_is retryability_is concern_is now_is drawn gentle count count_now result executes = elim executes [
+    → IsGentlePart known.does (DrawsNumbers true known.retryability (setup_of known.link)) known.told told_now → (count count_now : ℕ) (fixed fixed_now : Option ℕ) (result : Result A Error)
+    → Executes known.spec known.batch known.which before now count count_now fixed fixed_now result → EndsWell result
+gentle_ends known before now told_now store_is link_is retryability_is concern_is now_is drawn gentle count count_now fixed fixed_now result executes = elim executes [
   | inl refuses ↦ absurd (let e : ◌≡◌ {A = Option (List ℕ)} None (Some refuses.is.text) = sym known.accepted ∙ ap concern_refusal concern_is ∙ refuses.is.refused in cc)
-  | inr proceeds ↦ gentle_proceeds known before now told_now store_is link_is retryability_is concern_is now_is drawn gentle count count_now result proceeds
+  | inr proceeds ↦ gentle_proceeds known before now told_now store_is link_is retryability_is concern_is now_is drawn gentle count count_now fixed fixed_now result proceeds
 ]

@@ -71,7 +71,7 @@ pub record KnownCommand (A : Type 0) : Type 1 where
   pub bare_ready : (session : Option (List ℕ)) → Ready (send_of (under session None) body) told.server
   -- it takes a session, no build of it is refused, its command has a spelling, and the number of its session is not the last
   pub takes_sessions : spec.sessions ≡ true
-  pub unrefused : (description : Description) (error : Error) → Refuses spec description error → ⊥
+  pub unrefused : (fixed : Option ℕ) (description : Description) (error : Error) → Refuses spec fixed description error → ⊥
   pub spelled : (context : SendContext) (fault : EncodeFault) → context.concern ≡ concern → HasNoSpelling spec context fault → ⊥
   pub not_last : (at : ℕ) (lent : StoreTells) (session : Session) → LendsSession store lent at session → session.number ≡ last_number → ⊥
 
@@ -201,8 +201,8 @@ module _ {A : Type 0} (known : KnownCommand A) where
         → HoldsSession (needs_session (asks_session true description) mid.held) mid.store store_now mid.held ready (Ok tt) → DrawnApart store_now → IsReadied moment.server description ready
 
   -- it is so before the first attempt
-  pub first_prepared : (clock : ClockTells) (count : ℕ) → IsPrepared told (first_state store link clock count)
-  first_prepared clock count = record {
+  pub first_prepared : (clock : ClockTells) (count : ℕ) (fixed : Option ℕ) → IsPrepared told (first_state store link clock count fixed)
+  first_prepared clock count fixed = record {
     is = link_is;
     after = before_refl told;
     setup = refl;
@@ -233,6 +233,6 @@ module _ {A : Type 0} (known : KnownCommand A) where
           | inl none ↦ absurd (here.allowed none.none)
           | inr other ↦ elim other [
             | inl none ↦ here.unnumbered (on_connection retryability refused.conn.description) now.held error none.draws
-            | inr none ↦ elim none.why [ inl early ↦ absurd (unrefused refused.conn.description error early.1) | inr late ↦ elim late [ inl unspelled ↦ absurd (spelled _ unspelled.fault refl unspelled.none) | inr memory ↦ memory ] ]
+            | inr none ↦ elim none.why [ inl early ↦ absurd (unrefused refused.ready.fixed refused.conn.description error early.1) | inr late ↦ elim late [ inl unspelled ↦ absurd (spelled _ unspelled.fault refl unspelled.none) | inr memory ↦ memory ] ]
           ]
         ]

@@ -24,9 +24,10 @@ use Rattle.driver_exec.specs.Attempting.{AttemptState, Exchanges, besides_out, b
 use Rattle.driver_exec.specs.Failures.{is_memory}
 use Rattle.driver_exec.specs.inside.Failures.{EndsLost, EndsRead}
 
--- the state of attempts, from what store, link and clock tell, what is held and the count
-abbrev pub attempt_state : StoreTells → LinkState → ClockTells → ExecutionSession → ℕ → AttemptState
-attempt_state store link clock held count = record { store = store; link = besides_out link; clock = clock; held = held; count = count }
+-- the state of attempts, from what store, link and clock tell, what is held, the count, and the number of statements that is fixed
+abbrev pub attempt_state : StoreTells → LinkState → ClockTells → ExecutionSession → ℕ → Option ℕ → AttemptState
+attempt_state store link clock held count fixed =
+    record { store = store; link = besides_out link; clock = clock; held = held; count = count; fixed = fixed }
 
 -- what comes of an exchange's result after a last send under a number: its reply was read, or the exchange failed
 pub record ComesOfReply {A : Type 0} (spec : OperationSpec A) (connection_retryability : Retryability) (version : Option ℤ) (address : Address) (number : Option ℤ) (reply : List ℕ) (attempt : AttemptEnd A) : Type 0 where
@@ -62,49 +63,54 @@ EndsUnbuilt again error Unfit = (again ≡ true) × (is_memory (kind_of error) �
 EndsUnbuilt again error attempt = ⊥
 
 -- there was no number, and nothing went out
-pub record EndsUnnumbered {A : Type 0} (link link_now : LinkState) (connection_retryability : Retryability) (held held_now : ExecutionSession) (count count_now : ℕ) (attempt : AttemptEnd A) : Type 0 where
+pub record EndsUnnumbered {A : Type 0} (link link_now : LinkState) (connection_retryability : Retryability) (held held_now : ExecutionSession) (count count_now : ℕ) (fixed fixed_now : Option ℕ) (attempt : AttemptEnd A) : Type 0 where
   pub error : Error
   pub draws : DrawsNumber held.sent connection_retryability held held_now (Err error)
   pub link_is : link_now ≡ link
   pub uncounted : count_now ≡ count
+  pub unfixed : fixed_now ≡ fixed
   pub ends : attempt ≡ Ended error
 
 -- there was a number and no frame under it, and nothing went out
 pub record EndsUnframed {A : Type 0} (spec : OperationSpec A) (concern : Option WriteConcern) (again : Bool) (link link_now : LinkState) (connection_retryability : Retryability) (conn : Conn) (held held_now : ExecutionSession)
-    (count count_now : ℕ) (attempt : AttemptEnd A) : Type 0 where
+    (count count_now : ℕ) (fixed fixed_now : Option ℕ) (attempt : AttemptEnd A) : Type 0 where
   pub error : Error
   pub number : Option ℤ
   pub draws : DrawsNumber held.sent connection_retryability held held_now (Ok number)
-  pub why : ((builds_again again held ≡ false) × Refuses spec conn.description error) ⊎ (IsUnframed spec (in_context (held_id held_now) number concern) error ⊎ (kind_of error ≡ kind.Memory))
+  pub why : ((builds_again again held ≡ false) × Refuses spec fixed conn.description error × (fixed_now ≡ fixed)) ⊎ (IsUnframed spec (in_context (held_id held_now) number concern) error ⊎ (kind_of error ≡ kind.Memory))
   pub link_is : link_now ≡ link
   pub uncounted : count_now ≡ count
   pub ends : attempt ≡ Ended error
 
 -- there was a number, and the command could not be built again
 pub record EndsUnfit {A : Type 0} (spec : OperationSpec A) (again : Bool) (link link_now : LinkState) (connection_retryability : Retryability) (conn : Conn) (held held_now : ExecutionSession)
-    (count count_now : ℕ) (attempt : AttemptEnd A) : Type 0 where
+    (count count_now : ℕ) (fixed fixed_now : Option ℕ) (attempt : AttemptEnd A) : Type 0 where
   pub error : Error
   pub number : Option ℤ
   pub draws : DrawsNumber held.sent connection_retryability held held_now (Ok number)
   pub again_is : builds_again again held ≡ true
-  pub refused : Refuses spec conn.description error
+  pub refused : Refuses spec fixed conn.description error
   pub link_is : link_now ≡ link
   pub uncounted : count_now ≡ count
+  pub unfixed : fixed_now ≡ fixed
   pub ends : attempt ≡ Unfit
 
--- the command went out under its number
+-- the command went out under its number, with as many statements as a build for the connection takes, which are fixed then
 pub record SendsOut {A : Type 0} (spec : OperationSpec A) (which : SendKind) (concern : Option WriteConcern) (batch : Batch) (link link_now : LinkState) (connection_retryability : Retryability) (conn : Conn) (address : Address)
-    (held held_now : ExecutionSession) (count count_now : ℕ) (attempt : AttemptEnd A) : Type 0 where
+    (held held_now : ExecutionSession) (count count_now : ℕ) (fixed fixed_now : Option ℕ) (attempt : AttemptEnd A) : Type 0 where
   pub numbered : ExecutionSession
   pub number : Option ℤ
   pub draws : DrawsNumber held.sent connection_retryability held numbered (Ok number)
+  pub takes : spec.takes fixed conn.description batch.statements
   pub exchanging : Exchanging spec which concern batch link link_now connection_retryability conn address (record numbered { sent = Some number }) held_now attempt
   pub counted : count_now ≡ count + 1
+  pub fixed_is : fixed_now ≡ Some batch.statements
 
 -- the command of an attempt, of which a failure may be kept
-abbrev pub Sending : {A : Type 0} → OperationSpec A → SendKind → Option WriteConcern → Batch → Bool → LinkState → LinkState → Retryability → Conn → Address → ExecutionSession → ExecutionSession → ℕ → ℕ → AttemptEnd A → Type 0
-Sending spec which concern batch again link link_now connection_retryability conn address held held_now count count_now attempt =
-    EndsUnnumbered link link_now connection_retryability held held_now count count_now attempt
-    ⊎ (EndsUnframed spec concern again link link_now connection_retryability conn held held_now count count_now attempt
-    ⊎ (EndsUnfit spec again link link_now connection_retryability conn held held_now count count_now attempt
-    ⊎ SendsOut spec which concern batch link link_now connection_retryability conn address held held_now count count_now attempt))
+abbrev pub Sending : {A : Type 0} → OperationSpec A → SendKind → Option WriteConcern → Batch → Bool → LinkState → LinkState → Retryability → Conn → Address → ExecutionSession → ExecutionSession → ℕ → ℕ → Option ℕ → Option ℕ
+    → AttemptEnd A → Type 0
+Sending spec which concern batch again link link_now connection_retryability conn address held held_now count count_now fixed fixed_now attempt =
+    EndsUnnumbered link link_now connection_retryability held held_now count count_now fixed fixed_now attempt
+    ⊎ (EndsUnframed spec concern again link link_now connection_retryability conn held held_now count count_now fixed fixed_now attempt
+    ⊎ (EndsUnfit spec again link link_now connection_retryability conn held held_now count count_now fixed fixed_now attempt
+    ⊎ SendsOut spec which concern batch link link_now connection_retryability conn address held held_now count count_now fixed fixed_now attempt))

@@ -20,7 +20,8 @@ returns-in-Err-clause-makes g c = λ statements fixed retryability retryability_
     let link = (g.L.Link.tells c.args.outside.now.link) in
     let clock = g.K.Clock.tells c.args.outside.now.clock in
     let clock_now = g.K.Clock.tells c.check_out_session-held.new.clock in
-    unready_attempt_made spec batch which retryability concern kept store store_now before link clock clock_now c.args.held c.check_out_session-held.result.0 c.args.sends.now c.args.address c.args.on.now.conn.now connects
+    let fixed_before = g.O.Operation.built c.args.op.now in
+    unready_attempt_made spec batch which retryability concern kept store store_now before link clock clock_now c.args.held c.check_out_session-held.result.0 c.args.sends.now fixed_before c.args.address c.args.on.now.conn.now connects
     c.asks_session-asked.result _ c.supports_sessions.ensures c.asks_session-asked.ensures c.check_out_session-held.result.1 c.check_out_session-held.ensures.holds c.in-Err.error c.in-Err.is
 
 pub returns-then-stops-clause-makes : goal.returns-then-stops-clause-makes
@@ -34,8 +35,9 @@ returns-then-stops-clause-makes g c = λ statements fixed retryability retryabil
     let link = (g.L.Link.tells c.args.outside.now.link) in
     let clock = g.K.Clock.tells c.args.outside.now.clock in
     let clock_now = g.K.Clock.tells c.check_out_session-held.new.clock in
+    let fixed_before = g.O.Operation.built c.args.op.now in
     let both = and_parts c.args.on.now.again (is_nothing c.args.on.now.connection_retryability) (sym c.stops.ensures ∙ c.if-stops.true) in
-    stopped_attempt_made spec batch which retryability concern kept store store_now before link clock clock_now c.args.held c.check_out_session-held.result.0 c.args.sends.now c.args.address c.args.on.now.conn.now connects
+    stopped_attempt_made spec batch which retryability concern kept store store_now before link clock clock_now c.args.held c.check_out_session-held.result.0 c.args.sends.now fixed_before c.args.address c.args.on.now.conn.now connects
     c.asks_session-asked.result _ c.supports_sessions.ensures c.asks_session-asked.ensures c.check_out_session-held.result.1 c.check_out_session-held.ensures.holds c.in-Ok.is
     (sym again ∙ both.0) (sym c.may_use.ensures ∙ c.if-may_use.true) (sym (ap is_nothing retryability_is) ∙ both.1)
 
@@ -50,11 +52,12 @@ returns-then-may_use-clause-makes g c = λ statements fixed retryability retryab
     let link = (g.L.Link.tells c.args.outside.now.link) in
     let clock = g.K.Clock.tells c.args.outside.now.clock in
     let clock_now = g.K.Clock.tells c.check_out_session-held.new.clock in
-    sent_attempt_made spec batch which retryability concern kept store store_now before link clock clock_now c.args.held c.check_out_session-held.result.0 c.args.sends.now c.args.address c.args.on.now.conn.now connects
+    let fixed_before = g.O.Operation.built c.args.op.now in
+    sent_attempt_made spec batch which retryability concern kept store store_now before link clock clock_now c.args.held c.check_out_session-held.result.0 c.args.sends.now fixed_before c.args.address c.args.on.now.conn.now connects
     c.asks_session-asked.result _ c.supports_sessions.ensures c.asks_session-asked.ensures c.check_out_session-held.result.1 c.check_out_session-held.ensures.holds c.in-Ok.is
-    (sym c.may_use.ensures ∙ c.if-may_use.true) (ap (λ b. stops b (on_connection retryability c.args.on.now.conn.now.description)) (sym again) ∙ ap (λ t. stops c.args.on.now.again t) (sym retryability_is) ∙ sym c.stops.ensures ∙ c.if-stops.false) (g.L.Link.tells c.send.new.link) _ _ _ _ _ retryability_is again
+    (sym c.may_use.ensures ∙ c.if-may_use.true) (ap (λ b. stops b (on_connection retryability c.args.on.now.conn.now.description)) (sym again) ∙ ap (λ t. stops c.args.on.now.again t) (sym retryability_is) ∙ sym c.stops.ensures ∙ c.if-stops.false) (g.L.Link.tells c.send.new.link) _ _ (g.O.Operation.built c.send.new.op) _ _ _ retryability_is again
     (subst (λ k. Sending spec which k batch c.args.on.now.again (besides_out link) (besides_out (g.L.Link.tells c.send.new.link)) c.args.on.now.connection_retryability c.args.on.now.conn.now c.args.address
-    c.check_out_session-held.result.0 c.send.result.0 c.args.sends.now c.send.new.sends c.send.result.1)
+    c.check_out_session-held.result.0 c.send.result.0 c.args.sends.now c.send.new.sends fixed_before (g.O.Operation.built c.send.new.op) c.send.result.1)
     (ap (λ options. concern_of spec which options) (c.options.ensures ∙ c.check_out_session-held.ensures.options)) (c.send.ensures.sending statements fixed))
 
 pub returns-clause-makes : goal.returns-clause-makes
@@ -68,6 +71,7 @@ returns-clause-makes g c = λ statements fixed retryability retryability_is kept
     let link = (g.L.Link.tells c.args.outside.now.link) in
     let clock = g.K.Clock.tells c.args.outside.now.clock in
     let clock_now = g.K.Clock.tells c.check_out_session-held.new.clock in
-    sessionless_attempt_made spec batch which retryability concern kept store store_now before link clock clock_now c.args.held c.check_out_session-held.result.0 c.args.sends.now c.args.address c.args.on.now.conn.now connects
+    let fixed_before = g.O.Operation.built c.args.op.now in
+    sessionless_attempt_made spec batch which retryability concern kept store store_now before link clock clock_now c.args.held c.check_out_session-held.result.0 c.args.sends.now fixed_before c.args.address c.args.on.now.conn.now connects
     c.asks_session-asked.result _ c.supports_sessions.ensures c.asks_session-asked.ensures c.check_out_session-held.result.1 c.check_out_session-held.ensures.holds c.in-Ok.is
     c.from_kind-refused.result (sym c.may_use.ensures ∙ c.if-may_use.false) c.from_kind-refused.ensures

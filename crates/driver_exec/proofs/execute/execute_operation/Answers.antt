@@ -16,11 +16,13 @@ returns-clause-executes g c = λ statements fixed. inr (record {
   accepted = subst (λ options. concern_refusal (concern_of (g.O.Operation.spec c.args.op.now) (g.O.Operation.next c.args.op.now) options) ≡ None) c.options.ensures c.in-None.ensures;
   sharded = c.is_sharded-sharded.result;
   sharded_is = c.is_sharded-sharded.ensures;
-  last = attempt_state (g.S.SessionStore.tells (store_of c.execute_operation_with_retry-held.new.client)) (g.L.Link.tells c.execute_operation_with_retry-held.new.outside.link) (g.K.Clock.tells c.execute_operation_with_retry-held.new.outside.clock) c.execute_operation_with_retry-held.result.0 c.execute_operation_with_retry-held.new.sends;
+  last = attempt_state (g.S.SessionStore.tells (store_of c.execute_operation_with_retry-held.new.client)) (g.L.Link.tells c.execute_operation_with_retry-held.new.outside.link) (g.K.Clock.tells c.execute_operation_with_retry-held.new.outside.clock) c.execute_operation_with_retry-held.result.0 c.execute_operation_with_retry-held.new.sends
+      (g.O.Operation.built c.execute_operation_with_retry-held.new.op);
   attempts = c.execute_operation_with_retry-held.ensures.attempts statements fixed;
   link_is = refl;
   out = c.execute_operation_with_retry-held.ensures.out;
   count_is = refl;
+  fixed_is = refl;
   comes_back = c.check_in_session.ensures.takes.back;
   back_at = c.check_in_session.ensures.takes.back_at;
   words_are = ap g.R.Rng.stream c.execute_operation_with_retry-held.ensures.words;
@@ -36,6 +38,7 @@ returns-clause-unbuilt g c = λ text refused.
 pub returns-clause-one_command : goal.returns-clause-one_command
 returns-clause-one_command g c = λ statements fixed.
     executes_sends_one_command (g.O.Operation.spec c.args.op.now) (batch_of c.args.places.now statements) (g.O.Operation.next c.args.op.now) _ _ c.args.sends.now c.execute_operation_with_retry-held.new.sends
+    (g.O.Operation.built c.args.op.now) (g.O.Operation.built c.execute_operation_with_retry-held.new.op)
     c.execute_operation_with_retry-held.result.1 (returns-clause-executes g c statements fixed)
 
 -- a number that is fixed, if one is
@@ -43,6 +46,7 @@ pub returns-clause-caused : goal.returns-clause-caused
 returns-clause-caused g c =
     let some = fixed_some (g.O.Operation.built c.execute_operation_with_retry-held.new.op) in
     executes_caused (g.O.Operation.spec c.args.op.now) (batch_of c.args.places.now some.0) (g.O.Operation.next c.args.op.now) _ _ c.args.sends.now c.execute_operation_with_retry-held.new.sends
+    (g.O.Operation.built c.args.op.now) (g.O.Operation.built c.execute_operation_with_retry-held.new.op)
     c.execute_operation_with_retry-held.result.1 (returns-clause-executes g c some.0 some.1)
 
 pub returns-clause-keeps : goal.returns-clause-keeps
@@ -61,18 +65,19 @@ returns-in-Some-clause-executes g c = λ statements fixed. inl (record {
   is = subst (λ options. IsConcernError (concern_of (g.O.Operation.spec c.args.op.now) (g.O.Operation.next c.args.op.now) options) c.in-Some.error) c.options.ensures c.in-Some.ensures;
   same = refl;
   uncounted = refl;
+  unfixed = refl;
 })
 
 pub returns-in-Some-clause-one_command : goal.returns-in-Some-clause-one_command
 returns-in-Some-clause-one_command g c = λ statements fixed.
-    executes_sends_one_command (g.O.Operation.spec c.args.op.now) (batch_of c.args.places.now statements) (g.O.Operation.next c.args.op.now) _ _ c.args.sends.now c.args.sends.now (Err c.in-Some.error)
-    (returns-in-Some-clause-executes g c statements fixed)
+    executes_sends_one_command (g.O.Operation.spec c.args.op.now) (batch_of c.args.places.now statements) (g.O.Operation.next c.args.op.now) _ _ c.args.sends.now c.args.sends.now (g.O.Operation.built c.args.op.now) (g.O.Operation.built c.args.op.now)
+    (Err c.in-Some.error) (returns-in-Some-clause-executes g c statements fixed)
 
 pub returns-in-Some-clause-caused : goal.returns-in-Some-clause-caused
 returns-in-Some-clause-caused g c =
     let some = fixed_some (g.O.Operation.built c.args.op.now) in
-    executes_caused (g.O.Operation.spec c.args.op.now) (batch_of c.args.places.now some.0) (g.O.Operation.next c.args.op.now) _ _ c.args.sends.now c.args.sends.now (Err c.in-Some.error)
-    (returns-in-Some-clause-executes g c some.0 some.1)
+    executes_caused (g.O.Operation.spec c.args.op.now) (batch_of c.args.places.now some.0) (g.O.Operation.next c.args.op.now) _ _ c.args.sends.now c.args.sends.now (g.O.Operation.built c.args.op.now) (g.O.Operation.built c.args.op.now)
+    (Err c.in-Some.error) (returns-in-Some-clause-executes g c some.0 some.1)
 
 pub returns-in-Some-clause-keeps : goal.returns-in-Some-clause-keeps
 returns-in-Some-clause-keeps g c = λ statements fixed body asked.

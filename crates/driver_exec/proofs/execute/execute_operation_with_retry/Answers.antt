@@ -17,8 +17,8 @@ returns-then-limit_reached-clause-attempts g c = λ statements fixed.
     let batch = batch_of c.args.places.now statements in
     let which = g.O.Operation.next c.args.op.now in
     let options = options_of c.args.client.now in
-    let began = (attempt_state (g.S.SessionStore.tells (store_of c.args.client.now)) (g.L.Link.tells c.args.outside.now.link) (g.K.Clock.tells c.args.outside.now.clock) holds_nothing c.args.sends.now) in
-    let mid = (attempt_state (g.S.SessionStore.tells (store_of c.attempts.client)) (g.L.Link.tells c.attempts.outside.link) (g.K.Clock.tells c.attempts.outside.clock) c.attempts.held c.attempts.sends) in
+    let began = (attempt_state (g.S.SessionStore.tells (store_of c.args.client.now)) (g.L.Link.tells c.args.outside.now.link) (g.K.Clock.tells c.args.outside.now.clock) holds_nothing c.args.sends.now (g.O.Operation.built c.args.op.now)) in
+    let mid = (attempt_state (g.S.SessionStore.tells (store_of c.attempts.client)) (g.L.Link.tells c.attempts.outside.link) (g.K.Clock.tells c.attempts.outside.clock) c.attempts.held c.attempts.sends (g.O.Operation.built c.attempts.op)) in
     ends_at_limit (attempted_under spec batch which options) c.args.sharded began c.attempts.kept mid (c.attempts.invariant.far statements fixed) c.last_error.result (sym c.limit_reached.ensures ∙ c.if-limit_reached.true) c.last_error.ensures
 
 pub attempts-smaller : goal.attempts-smaller
@@ -31,9 +31,9 @@ attempts-preserved g c =
     let spec = g.O.Operation.spec c.args.op.now in
     let which = g.O.Operation.next c.args.op.now in
     let options = options_of c.args.client.now in
-    let began = (attempt_state (g.S.SessionStore.tells (store_of c.args.client.now)) (g.L.Link.tells c.args.outside.now.link) (g.K.Clock.tells c.args.outside.now.clock) holds_nothing c.args.sends.now) in
-    let mid = (attempt_state (g.S.SessionStore.tells (store_of c.attempts.client)) (g.L.Link.tells c.attempts.outside.link) (g.K.Clock.tells c.attempts.outside.clock) c.attempts.held c.attempts.sends) in
-    let now = (attempt_state (g.S.SessionStore.tells (store_of c.make_attempt-next.new.client)) (g.L.Link.tells c.make_attempt-next.new.outside.link) (g.K.Clock.tells c.make_attempt-next.new.outside.clock) c.make_attempt-next.result.0 c.make_attempt-next.new.sends) in
+    let began = (attempt_state (g.S.SessionStore.tells (store_of c.args.client.now)) (g.L.Link.tells c.args.outside.now.link) (g.K.Clock.tells c.args.outside.now.clock) holds_nothing c.args.sends.now (g.O.Operation.built c.args.op.now)) in
+    let mid = (attempt_state (g.S.SessionStore.tells (store_of c.attempts.client)) (g.L.Link.tells c.attempts.outside.link) (g.K.Clock.tells c.attempts.outside.clock) c.attempts.held c.attempts.sends (g.O.Operation.built c.attempts.op)) in
+    let now = (attempt_state (g.S.SessionStore.tells (store_of c.make_attempt-next.new.client)) (g.L.Link.tells c.make_attempt-next.new.outside.link) (g.K.Clock.tells c.make_attempt-next.new.outside.clock) c.make_attempt-next.result.0 c.make_attempt-next.new.sends (g.O.Operation.built c.make_attempt-next.new.op)) in
     let goes_on = sym c.limit_reached.ensures ∙ c.if-limit_reached.false in
     let decided = subst (λ o. Decides (decide c.attempts.kept c.in-Ok.failure o c.args.sharded) (Ok c.in-Ok-decide.retry)) c.attempts.invariant.retryability c.in-Ok-decide.ensures in
     let fewer = decided_fewer c.in-Ok.failure c.retryability-retryability.result c.args.sharded c.attempts.kept c.in-Ok-decide.retry c.attempts.invariant.once goes_on c.in-Ok-decide.ensures in
@@ -63,9 +63,9 @@ returns-in-Err-decide-clause-attempts g c = λ statements fixed.
     let batch = batch_of c.args.places.now statements in
     let which = g.O.Operation.next c.args.op.now in
     let options = options_of c.args.client.now in
-    let began = (attempt_state (g.S.SessionStore.tells (store_of c.args.client.now)) (g.L.Link.tells c.args.outside.now.link) (g.K.Clock.tells c.args.outside.now.clock) holds_nothing c.args.sends.now) in
-    let mid = (attempt_state (g.S.SessionStore.tells (store_of c.attempts.client)) (g.L.Link.tells c.attempts.outside.link) (g.K.Clock.tells c.attempts.outside.clock) c.attempts.held c.attempts.sends) in
-    let now = (attempt_state (g.S.SessionStore.tells (store_of c.make_attempt-next.new.client)) (g.L.Link.tells c.make_attempt-next.new.outside.link) (g.K.Clock.tells c.make_attempt-next.new.outside.clock) c.make_attempt-next.result.0 c.make_attempt-next.new.sends) in
+    let began = (attempt_state (g.S.SessionStore.tells (store_of c.args.client.now)) (g.L.Link.tells c.args.outside.now.link) (g.K.Clock.tells c.args.outside.now.clock) holds_nothing c.args.sends.now (g.O.Operation.built c.args.op.now)) in
+    let mid = (attempt_state (g.S.SessionStore.tells (store_of c.attempts.client)) (g.L.Link.tells c.attempts.outside.link) (g.K.Clock.tells c.attempts.outside.clock) c.attempts.held c.attempts.sends (g.O.Operation.built c.attempts.op)) in
+    let now = (attempt_state (g.S.SessionStore.tells (store_of c.make_attempt-next.new.client)) (g.L.Link.tells c.make_attempt-next.new.outside.link) (g.K.Clock.tells c.make_attempt-next.new.outside.clock) c.make_attempt-next.result.0 c.make_attempt-next.new.sends (g.O.Operation.built c.make_attempt-next.new.op)) in
     let goes_on = sym c.limit_reached.ensures ∙ c.if-limit_reached.false in
     let makes = attempt_under_options spec (g.O.Operation.spec c.attempts.op) c.attempts.invariant.spec batch which (g.O.Operation.next c.attempts.op) options (options_of c.attempts.client) _ c.attempts.kept mid now c.make_attempt-next.result.1 (Failed c.in-Ok.failure)
     c.attempts.invariant.next c.attempts.invariant.options c.as_ref.ensures.value (failed_is c.make_attempt-next.result.1 c.in-Ok.failure c.in-Ok.ensures) (c.make_attempt-next.ensures.makes statements fixed) in
@@ -80,8 +80,8 @@ answer_of-requires g c =
     let some = fixed_some (g.O.Operation.built c.make_attempt-next.new.op) in
     let batch = batch_of c.args.places.now some.0 in
     let which = g.O.Operation.next c.args.op.now in
-    let mid = (attempt_state (g.S.SessionStore.tells (store_of c.attempts.client)) (g.L.Link.tells c.attempts.outside.link) (g.K.Clock.tells c.attempts.outside.clock) c.attempts.held c.attempts.sends) in
-    let now = (attempt_state (g.S.SessionStore.tells (store_of c.make_attempt-next.new.client)) (g.L.Link.tells c.make_attempt-next.new.outside.link) (g.K.Clock.tells c.make_attempt-next.new.outside.clock) c.make_attempt-next.result.0 c.make_attempt-next.new.sends) in
+    let mid = (attempt_state (g.S.SessionStore.tells (store_of c.attempts.client)) (g.L.Link.tells c.attempts.outside.link) (g.K.Clock.tells c.attempts.outside.clock) c.attempts.held c.attempts.sends (g.O.Operation.built c.attempts.op)) in
+    let now = (attempt_state (g.S.SessionStore.tells (store_of c.make_attempt-next.new.client)) (g.L.Link.tells c.make_attempt-next.new.outside.link) (g.K.Clock.tells c.make_attempt-next.new.outside.clock) c.make_attempt-next.result.0 c.make_attempt-next.new.sends (g.O.Operation.built c.make_attempt-next.new.op)) in
     let makes = attempt_under_options spec (g.O.Operation.spec c.attempts.op) c.attempts.invariant.spec batch which (g.O.Operation.next c.attempts.op) options (options_of c.attempts.client) _ c.attempts.kept mid now c.make_attempt-next.result.1 c.make_attempt-next.result.1
     c.attempts.invariant.next c.attempts.invariant.options c.as_ref.ensures.value refl (c.make_attempt-next.ensures.makes some.0 some.1) in
     may_answer (attempted_under spec batch which options) c.attempts.kept mid now c.make_attempt-next.result.1 c.in-Err.end makes c.in-Err.ensures
@@ -92,9 +92,9 @@ returns-in-Err-clause-attempts g c = λ statements fixed.
     let options = options_of c.args.client.now in
     let batch = batch_of c.args.places.now statements in
     let which = g.O.Operation.next c.args.op.now in
-    let began = (attempt_state (g.S.SessionStore.tells (store_of c.args.client.now)) (g.L.Link.tells c.args.outside.now.link) (g.K.Clock.tells c.args.outside.now.clock) holds_nothing c.args.sends.now) in
-    let mid = (attempt_state (g.S.SessionStore.tells (store_of c.attempts.client)) (g.L.Link.tells c.attempts.outside.link) (g.K.Clock.tells c.attempts.outside.clock) c.attempts.held c.attempts.sends) in
-    let now = (attempt_state (g.S.SessionStore.tells (store_of c.make_attempt-next.new.client)) (g.L.Link.tells c.make_attempt-next.new.outside.link) (g.K.Clock.tells c.make_attempt-next.new.outside.clock) c.make_attempt-next.result.0 c.make_attempt-next.new.sends) in
+    let began = (attempt_state (g.S.SessionStore.tells (store_of c.args.client.now)) (g.L.Link.tells c.args.outside.now.link) (g.K.Clock.tells c.args.outside.now.clock) holds_nothing c.args.sends.now (g.O.Operation.built c.args.op.now)) in
+    let mid = (attempt_state (g.S.SessionStore.tells (store_of c.attempts.client)) (g.L.Link.tells c.attempts.outside.link) (g.K.Clock.tells c.attempts.outside.clock) c.attempts.held c.attempts.sends (g.O.Operation.built c.attempts.op)) in
+    let now = (attempt_state (g.S.SessionStore.tells (store_of c.make_attempt-next.new.client)) (g.L.Link.tells c.make_attempt-next.new.outside.link) (g.K.Clock.tells c.make_attempt-next.new.outside.clock) c.make_attempt-next.result.0 c.make_attempt-next.new.sends (g.O.Operation.built c.make_attempt-next.new.op)) in
     let goes_on = sym c.limit_reached.ensures ∙ c.if-limit_reached.false in
     let makes = attempt_under_options spec (g.O.Operation.spec c.attempts.op) c.attempts.invariant.spec batch which (g.O.Operation.next c.attempts.op) options (options_of c.attempts.client) _ c.attempts.kept mid now c.make_attempt-next.result.1 c.make_attempt-next.result.1
     c.attempts.invariant.next c.attempts.invariant.options c.as_ref.ensures.value refl (c.make_attempt-next.ensures.makes statements fixed) in

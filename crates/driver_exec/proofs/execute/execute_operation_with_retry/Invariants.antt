@@ -15,9 +15,9 @@ invariant-attempts g l = record {
   far : (statements : ℕ) → IsFixed (g.O.Operation.built l.op) statements
       → SoFar (attempted_operation (g.O.Operation.spec l.fn.op) (batch_of l.places statements) (g.O.Operation.next l.fn.op) ((g.O.Operation.spec l.fn.op).retryability (options_of l.fn.client))
       (concern_of (g.O.Operation.spec l.fn.op) (g.O.Operation.next l.fn.op) (options_of l.fn.client))) l.sharded
-      (attempt_state (g.S.SessionStore.tells (store_of l.fn.client)) (g.L.Link.tells l.fn.outside.link) (g.K.Clock.tells l.fn.outside.clock) holds_nothing l.fn.sends)
+      (attempt_state (g.S.SessionStore.tells (store_of l.fn.client)) (g.L.Link.tells l.fn.outside.link) (g.K.Clock.tells l.fn.outside.clock) holds_nothing l.fn.sends (g.O.Operation.built l.fn.op))
       l.kept
-      (attempt_state (g.S.SessionStore.tells (store_of l.client)) (g.L.Link.tells l.outside.link) (g.K.Clock.tells l.outside.clock) l.held l.sends);
+      (attempt_state (g.S.SessionStore.tells (store_of l.client)) (g.L.Link.tells l.outside.link) (g.K.Clock.tells l.outside.clock) l.held l.sends (g.O.Operation.built l.op));
   spec : SameSpec (g.O.Operation.spec l.fn.op) (g.O.Operation.spec l.op);
   fixed : StaysFixed (g.O.Operation.built l.fn.op) (g.O.Operation.built l.op);
   next : g.O.Operation.next l.op ≡ g.O.Operation.next l.fn.op;

@@ -24,8 +24,8 @@ returns-in-Err-build-clause-sending g c = λ statements fixed.
     let link = besides_out (g.L.Link.tells c.args.link.now) in
     let draws = subst (λ r. DrawsNumber c.args.held.sent c.args.on.now.connection_retryability c.args.held c.draw_number-held.result.0 r) c.in-Ok.is c.draw_number-held.ensures in
     ends_unbuilt (g.O.Operation.spec c.args.op.now) (g.O.Operation.next c.args.op.now) (concern_of (g.O.Operation.spec c.args.op.now) (g.O.Operation.next c.args.op.now) c.args.options.now) c.args.places.now statements c.args.on.now.again link link c.args.on.now.connection_retryability c.args.on.now.conn.now
-    c.args.address c.args.held c.draw_number-held.result.0 c.in-Ok.number draws c.args.sends.now c.args.sends.now c.in-Err-build.error c.builds_again-again.result c.unbuilt.result
-    c.builds_again-again.ensures c.in-Err-build.ensures.builds.1 c.unbuilt.ensures refl refl
+    c.args.address c.args.held c.draw_number-held.result.0 c.in-Ok.number draws c.args.sends.now c.args.sends.now (g.O.Operation.built c.args.op.now) (g.O.Operation.built c.build.new.self)
+    c.in-Err-build.error c.builds_again-again.result c.unbuilt.result c.builds_again-again.ensures c.in-Err-build.ensures.builds.1 c.unbuilt.ensures refl refl c.in-Err-build.ensures.builds.0
 
 pub returns-clause-sending : goal.returns-clause-sending
 returns-clause-sending g c = λ statements fixed.
@@ -38,14 +38,15 @@ returns-clause-sending g c = λ statements fixed.
     let same = concern_same (g.O.Operation.spec c.args.op.now) (g.O.Operation.spec c.build.new.self) c.in-Ok-build.ensures.spec which (g.O.Operation.next c.build.new.self) c.args.options.now c.in-Ok-build.ensures.next in
     let draws = subst (λ r. DrawsNumber c.args.held.sent c.args.on.now.connection_retryability c.args.held held r) c.in-Ok.is c.draw_number-held.ensures in
     sends_out (g.O.Operation.spec c.args.op.now) which concern c.args.places.now statements c.args.on.now.again link link_now c.args.on.now.connection_retryability c.args.on.now.conn.now
-    c.args.address c.args.held held c.in-Ok.number draws c.args.sends.now c.exchange.new.sends _ _ c.in-Ok-build.command built
+    c.args.address c.args.held held c.in-Ok.number draws c.args.sends.now c.exchange.new.sends (g.O.Operation.built c.args.op.now) (g.O.Operation.built c.exchange.new.op)
+    (g.O.Operation.built c.build.new.self) c.in-Ok-build.command built
     (subst (λ o. IsFixed o statements) c.exchange.ensures.built fixed) _ c.in-Ok-build.ensures.spec c.in-Ok-frame_of.frame c.front-own.result.now c.exchange.result.0 c.exchange.result.1
     (subst (λ k. FramesUnder (in_context (held_id held) c.in-Ok.number k) c.in-Ok-build.command (Ok c.in-Ok-frame_of.frame)) same
     (subst (λ k. FramesUnder (in_context (held_id held) c.in-Ok.number k) c.in-Ok-build.command (Ok c.in-Ok-frame_of.frame)) c.effective_concern-concern.ensures
     (subst (λ s. FramesUnder (in_context s c.in-Ok.number (option_copied c.effective_concern-concern.result)) c.in-Ok-build.command (Ok c.in-Ok-frame_of.frame)) c.id.ensures c.in-Ok-frame_of.ensures)))
     c.statements.result c.statements.ensures c.front-own.ensures
     (subst (λ h. ExchangesOnce (g.O.Operation.spec c.build.new.self) link link_now c.args.on.now.connection_retryability c.args.on.now.conn.now c.args.address c.in-Ok-frame_of.frame c.front-own.result.now h c.exchange.result.0 c.exchange.result.1)
-    c.sent_under-held.ensures c.exchange.ensures.exchanges) c.exchange.ensures.sends
+    c.sent_under-held.ensures c.exchange.ensures.exchanges) c.exchange.ensures.sends c.exchange.ensures.built
 
 pub returns-in-Err-frame_of-clause-sending : goal.returns-in-Err-frame_of-clause-sending
 returns-in-Err-frame_of-clause-sending g c = λ statements fixed.
@@ -55,7 +56,8 @@ returns-in-Err-frame_of-clause-sending g c = λ statements fixed.
     let link = besides_out (g.L.Link.tells c.args.link.now) in
     let draws = subst (λ r. DrawsNumber c.args.held.sent c.args.on.now.connection_retryability c.args.held c.draw_number-held.result.0 r) c.in-Ok.is c.draw_number-held.ensures in
     ends_unframed (g.O.Operation.spec c.args.op.now) which concern c.args.places.now statements c.args.on.now.again link link c.args.on.now.connection_retryability c.args.on.now.conn.now
-    c.args.address c.args.held c.draw_number-held.result.0 c.in-Ok.number draws c.args.sends.now c.args.sends.now _ _ c.in-Ok-build.command c.in-Ok-build.ensures.builds c.in-Err-frame_of.error _
+    c.args.address c.args.held c.draw_number-held.result.0 c.in-Ok.number draws c.args.sends.now c.args.sends.now (g.O.Operation.built c.args.op.now) (g.O.Operation.built c.build.new.self)
+    (g.O.Operation.built c.build.new.self) c.in-Ok-build.command c.in-Ok-build.ensures.builds c.in-Err-frame_of.error _
     (subst (λ k. FramesUnder (in_context (held_id c.draw_number-held.result.0) c.in-Ok.number k) c.in-Ok-build.command (Err c.in-Err-frame_of.error)) same
     (subst (λ k. FramesUnder (in_context (held_id c.draw_number-held.result.0) c.in-Ok.number k) c.in-Ok-build.command (Err c.in-Err-frame_of.error)) c.effective_concern-concern.ensures
     (subst (λ s. FramesUnder (in_context s c.in-Ok.number (option_copied c.effective_concern-concern.result)) c.in-Ok-build.command (Err c.in-Err-frame_of.error)) c.id.ensures c.in-Err-frame_of.ensures))) refl refl refl

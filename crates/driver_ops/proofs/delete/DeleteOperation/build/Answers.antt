@@ -16,6 +16,7 @@ returns-clause-builds c =
         body = c.in_ok-delete_body.ensures (database_of c.args.self.now.target) ∙ ap (λ coll. delete_command (record { db = database_of c.args.self.now.target; coll = coll }) (delete_statement c.args.self.now.filter c.args.self.now.multi c.args.self.now.options) c.args.self.now.options) c.collection.ensures;
         sequences = c.new.ensures;
       });
+      takes = refl;
       fixed = refl;
       now_is = refl;
     }

@@ -17,6 +17,7 @@ returns-clause-builds c =
             ∙ ap (λ coll. find_command (record { db = database_of c.args.self.now.target; coll = coll }) c.args.self.now.filter c.args.self.now.modification c.args.self.now.options) c.collection.ensures;
         sequences = c.new.ensures;
       });
+      takes = refl;
       fixed = refl;
       now_is = refl;
     }

@@ -1,0 +1,84 @@
+-- How many statements an operation's command has: until the command went out that is fixed as it was when the operation began.
+use Rattle.std.proofs.Common.{◌≡◌, ℕ, List, [], ◌∷◌, ◌++◌, refl, sym, ap, subst, ◌∙◌, inl, inr}
+use Rattle.std.specs.Prelude.{ℤ, Bool, true, false, Option, None, Some, is_some, Result, Ok, Err, if◌then◌else◌}
+use Rattle.driver_error.specs.declared.error.Error.{Error}
+use Rattle.driver_link.specs.declared.fault.LinkError.{LinkError}
+use Rattle.driver_link.specs.declared.fault.LinkError.TheVariants.{Fault, Memory}
+use Rattle.driver_link.specs.declared.options.Address.{Address}
+use Rattle.driver_link.specs.declared.options.Conn.{Conn}
+use Rattle.driver_link.specs.Failures.{is_network}
+use Rattle.driver_exec.specs.declared.attempt_end.AttemptEnd.TheVariants.{Failed}
+use Rattle.driver_exec.specs.declared.failure.AttemptFailure.{AttemptFailure}
+use Rattle.driver_exec.specs.declared.failure.FailurePhase.{FailurePhase}
+use Rattle.driver_exec.specs.declared.failure.FailurePhase.TheVariants.{ConnectionEstablishment, Execution}
+use Rattle.driver_exec.specs.Attempting.{AttemptState, AttemptedOperation, FailsIn, MakesAttempt, Readies, Sends, asks_session, builds_again, held_after}
+use Rattle.driver_exec.specs.Executing.{AttemptsFail}
+use Rattle.driver_exec.specs.Holding.{ExecutionSession, HoldsSession, dirty_session_held, needs_session}
+use Rattle.driver_exec.specs.Retry.{RetryState}
+use Rattle.driver_exec.specs.inside.Executing.{Reaches}
+
+-- a send under a number is one
+sent_none : (number : Option ℤ) → ◌≡◌ {A = Option (Option ℤ)} (Some number) None → ⊥
+sent_none number is = cc
+
+-- where there was none, none was
+none_sent : (sent : Option (Option ℤ)) → is_some sent ≡ false → sent ≡ None
+none_sent None is = refl
+none_sent (Some number) is = absurd (let e : true ≡ false = is in cc)
+
+-- what comes of an exchange does not undo its send
+after_sent : (result : Result (List ℕ) LinkError) (held : ExecutionSession) → (held_after result held).sent ≡ held.sent
+after_sent (Ok reply) held = refl
+after_sent (Err (Fault fault labels)) held = by_network (is_network fault)
+  where
+    by_network : (dirty : Bool) → (if dirty then dirty_session_held held else held).sent ≡ held.sent
+    by_network true = refl
+    by_network false = refl
+after_sent (Err Memory) held = refl
+
+module _ {A : Type 0} (op : AttemptedOperation A) where
+  -- nothing is sent until a session is there
+  pub ready_sent : {past : Option RetryState} (mid ready : AttemptState) (address : Address) (conn : Conn) → Readies op past mid ready address conn → ready.held.sent ≡ mid.held.sent
+  ready_sent mid ready address conn readies = by_need (needs_session (asks_session op.spec.sessions conn.description) mid.held) readies.holds
+    where
+      by_need : (needed : Bool) → HoldsSession needed mid.store ready.store mid.held ready.held (Ok tt) → ready.held.sent ≡ mid.held.sent
+      by_need false holds = ap (λ h. h.sent) holds.1
+      by_need true holds = ap (λ h. h.sent) holds.is
+
+  -- a command that went out was sent
+  sends_some : (kept : Option RetryState) (before now : AttemptState) (address : Address) (conn : Conn) (result : Result (List ℕ) LinkError) → Sends op kept before now address conn result → now.held.sent ≡ None → ⊥
+  sends_some kept before now address conn result sends none =
+      sent_none sends.number (sym (ap (λ h. h.sent) sends.held_is ∙ after_sent result (record sends.numbered { sent = Some sends.number })) ∙ none)
+
+  -- where nothing was sent by the end of an attempt that failed, nothing was before it, and the number is as it was
+  fails_unsent : (kept : Option RetryState) (before now : AttemptState) (address : Address) (phase : FailurePhase) (error : Error) → FailsIn op kept before now address phase error → now.held.sent ≡ None
+      → (now.fixed ≡ before.fixed) × (before.held.sent ≡ None)
+  fails_unsent kept before now address ConnectionEstablishment error fails none = (fails.rest.fixed, sym (ap (λ h. h.sent) fails.rest.held) ∙ none)
+  fails_unsent kept before now address Execution error fails none = elim fails [
+    | inl lost ↦ absurd (sends_some kept before now address lost.conn (Err (Fault lost.fault lost.labels)) lost.sends none)
+    | inr spelled ↦ absurd (sends_some kept before now address spelled.conn (Ok spelled.reply) spelled.sends none)
+  ]
+
+  -- the same of the attempt as a whole
+  pub failed_unsent : (kept : Option RetryState) (before now : AttemptState) (failure : AttemptFailure) → MakesAttempt op kept before now (Failed failure) → now.held.sent ≡ None
+      → (now.fixed ≡ before.fixed) × (before.held.sent ≡ None)
+  failed_unsent kept before now failure makes none = fails_unsent kept before now failure.address failure.phase failure.error makes.0 none
+
+  -- and of attempts that failed one after another
+  pub all_unsent : (sharded : Bool) (earlier : List AttemptFailure) (before : AttemptState) (failures : List AttemptFailure) (now : AttemptState) → AttemptsFail op sharded earlier before failures now → now.held.sent ≡ None
+      → (now.fixed ≡ before.fixed) × (before.held.sent ≡ None)
+  all_unsent sharded earlier before [] now fails none = (ap (λ s. s.fixed) fails, sym (ap (λ s. s.held.sent) fails) ∙ none)
+  all_unsent sharded earlier before (failure ∷ failures) now fails none =
+      let mid = fails.0 in
+      let under = fails.1.0 in
+      let rest = all_unsent sharded (earlier ++ failure ∷ []) mid failures now fails.1.1 none in
+      let here = failed_unsent under.kept before mid failure under.makes rest.1 in
+      (rest.0 ∙ here.0, here.1)
+
+  -- so a command that is not built again is built by the number that was fixed when the operation began
+  pub first_fixed : (sharded : Bool) (before mid : AttemptState) (failures done : List AttemptFailure) (kept : Option RetryState) → AttemptsFail op sharded [] before failures mid → Reaches op sharded before done kept mid
+      → builds_again (is_some kept) mid.held ≡ false → mid.fixed ≡ before.fixed
+  first_fixed sharded before mid failures [] kept fails reaches first = ap (λ s. s.fixed) reaches.1
+  first_fixed sharded before mid failures (failure ∷ done) kept fails reaches first =
+      let unsent : is_some mid.held.sent ≡ false = subst (λ k. builds_again (is_some k) mid.held ≡ false) reaches.1.0 first in
+      (all_unsent sharded [] before failures mid fails (none_sent mid.held.sent unsent)).0
