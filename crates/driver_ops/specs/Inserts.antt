@@ -41,9 +41,15 @@ insert_body namespace options context = insert_command namespace options ++ exec
 abbrev pub insert_write : Namespace → List (Pair Bson) → Place → PlacedWrite
 insert_write namespace document place = record { place = place; written = write_on write_kind.Insert namespace document }
 
--- the sequence of one document
-abbrev pub IsOneDocument : List Sequence → List ℕ → Type 0
-IsOneDocument sequences bytes = sequences ≡ record { name = DOCUMENTS.now; documents = bytes ∷ [] } ∷ []
+-- the writes that insert documents, each under the place beside it
+abbrev pub insert_writes : Namespace → List (List (Pair Bson)) → List Place → List PlacedWrite
+insert_writes namespace [] places = []
+insert_writes namespace (document ∷ documents) [] = []
+insert_writes namespace (document ∷ documents) (place ∷ places) = insert_write namespace document place ∷ insert_writes namespace documents places
+
+-- the one sequence of documents, as their bytes
+abbrev pub IsOneSequence : List Sequence → List (List ℕ) → Type 0
+IsOneSequence sequences documents = sequences ≡ record { name = DOCUMENTS.now; documents = documents } ∷ []
 
 -- the number is one
 abbrev pub is_one : Option ℤ → Bool

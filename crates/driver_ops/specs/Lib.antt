@@ -10,6 +10,7 @@ pub mod FindLawful
 pub mod FindingAndModifying
 pub mod FoundAnswers
 pub mod InsertAnswers
+pub mod InsertFronts
 pub mod InsertLaw
 pub mod InsertLawful
 pub mod InsertSpec

@@ -26,4 +26,4 @@ pub record TellsOutput {A : Type 0} (spec : OperationSpec A) (server : Server) (
 pub record IsLawful {A : Type 0} (spec : OperationSpec A) : Type 0 where
   pub reads_own : (statements : ℕ) (places : List Place) (body : SendBody) → spec.bodies statements places body → IsWrite body
       → (context : SendContext) (server : Server) (step : Scheduled) (reply : Reply) → answered server (send_of context body) step ≡ Some reply
-      → (bytes : List ℕ) → Spells reply bytes → (output : A) → ReadsOutput spec bytes output → TellsOutput spec server (send_of context body) step output
+      → (bytes : List ℕ) → Spells reply bytes → (output : A) → ReadsOutput spec statements bytes output → TellsOutput spec server (send_of context body) step output

@@ -41,7 +41,8 @@ Page = Result (List (Pair Bson)) Error
 -- the number of statements; what a command of so many statements asks for, with the places of all its remaining writes; how many
 -- statements a build takes for a connection that is described so, and what it is refused with, beside want of memory, both by the
 -- number that earlier builds fixed; its options, of which some are by the kind of the send; what of it may be repeated; what the
--- pages of an answer come to, the newest first; and what its output is by the entries of its writes, in order
+-- pages of an answer to a command of so many statements come to, the newest first; and what its output is by the entries of its
+-- writes, in order
 pub record OperationSpec (A : Type 0) : Type 1 where
   pub name : CommandName
   pub target : OperationTarget
@@ -56,7 +57,7 @@ pub record OperationSpec (A : Type 0) : Type 1 where
   pub retryability : ClientOptions → Retryability
   pub backpressure : ClientOptions → Bool
   pub after_cluster_time : Bool
-  pub reads : List Page → Result (Reading A) Error → Type 0
+  pub reads : ℕ → List Page → Result (Reading A) Error → Type 0
   pub output : List Entry → A → Type 0
 
 -- an operation tells before and now the same
@@ -74,7 +75,7 @@ pub record SameSpec {A : Type 0} (old now : OperationSpec A) : Type 0 where
   pub retryability : (options : ClientOptions) → now.retryability options ≡ old.retryability options
   pub backpressure : (options : ClientOptions) → now.backpressure options ≡ old.backpressure options
   pub after_cluster_time : now.after_cluster_time ≡ old.after_cluster_time
-  pub reads : (pages : List Page) (result : Result (Reading A) Error) → old.reads pages result ↔ now.reads pages result
+  pub reads : (statements : ℕ) (pages : List Page) (result : Result (Reading A) Error) → old.reads statements pages result ↔ now.reads statements pages result
   pub output : (entries : List Entry) (output : A) → old.output entries output ↔ now.output entries output
 
 -- the same may be sent under both kinds
@@ -192,22 +193,22 @@ takes_one fixed description statements = statements ≡ 1
 abbrev pub never : Option ℕ → Description → Error → Type 0
 never fixed description error = ⊥
 
--- the error that an operation reads in a reply whose command was done, with the reply in it
-pub record ReadsError {A : Type 0} (spec : OperationSpec A) (bytes : List ℕ) (error : Error) : Type 0 where
+-- the error that an operation reads in a reply to a command of so many statements that was done, with the reply in it
+pub record ReadsError {A : Type 0} (spec : OperationSpec A) (statements : ℕ) (bytes : List ℕ) (error : Error) : Type 0 where
   pub response : CommandResponse
   pub done : ReadsResponse bytes (Ok response)
   pub bare : Error
-  pub reads : spec.reads (Ok response.body ∷ []) (Err bare)
+  pub reads : spec.reads statements (Ok response.body ∷ []) (Err bare)
   pub kept : HasResponse (Some bytes) bare error
 
--- the output that an operation reads in a reply whose command was done
-pub record ReadsOutput {A : Type 0} (spec : OperationSpec A) (bytes : List ℕ) (output : A) : Type 0 where
+-- the output that an operation reads in a reply to a command of so many statements that was done
+pub record ReadsOutput {A : Type 0} (spec : OperationSpec A) (statements : ℕ) (bytes : List ℕ) (output : A) : Type 0 where
   pub response : CommandResponse
   pub done : ReadsResponse bytes (Ok response)
-  pub reads : spec.reads (Ok response.body ∷ []) (Ok (Done output))
+  pub reads : spec.reads statements (Ok response.body ∷ []) (Ok (Done output))
 
--- what a reply comes to: the output that the operation reads in it, the error that the reply or the operation spells, or want
--- of memory
-abbrev pub ReadsAnswer : {A : Type 0} → OperationSpec A → List ℕ → Result A Error → Type 0
-ReadsAnswer spec bytes (Ok output) = ReadsOutput spec bytes output
-ReadsAnswer spec bytes (Err error) = ReadsResponse bytes (Err error) ⊎ (ReadsError spec bytes error ⊎ (kind_of error ≡ kind.Memory))
+-- what a reply to a command of so many statements comes to: the output that the operation reads in it, the error that the reply
+-- or the operation spells, or want of memory
+abbrev pub ReadsAnswer : {A : Type 0} → OperationSpec A → ℕ → List ℕ → Result A Error → Type 0
+ReadsAnswer spec statements bytes (Ok output) = ReadsOutput spec statements bytes output
+ReadsAnswer spec statements bytes (Err error) = ReadsResponse bytes (Err error) ⊎ (ReadsError spec statements bytes error ⊎ (kind_of error ≡ kind.Memory))

@@ -61,9 +61,11 @@ pub trait Operation {
     fn statements(&self) -> usize
         ensures { IfSome (built self.now) (λ statements. result ≡ statements) };
 
-    /// What a reply comes to that says that the command was done: the first page of its answer.
+    /// What a reply to the command of the last build comes to that says that the command was done: the first page of
+    /// its answer. Before there was a build it tells nothing.
     fn read_reply(&mut self, alloc: Global, reply: &Document) -> Result<Reading<Self::Output>>
-        ensures reads { (spec self.old).reads (Ok reply.now ∷ []) result }
+        ensures reads { IfSome (built self.old)
+            (λ statements. (spec self.old).reads statements (Ok reply.now ∷ []) result) }
         ensures read { OnOk result (has_read self.new (Ok reply.now ∷ [])) }
         ensures spec { SameSpec (spec self.old) (spec self.new) }
         ensures built { built self.new ≡ built self.old }
