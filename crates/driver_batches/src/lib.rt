@@ -7,4 +7,4 @@ pub mod rule;
 pub mod sizes;
 
 pub use rule::Rule;
-pub use sizes::{Limits, split};
+pub use sizes::{Limits, Measured, longest_front, split};
