@@ -111,10 +111,10 @@ module _ (target : OperationTarget) (filter : List (Pair Bson)) (modification : 
 
   -- a reply that says that a findAndModify was done is read so
   pub find_plain : (write : PlacedWrite) (found : Reply) → IsDoneReply command.FindAndModify write_kind.FindAndModify write found → (bytes : List ℕ) → Spells found bytes
-      → (error : Error) → ReadsAnswer spec bytes (Err error) → kind_of error ≡ kind.Memory
+      → (error : Error) → ReadsAnswer spec 1 bytes (Err error) → kind_of error ≡ kind.Memory
   find_plain write found tells bytes spelled error reads =
       let is = tells.is ∙ find_is tells.page None tells.cursors write tells.statement tells.result tells.counts in
-      only_memory spec bytes (reply_found None tells.result) (found_said None tells.result) (subst (λ reply. Spells reply bytes) is spelled) (found_no_error tells.result) error reads
+      only_memory spec 1 bytes (reply_found None tells.result) (found_said None tells.result) (subst (λ reply. Spells reply bytes) is spelled) (found_no_error tells.result) error reads
 
   module _ (server : Server) (send : Send) (step : Scheduled) (reply : List ℕ)
       (made : ExchangesStatement command.FindAndModify write_kind.FindAndModify (namespace_of target) (find_command (namespace_of target) filter modification options) server send step reply) where
@@ -125,13 +125,13 @@ module _ (target : OperationTarget) (filter : List (Pair Bson)) (modification : 
     one = record { out = ap (λ s. s.in_transaction) made.send_is; body = ap (λ s. s.body) made.send_is ∙ made.asked.is }
 
     -- an output that is read is told by the entry
-    only_told : (output : Option (List (Pair Bson))) → ReadsOutput spec reply output → TellsOutput spec server send step output
-    only_told output reads = output_told (find_reading target filter modification options) server send step write made.found one made.answer reply made.spelled output reads
+    only_told : (output : Option (List (Pair Bson))) → ReadsOutput spec 1 reply output → TellsOutput spec server send step output
+    only_told output reads = output_told (find_reading target filter modification options) 1 server send step write made.found one made.answer reply made.spelled output reads
 
     -- and is what the write found
-    only_counted : (output : Option (List (Pair Bson))) → ReadsOutput spec reply output → (result : Counted) × (CountsStatement server send step result × (found_by result ≡ Some output))
+    only_counted : (output : Option (List (Pair Bson))) → ReadsOutput spec 1 reply output → (result : Counted) × (CountsStatement server send step result × (found_by result ≡ Some output))
     only_counted output reads =
-        let told = told_by_reading (find_reading target filter modification options) server send step write made.found one made.answer reply made.spelled output reads in
+        let told = told_by_reading (find_reading target filter modification options) 1 server send step write made.found one made.answer reply made.spelled output reads in
         let plan = told.one.alone.plan in
         let before = traced (after_picks server step.deliver) send in
         let is = told.one.alone.is ∙ find_is plan.page plan.concern before.cursors write told.one.alone.statement told.one.result told.one.counts in
@@ -149,8 +149,8 @@ module _ (target : OperationTarget) (filter : List (Pair Bson)) (modification : 
     find_exactly = record {
       only = λ output reads. (only_counted output reads, only_told output reads);
       done = λ result output counts is.
-          may_be_done spec reply (reply_found None result) (found_said None result) (spelled_so result counts) output
+          may_be_done spec 1 reply (reply_found None result) (found_said None result) (spelled_so result counts) output
           (subst (λ value. ReadsFind (reply_found None result) (Ok value)) (some_is_some result.value output is) (found_read result));
       there = λ result output counts is error reads.
-          only_memory spec reply (reply_found None result) (found_said None result) (spelled_so result counts) (found_no_error result) error reads;
+          only_memory spec 1 reply (reply_found None result) (found_said None result) (spelled_so result counts) (found_no_error result) error reads;
     }

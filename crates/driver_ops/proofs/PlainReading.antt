@@ -11,7 +11,7 @@ use Rattle.driver_ops.specs.Operations.{OperationSpec, ReadsAnswer, ReadsError}
 use Rattle.driver_ops.specs.Responses.{Said, SpellsError, TellsResponse, breaks, done, fails, said}
 use Rattle.driver_ops.specs.lawful.InsertRead.{spells_one}
 
-module _ {A : Type 0} (spec : OperationSpec A) (bytes : List ℕ) (reply : Reply) (says : said reply ≡ done) (spelled : Spells reply bytes) where
+module _ {A : Type 0} (spec : OperationSpec A) (statements : ℕ) (bytes : List ℕ) (reply : Reply) (says : said reply ≡ done) (spelled : Spells reply bytes) where
   no_said : (what : Said) (error : Error) → said reply ≡ what → SpellsError bytes what error → ⊥
   no_said done error at spells = spells
   no_said (fails body) error at spells = let e : fails body ≡ done = sym at ∙ says in cc
@@ -26,24 +26,24 @@ module _ {A : Type 0} (spec : OperationSpec A) (bytes : List ℕ) (reply : Reply
     ]
   ]
 
-  module _ (no_error : (error : Error) → spec.reads (Ok reply ∷ []) (Err error) → kind_of error ≡ kind.Memory) where
-    no_read : (error : Error) → ReadsError spec bytes error → kind_of error ≡ kind.Memory
+  module _ (no_error : (error : Error) → spec.reads statements (Ok reply ∷ []) (Err error) → kind_of error ≡ kind.Memory) where
+    no_read : (error : Error) → ReadsError spec statements bytes error → kind_of error ≡ kind.Memory
     no_read error found =
         let same = spells_one found.response.body reply bytes found.done.spelled spelled in
-        of_kept (no_error found.bare (subst (λ body. spec.reads (Ok body ∷ []) (Err found.bare)) same found.reads)) found.kept
+        of_kept (no_error found.bare (subst (λ body. spec.reads statements (Ok body ∷ []) (Err found.bare)) same found.reads)) found.kept
       where
         of_kept : kind_of found.bare ≡ kind.Memory → HasResponse (Some bytes) found.bare error → kind_of error ≡ kind.Memory
         of_kept memory kept = kept.kind ∙ memory
 
     -- there is no other error than want of memory
-    pub only_memory : (error : Error) → ReadsAnswer spec bytes (Err error) → kind_of error ≡ kind.Memory
+    pub only_memory : (error : Error) → ReadsAnswer spec statements bytes (Err error) → kind_of error ≡ kind.Memory
     only_memory error reads = elim reads [
       | inl response ↦ no_response error response
       | inr other ↦ elim other [ inl found ↦ no_read error found | inr memory ↦ memory ]
     ]
 
   -- it may be read as done
-  pub may_be_done : (output : A) → spec.reads (Ok reply ∷ []) (Ok (read.Done output)) → ReadsAnswer spec bytes (Ok output)
+  pub may_be_done : (output : A) → spec.reads statements (Ok reply ∷ []) (Ok (read.Done output)) → ReadsAnswer spec statements bytes (Ok output)
   may_be_done output reads = record {
     response = record { ok = pos 1; body = reply };
     done = record { spelled = spelled; ok = refl; is = says };

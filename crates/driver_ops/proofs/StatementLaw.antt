@@ -273,13 +273,13 @@ module _ (target : OperationTarget) (filter : List (Pair Bson)) (change : Update
 
   -- a reply that says that an update was done is read so
   pub update_plain : (write : PlacedWrite) (found : Reply) → IsDoneReply command.Update write_kind.Update write found → (bytes : List ℕ) → Spells found bytes
-      → (error : Error) → ReadsAnswer spec bytes (Err error) → kind_of error ≡ kind.Memory
+      → (error : Error) → ReadsAnswer spec 1 bytes (Err error) → kind_of error ≡ kind.Memory
   update_plain write found tells bytes spelled error reads =
       let n = counted_natural tells.result.n tells.well.0 in
       let modified = counted_natural tells.result.modified tells.well.1 in
       let is = tells.is ∙ update_is tells.page None tells.cursors write tells.statement tells.result tells.counts in
       let counts : CountsUpdate tells.result (update_result n.0 modified.0 tells.result.upserted) = record { n = n.0; modified = modified.0; n_is = n.1; modified_is = modified.1; output_is = refl } in
-      only_memory spec bytes (reply_counted None tells.result) (counted_said None tells.result) (subst (λ reply. Spells reply bytes) is spelled)
+      only_memory spec 1 bytes (reply_counted None tells.result) (counted_said None tells.result) (subst (λ reply. Spells reply bytes) is spelled)
       (counted_no_error tells.result (update_result n.0 modified.0 tells.result.upserted) counts) error reads
 
   module _ (server : Server) (send : Send) (step : Scheduled) (reply : List ℕ)
@@ -291,13 +291,13 @@ module _ (target : OperationTarget) (filter : List (Pair Bson)) (change : Update
     one = record { out = ap (λ s. s.in_transaction) made.send_is; body = ap (λ s. s.body) made.send_is ∙ made.asked.is }
 
     -- an output that is read is told by the entry
-    only_told : (output : UpdateResult) → ReadsOutput spec reply output → TellsOutput spec server send step output
-    only_told output reads = output_told (update_reading target filter change multi options) server send step write made.found one made.answer reply made.spelled output reads
+    only_told : (output : UpdateResult) → ReadsOutput spec 1 reply output → TellsOutput spec server send step output
+    only_told output reads = output_told (update_reading target filter change multi options) 1 server send step write made.found one made.answer reply made.spelled output reads
 
     -- and is what the statement counts
-    only_counted : (output : UpdateResult) → ReadsOutput spec reply output → (result : Counted) × (CountsStatement server send step result × (updated_by result ≡ Some output))
+    only_counted : (output : UpdateResult) → ReadsOutput spec 1 reply output → (result : Counted) × (CountsStatement server send step result × (updated_by result ≡ Some output))
     only_counted output reads =
-        let told = told_by_reading (update_reading target filter change multi options) server send step write made.found one made.answer reply made.spelled output reads in
+        let told = told_by_reading (update_reading target filter change multi options) 1 server send step write made.found one made.answer reply made.spelled output reads in
         let plan = told.one.alone.plan in
         let before = traced (after_picks server step.deliver) send in
         let is = told.one.alone.is ∙ update_is plan.page plan.concern before.cursors write told.one.alone.statement told.one.result told.one.counts in
@@ -315,9 +315,9 @@ module _ (target : OperationTarget) (filter : List (Pair Bson)) (change : Update
     update_exactly = record {
       only = λ output reads. (only_counted output reads, only_told output reads);
       done = λ result output counts is.
-          may_be_done spec reply (reply_counted None result) (counted_said None result) (spelled_so result counts) output (counted_read result output (counts_update result output is));
+          may_be_done spec 1 reply (reply_counted None result) (counted_said None result) (spelled_so result counts) output (counted_read result output (counts_update result output is));
       there = λ result output counts is error reads.
-          only_memory spec reply (reply_counted None result) (counted_said None result) (spelled_so result counts) (counted_no_error result output (counts_update result output is)) error reads;
+          only_memory spec 1 reply (reply_counted None result) (counted_said None result) (spelled_so result counts) (counted_no_error result output (counts_update result output is)) error reads;
     }
 
 module _ (target : OperationTarget) (filter : List (Pair Bson)) (multi : Bool) (options : DeleteOptions) where
@@ -326,12 +326,12 @@ module _ (target : OperationTarget) (filter : List (Pair Bson)) (multi : Bool) (
 
   -- a reply that says that a delete was done is read so
   pub delete_plain : (write : PlacedWrite) (found : Reply) → IsDoneReply command.Delete write_kind.Delete write found → (bytes : List ℕ) → Spells found bytes
-      → (error : Error) → ReadsAnswer delete_tells bytes (Err error) → kind_of error ≡ kind.Memory
+      → (error : Error) → ReadsAnswer delete_tells 1 bytes (Err error) → kind_of error ≡ kind.Memory
   delete_plain write found tells bytes spelled error reads =
       let n = counted_natural tells.result.n tells.well.0 in
       let is = tells.is ∙ delete_is tells.page None tells.cursors write tells.statement tells.result tells.counts in
       let counts : CountsDelete tells.result (delete_result n.0) = record { n = n.0; n_is = n.1; output_is = refl } in
-      only_memory delete_tells bytes (reply_taken None tells.result) (taken_said None tells.result) (subst (λ reply. Spells reply bytes) is spelled)
+      only_memory delete_tells 1 bytes (reply_taken None tells.result) (taken_said None tells.result) (subst (λ reply. Spells reply bytes) is spelled)
       (taken_no_error tells.result (delete_result n.0) counts) error reads
 
   module _ (server : Server) (send : Send) (step : Scheduled) (reply : List ℕ)
@@ -342,12 +342,12 @@ module _ (target : OperationTarget) (filter : List (Pair Bson)) (multi : Bool) (
     one_delete : IsOneOf command.Delete send deleted
     one_delete = record { out = ap (λ s. s.in_transaction) made.send_is; body = ap (λ s. s.body) made.send_is ∙ made.asked.is }
 
-    delete_told : (output : DeleteResult) → ReadsOutput delete_tells reply output → TellsOutput delete_tells server send step output
-    delete_told output reads = output_told (delete_reading target filter multi options) server send step deleted made.found one_delete made.answer reply made.spelled output reads
+    delete_told : (output : DeleteResult) → ReadsOutput delete_tells 1 reply output → TellsOutput delete_tells server send step output
+    delete_told output reads = output_told (delete_reading target filter multi options) 1 server send step deleted made.found one_delete made.answer reply made.spelled output reads
 
-    delete_counted : (output : DeleteResult) → ReadsOutput delete_tells reply output → (result : Counted) × (CountsStatement server send step result × (deleted_by result ≡ Some output))
+    delete_counted : (output : DeleteResult) → ReadsOutput delete_tells 1 reply output → (result : Counted) × (CountsStatement server send step result × (deleted_by result ≡ Some output))
     delete_counted output reads =
-        let told = told_by_reading (delete_reading target filter multi options) server send step deleted made.found one_delete made.answer reply made.spelled output reads in
+        let told = told_by_reading (delete_reading target filter multi options) 1 server send step deleted made.found one_delete made.answer reply made.spelled output reads in
         let plan = told.one.alone.plan in
         let before = traced (after_picks server step.deliver) send in
         let is = told.one.alone.is ∙ delete_is plan.page plan.concern before.cursors deleted told.one.alone.statement told.one.result told.one.counts in
@@ -364,7 +364,7 @@ module _ (target : OperationTarget) (filter : List (Pair Bson)) (multi : Bool) (
     delete_exactly = record {
       only = λ output reads. (delete_counted output reads, delete_told output reads);
       done = λ result output counts is.
-          may_be_done delete_tells reply (reply_taken None result) (taken_said None result) (deleted_so result counts) output (taken_read result output (counts_delete result output is));
+          may_be_done delete_tells 1 reply (reply_taken None result) (taken_said None result) (deleted_so result counts) output (taken_read result output (counts_delete result output is));
       there = λ result output counts is error reads.
-          only_memory delete_tells reply (reply_taken None result) (taken_said None result) (deleted_so result counts) (taken_no_error result output (counts_delete result output is)) error reads;
+          only_memory delete_tells 1 reply (reply_taken None result) (taken_said None result) (deleted_so result counts) (taken_no_error result output (counts_delete result output is)) error reads;
     }

@@ -19,7 +19,7 @@ pub delete_reading : (target : OperationTarget) (filter : List (Pair Bson)) (mul
     → ReadsStatement command.Delete (delete_spec target filter multi options) IsDeleteRead deleted_by
 delete_reading target filter multi options = record {
   asks = λ statements places body asked. (statement_write kind.Delete (namespace_of target) (delete_statement filter multi options) asked.place, asked.is);
-  reads = λ reply output answers. delete_read reply output answers;
+  reads = λ statements reply output answers. delete_read reply output answers;
   has_result = λ plan server write statement output read. delete_counts plan server write statement read.failed read.failed_is read.none;
   counts = delete_by;
   tells = λ entry output is. is;

@@ -20,7 +20,7 @@ pub find_reading : (target : OperationTarget) (filter : List (Pair Bson)) (modif
     → ReadsStatement command.FindAndModify (find_spec target filter modification options) IsFindRead found_by
 find_reading target filter modification options = record {
   asks = λ statements places body asked. (statement_write kind.FindAndModify (namespace_of target) (find_command (namespace_of target) filter modification options) asked.place, asked.is);
-  reads = λ reply output answers. find_read reply output answers;
+  reads = λ statements reply output answers. find_read reply output answers;
   has_result = λ plan server write statement output read. find_counts plan server write statement read.failed read.failed_is read.none;
   counts = find_by;
   tells = λ entry output is. is;

@@ -50,8 +50,8 @@ pub record CountsStatement (server : Server) (send : Send) (step : Scheduled) (r
 -- the reply is read as done only where its statement counts the output so, and then its entry tells it; there it is read as that
 -- output, and as nothing else unless memory runs out
 pub record IsReadAsCounted {A : Type 0} (spec : OperationSpec A) (counts : Counted → Option A) (server : Server) (send : Send) (step : Scheduled) (reply : List ℕ) : Type 0 where
-  pub only : (output : A) → ReadsAnswer spec reply (Ok output)
+  pub only : (output : A) → ReadsAnswer spec 1 reply (Ok output)
       → ((result : Counted) × (CountsStatement server send step result × (counts result ≡ Some output))) × TellsOutput spec server send step output
-  pub done : (result : Counted) (output : A) → CountsStatement server send step result → counts result ≡ Some output → ReadsAnswer spec reply (Ok output)
-  pub there : (result : Counted) (output : A) → CountsStatement server send step result → counts result ≡ Some output → (error : Error) → ReadsAnswer spec reply (Err error)
+  pub done : (result : Counted) (output : A) → CountsStatement server send step result → counts result ≡ Some output → ReadsAnswer spec 1 reply (Ok output)
+  pub there : (result : Counted) (output : A) → CountsStatement server send step result → counts result ≡ Some output → (error : Error) → ReadsAnswer spec 1 reply (Err error)
       → kind_of error ≡ Memory

@@ -20,7 +20,7 @@ pub update_reading : (target : OperationTarget) (filter : List (Pair Bson)) (cha
     → ReadsStatement command.Update (update_spec target filter change multi options) IsUpdateRead updated_by
 update_reading target filter change multi options = record {
   asks = λ statements places body asked. (statement_write kind.Update (namespace_of target) (update_statement filter change multi options) asked.place, asked.is);
-  reads = λ reply output answers. update_read reply output answers;
+  reads = λ statements reply output answers. update_read reply output answers;
   has_result = λ plan server write statement output read. update_counts plan server write statement read.failed read.failed_is read.none;
   counts = update_by;
   tells = λ entry output is. is;

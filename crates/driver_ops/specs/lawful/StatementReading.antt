@@ -36,7 +36,7 @@ use Rattle.driver_ops.specs.lawful.Statements.{TellsStatements, reply_of_writes}
 -- statement whose reply is read so has a result, and that counts the output (`counted_by`); and an entry with such a result tells it
 pub record ReadsStatement {A : Type 0} (does : SendCommand) (spec : OperationSpec A) (IsRead : Reply → A → Type 0) (counted_by : Counted → Option A) : Type 0 where
   pub asks : (statements : ℕ) (places : List Place) (body : SendBody) → spec.bodies statements places body → (write : PlacedWrite) × (body ≡ Write does true (write ∷ []))
-  pub reads : (reply : Reply) (output : A) → spec.reads (Ok reply ∷ []) (Ok (Done output)) → IsRead reply output
+  pub reads : (statements : ℕ) (reply : Reply) (output : A) → spec.reads statements (Ok reply ∷ []) (Ok (Done output)) → IsRead reply output
   pub has_result : (plan : Plan) (server : Server) (write : PlacedWrite) (statement : Statement) (output : A) → IsRead (one_reply does plan server write statement) output
       → (result : Counted) × (result_of statement ≡ Some result)
   pub counts : (plan : Plan) (server : Server) (write : PlacedWrite) (statement : Statement) (result : Counted) (output : A) → result_of statement ≡ Some result
@@ -79,21 +79,21 @@ module _ {A : Type 0} {does : SendCommand} {spec : OperationSpec A} {IsRead : Re
       ]
 
   -- an exchange whose reply is read as done
-  pub told_by_reading : (server : Server) (send : Send) (step : Scheduled) (write : PlacedWrite) (found : Reply)
+  pub told_by_reading : (statements : ℕ) (server : Server) (send : Send) (step : Scheduled) (write : PlacedWrite) (found : Reply)
       → IsOneOf does send write → answered server send step ≡ Some found → (bytes : List ℕ) → Spells found bytes → (output : A)
-      → ReadsOutput spec bytes output → IsDoneAsRead does IsRead counted_by server send step write found output
-  told_by_reading server send step write found one answer bytes spelled output reads =
+      → ReadsOutput spec statements bytes output → IsDoneAsRead does IsRead counted_by server send step write found output
+  told_by_reading statements server send step write found one answer bytes spelled output reads =
       let same = spells_one reads.response.body found bytes reads.done.spelled spelled in
       let done = subst (λ reply. is_one (int_at OK.now reply) ≡ true) same (ok_is_one reads.response.body reads.done.is) in
-      let read = subst (λ reply. IsRead reply output) same (reading.reads reads.response.body output reads.reads) in
+      let read = subst (λ reply. IsRead reply output) same (reading.reads statements reads.response.body output reads.reads) in
       told server send step write found output one answer done read
 
   -- its output is told by the entry of its write
-  pub output_told : (server : Server) (send : Send) (step : Scheduled) (write : PlacedWrite) (found : Reply)
+  pub output_told : (statements : ℕ) (server : Server) (send : Send) (step : Scheduled) (write : PlacedWrite) (found : Reply)
       → IsOneOf does send write → answered server send step ≡ Some found → (bytes : List ℕ) → Spells found bytes → (output : A)
-      → ReadsOutput spec bytes output → TellsOutput spec server send step output
-  output_told server send step write found one answer bytes spelled output reads =
-      let is = told_by_reading server send step write found one answer bytes spelled output reads in
+      → ReadsOutput spec statements bytes output → TellsOutput spec server send step output
+  output_told statements server send step write found one answer bytes spelled output reads =
+      let is = told_by_reading statements server send step write found one answer bytes spelled output reads in
       record {
         entries = entry_of send.session send.number write is.one.result ∷ [];
         stand = one_stands does server send step write found one is.one;
@@ -106,5 +106,5 @@ module _ {A : Type 0} {does : SendCommand} {spec : OperationSpec A} {IsRead : Re
     reads_own = λ statements places body asks writes context server step reply answer came spelled output reads.
         let asked = reading.asks statements places body asks in
         let one : IsOneOf does (send_of context body) asked.0 = record { out = refl; body = asked.1 } in
-        output_told server (send_of context body) step asked.0 reply one answer came spelled output reads;
+        output_told statements server (send_of context body) step asked.0 reply one answer came spelled output reads;
   }
