@@ -14,11 +14,13 @@ use Rattle.driver_link.specs.Exchange.{usual_item}
 use Rattle.driver_link.specs.WellFormed.{IsItem, IsPlan, IsWellFormed}
 use Rattle.driver_link.proofs.Lists.{none_is_some, some_is_some}
 use Rattle.driver_actions.specs.declared.call.Call.{Call}
-use Rattle.driver_script.specs.declared.keys.TheConstants.{AFTER, CALLS, CODE, DELIVER, FAULTS, INTERRUPTED, ITEM, LABELS, LATE, LOST, OPTIONS, REFUSED, REPLY_LOST, SCHEDULE, SERVE}
+use Rattle.driver_script.specs.declared.keys.TheConstants.{AFTER, CALLS, CODE, DELIVER, FAULTS, INTERRUPTED, ITEM, LABELS, LATE, LIMITS, LOST, OPTIONS, REFUSED, REPLY_LOST, SCHEDULE, SERVE}
+use Rattle.driver_script.specs.declared.limits.Limits.{Limits}
 use Rattle.driver_script.specs.declared.schedule.ErrorReply.{ErrorReply}
 use Rattle.driver_script.specs.declared.script.Script.{Script}
 use Rattle.driver_script.specs.Calls.{call_of}
 use Rattle.driver_script.specs.Json.{has_only, list_of, needed_part, optional_part}
+use Rattle.driver_script.specs.Limits.{limits_of}
 use Rattle.driver_script.specs.Options.{client_options_of}
 use Rattle.driver_script.specs.Plans.{is_built_code}
 use Rattle.driver_script.specs.ScheduleSteps.{built_reply, delivering_of, faults_of, interrupted_of, is_built_label, item_in, item_named, item_under, refused_of, reply_of, reply_with, step_of, step_with}
@@ -107,20 +109,25 @@ step_well d step is =
     either IsStep (has_only (DELIVER.now ∷ ITEM.now ∷ []) d) _ _ (delivering_well d)
     (mapped IsStep (step_with []) (item_in d) (item_well d)) step is
 
-around_well : (options : Option ClientOptions) (calls : List Call) (d : Data) (asked : Script) → script_around options calls d ≡ Some asked → IsWell asked
+around_well : (options : Option ClientOptions) (limits : Option Limits) (calls : List Call) (d : Data) (asked : Script)
+    → script_around options limits calls d ≡ Some asked → IsWell asked
 unfolding script_around
-around_well options calls d asked is =
+around_well options limits calls d asked is =
     chained IsWell _ (optional_part (list_of step_of) SCHEDULE.now d)
     (λ steps here. chained IsWell _ (optional_part faults_of FAULTS.now d)
-    (λ faults _. mapped IsWell (script_with options calls steps faults) (optional_part (list_of count_of) LATE.now d)
+    (λ faults _. mapped IsWell (script_with options limits calls steps faults) (optional_part (list_of count_of) LATE.now d)
     (λ late _. list_optional IsStep step_of step_well SCHEDULE.now d steps here))) asked is
 
 script_of_well : (d : Data) (asked : Script) → script_of d ≡ Some asked → IsWell asked
 unfolding script_of
 script_of_well d asked is =
-    where_so IsWell (has_only (OPTIONS.now ∷ CALLS.now ∷ SCHEDULE.now ∷ FAULTS.now ∷ LATE.now ∷ []) d) _
-    (λ _. chained IsWell (λ options. option_and_then (λ calls. script_around options calls d) (needed_part (list_of call_of) CALLS.now d)) (optional_part client_options_of OPTIONS.now d)
-    (λ options _. chained IsWell (λ calls. script_around options calls d) (needed_part (list_of call_of) CALLS.now d) (λ calls _. around_well options calls d))) asked is
+    where_so IsWell (has_only (OPTIONS.now ∷ LIMITS.now ∷ CALLS.now ∷ SCHEDULE.now ∷ FAULTS.now ∷ LATE.now ∷ []) d) _
+    (λ _. chained IsWell (λ options. option_and_then (λ limits. option_and_then (λ calls. script_around options limits calls d)
+    (needed_part (list_of call_of) CALLS.now d)) (optional_part limits_of LIMITS.now d)) (optional_part client_options_of OPTIONS.now d)
+    (λ options _. chained IsWell (λ limits. option_and_then (λ calls. script_around options limits calls d)
+    (needed_part (list_of call_of) CALLS.now d)) (optional_part limits_of LIMITS.now d)
+    (λ limits _. chained IsWell (λ calls. script_around options limits calls d) (needed_part (list_of call_of) CALLS.now d)
+    (λ calls _. around_well options limits calls d)))) asked is
 
 -- the script of a value
 pub read_well : (value : Option Data) (asked : Script) → option_and_then script_of value ≡ Some asked → IsWellFormed asked.schedule

@@ -1,6 +1,6 @@
 -- The texts of a script's keys and of its names of items, calls and levels, and how many calls a script may hold.
 use Rattle.std.specs.Prelude.{◌≡◌, codes}
-use Rattle.driver_script.specs.declared.keys.TheConstants.{AFTER, ARRAY, AVAILABLE, BYTES, CALLS, CHECK_OUT, CODE, COMMENT, DATE, DELETE_MANY, DELETE_ONE, DELIVER, DOC, DOUBLE, FAIL, FAULTS, FILTER, FIND_ONE_AND_DELETE, FIND_ONE_AND_REPLACE, FIND_ONE_AND_UPDATE, INSERT_ONE, INT64, INTERRUPTED, ITEM, JOURNAL, LABELS, LATE, LINEARIZABLE, LOCAL, LOST, MAJORITY, MESSAGE, MODIFIED, N, NS, OID, OPTIONS, PIPELINE, READ_CONCERN, REFUSED, REPLACE_ONE, REPLY_LOST, RESULTS, RETRY_WRITES, SCHEDULE, SELECT, SERVE, SNAPSHOT, TS, UPDATE, UPDATE_MANY, UPDATE_ONE, UPSERT, UPSERTED, VALUE, W, WRITE_CONCERN, WRITE_CONCERN_ERROR, W_TIMEOUT}
+use Rattle.driver_script.specs.declared.keys.TheConstants.{AFTER, ARRAY, AVAILABLE, BATCH, BSON, BYTES, CALLS, CHECK_OUT, CODE, COMMENT, DATE, DELETE_MANY, DELETE_ONE, DELIVER, DOC, DOUBLE, FAIL, FAULTS, FILTER, FIND_ONE_AND_DELETE, FIND_ONE_AND_REPLACE, FIND_ONE_AND_UPDATE, INSERT_ONE, INT64, INTERRUPTED, ITEM, JOURNAL, LABELS, LATE, LIMITS, LINEARIZABLE, LOCAL, LOST, MAJORITY, MESSAGE, MODIFIED, N, NS, OID, OPTIONS, PIPELINE, READ_CONCERN, REFUSED, REPLACE_ONE, REPLY_LOST, RESULTS, RETRY_WRITES, SCHEDULE, SELECT, SERVE, SNAPSHOT, TS, UPDATE, UPDATE_MANY, UPDATE_ONE, UPSERT, UPSERTED, VALUE, W, WRITE_CONCERN, WRITE_CONCERN_ERROR, W_TIMEOUT}
 use Rattle.driver_script.specs.declared.script.TheConstants.{MOST_CALLS}
 
 -- each key is its text
@@ -8,6 +8,8 @@ pub record HaveTexts : Type 0 where
   pub after : AFTER.now ≡ codes "after"
   pub array : ARRAY.now ≡ codes "array"
   pub available : AVAILABLE.now ≡ codes "available"
+  pub batch : BATCH.now ≡ codes "batch"
+  pub bson : BSON.now ≡ codes "bson"
   pub bytes : BYTES.now ≡ codes "bytes"
   pub calls : CALLS.now ≡ codes "calls"
   pub check_out : CHECK_OUT.now ≡ codes "checkOut"
@@ -32,6 +34,7 @@ pub record HaveTexts : Type 0 where
   pub journal : JOURNAL.now ≡ codes "j"
   pub labels : LABELS.now ≡ codes "labels"
   pub late : LATE.now ≡ codes "late"
+  pub limits : LIMITS.now ≡ codes "limits"
   pub linearizable : LINEARIZABLE.now ≡ codes "linearizable"
   pub local : LOCAL.now ≡ codes "local"
   pub lost : LOST.now ≡ codes "lost"

@@ -1,6 +1,7 @@
 pub mod Calls
 pub mod Json
 pub mod Keys
+pub mod Limits
 pub mod Options
 pub mod Plans
 pub mod ScheduleSteps

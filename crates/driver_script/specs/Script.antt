@@ -1,14 +1,14 @@
 -- What a script is: one JSON object, with its defaults.
-use Rattle.std.specs.Prelude.{◌≡◌, ℕ, ◌<◌, ◌≤◌, true, false, if◌then◌else◌, pos, List, [], ◌∷◌, length, codes, Option, None, Some, Result, Ok, Err, unwrap_or}
+use Rattle.std.specs.Prelude.{◌≡◌, ℕ, ◌<◌, ◌≤◌, if◌then◌else◌, List, [], ◌∷◌, length, codes, Option, None, Result, Ok, Err, unwrap_or}
 use Rattle.std.specs.Option.{option_and_then, option_map, ok_or}
 use Rattle.std.specs.Str.{is_utf8}
 use Rattle.driver_link.specs.declared.machine.Scheduled.{Scheduled}
-use Rattle.driver_link.specs.declared.machine.Setup.{Setup}
 use Rattle.driver_link.specs.declared.options.ClientOptions.{ClientOptions}
 use Rattle.driver_actions.specs.declared.call.Call.{Call}
 use Rattle.serde_json.specs.Data.{Data}
 use Rattle.serde_json.specs.Read.{read}
-use Rattle.driver_script.specs.declared.keys.TheConstants.{CALLS, FAULTS, LATE, OPTIONS, SCHEDULE}
+use Rattle.driver_script.specs.declared.keys.TheConstants.{CALLS, FAULTS, LATE, LIMITS, OPTIONS, SCHEDULE}
+use Rattle.driver_script.specs.declared.limits.Limits.{Limits}
 use Rattle.driver_script.specs.declared.schedule.Faults.{Faults}
 use Rattle.driver_script.specs.declared.script.TheConstants.{MOST_CALLS}
 use Rattle.driver_script.specs.declared.script.Script.{Script}
@@ -16,6 +16,7 @@ use Rattle.driver_script.specs.declared.script.ScriptFault.{ScriptFault}
 use Rattle.driver_script.specs.declared.script.ScriptFault.TheVariants.{Wrong, TooManyCalls, Memory}
 use Rattle.driver_script.specs.Calls.{call_of}
 use Rattle.driver_script.specs.Json.{list_of, needed_part, optional_part, has_only}
+use Rattle.driver_script.specs.Limits.{limits_of, no_limits, setup_with}
 use Rattle.driver_script.specs.Options.{client_options_of}
 use Rattle.driver_script.specs.ScheduleSteps.{faults_of, no_faults, schedule_with, step_of}
 use Rattle.driver_script.specs.Values.{count_of}
@@ -24,27 +25,11 @@ use Rattle.driver_script.specs.Values.{count_of}
 abbrev pub usual_options : ClientOptions
 usual_options = record { client_number = 1; retry_writes = None; read_concern = None; write_concern = None }
 
--- the setup of a script's server
-abbrev pub usual_setup : Setup
-usual_setup = record {
-  description = record {
-    max_wire_version = Some (pos 25);
-    max_bson_object_size = pos 16777216;
-    max_message_size_bytes = pos 48000000;
-    max_write_batch_size = pos 100000;
-    supports_sessions = true;
-    supports_retryable_writes = true;
-    sharded = false;
-  };
-  transactions = true;
-  timeout_ms = Some 1800000;
-}
-
--- a script with these options and calls
-abbrev pub script_with : Option ClientOptions → List Call → Option (List Scheduled) → Option Faults → Option (List ℕ) → Script
-script_with options calls steps faults late = record {
+-- a script with these options, limits and calls
+abbrev pub script_with : Option ClientOptions → Option Limits → List Call → Option (List Scheduled) → Option Faults → Option (List ℕ) → Script
+script_with options limits calls steps faults late = record {
   options = unwrap_or options usual_options;
-  setup = usual_setup;
+  setup = setup_with (unwrap_or limits no_limits);
   calls = calls;
   schedule = schedule_with (unwrap_or steps []) (unwrap_or faults no_faults);
   late = unwrap_or late [];
@@ -52,16 +37,17 @@ script_with options calls steps faults late = record {
 
 -- what a script may leave out behind its calls: its schedule, the calls of the link that fail, and the waiting sends
 -- to serve after the calls
-unfoldable pub script_around : Option ClientOptions → List Call → Data → Option Script
-script_around options calls d =
-    option_and_then (λ steps. option_and_then (λ faults. option_map (script_with options calls steps faults)
+unfoldable pub script_around : Option ClientOptions → Option Limits → List Call → Data → Option Script
+script_around options limits calls d =
+    option_and_then (λ steps. option_and_then (λ faults. option_map (script_with options limits calls steps faults)
     (optional_part (list_of count_of) LATE.now d)) (optional_part faults_of FAULTS.now d)) (optional_part (list_of step_of) SCHEDULE.now d)
 
 -- a script: an object with its calls, and what it may leave out
 unfoldable pub script_of : Data → Option Script
 script_of d =
-    if has_only (OPTIONS.now ∷ CALLS.now ∷ SCHEDULE.now ∷ FAULTS.now ∷ LATE.now ∷ []) d
-    then option_and_then (λ options. option_and_then (λ calls. script_around options calls d) (needed_part (list_of call_of) CALLS.now d)) (optional_part client_options_of OPTIONS.now d)
+    if has_only (OPTIONS.now ∷ LIMITS.now ∷ CALLS.now ∷ SCHEDULE.now ∷ FAULTS.now ∷ LATE.now ∷ []) d
+    then option_and_then (λ options. option_and_then (λ limits. option_and_then (λ calls. script_around options limits calls d)
+    (needed_part (list_of call_of) CALLS.now d)) (optional_part limits_of LIMITS.now d)) (optional_part client_options_of OPTIONS.now d)
     else None
 
 -- the value of a text in JSON

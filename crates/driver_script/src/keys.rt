@@ -6,6 +6,10 @@ pub const ARRAY: &str = "array";
 
 pub const AVAILABLE: &str = "available";
 
+pub const BATCH: &str = "batch";
+
+pub const BSON: &str = "bson";
+
 pub const BYTES: &str = "bytes";
 
 pub const CALLS: &str = "calls";
@@ -54,6 +58,8 @@ pub const JOURNAL: &str = "j";
 pub const LABELS: &str = "labels";
 
 pub const LATE: &str = "late";
+
+pub const LIMITS: &str = "limits";
 
 pub const LINEARIZABLE: &str = "linearizable";
 

@@ -84,6 +84,14 @@ impl FromJson for u64 {
     }
 }
 
+impl FromJson for i64 {
+    ghost spec = { whole_of };
+
+    fn read(_alloc: Global, value: &Value) -> Result<i64, Unread> {
+        whole(value)
+    }
+}
+
 impl FromJson for i32 {
     ghost spec = { code_of };
 

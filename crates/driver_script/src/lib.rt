@@ -8,6 +8,7 @@ mod json;
 pub mod keys;
 pub mod laws;
 mod leaves;
+mod limits;
 mod namespaces;
 mod options;
 mod plans;

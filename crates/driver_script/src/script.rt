@@ -2,14 +2,15 @@
 ghost use Rattle.std.specs.Prelude.{◌≡◌, codes, option_and_then, IfOk};
 ghost use Rattle.driver_link.specs.WellFormed.{IsWellFormed};
 ghost use Rattle.driver_script.specs.Json.{GivesPart};
-ghost use Rattle.driver_script.specs.Script.{script_of, script, value_read, usual_options, usual_setup, IsWrong, ReadsScript};
+ghost use Rattle.driver_script.specs.Script.{script_of, script, value_read, usual_options, IsWrong, ReadsScript};
 
 use crate::json::{FromJson, Unread, is_object_of, read_needed, read_optional};
-use crate::keys::{CALLS, FAULTS, LATE, OPTIONS, SCHEDULE};
+use crate::keys::{CALLS, FAULTS, LATE, LIMITS, OPTIONS, SCHEDULE};
+use crate::limits::{no_limits, setup_with};
 use crate::schedule::{no_faults, schedule_with};
 use bson_lite::{List, Text};
 use driver_actions::Call;
-use driver_link::{ClientOptions, Description, Schedule, Setup};
+use driver_link::{ClientOptions, Schedule, Setup};
 use serde_json::Value;
 use std::alloc::{AllocError, Global};
 
@@ -89,17 +90,18 @@ impl FromJson for Script {
 
     #[tactic(auto, unfolding(crate::specs::Script::script_of, crate::specs::Script::script_around))]
     fn read(alloc: Global, value: &Value) -> Result<Script, Unread> {
-        if !is_object_of(value, &[OPTIONS, CALLS, SCHEDULE, FAULTS, LATE]) {
+        if !is_object_of(value, &[OPTIONS, LIMITS, CALLS, SCHEDULE, FAULTS, LATE]) {
             return Err(Unread::Wrong);
         }
         let options = read_optional(alloc, value, OPTIONS)?;
+        let limits = read_optional(alloc, value, LIMITS)?;
         let calls = read_needed(alloc, value, CALLS)?;
         let steps = read_optional(alloc, value, SCHEDULE)?;
         let faults = read_optional(alloc, value, FAULTS)?;
         let late = read_optional(alloc, value, LATE)?;
         Ok(Script {
             options: options.unwrap_or(usual_options()),
-            setup: setup_of_scripts(),
+            setup: setup_with(limits.unwrap_or(no_limits())),
             calls,
             schedule: schedule_with(
                 alloc,
@@ -120,23 +122,5 @@ fn usual_options() -> ClientOptions
         retry_writes: None,
         read_concern: None,
         write_concern: None,
-    }
-}
-
-fn setup_of_scripts() -> Setup
-    ensures { result ≡ usual_setup }
-{
-    Setup {
-        description: Description {
-            max_wire_version: Some(25),
-            max_bson_object_size: 16_777_216,
-            max_message_size_bytes: 48_000_000,
-            max_write_batch_size: 100_000,
-            supports_sessions: true,
-            supports_retryable_writes: true,
-            sharded: false,
-        },
-        transactions: true,
-        timeout_ms: Some(1_800_000),
     }
 }

@@ -1,4 +1,4 @@
-//! Which calls, options and served steps a script may have.
+//! Which calls, options, limits and served steps a script may have.
 use crate::scripts::ran;
 use std::alloc::{AllocError, Global};
 use std::test::Fail;
@@ -140,6 +140,32 @@ const NO_OPTIONS: [&str; 12] = [
     "{\"clientNumber\":1}",
 ];
 
+const LIMITS: [&str; 6] = [
+    "{}",
+    "{\"bson\":28}",
+    "{\"message\":0}",
+    "{\"batch\":-1}",
+    "{\"batch\":9223372036854775807,\"message\":48000000,\"bson\":16777216}",
+    "{\"bson\":-9223372036854775808}",
+];
+
+const NO_LIMITS: [&str; 14] = [
+    "null",
+    "[]",
+    "28",
+    "{\"Bson\":28}",
+    "{\"bson\":28,\"documents\":28}",
+    "{\"bson\":null}",
+    "{\"message\":\"28\"}",
+    "{\"batch\":true}",
+    "{\"batch\":[28]}",
+    "{\"bson\":9223372036854775808}",
+    "{\"message\":18446744073709551616}",
+    "{\"batch\":-9223372036854775809}",
+    "{\"bson\":28.0}",
+    "{\"message\":1e3}",
+];
+
 const SERVED: [&str; 14] = [
     "{}",
     "{\"results\":[]}",
@@ -232,7 +258,7 @@ fn have_status(
     Ok(true)
 }
 
-/// A script of one call, of options alone, and of one served step.
+/// A script of one call, of options or limits alone, and of one served step.
 const AROUND_CALL: Around = Around {
     before: "{\"calls\":[",
     behind: "]}",
@@ -241,6 +267,11 @@ const AROUND_CALL: Around = Around {
 const AROUND_OPTIONS: Around = Around {
     before: "{\"calls\":[],\"options\":",
     behind: "}",
+};
+
+const AROUND_LIMITS: Around = Around {
+    before: "{\"limits\":",
+    behind: ",\"calls\":[]}",
 };
 
 const AROUND_SERVED: Around = Around {
@@ -269,6 +300,18 @@ fn options_are_read(rt: HostRuntime) -> Result<(), Fail> {
 #[test]
 fn other_options_are_refused(rt: HostRuntime) -> Result<(), Fail> {
     assert!(rt; have_status(rt.alloc(), &NO_OPTIONS, &AROUND_OPTIONS, 3)?);
+    Ok(())
+}
+
+#[test]
+fn limits_are_read(rt: HostRuntime) -> Result<(), Fail> {
+    assert!(rt; have_status(rt.alloc(), &LIMITS, &AROUND_LIMITS, 0)?);
+    Ok(())
+}
+
+#[test]
+fn other_limits_are_refused(rt: HostRuntime) -> Result<(), Fail> {
+    assert!(rt; have_status(rt.alloc(), &NO_LIMITS, &AROUND_LIMITS, 3)?);
     Ok(())
 }
 

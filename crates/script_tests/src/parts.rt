@@ -1,9 +1,9 @@
-//! What is read of the options of a client, and of the parts of a call.
+//! What is read of the options of a client, of the limits of a server, and of the parts of a call.
 use crate::schedules::script_in;
 use bson_lite::{Bson, Document, Namespace};
 use driver_actions::{Call, SingleWrite};
 use driver_link::{
-    Acknowledgment, ClientOptions, DeleteOptions, ReadConcern, ReadConcernLevel,
+    Acknowledgment, ClientOptions, DeleteOptions, ReadConcern, ReadConcernLevel, Setup,
     UpdateModifications, UpdateOptions, WriteConcern,
 };
 use std::alloc::{AllocError, Global};
@@ -24,6 +24,53 @@ const CALLS: [&str; 9] = [
 
 /// The levels of read concerns that are known.
 const LEVELS: [&str; 5] = ["local", "majority", "linearizable", "available", "snapshot"];
+
+/// A script of limits, and what its server then says that it takes.
+struct Limited {
+    script: &'static str,
+    bson: i64,
+    message: i64,
+    batch: i64,
+}
+
+const LIMITS: [Limited; 6] = [
+    Limited {
+        script: "{\"calls\":[]}",
+        bson: 16_777_216,
+        message: 48_000_000,
+        batch: 100_000,
+    },
+    Limited {
+        script: "{\"calls\":[],\"limits\":{}}",
+        bson: 16_777_216,
+        message: 48_000_000,
+        batch: 100_000,
+    },
+    Limited {
+        script: "{\"limits\":{\"bson\":28},\"calls\":[]}",
+        bson: 28,
+        message: 48_000_000,
+        batch: 100_000,
+    },
+    Limited {
+        script: "{\"calls\":[],\"limits\":{\"message\":-1}}",
+        bson: 16_777_216,
+        message: -1,
+        batch: 100_000,
+    },
+    Limited {
+        script: "{\"calls\":[],\"limits\":{\"batch\":0}}",
+        bson: 16_777_216,
+        message: 48_000_000,
+        batch: 0,
+    },
+    Limited {
+        script: "{\"calls\":[],\"limits\":{\"batch\":3,\"bson\":9223372036854775807,\"message\":-9223372036854775808}}",
+        bson: 9_223_372_036_854_775_807,
+        message: -9_223_372_036_854_775_808,
+        batch: 3,
+    },
+];
 
 /// Whether a document has this one field.
 fn has_one(document: &Document, key: &str, value: i32) -> bool {
@@ -268,6 +315,37 @@ fn is_level_read(alloc: Global, level: &str) -> Result<bool, AllocError> {
     }
 }
 
+/// Whether a server says that it takes what a row says, and is the usual one in all else.
+fn is_setup(setup: &Setup, row: &Limited) -> bool {
+    let description = &setup.description;
+    description.max_bson_object_size == row.bson
+        && description.max_message_size_bytes == row.message
+        && description.max_write_batch_size == row.batch
+        && description.max_wire_version == Some(25)
+        && description.supports_sessions
+        && description.supports_retryable_writes
+        && !description.sharded
+        && setup.transactions
+        && setup.timeout_ms == Some(1_800_000)
+}
+
+/// Whether the script of a row is read with its limits.
+fn is_limited(alloc: Global, row: &Limited) -> Result<bool, AllocError> {
+    match script_in(alloc, row.script)? {
+        Some(script) => Ok(is_setup(&script.setup, row)),
+        None => Ok(false),
+    }
+}
+
+fn all_limits_are_read(alloc: Global) -> Result<bool, AllocError> {
+    for row in LIMITS.iter() {
+        if !is_limited(alloc, row)? {
+            return Ok(false);
+        }
+    }
+    Ok(true)
+}
+
 fn all_levels_are_read(alloc: Global) -> Result<bool, AllocError> {
     for level in LEVELS.iter() {
         if !is_level_read(alloc, level)? {
@@ -295,5 +373,11 @@ fn the_parts_of_each_call_are_read(rt: HostRuntime) -> Result<(), Fail> {
 #[test]
 fn the_options_of_a_client_are_read(rt: HostRuntime) -> Result<(), Fail> {
     assert!(rt; all_levels_are_read(rt.alloc())?);
+    Ok(())
+}
+
+#[test]
+fn the_limits_of_a_server_are_read(rt: HostRuntime) -> Result<(), Fail> {
+    assert!(rt; all_limits_are_read(rt.alloc())?);
     Ok(())
 }

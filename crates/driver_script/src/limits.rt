@@ -1,0 +1,66 @@
+//! Readers of the limits of a script's server, and the setup that they make.
+ghost use Rattle.std.specs.Prelude.{◌≡◌};
+ghost use Rattle.driver_script.specs.Limits.{limits_of, no_limits, setup_with};
+
+use crate::json::{FromJson, Unread, is_object_of, read_optional};
+use crate::keys::{BATCH, BSON, MESSAGE};
+use driver_link::{Description, Setup};
+use serde_json::Value;
+use std::alloc::Global;
+
+/// The limits of a server that are set: the bytes of a document and of a message, and the writes of a batch.
+#[derive(Clone, Copy)]
+pub(crate) struct Limits {
+    pub bson: Option<i64>,
+    pub message: Option<i64>,
+    pub batch: Option<i64>,
+}
+
+impl FromJson for Limits {
+    ghost spec = { limits_of };
+
+    #[tactic(auto, unfolding(crate::specs::Limits::limits_of))]
+    fn read(alloc: Global, value: &Value) -> Result<Limits, Unread> {
+        if !is_object_of(value, &[BSON, MESSAGE, BATCH]) {
+            return Err(Unread::Wrong);
+        }
+        let bson = read_optional(alloc, value, BSON)?;
+        let message = read_optional(alloc, value, MESSAGE)?;
+        let batch = read_optional(alloc, value, BATCH)?;
+        Ok(Limits {
+            bson,
+            message,
+            batch,
+        })
+    }
+}
+
+/// Limits of which none is set.
+pub(crate) fn no_limits() -> Limits
+    ensures { result ≡ no_limits }
+{
+    Limits {
+        bson: None,
+        message: None,
+        batch: None,
+    }
+}
+
+/// The setup of a script's server with these limits.
+pub(crate) fn setup_with(limits: Limits) -> Setup
+    ensures { result ≡ setup_with limits }
+{
+    Setup {
+        description: Description {
+            max_wire_version: Some(25),
+            max_bson_object_size: limits.bson.unwrap_or(16_777_216),
+            max_message_size_bytes: limits.message.unwrap_or(48_000_000),
+            max_write_batch_size: limits.batch.unwrap_or(100_000),
+            supports_sessions: true,
+            supports_retryable_writes: true,
+            sharded: false,
+        },
+        transactions: true,
+        timeout_ms: Some(1_800_000),
+    }
+}
