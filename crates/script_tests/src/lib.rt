@@ -1,5 +1,5 @@
 //! Tests of scripts from outside: statuses and reports, which forms are read and as what, each fault of one insert,
-//! the rows of updates, deletes and findAndModify, and the examples.
+//! the rows of updates, deletes and findAndModify, limits of the server, and the examples.
 //! They stand apart so that the library is proved once and not once more for its tests.
 #![tactic(auto)]
 
@@ -17,5 +17,7 @@ mod retries;
 mod schedules;
 #[cfg(test)]
 mod scripts;
+#[cfg(test)]
+mod sizes;
 #[cfg(test)]
 mod writes;

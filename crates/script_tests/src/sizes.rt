@@ -1,0 +1,141 @@
+//! One insert under limits of the server: its document of 29 bytes goes out where each limit lets it, else it is refused
+//! with the text of the limit that it breaks, and nothing is sent.
+use crate::writes::{Row, are_reported};
+use std::test::Fail;
+
+/// The document is `{_id: ObjectId, x: Int32}`, and the body of its command has 33 bytes.
+const INSERT_ONE: &str = "{\"insertOne\":{\"ns\":\"shop.items\",\"doc\":[[\"x\",1]]}}";
+
+/// Limits that are met exactly.
+const WITHIN: [Row; 3] = [
+    Row {
+        calls: INSERT_ONE,
+        behind: "\"limits\":{\"bson\":29}",
+        report: "call 0 insertOne: ok id=000000000000000000000001
+send 0: insert session=1 number=1 places=0.0
+entry 0: 0.0 session=1 number=1 n=1
+ids: distinct
+waiting: 0
+totals: calls=1 ok=1 sends=1 entries=1
+",
+    },
+    Row {
+        calls: INSERT_ONE,
+        behind: "\"limits\":{\"message\":1062}",
+        report: "call 0 insertOne: ok id=000000000000000000000001
+send 0: insert session=1 number=1 places=0.0
+entry 0: 0.0 session=1 number=1 n=1
+ids: distinct
+waiting: 0
+totals: calls=1 ok=1 sends=1 entries=1
+",
+    },
+    Row {
+        calls: INSERT_ONE,
+        behind: "\"limits\":{\"batch\":1}",
+        report: "call 0 insertOne: ok id=000000000000000000000001
+send 0: insert session=1 number=1 places=0.0
+entry 0: 0.0 session=1 number=1 n=1
+ids: distinct
+waiting: 0
+totals: calls=1 ok=1 sends=1 entries=1
+",
+    },
+];
+
+/// Limits that are broken. A limit below 0 is one of 0, and the document's own length comes first.
+const BROKEN: [Row; 9] = [
+    Row {
+        calls: INSERT_ONE,
+        behind: "\"limits\":{\"bson\":28}",
+        report: "call 0 insertOne: err InvalidArgument insert document must be within 28 bytes, but document provided is 29 bytes labels=- source=-
+ids: distinct
+waiting: 0
+totals: calls=1 ok=0 sends=0 entries=0
+",
+    },
+    Row {
+        calls: INSERT_ONE,
+        behind: "\"limits\":{\"bson\":0}",
+        report: "call 0 insertOne: err InvalidArgument insert document must be within 0 bytes, but document provided is 29 bytes labels=- source=-
+ids: distinct
+waiting: 0
+totals: calls=1 ok=0 sends=0 entries=0
+",
+    },
+    Row {
+        calls: INSERT_ONE,
+        behind: "\"limits\":{\"bson\":-1}",
+        report: "call 0 insertOne: err InvalidArgument insert document must be within 0 bytes, but document provided is 29 bytes labels=- source=-
+ids: distinct
+waiting: 0
+totals: calls=1 ok=0 sends=0 entries=0
+",
+    },
+    Row {
+        calls: INSERT_ONE,
+        behind: "\"limits\":{\"message\":1061}",
+        report: "call 0 insertOne: err InvalidArgument document at index 0 exceeds the maximum size labels=- source=-
+ids: distinct
+waiting: 0
+totals: calls=1 ok=0 sends=0 entries=0
+",
+    },
+    Row {
+        calls: INSERT_ONE,
+        behind: "\"limits\":{\"message\":0}",
+        report: "call 0 insertOne: err InvalidArgument document at index 0 exceeds the maximum size labels=- source=-
+ids: distinct
+waiting: 0
+totals: calls=1 ok=0 sends=0 entries=0
+",
+    },
+    Row {
+        calls: INSERT_ONE,
+        behind: "\"limits\":{\"message\":-1}",
+        report: "call 0 insertOne: err InvalidArgument document at index 0 exceeds the maximum size labels=- source=-
+ids: distinct
+waiting: 0
+totals: calls=1 ok=0 sends=0 entries=0
+",
+    },
+    Row {
+        calls: INSERT_ONE,
+        behind: "\"limits\":{\"batch\":0}",
+        report: "call 0 insertOne: err InvalidArgument document at index 0 exceeds the maximum size labels=- source=-
+ids: distinct
+waiting: 0
+totals: calls=1 ok=0 sends=0 entries=0
+",
+    },
+    Row {
+        calls: INSERT_ONE,
+        behind: "\"limits\":{\"batch\":-1}",
+        report: "call 0 insertOne: err InvalidArgument document at index 0 exceeds the maximum size labels=- source=-
+ids: distinct
+waiting: 0
+totals: calls=1 ok=0 sends=0 entries=0
+",
+    },
+    Row {
+        calls: INSERT_ONE,
+        behind: "\"limits\":{\"bson\":28,\"batch\":0}",
+        report: "call 0 insertOne: err InvalidArgument insert document must be within 28 bytes, but document provided is 29 bytes labels=- source=-
+ids: distinct
+waiting: 0
+totals: calls=1 ok=0 sends=0 entries=0
+",
+    },
+];
+
+#[test]
+fn an_insert_within_the_limits_goes_out(rt: HostRuntime) -> Result<(), Fail> {
+    assert!(rt; are_reported(rt.alloc(), &WITHIN)?);
+    Ok(())
+}
+
+#[test]
+fn an_insert_past_a_limit_is_refused_and_not_sent(rt: HostRuntime) -> Result<(), Fail> {
+    assert!(rt; are_reported(rt.alloc(), &BROKEN)?);
+    Ok(())
+}
