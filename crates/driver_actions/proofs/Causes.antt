@@ -68,12 +68,11 @@ operation_caused : (before now : Moment) (form : WriteForm) (place : Place) (res
 operation_caused before now (inserts namespace document options) place result made =
     let run = made.runs in
     record {
-      own = run.id;
+      id = run.id;
       mid = made.mid;
       draws = run.draws;
-      bytes = run.bytes;
+      own = run.own;
       spelled = run.spelled;
-      id = run.value;
       found = run.found;
       ends = runs_caused _ run.ended result run.runs run.tells;
     }
@@ -116,12 +115,11 @@ module _ {A B : Type 0} (given : Result A Error) (result : Result B Error) (same
 
   operation_same : (before now : Moment) (form : WriteForm) → OperationCaused before now form given → OperationCaused before now form result
   operation_same before now (inserts namespace document options) caused = record {
-    own = caused.own;
+    id = caused.id;
     mid = caused.mid;
     draws = caused.draws;
-    bytes = caused.bytes;
+    own = caused.own;
     spelled = caused.spelled;
-    id = caused.id;
     found = caused.found;
     ends = ends_same _ caused.mid now caused.ends;
   }

@@ -18,6 +18,7 @@ use Rattle.driver_link.specs.declared.machine.SendBody.{SendBody}
 use Rattle.driver_link.specs.declared.options.ClientOptions.{ClientOptions}
 use Rattle.driver_link.specs.declared.write_options.InsertManyOptions.{InsertManyOptions}
 use Rattle.driver_session.specs.StoreTells.{MayDrawObjectId, StoreTells}
+use Rattle.driver_ops.specs.declared.own_document.OwnDocument.{OwnDocument}
 use Rattle.driver_ops.specs.InsertSpec.{insert_spec}
 use Rattle.driver_ops.specs.Targets.{in_collection}
 use Rattle.driver_exec.specs.Moment.{Moment}
@@ -44,7 +45,7 @@ may_draw before document store options is draws unused = record { draws = draws;
 
 -- a caller's document with its id, which was drawn from the store where it had none
 module _ (before : Moment) (store : StoreTells) (options : ClientOptions) (same : options ≡ before.client.options) (namespace : Namespace) (document : List (Pair Bson))
-    (given : InsertManyOptions) (place : Place) (bytes : List ℕ) (id : Bson) (answer : InsertOneResult) (owns : Owns before.store store document bytes id answer) where
+    (given : InsertManyOptions) (place : Place) (own : OwnDocument) (answer : InsertOneResult) (owns : Owns before.store store document own answer) where
   -- the moment after that
   abbrev mid : Moment
   mid = record before { store = store; client = record { options = options } }
@@ -59,7 +60,7 @@ module _ (before : Moment) (store : StoreTells) (options : ClientOptions) (same 
 
   -- it was made where the insert was run
   pub insert_made : IsAccepted (inserts namespace document given) → (now : Moment) (ended : Result InsertManyResult Error) (result : Result SingleAnswer Error)
-      → Runs (insert_spec (in_collection namespace) bytes id given) own_asked place mid now ended → Tells (λ output. Inserted answer) ended result
+      → Runs (insert_spec (in_collection namespace) 0 (own ∷ []) given) own_asked place mid now ended → Tells (λ output. Inserted answer) ended result
       → Made before now (inserts namespace document given) place result
   insert_made accepted now ended result runs tells = record {
     accepted = accepted;
@@ -70,10 +71,9 @@ module _ (before : Moment) (store : StoreTells) (options : ClientOptions) (same 
       twelve = owns.document.twelve;
       draws = own_draws;
       sent_is = ap (λ d. written_in (inserts namespace d given)) owns.document.document;
-      bytes = bytes;
-      spelled = subst (λ d. Spells d bytes) owns.document.document owns.spelled;
-      value = id;
-      found = subst (λ d. value_of id_key d ≡ Some id) owns.document.document owns.document.found;
+      own = own;
+      spelled = subst (λ d. Spells d own.bytes) owns.document.document owns.spelled;
+      found = subst (λ d. value_of id_key d ≡ Some own.id) owns.document.document owns.document.found;
       ended = ended;
       runs = runs;
       tells = subst (λ a. Tells {A = InsertManyResult} (λ output. Inserted a) ended result) owns.answer_is tells;

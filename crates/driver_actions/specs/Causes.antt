@@ -1,5 +1,5 @@
 -- Why a call ended as it did, by what the link answered in it, over any link and any store.
-use Rattle.std.specs.Prelude.{◌≡◌, ℕ, List, length, Option, None, Some, ◌⊎◌, Result, Ok, Err}
+use Rattle.std.specs.Prelude.{◌≡◌, List, [], ◌∷◌, length, Option, None, Some, ◌⊎◌, Result, Ok, Err}
 use Rattle.bson_lite.specs.declared.bson.Bson.{Bson}
 use Rattle.bson_lite.specs.declared.bson.ObjectId.{ObjectId}
 use Rattle.bson_lite.specs.declared.document.Pair.{Pair}
@@ -12,6 +12,7 @@ use Rattle.driver_error.specs.Conversions.{Converts}
 use Rattle.driver_error.specs.Error.{ErrorKind, kind_of}
 use Rattle.driver_error.specs.LabelTexts.{no_labels}
 use Rattle.driver_link.specs.declared.write_options.InsertManyOptions.{InsertManyOptions}
+use Rattle.driver_ops.specs.declared.own_document.OwnDocument.{OwnDocument}
 use Rattle.driver_ops.specs.Encoding.{IsUnspelled}
 use Rattle.driver_ops.specs.InsertSpec.{insert_spec}
 use Rattle.driver_ops.specs.Operations.{OperationSpec}
@@ -68,14 +69,13 @@ pub record EndsAsCaused {A B : Type 0} (spec : OperationSpec B) (before now : Mo
 
 -- so did the operation of an insert of the caller's document with its id, its own or the one that was drawn
 pub record InsertCaused {A : Type 0} (before now : Moment) (namespace : Namespace) (document : List (Pair Bson)) (options : InsertManyOptions) (result : Result A Error) : Type 0 where
-  pub own : ObjectId
+  pub id : ObjectId
   pub mid : Moment
-  pub draws : DrawsOwn before mid document own
-  pub bytes : List ℕ
-  pub spelled : Spells (with_id own document) bytes
-  pub id : Bson
-  pub found : value_of id_key (with_id own document) ≡ Some id
-  pub ends : EndsAsCaused (insert_spec (in_collection namespace) bytes id options) mid now result
+  pub draws : DrawsOwn before mid document id
+  pub own : OwnDocument
+  pub spelled : Spells (with_id id document) own.bytes
+  pub found : value_of id_key (with_id id document) ≡ Some own.id
+  pub ends : EndsAsCaused (insert_spec (in_collection namespace) 0 (own ∷ []) options) mid now result
 
 -- the operation of a write ended with its cause
 abbrev pub OperationCaused : {A : Type 0} → Moment → Moment → WriteForm → Result A Error → Type 0

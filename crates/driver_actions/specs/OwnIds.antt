@@ -1,5 +1,5 @@
 -- The id of a caller's document: its own, else the next object id to come, which is drawn for it.
-use Rattle.std.specs.Prelude.{◌≡◌, ℕ, List, length, Option, None, Some, IsSome, ◌⊎◌, Result, Ok, Err}
+use Rattle.std.specs.Prelude.{◌≡◌, List, length, Option, None, Some, IsSome, ◌⊎◌, Result, Ok, Err}
 use Rattle.bson_lite.specs.declared.bson.Bson.{Bson}
 use Rattle.bson_lite.specs.declared.bson.ObjectId.{ObjectId}
 use Rattle.bson_lite.specs.declared.document.Pair.{Pair}
@@ -10,6 +10,7 @@ use Rattle.driver_error.specs.declared.kind.ErrorKind.TheVariants.{Memory}
 use Rattle.driver_error.specs.declared.results.InsertOneResult.{InsertOneResult}
 use Rattle.driver_error.specs.Error.{kind_of}
 use Rattle.driver_session.specs.StoreTells.{DrawsObjectId, MayDrawObjectId, StoreTells}
+use Rattle.driver_ops.specs.declared.own_document.OwnDocument.{OwnDocument}
 use Rattle.driver_exec.specs.Moment.{Moment}
 
 -- for a document without an id this one is drawn, the next to come; for one that has an id nothing is
@@ -45,9 +46,9 @@ pub record MayDrawId (before now : Moment) (document : List (Pair Bson)) : Type 
 abbrev pub MayDrawBy : Moment → Moment → List (Pair Bson) → Error → Type 0
 MayDrawBy before now document error = (now ≡ before) ⊎ ((kind_of error ≡ Memory) × MayDrawId before now document)
 
--- a caller's document as it is sent, by its bytes, with its id, which was drawn where it had none, and the answer that tells it
-pub record Owns (store store_now : StoreTells) (given : List (Pair Bson)) (bytes : List ℕ) (value : Bson) (answer : InsertOneResult) : Type 0 where
+-- a caller's document as it is sent, with its id, which was drawn where it had none, and the answer that tells it
+pub record Owns (store store_now : StoreTells) (given : List (Pair Bson)) (own : OwnDocument) (answer : InsertOneResult) : Type 0 where
   pub sent : List (Pair Bson)
-  pub document : HasOwnId store store_now given sent value
-  pub spelled : Spells sent bytes
-  pub answer_is : answer ≡ record { inserted_id = value }
+  pub document : HasOwnId store store_now given sent own.id
+  pub spelled : Spells sent own.bytes
+  pub answer_is : answer ≡ record { inserted_id = own.id }

@@ -13,6 +13,7 @@ use Rattle.driver_link.specs.declared.machine.SendBody.{SendBody}
 use Rattle.driver_link.specs.declared.machine.Written.{Written}
 use Rattle.driver_link.specs.declared.write_options.InsertManyOptions.{InsertManyOptions}
 use Rattle.driver_session.specs.StoreTells.{Draws, LendsAsBefore}
+use Rattle.driver_ops.specs.declared.own_document.OwnDocument.{OwnDocument}
 use Rattle.driver_ops.specs.InsertSpec.{insert_spec}
 use Rattle.driver_ops.specs.Operations.{AsksFor, OperationSpec, batch_of}
 use Rattle.driver_ops.specs.SendKinds.{first}
@@ -63,13 +64,12 @@ pub record RunsInsert (before mid now : Moment) (namespace : Namespace) (documen
   pub twelve : length id.bytes ≡ 12
   pub draws : DrawsOwn before mid document id
   pub sent_is : sent ≡ written_in (inserts namespace (with_id id document) options)
-  pub bytes : List ℕ
-  pub spelled : Spells (with_id id document) bytes
-  pub value : Bson
-  pub found : value_of id_key (with_id id document) ≡ Some value
+  pub own : OwnDocument
+  pub spelled : Spells (with_id id document) own.bytes
+  pub found : value_of id_key (with_id id document) ≡ Some own.id
   pub ended : Result InsertManyResult Error
-  pub runs : Runs (insert_spec (in_collection namespace) bytes value options) (asked_in (inserts namespace document options) place sent) place mid now ended
-  pub tells : Tells (λ output. Inserted (record { inserted_id = value })) ended result
+  pub runs : Runs (insert_spec (in_collection namespace) 0 (own ∷ []) options) (asked_in (inserts namespace document options) place sent) place mid now ended
+  pub tells : Tells (λ output. Inserted (record { inserted_id = own.id })) ended result
 
 -- the operation of a write that is sent as it was given, and of which nothing is drawn
 pub record RunsGiven {A : Type 0} (spec : OperationSpec A) (answers : A → SingleAnswer) (form : WriteForm) (before mid now : Moment) (place : Place) (sent : Written) (result : Result SingleAnswer Error) : Type 0 where

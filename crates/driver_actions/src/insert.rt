@@ -12,11 +12,11 @@ ghost use Rattle.driver_actions.specs.SingleCalls.{Makes};
 use crate::call::SingleAnswer;
 use crate::refusal::insert_refusal;
 use crate::single_operation::run_single;
-use bson_lite::{Bson, Bytes, Document, ID_KEY, Namespace, TryClone, get_or_prepend_id_field};
+use bson_lite::{Bson, Document, ID_KEY, Namespace, TryClone, get_or_prepend_id_field};
 use driver_error::{InsertOneResult, Result};
 use driver_exec::{Client, Outside};
 use driver_link::{Clock, InsertManyOptions, Link, Place};
-use driver_ops::{Collection, Insert, encode_document};
+use driver_ops::{Collection, Insert, OwnDocument, encode_document};
 use driver_session::SessionStore;
 use rand_core::Rng;
 use std::alloc::Global;
@@ -48,24 +48,23 @@ pub(crate) fn insert_one<S: SessionStore, L: Link, K: Clock, R: Rng>(
         return Err(error);
     }
     let namespace = namespace.try_clone(alloc)?;
-    let options = options.try_clone(alloc)?;
     let own = own_document(alloc, client, document)?;
-    let OwnDocument { bytes, id, answer } = own;
+    let AnsweredDocument { document, answer } = own;
     let collection = Collection {
         namespace,
         write_concern: None,
     };
-    let insert = Insert::new(collection, bytes, id, options);
+    let documents = [document];
+    let insert = Insert::new(collection, 0, &documents, options);
     let blank = Blank::new(1);
-    run_single::<Insert, S, L, K, R, Brand>(alloc, client, outside, insert, place, blank)?;
+    run_single::<Insert<'_>, S, L, K, R, Brand>(alloc, client, outside, insert, place, blank)?;
     Ok(SingleAnswer::Inserted(answer))
 }
 
-/// The spelling of a document as it is sent, its id, and the answer that tells it.
+/// A document as it is sent, and the answer that tells its id.
 #[derive(Drop)]
-struct OwnDocument {
-    bytes: Bytes,
-    id: Bson,
+struct AnsweredDocument {
+    document: OwnDocument,
     answer: InsertOneResult,
 }
 
@@ -74,10 +73,10 @@ fn own_document<S: SessionStore>(
     alloc: Global,
     client: &mut Client<S>,
     document: &Document,
-) -> Result<OwnDocument>
+) -> Result<AnsweredDocument>
     ensures refusal { IfErr result (λ error. TellsOwnRefusal document.now error) }
     ensures owns { IfOk result (λ own. Owns (S.tells (store_of client.old)) (S.tells (store_of client.new))
-        document.now own.bytes own.id own.answer) }
+        document.now own.document own.answer) }
     ensures draws { MayDrawObjectId (S.tells (store_of client.old)) (S.tells (store_of client.new)) }
     ensures unused { IsSome (value_of id_key document.now) →
         S.tells (store_of client.new) ≡ S.tells (store_of client.old) }
@@ -89,7 +88,8 @@ fn own_document<S: SessionStore>(
     let answer = InsertOneResult {
         inserted_id: id.try_clone(alloc)?,
     };
-    Ok(OwnDocument { bytes, id, answer })
+    let document = OwnDocument { bytes, id };
+    Ok(AnsweredDocument { document, answer })
 }
 
 /// Puts a new id first in a document that has none, and answers a copy of the document's id.

@@ -169,7 +169,7 @@ module _ (before now : Moment) (place : Place) where
       → HasOwnEntryWhereTold (written_in form) answer made.mid.store.pool now.store.pool (server_run made.mid.link) (server_run now.link) place
   mid_entry (inserts namespace document options) answer made =
       let run = made.runs in
-      runs_entry (insert_spec (in_collection namespace) run.bytes run.value options) (inserts namespace document options) (λ output. Inserted (record { inserted_id = run.value })) made.mid now place made.sent
+      runs_entry (insert_spec (in_collection namespace) 0 (run.own ∷ []) options) (inserts namespace document options) (λ output. Inserted (record { inserted_id = run.own.id })) made.mid now place made.sent
       (made_own (inserts namespace document options) made) answer (λ entry output is tells.
       ap (λ sent. option_map (λ id. Inserted (record { inserted_id = id })) (value_of id_key sent.document)) (is ∙ run.sent_is)
       ∙ ap (option_map (λ id. Inserted (record { inserted_id = id }))) run.found) run.ended run.runs run.tells

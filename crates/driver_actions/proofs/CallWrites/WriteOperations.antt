@@ -18,6 +18,7 @@ use Rattle.driver_link.specs.declared.updates.UpdateOrReplace.{UpdateOrReplace}
 use Rattle.driver_link.specs.declared.write_options.DeleteOptions.{DeleteOptions}
 use Rattle.driver_link.specs.declared.write_options.InsertManyOptions.{InsertManyOptions}
 use Rattle.driver_link.specs.declared.write_options.UpdateOptions.{UpdateOptions}
+use Rattle.driver_ops.specs.declared.own_document.OwnDocument.{OwnDocument}
 use Rattle.driver_ops.specs.declared.target.OperationTarget.{OperationTarget}
 use Rattle.driver_ops.specs.InsertSpec.{AsksInsert, insert_spec}
 use Rattle.driver_ops.specs.Operations.{AsksFor, HasBodies, IsFixed, OperationSpec, StaysFixed, batch_of}
@@ -80,10 +81,10 @@ executed_runs spec which asked place before now from count fixed fixed_now execu
 }
 
 -- what holds of the parts that an insert was made with holds of those that it was made from
-pub of_insert : {made target : OperationTarget} {held bytes : List ℕ} {kept id : Bson} {had options : InsertManyOptions} (P : OperationTarget → List ℕ → Bson → InsertManyOptions → Type 0)
-    → made ≡ target → held ≡ bytes → kept ≡ id → had ≡ options → P made held kept had → P target bytes id options
-of_insert {made = made} {held = held} {bytes = bytes} {kept = kept} {id = id} {options = options} P is_target is_bytes is_id is_options holds =
-    subst (λ t. P t bytes id options) is_target (subst (λ b. P made b id options) is_bytes (subst (λ i. P made held i options) is_id (subst (P made held kept) is_options holds)))
+pub of_insert : {made target : OperationTarget} {at first : ℕ} {held own : List OwnDocument} {had options : InsertManyOptions}
+    (P : OperationTarget → ℕ → List OwnDocument → InsertManyOptions → Type 0) → made ≡ target → at ≡ first → held ≡ own → had ≡ options → P made at held had → P target first own options
+of_insert {made = made} {at = at} {held = held} {own = own} {first = first} {options = options} P is_target is_first is_own is_options holds =
+    subst (λ t. P t first own options) is_target (subst (λ f. P made f own options) is_first (subst (λ d. P made at d options) is_own (subst (P made at held) is_options holds)))
 
 -- the same of an update
 pub of_update : {made target : OperationTarget} {held filter : List (Pair Bson)} {kept change : UpdateOrReplace} {all multi : Bool} {had options : UpdateOptions}
@@ -107,27 +108,28 @@ of_find {made = made} {held = held} {filter = filter} {kept = kept} {modificatio
     subst (λ t. P t filter modification options) is_target (subst (λ f. P made f modification options) is_filter (subst (λ m. P made held m options) is_modification (subst (P made held kept) is_options holds)))
 
 -- the insert of a document with its id asks for the write of it
-module _ (namespace : Namespace) (document sent : List (Pair Bson)) (options : InsertManyOptions) (place : Place) (bytes : List ℕ) (id : Bson) (spelled : Spells sent bytes)
-    (found : value_of id_key sent ≡ Some id) where
-  pub insert_asks : AsksInsert namespace bytes id options 1 (place ∷ []) (asked_in (inserts namespace document options) place (written_in (inserts namespace sent options)))
-  insert_asks = record { one = refl; document = sent; place = place; spelled = spelled; found = found; alone = refl; is = refl }
+module _ (namespace : Namespace) (document sent : List (Pair Bson)) (options : InsertManyOptions) (place : Place) (own : OwnDocument) (spelled : Spells sent own.bytes)
+    (found : value_of id_key sent ≡ Some own.id) where
+  pub insert_asks : AsksInsert namespace (own ∷ []) options 1 (place ∷ []) (asked_in (inserts namespace document options) place (written_in (inserts namespace sent options)))
+  insert_asks = record { documents = sent ∷ []; are_own = (spelled, found, tt); each_placed = refl; is = refl }
 
-  pub insert_bodies : HasBodies (insert_spec (in_collection namespace) bytes id options) (place ∷ [])
+  pub insert_bodies : HasBodies (insert_spec (in_collection namespace) 0 (own ∷ []) options) (place ∷ [])
   insert_bodies = λ which statements command is.
       let asked = asked_in (inserts namespace document options) place (written_in (inserts namespace sent options)) in
-      (asked, subst (λ n. AsksInsert namespace bytes id options n (place ∷ []) asked) (sym is.one) insert_asks)
+      let one : statements ≡ 1 = (let some = is.some in let within = is.within in omega arith) in
+      (asked, subst (λ n. AsksInsert namespace (own ∷ []) options n (place ∷ []) asked) (sym one) insert_asks)
 
   -- so does one that was made of these parts
-  module _ {made : OperationTarget} {held : List ℕ} {kept : Bson} {had : InsertManyOptions} (is_target : made ≡ in_collection namespace) (is_bytes : held ≡ bytes) (is_id : kept ≡ id)
+  module _ {made : OperationTarget} {at : ℕ} {held : List OwnDocument} {had : InsertManyOptions} (is_target : made ≡ in_collection namespace) (is_first : at ≡ 0) (is_own : held ≡ own ∷ [])
       (is_options : had ≡ options) where
-    pub insert_has : HasBodies (insert_spec made held kept had) (place ∷ [])
-    insert_has = of_insert (λ t b i o. HasBodies (insert_spec t b i o) (place ∷ [])) (sym is_target) (sym is_bytes) (sym is_id) (sym is_options) insert_bodies
+    pub insert_has : HasBodies (insert_spec made at held had) (place ∷ [])
+    insert_has = of_insert (λ t f d o. HasBodies (insert_spec t f d o) (place ∷ [])) (sym is_target) (sym is_first) (sym is_own) (sym is_options) insert_bodies
 
     pub insert_ran : (before now : Moment) (ended : Result InsertManyResult Error)
-        → ((asked : SendBody) → AsksFor (insert_spec made held kept had) (batch_of (place ∷ []) 1) asked → Runs (insert_spec made held kept had) asked place before now ended)
-        → Runs (insert_spec (in_collection namespace) bytes id options) (asked_in (inserts namespace document options) place (written_in (inserts namespace sent options))) place before now ended
+        → ((asked : SendBody) → AsksFor (insert_spec made at held had) (batch_of (place ∷ []) 1) asked → Runs (insert_spec made at held had) asked place before now ended)
+        → Runs (insert_spec (in_collection namespace) 0 (own ∷ []) options) (asked_in (inserts namespace document options) place (written_in (inserts namespace sent options))) place before now ended
     insert_ran before now ended runs =
-        of_insert (λ t b i o. (asked : SendBody) → AsksFor (insert_spec t b i o) (batch_of (place ∷ []) 1) asked → Runs (insert_spec t b i o) asked place before now ended) is_target is_bytes is_id is_options
+        of_insert (λ t f d o. (asked : SendBody) → AsksFor (insert_spec t f d o) (batch_of (place ∷ []) 1) asked → Runs (insert_spec t f d o) asked place before now ended) is_target is_first is_own is_options
         runs (asked_in (inserts namespace document options) place (written_in (inserts namespace sent options))) insert_asks
 
 -- an update asks for the write of its statement
