@@ -95,7 +95,7 @@ record Ready (made : ℕ) (place : Place) (pool : Pool) (told : ServerRun) : Typ
 past_end : (made : ℕ) (number : ℤ) → number ≡ last_number → number ≤ℤ pos made → pos made <ℤ last_number → ⊥
 past_end made number is within below = omega (arith, ints)
 
-module _ (made : ℕ) (place : Place) (before now : Moment) (form : WriteForm) (valid : IsValidWrite made before.client.options form) where
+module _ (made : ℕ) (place : Place) (before now : Moment) (form : WriteForm) (valid : IsValidWrite made before.client.options (setup_of before.link) form) where
   -- the part of the schedule of the call is gentle
   abbrev IsGentleCall : ServerRun → ServerRun → Type 0
   IsGentleCall told told_now = IsGentlePart (kind_in form) (DrawsNumbers true (repeats_in form before.client.options) (setup_of before.link)) told told_now
@@ -210,7 +210,7 @@ feature_else None namespace given = refl
 feature_else (Some concern) namespace given = refl
 
 -- a write that was made ends well, whatever it does
-made_well : (made : ℕ) (place : Place) (before now : Moment) (form : WriteForm) (valid : IsValidWrite made before.client.options form) (pool : Pool) (told told_now : ServerRun) (ready : Ready made place pool told)
+made_well : (made : ℕ) (place : Place) (before now : Moment) (form : WriteForm) (valid : IsValidWrite made before.client.options (setup_of before.link) form) (pool : Pool) (told told_now : ServerRun) (ready : Ready made place pool told)
     → before.store.pool ≡ Some pool → server_run before.link ≡ Some told → server_run now.link ≡ Some told_now → DrawnApart now.store
     → IsGentlePart (kind_in form) (DrawsNumbers true (repeats_in form before.client.options) (setup_of before.link)) told told_now
     → (error : Error) → Made before now form place (Err error) → kind_of error ≡ kind.Memory
@@ -249,7 +249,7 @@ made_well made place before now (finds namespace filter modification options) va
     run.ended run.runs (λ output. Found output) error run.tells
 
 -- each end of a write is well
-single_well : (made : ℕ) (place : Place) (before now : Moment) (form : WriteForm) (valid : IsValidWrite made before.client.options form) (pool : Pool) (told told_now : ServerRun)
+single_well : (made : ℕ) (place : Place) (before now : Moment) (form : WriteForm) (valid : IsValidWrite made before.client.options (setup_of before.link) form) (pool : Pool) (told told_now : ServerRun)
     (ready : Ready made place pool told) → before.store.pool ≡ Some pool → server_run before.link ≡ Some told → server_run now.link ≡ Some told_now → DrawnApart now.store
     → IsGentlePart (kind_in form) (DrawsNumbers true (repeats_in form before.client.options) (setup_of before.link)) told told_now
     → (result : Result SingleAnswer Error) → Makes before now form place result → EndsWell result
@@ -260,7 +260,7 @@ single_well made place before now form valid pool told told_now ready pool_is li
 ]
 
 -- and of a call of one
-call_well : (made : ℕ) (before now : Moment) (write : SingleWrite) (valid : IsValidWrite made before.client.options (form_of write)) (pool : Pool) (told told_now : ServerRun)
+call_well : (made : ℕ) (before now : Moment) (write : SingleWrite) (valid : IsValidWrite made before.client.options (setup_of before.link) (form_of write)) (pool : Pool) (told told_now : ServerRun)
     (ready : Ready made (first_place made) pool told) → before.store.pool ≡ Some pool → server_run before.link ≡ Some told → server_run now.link ≡ Some told_now → DrawnApart now.store
     → IsGentlePart (kind_in (form_of write)) (DrawsNumbers true (repeats_in (form_of write) before.client.options) (setup_of before.link)) told told_now
     → (result : Result Answer Error) → MakesCall before now (Single write) made result → EndsWell result
@@ -292,7 +292,7 @@ module _ (run : RunState) (calls : List Call) (before now : Moment) (left : Leav
   -- by what is told
   by_told : (store : Option Pool) (link link_now : Option ServerRun) → before.store.pool ≡ store → server_run before.link ≡ link → server_run now.link ≡ link_now
       → LeavesWhereTold (take run.made calls) run.outcomes store link → (write : SingleWrite) (result : Result Answer Error)
-      → MakesCall before now (Single write) run.made result → IsValidWrite run.made before.client.options (form_of write)
+      → MakesCall before now (Single write) run.made result → IsValidWrite run.made before.client.options (setup_of before.link) (form_of write)
       → IsGentleWhereTold (kind_in (form_of write)) (DrawsNumbers true (repeats_in (form_of write) before.client.options) (setup_of before.link)) link link_now → EndsWell result
   by_told None link link_now pool_is link_is now_is leaves write result makes valid gentle = absurd leaves
   by_told (Some pool) None link_now pool_is link_is now_is leaves write result makes valid gentle = absurd leaves

@@ -1,16 +1,21 @@
 -- The main theorem for one list of calls: one outcome per call, no write twice in the log and every
 -- entry the caller's own, late arrivals included, and an Ok call's writes there once with the answer
 -- that the log spells.
-use Rattle.std.specs.Prelude.{◌≡◌, ℕ, ◌≤◌, pos, ◌<ℤ◌, true, List, [], ◌∷◌, length, Option, None, Some, Result, ◌⊎◌, slice_get}
+use Rattle.std.specs.Prelude.{◌≡◌, ℕ, ◌≤◌, pos, ◌<ℤ◌, true, List, [], ◌∷◌, length, Option, None, Some, IfSome, Result, ◌⊎◌, slice_get}
 use Rattle.std.specs.Option.{option_and_then}
 use Rattle.std.specs.Result.{result_ok}
-use Rattle.bson_lite.specs.Spelling.{refusal}
+use Rattle.bson_lite.specs.declared.bson.ObjectId.{ObjectId}
+use Rattle.bson_lite.specs.Fields.{with_id}
+use Rattle.bson_lite.specs.Spelling.{refusal, spelling}
+use Rattle.driver_batches.specs.Sizes.{Fits}
 use Rattle.driver_error.specs.declared.error.Error.{Error}
 use Rattle.driver_link.specs.declared.machine.PlacedWrite.{PlacedWrite}
 use Rattle.driver_link.specs.declared.machine.Send.{Send}
 use Rattle.driver_link.specs.declared.machine.Server.{Server}
+use Rattle.driver_link.specs.declared.machine.Setup.{Setup}
 use Rattle.driver_link.specs.declared.machine.WriteKind.{WriteKind}
 use Rattle.driver_link.specs.declared.options.ClientOptions.{ClientOptions}
+use Rattle.driver_link.specs.declared.options.Description.{Description}
 use Rattle.driver_link.specs.Cases.{writes_of}
 use Rattle.driver_link.specs.Exchange.{after_picks, replayed, empty_server}
 use Rattle.driver_link.specs.Once.{Once}
@@ -19,6 +24,7 @@ use Rattle.driver_link.specs.ServerRun.{IsFresh, ServerRun}
 use Rattle.driver_session.specs.Session.{last_number}
 use Rattle.driver_session.specs.StoreTells.{DrawnApart, IsNewStore}
 use Rattle.driver_ops.specs.Fields.{IsSixteen, SendContext}
+use Rattle.driver_ops.specs.InsertFronts.{insert_limits}
 use Rattle.driver_exec.specs.Concerns.{concern_refusal}
 use Rattle.driver_exec.specs.Gentle.{EndsWell, IsGentleWhereTold}
 use Rattle.driver_exec.specs.Moment.{Moment}
@@ -29,7 +35,7 @@ use Rattle.driver_actions.specs.declared.call.Outcome.{Outcome}
 use Rattle.driver_actions.specs.declared.call.Call.TheVariants.{Single}
 use Rattle.driver_actions.specs.Calls.{Mine, Done, call_result}
 use Rattle.driver_actions.specs.CallByCall.{CallByCall, CallCaused}
-use Rattle.driver_actions.specs.Forms.{WriteForm, body_in, concern_in, form_of, kind_in, repeats_in}
+use Rattle.driver_actions.specs.Forms.{WriteForm, body_in, concern_in, form_of, inserts, kind_in, repeats_in}
 use Rattle.driver_actions.specs.Inputs.{IsAccepted}
 
 -- the answer of the call at a number, where it is Ok
@@ -44,18 +50,25 @@ pub record MainTheorem (calls : List Call) (outcomes : List Outcome) (server : S
   pub done : (call : ℕ) (answer : Answer) → answer_at outcomes call ≡ Some answer → Done calls call server.log
   pub result : (call : ℕ) (answer : Answer) → answer_at outcomes call ≡ Some answer → call_result calls call server.log ≡ Some answer
 
--- a write is valid as the call of a number, under a client's options: its input is accepted, its write concern is not refused, its
--- command has a spelling with that concern under any session and number or none, and fewer calls came before it than a session
--- has numbers
-pub record IsValidWrite (call : ℕ) (options : ClientOptions) (form : WriteForm) : Type 0 where
+-- a write fits into a command over a connection that is described so: the document of an insert with its id, whichever id that is
+abbrev pub FitsAlone : Description → WriteForm → Type 0
+FitsAlone description (inserts namespace document options) =
+    (id : ObjectId) → length id.bytes ≡ 12 → Fits (insert_limits namespace options description) (length (spelling (with_id id document)) ∷ [])
+FitsAlone description other = Unit {0}
+
+-- a write is valid as the call of a number, under a client's options, over a link that tells its setup or not: its input is accepted,
+-- its write concern is not refused, its command has a spelling with that concern under any session and number or none, it fits into
+-- a command over the setup's connections, and fewer calls came before it than a session has numbers
+pub record IsValidWrite (call : ℕ) (options : ClientOptions) (setup : Option Setup) (form : WriteForm) : Type 0 where
   pub accepted : IsAccepted form
   pub concerned : concern_refusal (concern_in form options) ≡ None
   pub command : (context : SendContext) → context.concern ≡ concern_in form options → IsSixteen context.session → refusal (body_in form context) ≡ None
+  pub fits : IfSome setup (λ setup. FitsAlone setup.description form)
   pub number : pos call <ℤ last_number
 
 -- the call at a number of a list is valid at a moment
 abbrev pub IsValid : ℕ → Moment → Call → Type 0
-IsValid call before (Single write) = IsValidWrite call before.client.options (form_of write)
+IsValid call before (Single write) = IsValidWrite call before.client.options (setup_of before.link) (form_of write)
 
 -- one of the writes is of this call
 abbrev pub HasWriteOf : ℕ → List PlacedWrite → Type 0

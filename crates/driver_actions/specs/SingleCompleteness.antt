@@ -36,6 +36,6 @@ MayCompleteWhereTold most pool pool_now run place = ⊥
 -- so it ends well, where it is valid after at most so many writes and its part of the schedule is gentle
 abbrev pub CompletesSingle : Moment → Moment → WriteForm → Place → Result SingleAnswer Error → Type 0
 CompletesSingle before now form place result =
-    (most : ℕ) → MayCompleteWhereTold most before.store.pool now.store.pool (server_run before.link) place → IsValidWrite most before.client.options form
+    (most : ℕ) → MayCompleteWhereTold most before.store.pool now.store.pool (server_run before.link) place → IsValidWrite most before.client.options (setup_of before.link) form
     → IsGentleWhereTold (kind_in form) (DrawsNumbers true (repeats_in form before.client.options) (setup_of before.link)) (server_run before.link) (server_run now.link)
     → EndsWell result
