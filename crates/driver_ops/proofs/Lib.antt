@@ -3,6 +3,8 @@ pub mod FindCommand
 pub mod FindLaw
 pub mod Frames
 pub mod InsertCommand
+pub mod InsertCounts
+pub mod InsertIds
 pub mod InsertLaw
 pub mod InsertReading
 pub mod PlainReading

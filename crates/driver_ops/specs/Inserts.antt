@@ -1,5 +1,5 @@
--- The insert command that the driver builds, and the replies that tell of an insert that was done.
-use Rattle.std.specs.Prelude.{◌≡◌, ℕ, ℤ, pos, Bool, true, false, ◌&&◌, List, [], ◌∷◌, ◌++◌, Option, None, Some, unwrap_or}
+-- The insert command that the driver builds.
+use Rattle.std.specs.Prelude.{◌≡◌, ℕ, ℤ, pos, Bool, true, false, List, [], ◌∷◌, ◌++◌, Option, None, Some, unwrap_or}
 use Rattle.std.specs.Option.{option_and_then}
 use Rattle.std.specs.Ordering.{int_eq}
 use Rattle.bson_lite.specs.declared.bson.Bson.{Bson}
@@ -10,7 +10,7 @@ use Rattle.bson_lite.specs.Fields.{value_of, int_of}
 use Rattle.bson_lite.specs.declared.fault.EncodeFault.{EncodeFault}
 use Rattle.bson_lite.specs.Spelling.{refusal}
 use Rattle.driver_link.specs.declared.frame.Sequence.{Sequence}
-use Rattle.driver_link.specs.declared.keys.TheConstants.{INSERT, ORDERED, DOCUMENTS, OK, N}
+use Rattle.driver_link.specs.declared.keys.TheConstants.{INSERT, ORDERED, DOCUMENTS}
 use Rattle.driver_link.specs.declared.machine.Place.{Place}
 use Rattle.driver_link.specs.declared.machine.PlacedWrite.{PlacedWrite}
 use Rattle.driver_link.specs.declared.machine.WriteKind.TheVariants as write_kind
@@ -59,10 +59,6 @@ is_one (Some number) = int_eq number (pos 1)
 -- the whole number at a key
 abbrev pub int_at : List ℕ → List (Pair Bson) → Option ℤ
 int_at key document = option_and_then int_of (value_of key document)
-
--- the reply to an insert of one document that was done
-unfoldable pub is_done_reply : List (Pair Bson) → Bool
-is_done_reply document = is_one (int_at OK.now document) && is_one (int_at N.now document)
 
 -- the body of an insert into this namespace, with the executor's fields, has no spelling
 pub record BodyRefused (namespace : Namespace) (options : InsertManyOptions) (context : SendContext) (fault : EncodeFault) : Type 0 where

@@ -1,6 +1,7 @@
 -- Lemmas that the law of operations needs.
 pub mod CountReplies
 pub mod FindReplies
+pub mod InsertFields
 pub mod InsertRead
 pub mod InsertReplies
 pub mod OneWriteReplies

@@ -13,6 +13,7 @@ ghost use Rattle.driver_link.specs.declared.updates.UpdateOrReplace.{UpdateOrRep
 ghost use Rattle.driver_link.specs.declared.write_options.DeleteOptions.{DeleteOptions};
 ghost use Rattle.driver_link.specs.declared.write_options.InsertManyOptions.{InsertManyOptions};
 ghost use Rattle.driver_link.specs.declared.write_options.UpdateOptions.{UpdateOptions};
+ghost use Rattle.driver_ops.specs.declared.own_document.OwnDocument.{OwnDocument};
 ghost use Rattle.driver_ops.specs.declared.target.OperationTarget.{OperationTarget};
 ghost use Rattle.driver_ops.specs.CountAnswers.{deleted_by, updated_by};
 ghost use Rattle.driver_ops.specs.Deleting.{delete_statement};
@@ -25,14 +26,17 @@ ghost use Rattle.driver_ops.specs.StatementSpec.{delete_spec, find_spec, update_
 ghost use Rattle.driver_ops.specs.Targets.{namespace_of};
 ghost use Rattle.driver_ops.specs.Updating.{update_statement};
 
-/// Over the model server's own reply to its send, an insert is read as done exactly where its statement ran
-/// now or had its kept result, which counts one document, and there is no write concern error; but for want
-/// of memory.
+/// Over the model server's own reply to its send, the insert of the front of some documents is read as done exactly
+/// where each of its statements ran now or had its kept result, these count one document each together, and there is
+/// no write concern error; but for want of memory. The answer is the ids of these documents. Where some statement
+/// failed or there is a write concern error, and the other statements count one document each together, the error
+/// tells of exactly the statements that failed, of that write concern error and of the ids of the others. Where they
+/// count otherwise, it says that the reply is odd.
 pub fn an_insert_is_read_exactly()
-    ensures { (target : OperationTarget) (bytes : List ℕ) (id : Bson) (options : InsertManyOptions) (server : Server)
-        (send : Send) (step : Scheduled) (reply : List ℕ) →
-        ExchangesInsert target bytes id options server send step reply →
-        IsReadExactly target bytes id options server send step reply }
+    ensures { (target : OperationTarget) (first : ℕ) (own : List OwnDocument) (options : InsertManyOptions)
+        (statements : ℕ) (server : Server) (send : Send) (step : Scheduled) (reply : List ℕ) →
+        ExchangesInsert target own options statements server send step reply →
+        IsReadExactly target first own options statements server send step reply }
 {}
 
 /// Over the model server's own reply to its send, an update is read as done exactly where its statement ran
