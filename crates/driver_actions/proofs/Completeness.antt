@@ -45,6 +45,8 @@ use Rattle.driver_exec.specs.OperationCauses.{DrawsNumbers}
 use Rattle.driver_exec.proofs.Completeness.Course.{gentle_ends}
 use Rattle.driver_exec.proofs.Completeness.Ends.{AnswersPlainly}
 use Rattle.driver_exec.proofs.Completeness.Sessions.{KnownCommand}
+use Rattle.driver_exec.proofs.FixedNumbers.{MayBeFixed}
+use Rattle.driver_exec.proofs.HeldSessions.{IsOf}
 use Rattle.driver_exec.proofs.SessionNumbers.{lent_within}
 use Rattle.driver_actions.specs.declared.call.Answer.{Answer}
 use Rattle.driver_actions.specs.declared.call.Call.{Call}
@@ -139,14 +141,15 @@ module _ (made : ℕ) (place : Place) (before now : Moment) (form : WriteForm) (
       -- what the operation tells, and that it reads a reply which says that its command was done
       module _ {A : Type 0} (spec : OperationSpec A) (sessions : spec.sessions ≡ true) (own_is : repeats_in form mid.client.options ≡ spec.retryability mid.client.options)
           (concern_is : concern_in form mid.client.options ≡ concern_of spec first mid.client.options)
-          (unrefused : (fixed : Option ℕ) (description : Description) (error : Error) → Refuses spec fixed description error → ⊥)
+          (unrefused : (description : Description) → IsOf (setup_of mid.link) description → (number : Option ℕ) → MayBeFixed spec (Some 1) (setup_of mid.link) 1 number
+          → (error : Error) → Refuses spec number description error → ⊥)
           (bodies : (which : SendKind) (statements : ℕ) (made : Command) → spec.commands which statements made → (made.database ≡ (namespace_in form).db) × (made.body ≡ command_body form))
           (plain : (found : Reply) → IsDoneReply (command_in form) (kind_in form) (placed_at place sent) found → (bytes : List ℕ) → Spells found bytes
-          → (error : Error) → ReadsAnswer spec bytes (Err error) → kind_of error ≡ kind.Memory) where
+          → (error : Error) → ReadsAnswer spec 1 bytes (Err error) → kind_of error ≡ kind.Memory) where
         -- each send is answered that it was done
         answers : (session : Option (List ℕ)) (number : Option ℤ) (server : Server) (step : Scheduled)
             → MayGo form place sent (send_in session number form place sent) server → IsGentleItem (kind_in form) step.item
-            → AnswersPlainly spec server (send_in session number form place sent) step
+            → AnswersPlainly spec 1 server (send_in session number form place sent) step
         answers session number server step may serves =
             let done = go_answered form place sent (send_in session number form place sent) server step may serves in
             record { reply = done.found; is = done.is; plain = λ bytes spelled error reads. plain done.found done.tells bytes spelled error reads }
@@ -167,6 +170,7 @@ module _ (made : ℕ) (place : Place) (before now : Moment) (form : WriteForm) (
           known = record {
             spec = spec;
             batch = batch_of (place ∷ []) 1;
+            fixed = Some 1;
             which = first;
             body = asked_in form place sent;
             does = kind_in form;
@@ -194,7 +198,7 @@ module _ (made : ℕ) (place : Place) (before now : Moment) (form : WriteForm) (
           unfolding known
           ended_quietly =
               single_quiet runs.executed ended runs.becomes
-              (gentle_ends known mid now told_now refl refl own_is concern_is now_is apart gentle_mid 0 runs.count (Some 1) (Some 1) runs.executed runs.executes)
+              (gentle_ends known mid now told_now refl refl own_is concern_is now_is apart gentle_mid 0 runs.count (Some 1) runs.executed runs.executes)
 
           -- and so does its call
           ends_well : (answers : A → SingleAnswer) (error : Error) → Tells answers ended (Err error) → kind_of error ≡ kind.Memory
@@ -228,7 +232,7 @@ made_well made place before now (updates namespace filter change multi options) 
     let run = write.runs in
     ends_well made place before now form valid pool told told_now ready pool_is link_is now_is apart gentle write.mid (made_drew form write) write.sent
     (update_spec (in_collection namespace) filter change multi options) refl refl (feature_else options.write_concern namespace write.mid.client.options.write_concern)
-    (λ fixed description error refuses. refuses.refused) (λ which statements command is. (is.database, is.body))
+    (λ description is number fixed error refuses. refuses.refused) (λ which statements command is. (is.database, is.body))
     (λ found tells bytes spelled error reads. update_plain (in_collection namespace) filter change multi options (placed_at place write.sent) found tells bytes spelled error reads)
     run.ended run.runs (λ output. Updated output) error run.tells
 made_well made place before now (deletes namespace filter multi options) valid pool told told_now ready pool_is link_is now_is apart gentle error write =
@@ -236,7 +240,7 @@ made_well made place before now (deletes namespace filter multi options) valid p
     let run = write.runs in
     ends_well made place before now form valid pool told told_now ready pool_is link_is now_is apart gentle write.mid (made_drew form write) write.sent
     (delete_spec (in_collection namespace) filter multi options) refl refl (feature_else options.write_concern namespace write.mid.client.options.write_concern)
-    (λ fixed description error refuses. refuses.refused) (λ which statements command is. (is.database, is.body))
+    (λ description is number fixed error refuses. refuses.refused) (λ which statements command is. (is.database, is.body))
     (λ found tells bytes spelled error reads. delete_plain (in_collection namespace) filter multi options (placed_at place write.sent) found tells bytes spelled error reads)
     run.ended run.runs (λ output. Deleted output) error run.tells
 made_well made place before now (finds namespace filter modification options) valid pool told told_now ready pool_is link_is now_is apart gentle error write =
@@ -244,7 +248,7 @@ made_well made place before now (finds namespace filter modification options) va
     let run = write.runs in
     ends_well made place before now form valid pool told told_now ready pool_is link_is now_is apart gentle write.mid (made_drew form write) write.sent
     (find_spec (in_collection namespace) filter modification options) refl refl (feature_else options.write_concern namespace write.mid.client.options.write_concern)
-    (λ fixed description error refuses. refuses.refused) (λ which statements command is. (is.database, is.body))
+    (λ description is number fixed error refuses. refuses.refused) (λ which statements command is. (is.database, is.body))
     (λ found tells bytes spelled error reads. find_plain (in_collection namespace) filter modification options (placed_at place write.sent) found tells bytes spelled error reads)
     run.ended run.runs (λ output. Found output) error run.tells
 

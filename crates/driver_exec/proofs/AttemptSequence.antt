@@ -154,9 +154,9 @@ same_twice a b c first second = record {
   retryability = λ options. second.retryability options ∙ first.retryability options;
   backpressure = λ options. second.backpressure options ∙ first.backpressure options;
   after_cluster_time = second.after_cluster_time ∙ first.after_cluster_time;
-  reads = λ pages result. (
-    λ x. (second.reads pages result).0 ((first.reads pages result).0 x),
-    λ x. (first.reads pages result).1 ((second.reads pages result).1 x),
+  reads = λ statements pages result. (
+    λ x. (second.reads statements pages result).0 ((first.reads statements pages result).0 x),
+    λ x. (first.reads statements pages result).1 ((second.reads statements pages result).1 x),
   );
   output = λ entries output. (
     λ x. (second.output entries output).0 ((first.output entries output).0 x),

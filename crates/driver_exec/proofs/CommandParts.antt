@@ -83,6 +83,11 @@ bodies_same places same bodies = λ which statements command is.
     let body = bodies which statements command ((same.commands which statements command).1 is) in
     (body.0, (same.bodies statements places body.0).0 body.1)
 
+-- where a number may be in a command that was built, it is the one that is fixed
+pub built_so_many : {A : Type 0} {spec : OperationSpec A} {which : SendKind} {description : Description} {before now : Option ℕ} {command : Command} (statements : ℕ) → (built : BuildsCommand spec which description before now command)
+    → IsFixed now statements → now ≡ Some statements
+built_so_many statements built fixed = built.now_is ∙ ap (λ n. Some n) (subst (λ n. IsFixed n statements) built.now_is fixed)
+
 -- the operation tells how many statements were built
 pub so_many : {A : Type 0} {spec : OperationSpec A} {which : SendKind} {description : Description} {before now : Option ℕ} {command : Command} (built : BuildsCommand spec which description before now command) (told : ℕ)
     → IfSome now (λ statements. told ≡ statements) → told ≡ built.statements
@@ -173,7 +178,7 @@ module _ {A : Type 0} (spec : OperationSpec A) (which : SendKind) (concern : Opt
     -- it went out with the front of the places
     pub sends_out : (fixed : IsFixed now statements) (mid : OperationSpec A) (same : SameSpec spec mid) (frame : Framed) (found : List Place) (held_now : ExecutionSession) (attempt : AttemptEnd A)
         → FramesUnder (in_context (held_id numbered) number concern) command (Ok frame) → (told : ℕ) → IfSome now (λ n. told ≡ n) → found ≡ take told places
-        → ExchangesOnce mid link link_now connection_retryability conn address frame found (record numbered { sent = Some number }) held_now attempt → count_now ≡ count + 1 → after ≡ now
+        → ExchangesOnce mid statements link link_now connection_retryability conn address frame found (record numbered { sent = Some number }) held_now attempt → count_now ≡ count + 1 → after ≡ now
         → Sends held_now attempt
     sends_out fixed mid same frame found held_now attempt framed told tells front_is once counted stays =
         let same_number : built.statements ≡ statements = subst (λ n. IsFixed n statements) built.now_is fixed in
@@ -192,7 +197,7 @@ module _ {A : Type 0} (spec : OperationSpec A) (which : SendKind) (concern : Opt
               exchanges = subst (λ p. ExchangesFrame link link_now conn frame p once.result) (front_is ∙ ap (λ n. take n places) (so_many built told tells ∙ same_number)) once.exchanges;
             };
             held_is = once.held_is;
-            comes = comes_same spec mid same connection_retryability conn.description.max_wire_version address number once.result attempt once.comes;
+            comes = comes_same spec mid same statements connection_retryability conn.description.max_wire_version address number once.result attempt once.comes;
           };
           counted = counted;
           fixed_is = stays ∙ built.now_is ∙ ap (λ n. Some n) same_number;

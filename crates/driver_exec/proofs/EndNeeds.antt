@@ -68,10 +68,10 @@ module _ {A : Type 0} (on : Grounds A) (before now from to : ℕ) (items all : L
 
   -- the same of each end
   end_elsewhere : (ended : Option ErrorOutline) → EndNeeds on before now items ended → EndNeeds on from to all ended
-  end_elsewhere None needs = replies (IsRead on.spec) needs
+  end_elsewhere None needs = replies (IsRead on) needs
   end_elsewhere (Some why) needs = elim needs [
     | inl needs ↦ inl (kind_elsewhere why.labels why.kind needs)
-    | inr other ↦ elim other [ inl spelled ↦ inr (inl (replies (SpellsEnd on.spec why) spelled)) | inr refused ↦ inr (inr refused) ]
+    | inr other ↦ elim other [ inl spelled ↦ inr (inl (replies (SpellsEnd on why) spelled)) | inr refused ↦ inr (inr refused) ]
   ]
 
 module _ {A : Type 0} (on : Grounds A) (items more : List Answered) where

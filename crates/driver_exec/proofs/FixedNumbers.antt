@@ -1,12 +1,15 @@
--- How many statements an operation's command has: until the command went out that is fixed as it was when the operation began.
+-- How many statements an operation's command has: until the command went out that is fixed as it was when the operation began,
+-- and then it is as many as a first build takes.
 use Rattle.std.proofs.Common.{◌≡◌, ℕ, List, [], ◌∷◌, ◌++◌, refl, sym, ap, subst, ◌∙◌, inl, inr}
-use Rattle.std.specs.Prelude.{ℤ, Bool, true, false, Option, None, Some, is_some, Result, Ok, Err, if◌then◌else◌}
+use Rattle.std.specs.Prelude.{ℤ, Bool, true, false, Option, None, Some, is_some, ◌⊎◌, Result, Ok, Err, if◌then◌else◌}
 use Rattle.driver_error.specs.declared.error.Error.{Error}
 use Rattle.driver_link.specs.declared.fault.LinkError.{LinkError}
 use Rattle.driver_link.specs.declared.fault.LinkError.TheVariants.{Fault, Memory}
+use Rattle.driver_link.specs.declared.machine.Setup.{Setup}
 use Rattle.driver_link.specs.declared.options.Address.{Address}
 use Rattle.driver_link.specs.declared.options.Conn.{Conn}
 use Rattle.driver_link.specs.Failures.{is_network}
+use Rattle.driver_ops.specs.Operations.{OperationSpec}
 use Rattle.driver_exec.specs.declared.attempt_end.AttemptEnd.TheVariants.{Failed}
 use Rattle.driver_exec.specs.declared.failure.AttemptFailure.{AttemptFailure}
 use Rattle.driver_exec.specs.declared.failure.FailurePhase.{FailurePhase}
@@ -14,8 +17,10 @@ use Rattle.driver_exec.specs.declared.failure.FailurePhase.TheVariants.{Connecti
 use Rattle.driver_exec.specs.Attempting.{AttemptState, AttemptedOperation, FailsIn, MakesAttempt, Readies, Sends, asks_session, builds_again, held_after}
 use Rattle.driver_exec.specs.Executing.{AttemptsFail}
 use Rattle.driver_exec.specs.Holding.{ExecutionSession, HoldsSession, dirty_session_held, needs_session}
+use Rattle.driver_exec.specs.OperationCauses.{TakesFirst}
 use Rattle.driver_exec.specs.Retry.{RetryState}
 use Rattle.driver_exec.specs.inside.Executing.{Reaches}
+use Rattle.driver_exec.proofs.HeldSessions.{IsOf, is_told}
 
 -- a send under a number is one
 sent_none : (number : Option ℤ) → ◌≡◌ {A = Option (Option ℤ)} (Some number) None → ⊥
@@ -35,6 +40,11 @@ after_sent (Err (Fault fault labels)) held = by_network (is_network fault)
     by_network true = refl
     by_network false = refl
 after_sent (Err Memory) held = refl
+
+-- the number that is fixed is as it was when the operation began, or the command went out with so many statements, as a first
+-- build takes them
+abbrev pub MayBeFixed : {A : Type 0} → OperationSpec A → Option ℕ → Option Setup → ℕ → Option ℕ → Type 0
+MayBeFixed spec fixed setup statements now = (now ≡ fixed) ⊎ (TakesFirst spec fixed setup statements × (now ≡ Some statements))
 
 module _ {A : Type 0} (op : AttemptedOperation A) where
   -- nothing is sent until a session is there
@@ -82,3 +92,15 @@ module _ {A : Type 0} (op : AttemptedOperation A) where
   first_fixed sharded before mid failures (failure ∷ done) kept fails reaches first =
       let unsent : is_some mid.held.sent ≡ false = subst (λ k. builds_again (is_some k) mid.held ≡ false) reaches.1.0 first in
       (all_unsent sharded [] before failures mid fails (none_sent mid.held.sent unsent)).0
+
+  -- a command that went out has as many statements as a first build takes
+  pub sends_first : (fixed : Option ℕ) (setup : Option Setup) (kept : Option RetryState) (before now : AttemptState) (address : Address) (conn : Conn) (result : Result (List ℕ) LinkError)
+      → Sends op kept before now address conn result → IsOf setup conn.description → MayBeFixed op.spec fixed setup op.batch.statements before.fixed → TakesFirst op.spec fixed setup op.batch.statements
+  sends_first fixed setup kept before now address conn result sends is was = elim was [
+    | inl same ↦ record {
+      description = conn.description;
+      told = is_told setup conn.description is;
+      takes = subst (λ number. op.spec.takes number conn.description op.batch.statements) (sends.readies.fixed ∙ same) sends.takes;
+    }
+    | inr sent ↦ sent.0
+  ]

@@ -1,7 +1,7 @@
 -- The session that an operation holds: where it is from, what its number is before the first send, and that the link's
 -- connections take sessions where there is one.
 use Rattle.std.proofs.Common.{◌≡◌, ℕ, List, [], ◌∷◌, refl, sym, ap, subst, ◌∙◌, inl, inr}
-use Rattle.std.specs.Prelude.{ℤ, Bool, true, false, ◌&&◌, Option, None, Some, is_none, is_some, ◌⊎◌, Result, Ok, Err, if◌then◌else◌}
+use Rattle.std.specs.Prelude.{ℤ, Bool, true, false, ◌&&◌, Option, None, Some, IfSome, is_none, is_some, ◌⊎◌, Result, Ok, Err, if◌then◌else◌}
 use Rattle.std.specs.Option.{option_map}
 use Rattle.std.proofs.lemmas.Bool.{and_parts}
 use Rattle.driver_error.specs.declared.error.Error.{Error}
@@ -70,6 +70,11 @@ is_of setup told address conn same to = subst (λ s. IsOf s conn.description) sa
     by_told : (told : Option Setup) → IsTo told address conn → IsOf told conn.description
     by_told None to = tt
     by_told (Some setup) to = to.1
+
+-- the same in the words of a cause
+pub is_told : (setup : Option Setup) (description : Description) → IsOf setup description → IfSome setup (λ told. description ≡ told.description)
+is_told None description is = tt
+is_told (Some setup) description is = is
 
 -- a session that is lent has the number that was next
 lent_fits : (store lent : StoreTells) (at : ℕ) (session : Session) → LendsSession store lent at session → FitsNumber (next_number store) session.number

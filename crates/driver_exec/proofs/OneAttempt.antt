@@ -195,7 +195,7 @@ same_back old now same = record {
   retryability = λ options. sym (same.retryability options);
   backpressure = λ options. sym (same.backpressure options);
   after_cluster_time = sym same.after_cluster_time;
-  reads = λ pages result. ((same.reads pages result).1, (same.reads pages result).0);
+  reads = λ statements pages result. ((same.reads statements pages result).1, (same.reads statements pages result).0);
   output = λ entries output. ((same.output entries output).1, (same.output entries output).0);
 }
 
@@ -236,28 +236,28 @@ module _ {A : Type 0} (old now : OperationSpec A) (same : SameSpec old now) wher
       }
 
   -- and a reply that was read
-  pub answers_same : (reply : List ℕ) (answer : Result A Error) → ReadsAnswer now reply answer → ReadsAnswer old reply answer
-  answers_same reply (Ok output) reads =
-      record { response = reads.response; done = reads.done; reads = (same.reads (Ok reads.response.body ∷ []) (Ok (read.Done output))).1 reads.reads }
-  answers_same reply (Err error) reads = elim reads [
+  pub answers_same : (statements : ℕ) (reply : List ℕ) (answer : Result A Error) → ReadsAnswer now statements reply answer → ReadsAnswer old statements reply answer
+  answers_same statements reply (Ok output) reads =
+      record { response = reads.response; done = reads.done; reads = (same.reads statements (Ok reads.response.body ∷ []) (Ok (read.Done output))).1 reads.reads }
+  answers_same statements reply (Err error) reads = elim reads [
     | inl spelled ↦ inl spelled
     | inr other ↦ elim other [
       | inl found ↦ inr (inl (record {
         response = found.response;
         done = found.done;
         bare = found.bare;
-        reads = (same.reads (Ok found.response.body ∷ []) (Err found.bare)).1 found.reads;
+        reads = (same.reads statements (Ok found.response.body ∷ []) (Err found.bare)).1 found.reads;
         kept = found.kept;
       }))
       | inr memory ↦ inr (inr memory)
     ]
   ]
 
-  pub comes_same : (connection_retryability : Retryability) (version : Option ℤ) (address : Address) (number : Option ℤ) (result : Result (List ℕ) LinkError) (attempt : AttemptEnd A)
-      → Comes now connection_retryability version address number result attempt → Comes old connection_retryability version address number result attempt
-  comes_same connection_retryability version address number (Ok reply) attempt comes =
-      record { answer = comes.answer; reads = answers_same reply comes.answer comes.reads; ends = comes.ends }
-  comes_same connection_retryability version address number (Err failure) attempt comes = comes
+  pub comes_same : (statements : ℕ) (connection_retryability : Retryability) (version : Option ℤ) (address : Address) (number : Option ℤ) (result : Result (List ℕ) LinkError) (attempt : AttemptEnd A)
+      → Comes now statements connection_retryability version address number result attempt → Comes old statements connection_retryability version address number result attempt
+  comes_same statements connection_retryability version address number (Ok reply) attempt comes =
+      record { answer = comes.answer; reads = answers_same statements reply comes.answer comes.reads; ends = comes.ends }
+  comes_same statements connection_retryability version address number (Err failure) attempt comes = comes
 
 -- a session that was lent where one was needed, at a reading of the clock
 pub holds_lent : (needed : Bool) → needed ≡ true → (store now : StoreTells) (clock clock_now : ClockTells) (held held_now : ExecutionSession) (session : Session) (at : ℕ)
@@ -373,7 +373,7 @@ module _ {A : Type 0} (spec : OperationSpec A) (batch : Batch) (which : SendKind
         came = attempt_state store_now link_now clock_now held_now count_now fixed_now
 
         -- the command's reply was read
-        read_attempt_made : (reply : List ℕ) (answer : Result A Error) (attempt : AttemptEnd A) (sends : Sends op past began came address conn (Ok reply)) → ReadsAnswer spec reply answer
+        read_attempt_made : (reply : List ℕ) (answer : Result A Error) (attempt : AttemptEnd A) (sends : Sends op past began came address conn (Ok reply)) → ReadsAnswer spec batch.statements reply answer
             → EndsRead connection_retryability version address sends.number answer attempt → MakesAttempt op past began came attempt
         read_attempt_made reply (Ok output) attempt sends reads ends =
             subst (λ a. MakesAttempt op past began came a) (sym ends) (record { address = address; conn = conn; reply = reply; sends = sends; reads = reads })
@@ -415,7 +415,7 @@ module _ {A : Type 0} (spec : OperationSpec A) (batch : Batch) (which : SendKind
         lost_attempt_made (Fault fault labels) _ sends ends = absurd ends
         lost_attempt_made Memory _ sends ends = absurd ends
 
-        came_attempt_made : (result : Result (List ℕ) LinkError) (attempt : AttemptEnd A) (sends : Sends op past began came address conn result) → Comes spec connection_retryability version address sends.number result attempt
+        came_attempt_made : (result : Result (List ℕ) LinkError) (attempt : AttemptEnd A) (sends : Sends op past began came address conn result) → Comes spec batch.statements connection_retryability version address sends.number result attempt
             → MakesAttempt op past began came attempt
         came_attempt_made (Ok reply) attempt sends comes = read_attempt_made reply comes.answer attempt sends comes.reads comes.ends
         came_attempt_made (Err failure) attempt sends comes = lost_attempt_made failure attempt sends comes

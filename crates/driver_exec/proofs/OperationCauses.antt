@@ -1,6 +1,6 @@
 -- Why an operation ended as it did, from its attempts and from what was decided after each.
 use Rattle.std.proofs.Common.{◌≡◌, ℕ, ◌≤◌, List, [], ◌∷◌, ◌++◌, refl, sym, ap, subst, ◌∙◌, inl, inr, arith}
-use Rattle.std.specs.Prelude.{ℤ, Bool, true, false, ◌&&◌, Option, None, Some, IfSome, is_some, ◌⊎◌, Result, Ok, Err, if◌then◌else◌}
+use Rattle.std.specs.Prelude.{ℤ, Bool, true, false, ◌&&◌, Option, None, Some, is_some, ◌⊎◌, Result, Ok, Err, if◌then◌else◌}
 use Rattle.driver_error.specs.declared.error.Error.{Error, out-Error, out-roll-Error}
 use Rattle.driver_error.specs.declared.kind.ErrorKind.TheVariants as kind
 use Rattle.driver_error.specs.declared.labels.TheConstants.{RETRYABLE_WRITE_ERROR}
@@ -50,14 +50,14 @@ use Rattle.driver_exec.specs.Holding.{DrawsNumber, ExecutionSession, held_id}
 use Rattle.driver_exec.specs.LabelTable.{labels_outside_transactions}
 use Rattle.driver_exec.specs.Moment.{Moment}
 use Rattle.driver_exec.specs.OldDeployment.{reworded, reworded_kind}
-use Rattle.driver_exec.specs.OperationCauses.{Caused, DrawsNumbers, EndAtLast, EndNeeds, EndsCaused, FaultLabels, Grounds, KindNeeds, SpellsEnd, grounds, labels_after}
+use Rattle.driver_exec.specs.OperationCauses.{Caused, DrawsNumbers, EndAtLast, EndNeeds, EndsCaused, FaultLabels, Grounds, IsRead, KindNeeds, SpellsEnd, TakesFirst, grounds, labels_after}
 use Rattle.driver_exec.specs.Retry.{RetryState, after, after_further, avoiding, decide, in_phase, may_be_retried, reworded_failure, stays}
 use Rattle.driver_exec.specs.inside.Executing.{Reaches}
 use Rattle.driver_exec.proofs.RetryFold.{came_of}
 use Rattle.driver_exec.proofs.Causes.{notes_nothing}
-use Rattle.driver_exec.proofs.HeldSessions.{AtEnd, HeldSoFar, IsOf, draw_holds, draws_on, exchange_holds, held_at_first, is_of, last_draws_none, none_draws, ready_held, ready_holds, sent_held, sessionless, unnumbered_at_end}
+use Rattle.driver_exec.proofs.HeldSessions.{AtEnd, HeldSoFar, IsOf, draw_holds, draws_on, exchange_holds, held_at_first, is_of, is_told, last_draws_none, none_draws, ready_held, ready_holds, sent_held, sessionless, unnumbered_at_end}
 use Rattle.driver_exec.proofs.EndNeeds.{early_twice, end_after, end_before, last_after, notes_twice}
-use Rattle.driver_exec.proofs.FixedNumbers.{first_fixed, ready_sent}
+use Rattle.driver_exec.proofs.FixedNumbers.{MayBeFixed, first_fixed, ready_sent, sends_first}
 use Rattle.driver_exec.proofs.OneAttempt.{early_counted, later_of}
 
 -- a link noted these; its count of faults did not fall, and its setup stays
@@ -250,11 +250,7 @@ module _ {A : Type 0} (on : Grounds A) (before now : ℕ) (items : List Answered
 
   -- a build that was refused
   refused_needs : (description : Description) → IsOf on.setup description → Refuses on.spec on.fixed description error → EndNeeds on before now items (Some (outline_of error))
-  refused_needs description is refuses = inr (inr (record { description = description; told = told on.setup is; error = error; refuses = refuses; is = refl }))
-    where
-      told : (setup : Option Setup) → IsOf setup description → IfSome setup (λ found. description ≡ found.description)
-      told None is = tt
-      told (Some setup) is = is
+  refused_needs description is refuses = inr (inr (record { description = description; told = is_told on.setup description is; error = error; refuses = refuses; is = refl }))
 
   -- no number was left
   end_needs : AtEnd on.number error → EndNeeds on before now items (Some (outline_of error))
@@ -283,6 +279,10 @@ module _ {A : Type 0} (spec : OperationSpec A) (batch : Batch) (which : SendKind
   abbrev HeldAt : AttemptState → Type 0
   HeldAt now = HeldSoFar store (setup_of link) now.store now.held.session now.held.sent
 
+  -- the number of its command's statements at a moment
+  abbrev FixedAt : AttemptState → Type 0
+  FixedAt now = MayBeFixed spec fixed (setup_of link) batch.statements now.fixed
+
   -- the next session's number is at its end, and each send would have one
   record AtLast : Type 0 where
     draws : DrawsNumbers spec.sessions retryability (setup_of link)
@@ -301,7 +301,7 @@ module _ {A : Type 0} (spec : OperationSpec A) (batch : Batch) (which : SendKind
   BuildsFirst past mid = builds_again (is_some past) mid.held ≡ false → mid.fixed ≡ fixed
 
   -- one attempt
-  module _ (past : Option RetryState) (mid : AttemptState) (setup_is : (setup_of mid.link) ≡ (setup_of link)) (held_so_far : HeldAt mid) where
+  module _ (past : Option RetryState) (mid : AttemptState) (setup_is : (setup_of mid.link) ≡ (setup_of link)) (held_so_far : HeldAt mid) (fixed_so_far : FixedAt mid) where
     -- each connection has the description of the setup
     conn_is : {avoid : List Address} (now : LinkState) (address : Address) (conn : Conn) → Connects avoid mid.link now address conn → IsOf (setup_of link) conn.description
     conn_is now address conn connects = is_of (setup_of link) (setup_of connects.mid) address conn (connects.selects.calls.setup ∙ setup_is) connects.checks_out.to
@@ -336,6 +336,14 @@ module _ {A : Type 0} (spec : OperationSpec A) (batch : Batch) (which : SendKind
       sends_add = adds_twice mid.link sends.ready.link now.link [] (noted Exchange reply_noted result) (ready_adds sends.ready address conn sends.readies)
           (exchange_adds sends.ready.link now.link conn sends.exchanges.frame (front batch) result sends.exchanges.exchanges)
 
+      -- it had as many statements as a first build takes
+      first_sent : TakesFirst spec fixed (setup_of link) batch.statements
+      first_sent = sends_first op fixed (setup_of link) past mid now address conn result sends (is_conn sends.ready address conn sends.readies) fixed_so_far
+
+      -- which are fixed then
+      fixed_sent : FixedAt now
+      fixed_sent = inr (first_sent, sends.fixed_is)
+
       -- no command goes out where the numbers are at their end
       sends_not_at_last : AtLast → mid.held.sent ≡ None → ⊥
       sends_not_at_last at unsent = draws_none sends.ready address conn sends.readies at unsent sends.numbered sends.number sends.draws
@@ -358,6 +366,7 @@ module _ {A : Type 0} (spec : OperationSpec A) (batch : Batch) (which : SendKind
       more : List Answered
       adds : Adds mid.link now.link more
       held_now : HeldAt now
+      fixed_now : FixedAt now
       needs : Needs mid.link.faults now.link.faults more error
       early : AtLast → mid.held.sent ≡ None → AllEarly more × (now.held.sent ≡ None) × Lasts error
 
@@ -373,6 +382,7 @@ module _ {A : Type 0} (spec : OperationSpec A) (batch : Batch) (which : SendKind
           adds = adds_twice mid.link fails.mid now.link [] (answer.Fault CheckOut fails.fault fails.labels ∷ []) first second;
           held_now = subst (λ s. HeldSoFar store (setup_of link) s now.held.session now.held.sent) (sym fails.rest.store)
               (subst (λ h. HeldSoFar store (setup_of link) mid.store h.session h.sent) (sym fails.rest.held) held_so_far);
+          fixed_now = subst (MayBeFixed spec fixed (setup_of link) batch.statements) (sym fails.rest.fixed) fixed_so_far;
           needs = fault_end on mid.link.faults now.link.faults CheckOut fails.labels (let cause = fails.checks_out.calls.cause in let later = first.later in omega (arith, cause.0, later)) fails.fault
               (reworded error) kind_is labels;
           early = λ at unsent. (
@@ -397,6 +407,7 @@ module _ {A : Type 0} (spec : OperationSpec A) (batch : Batch) (which : SendKind
           more = answer.Fault Exchange fails.fault fails.labels ∷ [];
           adds = sends_add now address conn result sends;
           held_now = held_sent now address conn result sends;
+          fixed_now = fixed_sent now address conn result sends;
           needs = fault_end on mid.link.faults now.link.faults Exchange fails.labels (let cause = sends.exchanges.exchanges.cause in let later = first.later in omega (arith, cause.0, later)) fails.fault
               (reworded error) kind_is (exchange_labels retryability (setup_of link) conn.description fails.fault fails.labels (labels_of (reworded error)) description labels);
           early = λ at unsent. absurd (sends_not_at_last now address conn result sends at unsent);
@@ -408,7 +419,9 @@ module _ {A : Type 0} (spec : OperationSpec A) (batch : Batch) (which : SendKind
         let conn = fails.conn in
         let sends = fails.sends in
         let read = fails.is.is in
-        let spells : SpellsEnd spec (outline_of (reworded error)) fails.reply = record {
+        let spells : SpellsEnd on (outline_of (reworded error)) fails.reply = record {
+          statements = batch.statements;
+          first = first_sent now address conn (Ok fails.reply) sends;
           bare = read.bare;
           reads = read.reads;
           connection_retryability = on_connection retryability conn.description;
@@ -418,6 +431,7 @@ module _ {A : Type 0} (spec : OperationSpec A) (batch : Batch) (which : SendKind
           more = answer.Reply fails.reply ∷ [];
           adds = sends_add now address conn (Ok fails.reply) sends;
           held_now = held_sent now address conn (Ok fails.reply) sends;
+          fixed_now = fixed_sent now address conn (Ok fails.reply) sends;
           needs = inr (inl (inl spells));
           early = λ at unsent. absurd (sends_not_at_last now address conn (Ok fails.reply) sends at unsent);
         }
@@ -447,12 +461,18 @@ module _ {A : Type 0} (spec : OperationSpec A) (batch : Batch) (which : SendKind
 
     -- the reply was read
     finishes_done : (now : AttemptState) (output : A) → IsAnswered op past mid now output → Finishes now None
-    finishes_done now output answered = record {
-      more = answer.Reply answered.reply ∷ [];
-      adds = sends_add now answered.address answered.conn (Ok answered.reply) answered.sends;
-      needs = inl (output, answered.reads);
-      early = λ at unsent. absurd (sends_not_at_last now answered.address answered.conn (Ok answered.reply) answered.sends at unsent);
-    }
+    finishes_done now output answered =
+        let read : IsRead on answered.reply = record {
+          statements = batch.statements;
+          first = first_sent now answered.address answered.conn (Ok answered.reply) answered.sends;
+          output = output;
+          reads = answered.reads;
+        } in record {
+          more = answer.Reply answered.reply ∷ [];
+          adds = sends_add now answered.address answered.conn (Ok answered.reply) answered.sends;
+          needs = inl read;
+          early = λ at unsent. absurd (sends_not_at_last now answered.address answered.conn (Ok answered.reply) answered.sends at unsent);
+        }
 
     -- what a selection that failed noted
     selection_adds : (now : AttemptState) (error : Error) (selected : NotSelected past mid now error) → Adds mid.link now.link (answer.Fault Select selected.fault selected.labels ∷ [])
@@ -555,18 +575,19 @@ module _ {A : Type 0} (spec : OperationSpec A) (batch : Batch) (which : SendKind
     items : List Answered
     adds : Adds link now.link items
     held_so_far : HeldAt now
+    fixed_so_far : FixedAt now
     needs : KeptHas (Needs link.faults now.link.faults items) kept
     early : AtLast → AllEarly items × (now.held.sent ≡ None) × KeptHas Lasts kept
 
   -- an operation that has not begun
   begins : (clock : ClockTells) (count : ℕ) → SoFar None (first_state store link clock count fixed)
-  begins clock count = record { items = []; adds = adds_nothing link; held_so_far = held_at_first store (setup_of link); needs = tt; early = λ at. (tt, refl, tt) }
+  begins clock count = record { items = []; adds = adds_nothing link; held_so_far = held_at_first store (setup_of link); fixed_so_far = inl refl; needs = tt; early = λ at. (tt, refl, tt) }
 
   -- one more failure, and what is decided after it
   module _ (sharded : Bool) (kept : Option RetryState) (mid now : AttemptState) (far : SoFar kept mid) (failure : AttemptFailure) (past : Option RetryState) (makes : MakesAttempt op past mid now (Failed failure)) where
     -- what the failure needs
-    failed : Fails past mid far.adds.setup far.held_so_far now (reworded failure.error)
-    failed = fails_in past mid far.adds.setup far.held_so_far now failure.address failure.phase failure.error makes.0
+    failed : Fails past mid far.adds.setup far.held_so_far far.fixed_so_far now (reworded failure.error)
+    failed = fails_in past mid far.adds.setup far.held_so_far far.fixed_so_far now failure.address failure.phase failure.error makes.0
 
     -- what the link noted so far
     abbrev items : List Answered
@@ -611,6 +632,7 @@ module _ {A : Type 0} (spec : OperationSpec A) (batch : Batch) (which : SendKind
       items = items;
       adds = adds_twice link mid.link now.link far.items failed.more far.adds failed.adds;
       held_so_far = failed.held_now;
+      fixed_so_far = failed.fixed_now;
       needs = decided_needs (Ok retry) is;
       early = λ at. let early = decided_early (Ok retry) is at in (early.items_are, early.unsent, early.lasts);
     }
@@ -637,7 +659,7 @@ module _ {A : Type 0} (spec : OperationSpec A) (batch : Batch) (which : SendKind
   module _ (sharded : Bool) (kept : Option RetryState) (mid now : AttemptState) (far : SoFar kept mid) (begun : BuildsFirst kept mid) where
     -- the last attempt ended the operation so
     abbrev FinishesAt : Option causes.ErrorOutline → Type 0
-    FinishesAt ended = Finishes kept mid far.adds.setup far.held_so_far now ended
+    FinishesAt ended = Finishes kept mid far.adds.setup far.held_so_far far.fixed_so_far now ended
 
     -- the end is of the last attempt
     caused_new : (ended : Option causes.ErrorOutline) → FinishesAt ended → CausedAt now ended
@@ -697,18 +719,18 @@ module _ {A : Type 0} (spec : OperationSpec A) (batch : Batch) (which : SendKind
 
     -- the last attempt did not fail, or failed to select a server
     caused_last : (attempt : AttemptEnd A) (result : Result A Error) → MakesAttempt op kept mid now attempt → EndsWith kept attempt result → CausedBy result
-    caused_last (Done output) result makes ends = subst CausedBy (sym ends) (caused_new None (finishes_done kept mid far.adds.setup far.held_so_far now output makes))
+    caused_last (Done output) result makes ends = subst CausedBy (sym ends) (caused_new None (finishes_done kept mid far.adds.setup far.held_so_far far.fixed_so_far now output makes))
     caused_last (Failed failure) result makes ends = absurd ends
     caused_last (Unselected error) result makes ends =
-        kept_or_new error (answer.Fault Select makes.fault makes.labels ∷ []) result (selection_adds kept mid far.adds.setup far.held_so_far now error makes) tt
-        (finishes_unselected kept mid far.adds.setup far.held_so_far now error makes) ends
+        kept_or_new error (answer.Fault Select makes.fault makes.labels ∷ []) result (selection_adds kept mid far.adds.setup far.held_so_far far.fixed_so_far now error makes) tt
+        (finishes_unselected kept mid far.adds.setup far.held_so_far far.fixed_so_far now error makes) ends
     caused_last Stopped result makes ends =
-        kept_stopped result (ready_adds kept mid far.adds.setup far.held_so_far now makes.1.address makes.1.conn makes.1.readies) ends
+        kept_stopped result (ready_adds kept mid far.adds.setup far.held_so_far far.fixed_so_far now makes.1.address makes.1.conn makes.1.readies) ends
     caused_last Unfit result makes ends =
         kept_unfit result (subst (λ l. Adds mid.link l []) (sym makes.1.link)
-        (ready_adds kept mid far.adds.setup far.held_so_far makes.1.ready makes.1.address makes.1.conn makes.1.readies)) ends
+        (ready_adds kept mid far.adds.setup far.held_so_far far.fixed_so_far makes.1.ready makes.1.address makes.1.conn makes.1.readies)) ends
     caused_last (Ended error) result makes ends =
-        subst CausedBy (sym ends) (caused_new (Some (outline_of error)) (finishes_ended kept mid far.adds.setup far.held_so_far begun now error makes))
+        subst CausedBy (sym ends) (caused_new (Some (outline_of error)) (finishes_ended kept mid far.adds.setup far.held_so_far far.fixed_so_far begun now error makes))
 
     -- the last failure may not be followed by another attempt
     caused_refused : (failure : AttemptFailure) (past : Option RetryState) (error : Error) → MakesAttempt op past mid now (Failed failure)

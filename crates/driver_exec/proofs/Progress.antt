@@ -79,7 +79,7 @@ module _ {A : Type 0} (op : AttemptedOperation A) (store : StoreTells) (link : L
           (sent_over op.spec op.batch store (server_run link) most sends.ready.store sends.ready.link now.link sends.ready.held sends.numbered connection_retryability sends.number ready_goes
           sends.draws ready_here conn result sends.exchanges)
 
-      pub reads_at : most ≤ 1 → (bytes : List ℕ) (output : A) → result ≡ Ok bytes → ReadsOutput op.spec bytes output
+      pub reads_at : most ≤ 1 → (bytes : List ℕ) (output : A) → result ≡ Ok bytes → ReadsOutput op.spec op.batch.statements bytes output
           → ReadsLast op.spec op.batch (server_run link) (server_run now.link) (id_of now.held.session) (number_of now.held.sent) output
       reads_at few bytes output is reads = record {
         bytes = bytes;

@@ -89,7 +89,7 @@ module _ {A : Type 0} (old now : OperationSpec A) (same : SameSpec old now) (bat
         bare = spelled.is.bare;
         is = record {
           bare = spelled.is.is.bare;
-          reads = answers_same old now same spelled.reply (Err spelled.is.is.bare) spelled.is.is.reads;
+          reads = answers_same old now same batch.statements spelled.reply (Err spelled.is.is.bare) spelled.is.is.reads;
           labelled = spelled.is.is.labelled;
         };
         versioned = spelled.is.versioned;
@@ -146,7 +146,7 @@ module _ {A : Type 0} (old now : OperationSpec A) (same : SameSpec old now) (bat
     conn = makes.conn;
     reply = makes.reply;
     sends = sends_same past before after makes.address makes.conn (Ok makes.reply) makes.sends;
-    reads = answers_same old now same makes.reply (Ok output) makes.reads;
+    reads = answers_same old now same batch.statements makes.reply (Ok output) makes.reads;
   }
   attempt_same past before after (Failed failure) makes = (fails_same past before after failure.address failure.phase failure.error makes.0, makes.1)
   attempt_same past before after (Unselected error) makes = makes

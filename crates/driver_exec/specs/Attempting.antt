@@ -167,13 +167,13 @@ pub record Sends {A : Type 0} (op : AttemptedOperation A) (kept : Option RetrySt
   pub counted : now.count ≡ ready.count + 1
   pub fixed_is : now.fixed ≡ Some op.batch.statements
 
--- the attempt's reply was read
+-- the attempt's reply was read, as one to a command of so many statements
 pub record IsAnswered {A : Type 0} (op : AttemptedOperation A) (kept : Option RetryState) (before now : AttemptState) (output : A) : Type 0 where
   pub address : Address
   pub conn : Conn
   pub reply : List ℕ
   pub sends : Sends op kept before now address conn (Ok reply)
-  pub reads : ReadsAnswer op.spec reply (Ok output)
+  pub reads : ReadsAnswer op.spec op.batch.statements reply (Ok output)
 
 -- the exchange of the attempt's command failed
 pub record LosesExchange {A : Type 0} (op : AttemptedOperation A) (kept : Option RetryState) (before now : AttemptState) (address : Address) (error : Error) : Type 0 where
@@ -183,10 +183,10 @@ pub record LosesExchange {A : Type 0} (op : AttemptedOperation A) (kept : Option
   pub sends : Sends op kept before now address conn (Err (Fault fault labels))
   pub is : IsVersioned (IsFaultOf fault labels (on_connection op.retryability conn.description)) conn.description.max_wire_version error
 
--- an error that was read in a reply, with the labels of the table
-pub record IsReadIn {A : Type 0} (spec : OperationSpec A) (bytes : List ℕ) (connection_retryability : Retryability) (error : Error) : Type 0 where
+-- an error that was read in a reply to a command of so many statements, with the labels of the table
+pub record IsReadIn {A : Type 0} (spec : OperationSpec A) (statements : ℕ) (bytes : List ℕ) (connection_retryability : Retryability) (error : Error) : Type 0 where
   pub bare : Error
-  pub reads : ReadsAnswer spec bytes (Err bare)
+  pub reads : ReadsAnswer spec statements bytes (Err bare)
   pub labelled : IsLabelledRead connection_retryability bare error
 
 -- the reply to the attempt's command spelled an error
@@ -194,7 +194,7 @@ pub record SpellsFailure {A : Type 0} (op : AttemptedOperation A) (kept : Option
   pub conn : Conn
   pub reply : List ℕ
   pub sends : Sends op kept before now address conn (Ok reply)
-  pub is : IsVersioned (IsReadIn op.spec reply (on_connection op.retryability conn.description)) conn.description.max_wire_version error
+  pub is : IsVersioned (IsReadIn op.spec op.batch.statements reply (on_connection op.retryability conn.description)) conn.description.max_wire_version error
 
 -- an attempt failed in a phase
 abbrev pub FailsIn : {A : Type 0} → AttemptedOperation A → Option RetryState → AttemptState → AttemptState → Address → FailurePhase → Error → Type 0

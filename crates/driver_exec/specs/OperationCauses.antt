@@ -52,20 +52,18 @@ HasFault retryability setup fault labels (answer.Reply bytes ∷ items) = HasFau
 HasFault retryability setup fault labels (answer.Fault call found given ∷ items) =
     ((found ≡ fault) × FaultLabels call retryability setup found given labels) ⊎ HasFault retryability setup fault labels items
 
--- a reply spells this error for an operation: its kind is the one that is read, in words for the caller, and its labels are
--- those of what is read, with that of the table where the network failed
-pub record SpellsEnd {A : Type 0} (spec : OperationSpec A) (why : ErrorOutline) (bytes : List ℕ) : Type 0 where
-  pub bare : Error
-  pub reads : ReadsAnswer spec bytes (Err bare)
-  pub connection_retryability : Retryability
-  pub kind_is : why.kind ≡ reworded_kind (kind_of bare)
-  pub labels_are : why.labels ≡ labels_outside_transactions connection_retryability bare
-
 -- a built command with this concern has no spelling, under some session and number
 pub record Unspelled {A : Type 0} (spec : OperationSpec A) (concern : Option WriteConcern) (fault : EncodeFault) : Type 0 where
   pub context : SendContext
   pub goes_with : context.concern ≡ concern
   pub is : HasNoSpelling spec context fault
+
+-- a first build of the operation takes so many statements for a connection, which has the setup's description where the link
+-- tells its setup
+pub record TakesFirst {A : Type 0} (spec : OperationSpec A) (fixed : Option ℕ) (setup : Option Setup) (statements : ℕ) : Type 0 where
+  pub description : Description
+  pub told : IfSome setup (λ told. description ≡ told.description)
+  pub takes : spec.takes fixed description statements
 
 -- a build of the operation, by the number of statements that is fixed, is refused so for a connection, which has the setup's
 -- description where the link tells its setup
@@ -75,10 +73,6 @@ pub record RefusesBuild {A : Type 0} (spec : OperationSpec A) (fixed : Option �
   pub error : Error
   pub refuses : Refuses spec fixed description error
   pub is : why ≡ outline_of error
-
--- an operation reads a reply
-abbrev pub IsRead : {A : Type 0} → OperationSpec A → List ℕ → Type 0
-IsRead {A} spec bytes = (output : A) × ReadsAnswer spec bytes (Ok output)
 
 -- what an end is judged by: what the operation tells, the number of its command's statements, where that was fixed when it
 -- began, what it may repeat by its own rules, the concern that it goes out with, what the link tells of its setup, and the number
@@ -102,6 +96,25 @@ grounds spec which fixed before = record {
   number = next_number before.store;
 }
 
+-- a reply spells this error for an operation, which reads it by the number of statements that a first build takes: its kind is
+-- the one that is read, in words for the caller, and its labels are those of what is read, with that of the table where the
+-- network failed
+pub record SpellsEnd {A : Type 0} (on : Grounds A) (why : ErrorOutline) (bytes : List ℕ) : Type 0 where
+  pub statements : ℕ
+  pub first : TakesFirst on.spec on.fixed on.setup statements
+  pub bare : Error
+  pub reads : ReadsAnswer on.spec statements bytes (Err bare)
+  pub connection_retryability : Retryability
+  pub kind_is : why.kind ≡ reworded_kind (kind_of bare)
+  pub labels_are : why.labels ≡ labels_outside_transactions connection_retryability bare
+
+-- an operation reads a reply, by the number of statements that a first build takes
+pub record IsRead {A : Type 0} (on : Grounds A) (bytes : List ℕ) : Type 0 where
+  pub statements : ℕ
+  pub first : TakesFirst on.spec on.fixed on.setup statements
+  pub output : A
+  pub reads : ReadsAnswer on.spec statements bytes (Ok output)
+
 -- what an error of each kind needs; want of memory needs nothing. That of a refusal before a send has no labels
 abbrev pub KindNeeds : {A : Type 0} → Grounds A → ℕ → ℕ → List Answered → LabelSet → ErrorKind → Type 0
 KindNeeds on before now items labels (kind.Io io) = Rose before now × HasFault on.retryability on.setup (fault.Io io) labels items
@@ -118,8 +131,8 @@ KindNeeds on before now items labels _ = ⊥
 -- what an end needs: an Ok comes only after a reply that the operation reads, and an error by its kind, after a reply that
 -- spells it, or where a build is refused so
 abbrev pub EndNeeds : {A : Type 0} → Grounds A → ℕ → ℕ → List Answered → Option ErrorOutline → Type 0
-EndNeeds on before now items None = HasReply (IsRead on.spec) items
-EndNeeds on before now items (Some why) = KindNeeds on before now items why.labels why.kind ⊎ (HasReply (SpellsEnd on.spec why) items ⊎ RefusesBuild on.spec on.fixed on.setup why)
+EndNeeds on before now items None = HasReply (IsRead on) items
+EndNeeds on before now items (Some why) = KindNeeds on before now items why.labels why.kind ⊎ (HasReply (SpellsEnd on why) items ⊎ RefusesBuild on.spec on.fixed on.setup why)
 
 -- each send has a number: the operation takes a session and may repeat its write, and the link tells that its connections
 -- take sessions and retryable writes

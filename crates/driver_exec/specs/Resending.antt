@@ -69,11 +69,11 @@ abbrev pub Borrows : StoreTells → StoreTells → Option (List ℕ) → Option 
 Borrows store now None number = (now ≡ store) × (number ≡ None)
 Borrows store now (Some id) number = Borrowed store now id number
 
--- an Ok is what the operation reads in the last reply: that to the last send of what was asked for, of which at most one
--- went out before it, and none where it has no number
+-- an Ok is what the operation reads in the last reply, as one to a command of so many statements: that to the last send of what
+-- was asked for, of which at most one went out before it, and none where it has no number
 pub record ReadsLast {A : Type 0} (spec : OperationSpec A) (batch : Batch) (link now : Option ServerRun) (session : Option (List ℕ)) (number : Option ℤ) (output : A) : Type 0 where
   pub bytes : List ℕ
-  pub reads : ReadsOutput spec bytes output
+  pub reads : ReadsOutput spec batch.statements bytes output
   pub earlier : ℕ
   pub within : earlier ≤ 1
   pub once : number ≡ None → earlier ≡ 0

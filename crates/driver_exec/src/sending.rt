@@ -1,6 +1,6 @@
 //! The command of an attempt on its connection: its number, its frame, one exchange, and what comes of the
 //! reply.
-ghost use Rattle.std.specs.Prelude.{◌≡◌, ◌≤◌, ◌+◌, ◌⊎◌, ℕ, IsSome, length, take};
+ghost use Rattle.std.specs.Prelude.{◌≡◌, ◌≤◌, ◌+◌, ◌⊎◌, ℕ, IsSome, Some, length, take};
 ghost use Rattle.std.specs.Option.{option_copied};
 ghost use Rattle.driver_link.specs.declared.machine.Send.{Send as Sent};
 ghost use Rattle.driver_link.specs.Reads.{Reads};
@@ -90,7 +90,8 @@ fn front(places: &[Place], statements: usize) -> &[Place]
     &places[..statements]
 }
 
-/// One exchange of a frame, with the places of its writes, and what comes of it.
+/// One exchange of a frame, with the places of its writes, and what comes of it: the reply is read as one to a
+/// command of so many statements as were built last.
 fn exchange<O: Operation, L: Link, Q: Ledger>(
     alloc: Global,
     link: &mut L,
@@ -103,7 +104,8 @@ fn exchange<O: Operation, L: Link, Q: Ledger>(
     sends: &mut Steps<Q>,
 ) -> (ExecutionSession, AttemptEnd<O::Output>)
     requires { (sent : Sent) × Reads frame.now places.now sent }
-    ensures exchanges { ExchangesOnce (O.spec op.old)
+    ensures exchanges { (statements : ℕ) → O.built op.old ≡ Some statements →
+        ExchangesOnce (O.spec op.old) statements
         (besides_out (L.tells link.old)) (besides_out (L.tells link.new))
         on.now.connection_retryability on.now.conn.now address frame.now places.now held result.0 result.1 }
     ensures spec { SameSpec (O.spec op.old) (O.spec op.new) }

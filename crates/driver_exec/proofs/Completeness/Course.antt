@@ -16,7 +16,7 @@ use Rattle.driver_exec.specs.declared.attempt_end.AttemptEnd.{AttemptEnd}
 use Rattle.driver_exec.specs.declared.attempt_end.AttemptEnd.TheVariants.{Done, Ended, Failed, Stopped, Unfit, Unselected}
 use Rattle.driver_exec.specs.declared.failure.AttemptFailure.{AttemptFailure}
 use Rattle.driver_exec.specs.declared.failure.FailurePhase.{FailurePhase}
-use Rattle.driver_exec.specs.Attempting.{AttemptState, EndsAtOnce, FailsIn, MakesAttempt, Stops, attempted_operation, besides_out, is_nothing}
+use Rattle.driver_exec.specs.Attempting.{AttemptState, EndsAtOnce, FailsIn, MakesAttempt, RefusedAgain, Stops, attempted_operation, besides_out, is_nothing}
 use Rattle.driver_exec.specs.Concerns.{concern_of, concern_refusal}
 use Rattle.driver_exec.specs.Executing.{Attempts, Ends, EndsWith, Executes, Proceeds, first_state, limit_reached}
 use Rattle.driver_exec.specs.Gentle.{EndsWell, IsGentlePart}
@@ -32,13 +32,13 @@ use Rattle.driver_exec.proofs.HeldSessions.{draws_on, not_both}
 use Rattle.driver_exec.proofs.Moments.{IsBefore, Leads, before_refl, before_twice, connects_lead, fails_lead, leads_same, leads_twice, one_moment, selects_lead}
 use Rattle.driver_exec.proofs.StoreDraws.{back_apart, ends_apart, fails_apart}
 use Rattle.driver_exec.proofs.Completeness.Ends.{ok_err, allows, draws_write}
-use Rattle.driver_exec.proofs.Completeness.Sessions.{KnownCommand, attempted, IsPrepared, first_prepared, is_conn, refused_memory}
+use Rattle.driver_exec.proofs.Completeness.Sessions.{KnownCommand, attempted, IsPrepared, first_prepared, is_conn, none_refused, refused_memory}
 use Rattle.driver_exec.proofs.Completeness.Losses.{Lost, again_prepared, unselected_none, LosesWell, fails_well}
 
 module _ {A : Type 0} (known : KnownCommand A) where
-  open known use {body, does, retryability, store, told, link, link_is, unrefused}
+  open known use {body, fixed, does, retryability, store, told, link, link_is}
 
-  module _ (clock : ClockTells) (count : ℕ) (fixed : Option ℕ) (told_now : ServerRun) (gentle : IsGentlePart does (DrawsNumbers true retryability (setup_of link)) told told_now) where
+  module _ (clock : ClockTells) (count : ℕ) (told_now : ServerRun) (gentle : IsGentlePart does (DrawsNumbers true retryability (setup_of link)) told told_now) where
     -- where an operation stands between its attempts: it has not begun, or its one exchange was lost
     record LostOnce (retry : RetryState) (now : AttemptState) : Type 0 where
       lost : Lost known told_now gentle told now
@@ -84,8 +84,8 @@ module _ {A : Type 0} (known : KnownCommand A) where
 
       -- one failure more
       first_fails : (now : AttemptState) (last : ServerRun) (now_is : server_run now.link ≡ Some last) (later : IsBefore last told_now) (apart : DrawnApart now.store) (address : Address) (phase : FailurePhase) (error : Error)
-          → FailsIn (attempted known) None (first_state store link clock count fixed) now address phase error → LosesWell known told_now gentle None told (first_state store link clock count fixed) (first_prepared known clock count fixed) now last now_is later apart error
-      first_fails now last now_is later apart address phase error fails = fails_well known told_now gentle None told (first_state store link clock count fixed) (first_prepared known clock count fixed) now last now_is later apart address phase error fails
+          → FailsIn (attempted known) None (first_state store link clock count fixed) now address phase error → LosesWell known told_now gentle None told (first_state store link clock count fixed) (first_prepared known clock count) now last now_is later apart error
+      first_fails now last now_is later apart address phase error fails = fails_well known told_now gentle None told (first_state store link clock count fixed) (first_prepared known clock count) now last now_is later apart address phase error fails
 
       -- and where the operation stands after it
       fails_far : (kept : Option RetryState) (mid now : AttemptState) (last : ServerRun) → SoFar kept mid → server_run now.link ≡ Some last → IsBefore last told_now → DrawnApart now.store → (failure : AttemptFailure) (retry : RetryState)
@@ -144,7 +144,7 @@ module _ {A : Type 0} (known : KnownCommand A) where
         prepares more = by_kept kept (far_last more)
           where
             by_kept : (found : Option RetryState) → SoFar found mid → Prepares
-            by_kept None far = record { moment = told; prepared = subst (IsPrepared known told) (sym far) (first_prepared known clock count fixed) }
+            by_kept None far = record { moment = told; prepared = subst (IsPrepared known told) (sym far) (first_prepared known clock count) }
             by_kept (Some retry) far = record { moment = far.lost.moment; prepared = again_prepared known told_now gentle told mid far.lost }
 
         -- want of memory is a quiet end
@@ -182,6 +182,13 @@ module _ {A : Type 0} (known : KnownCommand A) where
           ]
         ]
 
+        -- the command that went out before is not refused when it is built again
+        unfit_none : {past : Option RetryState} → RefusedAgain (attempted known) past mid now → ⊥
+        unfit_none again =
+            let came = (connects_lead came_last.moment mid.link again.ready.link again.address again.conn came_last.is again.readies.connects).leads in
+            let here = prepares (subst (Leads came_last.moment mid.link) (sym again.link) came) in
+            none_refused known here.moment mid here.prepared again.ready again.address again.conn again.readies again.error again.refused
+
         -- each end of the last attempt is quiet
         last_quiet : (past : Option RetryState) (attempt : AttemptEnd A) (result : Result A Error) → MakesAttempt (attempted known) past mid now attempt → EndsWith kept attempt result → EndsWell result
         last_quiet past (Done output) result makes ends = subst EndsWell (sym ends) tt
@@ -190,7 +197,7 @@ module _ {A : Type 0} (known : KnownCommand A) where
             let here = prepares (selects_lead came_last.moment mid.link now.link (Err (Fault makes.fault makes.labels)) came_last.is makes.selects.calls).leads in
             absurd (unselected_none known told_now gentle past here.moment mid here.prepared now told_now now_is (before_refl told_now) apart error makes)
         last_quiet past Stopped result makes ends = stopped_quiet result makes.1 ends
-        last_quiet past Unfit result makes ends = absurd (unrefused makes.1.ready.fixed makes.1.conn.description makes.1.error makes.1.refused)
+        last_quiet past Unfit result makes ends = absurd (unfit_none makes.1)
         last_quiet past (Ended error) result makes ends = quiet_memory error result ends (ended_quiet past error makes)
 
         -- the limit is not reached
@@ -228,37 +235,37 @@ module _ {A : Type 0} (known : KnownCommand A) where
         ]
 
   -- the attempts of an operation whose part of the schedule is gentle end well
-  gentle_attempts : (clock : ClockTells) (count : ℕ) (fixed : Option ℕ) (told_now : ServerRun) (gentle : IsGentlePart does (DrawsNumbers true retryability (setup_of link)) told told_now) (sharded : Bool) (last : AttemptState)
+  gentle_attempts : (clock : ClockTells) (count : ℕ) (told_now : ServerRun) (gentle : IsGentlePart does (DrawsNumbers true retryability (setup_of link)) told told_now) (sharded : Bool) (last : AttemptState)
       → server_run last.link ≡ Some told_now → DrawnApart last.store → (result : Result A Error) → Attempts (attempted known) sharded (first_state store link clock count fixed) last result → EndsWell result
-  gentle_attempts clock count fixed told_now gentle sharded last last_is apart result attempts =
+  gentle_attempts clock count told_now gentle sharded last last_is apart result attempts =
       let apart_mid = ends_apart (attempted known) attempts.mid last sharded attempts.kept result attempts.ends apart in
       let came = came_of (attempted known) sharded (first_state store link clock count fixed) last result attempts in
-      ends_quietly clock count fixed told_now gentle sharded came.0 attempts.kept attempts.mid last came.1 last_is apart_mid apart result attempts.ends
+      ends_quietly clock count told_now gentle sharded came.0 attempts.kept attempts.mid last came.1 last_is apart_mid apart result attempts.ends
 
 -- an operation whose concern is not refused and whose part of the schedule is gentle ends well, from one moment to another
 gentle_proceeds : {A : Type 0} (known : KnownCommand A) (before now : Moment) (told_now : ServerRun) → known.store ≡ before.store → known.link ≡ besides_out before.link
     → known.retryability ≡ known.spec.retryability before.client.options → known.concern ≡ concern_of known.spec known.which before.client.options
     → server_run now.link ≡ Some told_now → DrawnApart now.store
-    → IsGentlePart known.does (DrawsNumbers true known.retryability (setup_of known.link)) known.told told_now → (count count_now : ℕ) (fixed fixed_now : Option ℕ) (result : Result A Error)
-    → Proceeds known.spec known.batch known.which before now count count_now fixed fixed_now result → EndsWell result
-gentle_proceeds known before now told_now store_is link_is retryability_is concern_is now_is drawn gentle count count_now fixed fixed_now result executes =
+    → IsGentlePart known.does (DrawsNumbers true known.retryability (setup_of known.link)) known.told told_now → (count count_now : ℕ) (fixed_now : Option ℕ) (result : Result A Error)
+    → Proceeds known.spec known.batch known.which before now count count_now known.fixed fixed_now result → EndsWell result
+gentle_proceeds known before now told_now store_is link_is retryability_is concern_is now_is drawn gentle count count_now fixed_now result executes =
     let last = executes.last in
     let last_is = ap server_run (sym executes.link_is) ∙ now_is in
     let apart = back_apart last.store now.store last.held.session executes.comes_back drawn in
-    gentle_attempts known before.clock count fixed told_now gentle executes.sharded last last_is apart result
-    (subst (λ retryability. Attempts (attempted_operation known.spec known.batch known.which retryability known.concern) executes.sharded (first_state known.store known.link before.clock count fixed) last result) (sym retryability_is)
-    (subst (λ c. Attempts (attempted_operation known.spec known.batch known.which (known.spec.retryability before.client.options) c) executes.sharded (first_state known.store known.link before.clock count fixed) last result) (sym concern_is)
-    (subst (λ l. Attempts (attempted_operation known.spec known.batch known.which (known.spec.retryability before.client.options) (concern_of known.spec known.which before.client.options)) executes.sharded (first_state known.store l before.clock count fixed) last result) (sym link_is)
-    (subst (λ s. Attempts (attempted_operation known.spec known.batch known.which (known.spec.retryability before.client.options) (concern_of known.spec known.which before.client.options)) executes.sharded (first_state s (besides_out before.link) before.clock count fixed) last result) (sym store_is)
+    gentle_attempts known before.clock count told_now gentle executes.sharded last last_is apart result
+    (subst (λ retryability. Attempts (attempted_operation known.spec known.batch known.which retryability known.concern) executes.sharded (first_state known.store known.link before.clock count known.fixed) last result) (sym retryability_is)
+    (subst (λ c. Attempts (attempted_operation known.spec known.batch known.which (known.spec.retryability before.client.options) c) executes.sharded (first_state known.store known.link before.clock count known.fixed) last result) (sym concern_is)
+    (subst (λ l. Attempts (attempted_operation known.spec known.batch known.which (known.spec.retryability before.client.options) (concern_of known.spec known.which before.client.options)) executes.sharded (first_state known.store l before.clock count known.fixed) last result) (sym link_is)
+    (subst (λ s. Attempts (attempted_operation known.spec known.batch known.which (known.spec.retryability before.client.options) (concern_of known.spec known.which before.client.options)) executes.sharded (first_state s (besides_out before.link) before.clock count known.fixed) last result) (sym store_is)
     executes.attempts))))
 
 -- so it is of an operation whose concern is not refused
 pub gentle_ends : {A : Type 0} (known : KnownCommand A) (before now : Moment) (told_now : ServerRun) → known.store ≡ before.store → known.link ≡ besides_out before.link
     → known.retryability ≡ known.spec.retryability before.client.options → known.concern ≡ concern_of known.spec known.which before.client.options
     → server_run now.link ≡ Some told_now → DrawnApart now.store
-    → IsGentlePart known.does (DrawsNumbers true known.retryability (setup_of known.link)) known.told told_now → (count count_now : ℕ) (fixed fixed_now : Option ℕ) (result : Result A Error)
-    → Executes known.spec known.batch known.which before now count count_now fixed fixed_now result → EndsWell result
-gentle_ends known before now told_now store_is link_is retryability_is concern_is now_is drawn gentle count count_now fixed fixed_now result executes = elim executes [
+    → IsGentlePart known.does (DrawsNumbers true known.retryability (setup_of known.link)) known.told told_now → (count count_now : ℕ) (fixed_now : Option ℕ) (result : Result A Error)
+    → Executes known.spec known.batch known.which before now count count_now known.fixed fixed_now result → EndsWell result
+gentle_ends known before now told_now store_is link_is retryability_is concern_is now_is drawn gentle count count_now fixed_now result executes = elim executes [
   | inl refuses ↦ absurd (let e : ◌≡◌ {A = Option (List ℕ)} None (Some refuses.is.text) = sym known.accepted ∙ ap concern_refusal concern_is ∙ refuses.is.refused in cc)
-  | inr proceeds ↦ gentle_proceeds known before now told_now store_is link_is retryability_is concern_is now_is drawn gentle count count_now fixed fixed_now result proceeds
+  | inr proceeds ↦ gentle_proceeds known before now told_now store_is link_is retryability_is concern_is now_is drawn gentle count count_now fixed_now result proceeds
 ]

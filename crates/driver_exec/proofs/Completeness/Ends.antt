@@ -38,15 +38,15 @@ use Rattle.driver_exec.specs.OldDeployment.{reworded}
 use Rattle.driver_exec.specs.OperationCauses.{DrawsNumbers}
 use Rattle.driver_exec.specs.Retry.{RetryState, after, after_first, avoiding, decide, may_be_retried, may_be_sent, reworded_failure}
 
--- an operation reads no error in a reply, unless memory runs out
-abbrev pub ReadsPlainly : {A : Type 0} → OperationSpec A → Reply → Type 0
-ReadsPlainly spec reply = (bytes : List ℕ) → Spells reply bytes → (error : Error) → ReadsAnswer spec bytes (Err error) → kind_of error ≡ kind.Memory
+-- an operation reads no error in a reply to a command of so many statements, unless memory runs out
+abbrev pub ReadsPlainly : {A : Type 0} → OperationSpec A → ℕ → Reply → Type 0
+ReadsPlainly spec statements reply = (bytes : List ℕ) → Spells reply bytes → (error : Error) → ReadsAnswer spec statements bytes (Err error) → kind_of error ≡ kind.Memory
 
--- a send is answered by such a reply
-pub record AnswersPlainly {A : Type 0} (spec : OperationSpec A) (server : Server) (send : Send) (step : Scheduled) : Type 0 where
+-- a send of so many statements is answered by such a reply
+pub record AnswersPlainly {A : Type 0} (spec : OperationSpec A) (statements : ℕ) (server : Server) (send : Send) (step : Scheduled) : Type 0 where
   pub reply : Reply
   pub is : answered server send step ≡ Some reply
-  pub plain : ReadsPlainly spec reply
+  pub plain : ReadsPlainly spec statements reply
 
 -- an item without a reply
 lossy_reply : (server : Server) (send : Send) (item : Item) → IsLossy item → reply server send item ≡ None

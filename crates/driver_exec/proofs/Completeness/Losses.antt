@@ -33,6 +33,7 @@ use Rattle.driver_exec.specs.Holding.{HoldsSession, dirty_session, held_id, need
 use Rattle.driver_exec.specs.OldDeployment.{reworded}
 use Rattle.driver_exec.specs.OperationCauses.{DrawsNumbers, labels_after}
 use Rattle.driver_exec.specs.Retry.{RetryState}
+use Rattle.driver_exec.proofs.FixedNumbers.{MayBeFixed, sends_first}
 use Rattle.driver_exec.proofs.HeldSessions.{draws_on, not_both}
 use Rattle.driver_exec.proofs.Moments.{IsBefore, LeadsCalling, after_before, before_twice, checks_well, longer_after, one_moment, selects_lead, selects_well}
 use Rattle.driver_exec.proofs.OperationCauses.{fault_error, reworded_is}
@@ -40,7 +41,7 @@ use Rattle.driver_exec.proofs.Completeness.Ends.{ReadsPlainly, lossy_none, has_o
 use Rattle.driver_exec.proofs.Completeness.Sessions.{KnownCommand, attempted, MayGo, IsReadied, IsPrepared, again_readied, is_conn, reached_at, readied_at}
 
 module _ {A : Type 0} (known : KnownCommand A) where
-  open known use {spec, body, does, retryability, told, link, Ready, ready_answers, ready_again}
+  open known use {spec, batch, fixed, body, does, retryability, told, link, Ready, ready_answers, ready_again}
 
   -- the part that is gentle
   module _ (told_now : ServerRun) (gentle : IsGentlePart does (DrawsNumbers true retryability (setup_of link)) told told_now) where
@@ -54,6 +55,7 @@ module _ {A : Type 0} (known : KnownCommand A) where
       pub is : server_run now.link ≡ Some moment
       pub after : IsBefore told moment
       pub setup : setup_of now.link ≡ setup_of link
+      pub may_be_fixed : MayBeFixed spec fixed (setup_of link) batch.statements now.fixed
       pub ready : Ready (send_of (under (Some session.id) (Some number)) body) moment.server
       pub at : ℕ
       pub part : IsOfPart told told_now at
@@ -67,6 +69,7 @@ module _ {A : Type 0} (known : KnownCommand A) where
       is = lost.is;
       after = lost.after;
       setup = lost.setup;
+      may_be_fixed = lost.may_be_fixed;
       readied = λ ready store_now description is holds apart.
           let here = subst (λ h. HoldsSession (needs_session (asks_session true description) h) now.store store_now h ready (Ok tt)) lost.held_is holds in
           subst (IsReadied known lost.moment.server description) (sym (same_again lost.session lost.number now.store store_now ready (asks_session true description) here))
@@ -135,7 +138,7 @@ module _ {A : Type 0} (known : KnownCommand A) where
         -- a reply to it is plain
         record HasPlain (reply_bytes : List ℕ) : Type 0 where
           reply : Reply
-          plain : ReadsPlainly spec reply
+          plain : ReadsPlainly spec batch.statements reply
           spells : Spells reply reply_bytes
 
         -- so is each reply of this exchange
@@ -160,6 +163,13 @@ module _ {A : Type 0} (known : KnownCommand A) where
         -- the setup stays
         setup_now : setup_of now.link ≡ setup_of link
         setup_now = sends.exchanges.exchanges.setup ∙ came.leads.setup ∙ prepared.setup
+
+        -- the command has as many statements as a first build takes, and they are fixed
+        fixed_now : MayBeFixed spec fixed (setup_of link) batch.statements now.fixed
+        fixed_now = inr (
+          sends_first (attempted known) fixed (setup_of link) past mid now address conn result sends (is_conn known moment mid prepared sends.ready address conn sends.readies) prepared.may_be_fixed,
+          sends.fixed_is,
+        )
 
         -- the connection takes the write again
         on_connection_write : DrawsNumbers true retryability (setup_of link) → (conn.description.supports_sessions ≡ true) × (on_connection retryability conn.description ≡ may.Write)
@@ -188,6 +198,7 @@ module _ {A : Type 0} (known : KnownCommand A) where
               is = stepped.0;
               after = since_after;
               setup = setup_now;
+              may_be_fixed = fixed_now;
               ready = subst (λ s. Ready (send_of (under (Some has.session.id) (Some has.value)) body) (exchanged before.server s step)) (sym same) ready;
               at = length before.server.trace;
               part = of_part stepped.0;

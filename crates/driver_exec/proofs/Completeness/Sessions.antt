@@ -33,15 +33,18 @@ use Rattle.driver_exec.specs.Gentle.{IsLossy}
 use Rattle.driver_exec.specs.Holding.{DrawsNumber, DrawsSession, GivesNumber, ExecutionSession, HoldsSession, held_id, holds_nothing, needs_session}
 use Rattle.driver_exec.specs.OperationCauses.{DrawsNumbers}
 use Rattle.driver_exec.specs.Retry.{RetryState}
+use Rattle.driver_exec.proofs.FixedNumbers.{MayBeFixed}
 use Rattle.driver_exec.proofs.HeldSessions.{IsOf, draws_on, is_of, not_both}
 use Rattle.driver_exec.proofs.Moments.{IsBefore, LeadsCalling, before_refl, connects_lead}
 use Rattle.driver_exec.proofs.Completeness.Ends.{AnswersPlainly, err_ok, HasNumber, no_read, no_none, undrawn, held_again}
 
 -- an operation over what is told, with what is known of its sends
 pub record KnownCommand (A : Type 0) : Type 1 where
-  -- what it tells, its places, the kind of its sends, and what it asks for
+  -- what it tells, its places with the number of its command's statements, what of that was fixed when it began, the kind of its
+  -- sends, and what it asks for
   pub spec : OperationSpec A
   pub batch : Batch
+  pub fixed : Option ℕ
   pub which : SendKind
   pub body : SendBody
   -- the kind of its writes
@@ -61,7 +64,7 @@ pub record KnownCommand (A : Type 0) : Type 1 where
   pub Ready : Send → Server → Type 0
   -- then a gentle step answers it plainly
   pub ready_answers : (session : Option (List ℕ)) (number : Option ℤ) (server : Server) (step : Scheduled) → Ready (send_of (under session number) body) server
-      → IsGentleItem does step.item → AnswersPlainly spec server (send_of (under session number) body) step
+      → IsGentleItem does step.item → AnswersPlainly spec batch.statements server (send_of (under session number) body) step
   -- and after a lossy one it may go out again
   pub ready_again : (id : List ℕ) (number : ℤ) (server : Server) (step : Scheduled) → Ready (send_of (under (Some id) (Some number)) body) server → IsLossy step.item
       → Ready (send_of (under (Some id) (Some number)) body) (exchanged server (send_of (under (Some id) (Some number)) body) step)
@@ -69,14 +72,16 @@ pub record KnownCommand (A : Type 0) : Type 1 where
   pub first_ready : (at : ℕ) (lent : StoreTells) (session : Session) (number : ℤ) → LendsSession store lent at session → DrawnApart lent
       → number ≡ session.number +ℤ pos 1 → Ready (send_of (under (Some session.id) (Some number)) body) told.server
   pub bare_ready : (session : Option (List ℕ)) → Ready (send_of (under session None) body) told.server
-  -- it takes a session, no build of it is refused, its command has a spelling, and the number of its session is not the last
+  -- it takes a session, no build of it that can occur is refused, its command has a spelling, and the number of its session is not
+  -- the last
   pub takes_sessions : spec.sessions ≡ true
-  pub unrefused : (fixed : Option ℕ) (description : Description) (error : Error) → Refuses spec fixed description error → ⊥
+  pub unrefused : (description : Description) → IsOf (setup_of link) description → (number : Option ℕ) → MayBeFixed spec fixed (setup_of link) batch.statements number
+      → (error : Error) → Refuses spec number description error → ⊥
   pub spelled : (context : SendContext) (fault : EncodeFault) → context.concern ≡ concern → HasNoSpelling spec context fault → ⊥
   pub not_last : (at : ℕ) (lent : StoreTells) (session : Session) → LendsSession store lent at session → session.number ≡ last_number → ⊥
 
 module _ {A : Type 0} (known : KnownCommand A) where
-  open known use {spec, batch, which, body, retryability, concern, store, told, link, link_is, Ready, first_ready, bare_ready, takes_sessions, unrefused, spelled, not_last}
+  open known use {spec, batch, fixed, which, body, retryability, concern, store, told, link, link_is, Ready, first_ready, bare_ready, takes_sessions, unrefused, spelled, not_last}
 
   -- the operation as its attempts see it
   abbrev pub attempted : AttemptedOperation A
@@ -197,15 +202,17 @@ module _ {A : Type 0} (known : KnownCommand A) where
     pub is : server_run mid.link ≡ Some moment
     pub after : IsBefore told moment
     pub setup : setup_of mid.link ≡ setup_of link
+    pub may_be_fixed : MayBeFixed spec fixed (setup_of link) batch.statements mid.fixed
     pub readied : (ready : ExecutionSession) (store_now : StoreTells) (description : Description) → IsOf (setup_of link) description
         → HoldsSession (needs_session (asks_session true description) mid.held) mid.store store_now mid.held ready (Ok tt) → DrawnApart store_now → IsReadied moment.server description ready
 
   -- it is so before the first attempt
-  pub first_prepared : (clock : ClockTells) (count : ℕ) (fixed : Option ℕ) → IsPrepared told (first_state store link clock count fixed)
-  first_prepared clock count fixed = record {
+  pub first_prepared : (clock : ClockTells) (count : ℕ) → IsPrepared told (first_state store link clock count fixed)
+  first_prepared clock count = record {
     is = link_is;
     after = before_refl told;
     setup = refl;
+    may_be_fixed = inl refl;
     readied = λ ready store_now description is holds apart. first_readied store_now ready description holds apart;
   }
 
@@ -216,6 +223,11 @@ module _ {A : Type 0} (known : KnownCommand A) where
       -- its description is that of the setup
       pub is_conn : IsOf (setup_of link) conn.description
       is_conn = is_of (setup_of link) (setup_of readies.connects.mid) address conn (readies.connects.selects.calls.setup ∙ prepared.setup) readies.connects.checks_out.to
+
+      -- no build for it is refused
+      pub none_refused : (error : Error) → Refuses spec ready.fixed conn.description error → ⊥
+      none_refused error refuses =
+          unrefused conn.description is_conn ready.fixed (subst (MayBeFixed spec fixed (setup_of link) batch.statements) (sym readies.fixed) prepared.may_be_fixed) error refuses
 
       -- the link leads there
       pub reached_at : LeadsCalling moment mid.link ready.link
@@ -233,6 +245,6 @@ module _ {A : Type 0} (known : KnownCommand A) where
           | inl none ↦ absurd (here.allowed none.none)
           | inr other ↦ elim other [
             | inl none ↦ here.unnumbered (on_connection retryability refused.conn.description) now.held error none.draws
-            | inr none ↦ elim none.why [ inl early ↦ absurd (unrefused refused.ready.fixed refused.conn.description error early.1) | inr late ↦ elim late [ inl unspelled ↦ absurd (spelled _ unspelled.fault refl unspelled.none) | inr memory ↦ memory ] ]
+            | inr none ↦ elim none.why [ inl early ↦ absurd (none_refused refused.ready refused.address refused.conn refused.readies error early.1) | inr late ↦ elim late [ inl unspelled ↦ absurd (spelled _ unspelled.fault refl unspelled.none) | inr memory ↦ memory ] ]
           ]
         ]

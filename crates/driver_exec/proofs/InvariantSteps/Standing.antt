@@ -43,7 +43,7 @@ module _ {A : Type 0} (spec : OperationSpec A) (batch : Batch) (before now : Mom
     -- the output that is read in the last reply is told by entries that stand
     last_entries : IsWrite body → (session : Option (List ℕ)) (number : Option ℤ) (run run_now : ServerRun) (earlier : ℕ) (bytes : List ℕ) (output : A)
         → (last : LastAnswer run run_now (send_of (under session number) body) earlier bytes) → MayGo (send_of (under session number) body) last.mid.server
-        → ReadsOutput spec bytes output → HasEntries spec body run_now.server.log output
+        → ReadsOutput spec batch.statements bytes output → HasEntries spec body run_now.server.log output
     last_entries writes session number run run_now earlier bytes output last may reads = of_answer (run_answer last.mid (send_of (under session number) body)) refl last.reply
       where
         of_answer : (answer : Option (List (Pair Bson))) → run_answer last.mid (send_of (under session number) body) ≡ answer → IsReply answer bytes

@@ -29,24 +29,25 @@ abbrev pub attempt_state : StoreTells → LinkState → ClockTells → Execution
 attempt_state store link clock held count fixed =
     record { store = store; link = besides_out link; clock = clock; held = held; count = count; fixed = fixed }
 
--- what comes of an exchange's result after a last send under a number: its reply was read, or the exchange failed
-pub record ComesOfReply {A : Type 0} (spec : OperationSpec A) (connection_retryability : Retryability) (version : Option ℤ) (address : Address) (number : Option ℤ) (reply : List ℕ) (attempt : AttemptEnd A) : Type 0 where
+-- what comes of an exchange's result after a last send of so many statements under a number: its reply was read, or the exchange
+-- failed
+pub record ComesOfReply {A : Type 0} (spec : OperationSpec A) (statements : ℕ) (connection_retryability : Retryability) (version : Option ℤ) (address : Address) (number : Option ℤ) (reply : List ℕ) (attempt : AttemptEnd A) : Type 0 where
   pub answer : Result A Error
-  pub reads : ReadsAnswer spec reply answer
+  pub reads : ReadsAnswer spec statements reply answer
   pub ends : EndsRead connection_retryability version address number answer attempt
 
 -- what comes of an exchange, by its result
-abbrev pub Comes : {A : Type 0} → OperationSpec A → Retryability → Option ℤ → Address → Option ℤ → Result (List ℕ) LinkError → AttemptEnd A → Type 0
-Comes spec connection_retryability version address number (Ok reply) attempt = ComesOfReply spec connection_retryability version address number reply attempt
-Comes spec connection_retryability version address number (Err failure) attempt = EndsLost connection_retryability version address number failure attempt
+abbrev pub Comes : {A : Type 0} → OperationSpec A → ℕ → Retryability → Option ℤ → Address → Option ℤ → Result (List ℕ) LinkError → AttemptEnd A → Type 0
+Comes spec statements connection_retryability version address number (Ok reply) attempt = ComesOfReply spec statements connection_retryability version address number reply attempt
+Comes spec statements connection_retryability version address number (Err failure) attempt = EndsLost connection_retryability version address number failure attempt
 
--- one exchange of a frame over a connection, and what came of it
-pub record ExchangesOnce {A : Type 0} (spec : OperationSpec A) (link link_now : LinkState) (connection_retryability : Retryability) (conn : Conn) (address : Address) (frame : Framed) (places : List Place)
+-- one exchange of a frame of so many statements over a connection, and what came of it
+pub record ExchangesOnce {A : Type 0} (spec : OperationSpec A) (statements : ℕ) (link link_now : LinkState) (connection_retryability : Retryability) (conn : Conn) (address : Address) (frame : Framed) (places : List Place)
     (held held_now : ExecutionSession) (attempt : AttemptEnd A) : Type 0 where
   pub result : Result (List ℕ) LinkError
   pub exchanges : ExchangesFrame link link_now conn frame places result
   pub held_is : held_now ≡ held_after result held
-  pub comes : Comes spec connection_retryability conn.description.max_wire_version address (number_before held) result attempt
+  pub comes : Comes spec statements connection_retryability conn.description.max_wire_version address (number_before held) result attempt
 
 -- one exchange of the command under what is held, and what came of it
 pub record Exchanging {A : Type 0} (spec : OperationSpec A) (which : SendKind) (concern : Option WriteConcern) (batch : Batch) (link link_now : LinkState) (connection_retryability : Retryability) (conn : Conn) (address : Address)
@@ -54,7 +55,7 @@ pub record Exchanging {A : Type 0} (spec : OperationSpec A) (which : SendKind) (
   pub result : Result (List ℕ) LinkError
   pub exchanges : Exchanges spec which batch link link_now conn (in_context (held_id held) (number_before held) concern) result
   pub held_is : held_now ≡ held_after result held
-  pub comes : Comes spec connection_retryability conn.description.max_wire_version address (number_before held) result attempt
+  pub comes : Comes spec batch.statements connection_retryability conn.description.max_wire_version address (number_before held) result attempt
 
 -- the end of an attempt whose build was refused, or met want of memory: a first build's ends the operation
 abbrev pub EndsUnbuilt : {A : Type 0} → Bool → Error → AttemptEnd A → Type 0

@@ -8,7 +8,7 @@ use Rattle.driver_exec.specs.Attempting.{besides_out}
 use Rattle.driver_exec.specs.Concerns.{concern_of}
 use Rattle.driver_exec.specs.Holding.{DrawsNumber, held_id}
 use Rattle.driver_exec.specs.inside.Attempting.{ExchangesOnce}
-use Rattle.driver_exec.proofs.CommandParts.{build_fixes, build_some, concern_same, ends_unbuilt, ends_unframed, fixes_twice, reads_some, same_fixes, sends_out}
+use Rattle.driver_exec.proofs.CommandParts.{build_fixes, build_some, built_so_many, concern_same, ends_unbuilt, ends_unframed, fixes_twice, reads_some, same_fixes, sends_out}
 use Rattle.driver_exec.proofs.sending.send.Goals as goal
 
 pub exchange-requires : goal.exchange-requires
@@ -37,16 +37,17 @@ returns-clause-sending g c = λ statements fixed.
     let concern = concern_of (g.O.Operation.spec c.args.op.now) which c.args.options.now in
     let same = concern_same (g.O.Operation.spec c.args.op.now) (g.O.Operation.spec c.build.new.self) c.in-Ok-build.ensures.spec which (g.O.Operation.next c.build.new.self) c.args.options.now c.in-Ok-build.ensures.next in
     let draws = subst (λ r. DrawsNumber c.args.held.sent c.args.on.now.connection_retryability c.args.held held r) c.in-Ok.is c.draw_number-held.ensures in
+    let built_fixed = subst (λ o. IsFixed o statements) c.exchange.ensures.built fixed in
     sends_out (g.O.Operation.spec c.args.op.now) which concern c.args.places.now statements c.args.on.now.again link link_now c.args.on.now.connection_retryability c.args.on.now.conn.now
     c.args.address c.args.held held c.in-Ok.number draws c.args.sends.now c.exchange.new.sends (g.O.Operation.built c.args.op.now) (g.O.Operation.built c.exchange.new.op)
     (g.O.Operation.built c.build.new.self) c.in-Ok-build.command built
-    (subst (λ o. IsFixed o statements) c.exchange.ensures.built fixed) _ c.in-Ok-build.ensures.spec c.in-Ok-frame_of.frame c.front-own.result.now c.exchange.result.0 c.exchange.result.1
+    built_fixed _ c.in-Ok-build.ensures.spec c.in-Ok-frame_of.frame c.front-own.result.now c.exchange.result.0 c.exchange.result.1
     (subst (λ k. FramesUnder (in_context (held_id held) c.in-Ok.number k) c.in-Ok-build.command (Ok c.in-Ok-frame_of.frame)) same
     (subst (λ k. FramesUnder (in_context (held_id held) c.in-Ok.number k) c.in-Ok-build.command (Ok c.in-Ok-frame_of.frame)) c.effective_concern-concern.ensures
     (subst (λ s. FramesUnder (in_context s c.in-Ok.number (option_copied c.effective_concern-concern.result)) c.in-Ok-build.command (Ok c.in-Ok-frame_of.frame)) c.id.ensures c.in-Ok-frame_of.ensures)))
     c.statements.result c.statements.ensures c.front-own.ensures
-    (subst (λ h. ExchangesOnce (g.O.Operation.spec c.build.new.self) link link_now c.args.on.now.connection_retryability c.args.on.now.conn.now c.args.address c.in-Ok-frame_of.frame c.front-own.result.now h c.exchange.result.0 c.exchange.result.1)
-    c.sent_under-held.ensures c.exchange.ensures.exchanges) c.exchange.ensures.sends c.exchange.ensures.built
+    (subst (λ h. ExchangesOnce (g.O.Operation.spec c.build.new.self) statements link link_now c.args.on.now.connection_retryability c.args.on.now.conn.now c.args.address c.in-Ok-frame_of.frame c.front-own.result.now h c.exchange.result.0 c.exchange.result.1)
+    c.sent_under-held.ensures (c.exchange.ensures.exchanges statements (built_so_many statements built built_fixed))) c.exchange.ensures.sends c.exchange.ensures.built
 
 pub returns-in-Err-frame_of-clause-sending : goal.returns-in-Err-frame_of-clause-sending
 returns-in-Err-frame_of-clause-sending g c = λ statements fixed.
