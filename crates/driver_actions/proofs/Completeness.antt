@@ -1,6 +1,6 @@
 -- A valid call whose part of the schedule is gentle ends well.
 use Rattle.std.proofs.Common.{◌≡◌, ℕ, List, [], ◌∷◌, ◌++◌, length, take, refl, sym, ap, subst, ◌∙◌, inl, inr, arith}
-use Rattle.std.specs.Prelude.{ℤ, pos, ◌+ℤ◌, ◌<ℤ◌, ◌≤ℤ◌, true, Option, None, Some, Result, Ok, Err}
+use Rattle.std.specs.Prelude.{ℤ, pos, ◌+ℤ◌, ◌<ℤ◌, ◌≤ℤ◌, true, Option, None, Some, IfSome, Result, Ok, Err}
 use Rattle.std.proofs.lemmas.Int.{ints}
 use Rattle.bson_lite.specs.declared.fault.EncodeFault.{EncodeFault}
 use Rattle.bson_lite.specs.declared.namespace.Namespace.{Namespace}
@@ -58,13 +58,14 @@ use Rattle.driver_actions.specs.declared.call.SingleWrite.{SingleWrite}
 use Rattle.driver_actions.specs.CallByCall.{CallCaused, with_clock}
 use Rattle.driver_actions.specs.Forms.{WriteForm, asked_in, body_in, command_body, command_in, concern_in, deletes, finds, form_of, inserts, kind_in, namespace_in, repeats_in, send_in, updates}
 use Rattle.driver_actions.specs.Inputs.{IsAccepted, TellsInput}
-use Rattle.driver_actions.specs.MainTheorem.{CallCompletes, CallEnds, IsValidWrite}
+use Rattle.driver_actions.specs.MainTheorem.{CallCompletes, CallEnds, FitsAlone, IsValidWrite}
 use Rattle.driver_actions.specs.SingleCompleteness.{CompletesSingle, MayCompleteWhereTold}
 use Rattle.driver_actions.specs.SingleEntries.{IsNewPlace}
 use Rattle.driver_actions.specs.Singles.{BecomesSingle}
 use Rattle.driver_actions.specs.Standing.{AllBelow, LeavesWhereTold, RunInvariant, RunState}
 use Rattle.driver_actions.specs.SingleCalls.{Made, Makes, MakesCall, Runs, Tells, first_place}
 use Rattle.driver_actions.proofs.CallSends.{call_sends, pool_kept, sends_own}
+use Rattle.driver_actions.proofs.InsertFit.{insert_unrefused, served_setup}
 use Rattle.driver_actions.proofs.OwnIds.{OnlyDrew}
 use Rattle.driver_actions.proofs.Refusals.{accepted_not_refused}
 use Rattle.driver_actions.proofs.CallWrites.Entries.{may_send, new_place, placed_at}
@@ -221,12 +222,15 @@ made_well : (made : ℕ) (place : Place) (before now : Moment) (form : WriteForm
 made_well made place before now (inserts namespace document options) valid pool told told_now ready pool_is link_is now_is apart gentle error write =
     let form = inserts namespace document options in
     let run = write.runs in
-    let spec = insert_spec (in_collection namespace) run.bytes run.value options in
+    let spec = insert_spec (in_collection namespace) 0 (run.own ∷ []) options in
+    let setup_is = served_setup before.link.making told link_is in
+    let fits = subst (λ setup. IfSome setup (λ found. FitsAlone found.description form)) setup_is valid.fits in
     ends_well made place before now form valid pool told told_now ready pool_is link_is now_is apart gentle write.mid (made_drew form write) write.sent spec refl refl
-    (feature_else options.write_concern namespace write.mid.client.options.write_concern) (λ fixed description error refuses. refuses.refused) (λ which statements command is. (is.database, is.body))
+    (feature_else options.write_concern namespace write.mid.client.options.write_concern) (insert_unrefused namespace document options run.id run.own run.twelve run.spelled told.setup fits (setup_of write.mid.link) (ap (λ moment. setup_of moment.link) (made_drew form write).rest ∙ setup_is))
+    (λ which statements command is. (is.database, is.body))
     (λ found tells bytes spelled error reads.
-    plain_read (in_collection namespace) run.bytes run.value options bytes one_inserted inserted_plain
-    (subst (λ reply. Spells reply bytes) (inserted_is (placed_at place write.sent) found tells) spelled) error reads) run.ended run.runs (λ output. Inserted (record { inserted_id = run.value })) error run.tells
+    plain_read (in_collection namespace) 0 (run.own ∷ []) options 1 bytes one_inserted inserted_plain
+    (subst (λ reply. Spells reply bytes) (inserted_is (placed_at place write.sent) found tells) spelled) error reads) run.ended run.runs (λ output. Inserted (record { inserted_id = run.own.id })) error run.tells
 made_well made place before now (updates namespace filter change multi options) valid pool told told_now ready pool_is link_is now_is apart gentle error write =
     let form = updates namespace filter change multi options in
     let run = write.runs in

@@ -12,5 +12,6 @@ pub mod Causes
 pub mod InputFaults
 pub mod Refusals
 pub mod CallsInOrder
+pub mod InsertFit
 pub mod Completeness
 pub mod CallWrites
