@@ -1,0 +1,253 @@
+//! The build of an insert of three documents under limits of the connection: how many go out, or why none does; and
+//! one insert whose resend the next connection does not take.
+use crate::faking::{DONE, Given, Servers, inserted};
+use crate::inserting::{Ended, SERVER};
+use bson_lite::{Bson, Document, List, Namespace, ObjectId, Text};
+use driver_error::{Error, ErrorKind, IoKind};
+use driver_link::{Description, InsertManyOptions};
+use driver_ops::{Collection, Insert, Operation, OwnDocument, encode_document};
+use std::alloc::{AllocError, Global};
+use std::test::Fail;
+
+/// The three limits of a connection.
+#[derive(Clone, Copy)]
+struct Sizes {
+    bson: i64,
+    message: i64,
+    batch: i64,
+}
+
+/// What a build comes to.
+#[derive(Clone, Copy)]
+enum Built {
+    Takes(usize),
+    Refused(&'static str),
+}
+
+/// Three documents `{_id: ObjectId, x: 1}` of 29 bytes, of which the first is the caller's fifth from 0, into `items`:
+/// the body of the command has 33 bytes.
+const BUILDS: &[(Sizes, Built)] = &[
+    (
+        Sizes {
+            bson: 28,
+            message: 48_000_000,
+            batch: 100_000,
+        },
+        Built::Refused(
+            "insert document must be within 28 bytes, but document provided is 29 bytes",
+        ),
+    ),
+    (
+        Sizes {
+            bson: 29,
+            message: 1000 + 33 + 87,
+            batch: 3,
+        },
+        Built::Takes(3),
+    ),
+    (
+        Sizes {
+            bson: 29,
+            message: 1000 + 33 + 86,
+            batch: 3,
+        },
+        Built::Takes(2),
+    ),
+    (
+        Sizes {
+            bson: 29,
+            message: 1000 + 33 + 58,
+            batch: 2,
+        },
+        Built::Takes(2),
+    ),
+    (
+        Sizes {
+            bson: 29,
+            message: 1000 + 33 + 57,
+            batch: 2,
+        },
+        Built::Takes(1),
+    ),
+    (
+        Sizes {
+            bson: 29,
+            message: 1000 + 33 + 29,
+            batch: 1,
+        },
+        Built::Takes(1),
+    ),
+    (
+        Sizes {
+            bson: 29,
+            message: 1000 + 33 + 28,
+            batch: 1,
+        },
+        Built::Refused("document at index 5 exceeds the maximum size"),
+    ),
+    (
+        Sizes {
+            bson: 29,
+            message: 48_000_000,
+            batch: 0,
+        },
+        Built::Refused("document at index 5 exceeds the maximum size"),
+    ),
+    (
+        Sizes {
+            bson: -1,
+            message: 48_000_000,
+            batch: 0,
+        },
+        Built::Refused("insert document must be within 0 bytes, but document provided is 29 bytes"),
+    ),
+];
+
+/// A server like [`SERVER`] with these limits.
+fn described(sizes: Sizes) -> Description {
+    Description {
+        max_bson_object_size: sizes.bson,
+        max_message_size_bytes: sizes.message,
+        max_write_batch_size: sizes.batch,
+        ..SERVER
+    }
+}
+
+/// A document of 29 bytes as it is sent, or none where there is no memory.
+fn document(alloc: Global) -> Option<OwnDocument> {
+    let id = ObjectId { bytes: [7; 12] };
+    let mut document = Document::new(alloc);
+    document.push("_id", Bson::ObjectId(id)).ok()?;
+    document.push("x", Bson::Int32(1)).ok()?;
+    let bytes = match encode_document(alloc, &document) {
+        Ok(bytes) => bytes,
+        Err(error) => {
+            drop(error);
+            return None;
+        }
+    };
+    Some(OwnDocument {
+        bytes,
+        id: Bson::ObjectId(id),
+    })
+}
+
+/// Three of them.
+fn documents(alloc: Global) -> Option<List<OwnDocument>> {
+    let mut documents = List::new(alloc);
+    for _ in 0..3 {
+        documents.push(document(alloc)?).ok()?;
+    }
+    Some(documents)
+}
+
+/// The collection `shop.items`.
+fn items(alloc: Global) -> Result<Collection, AllocError> {
+    Ok(Collection {
+        namespace: Namespace {
+            db: Text::from_str(alloc, "shop")?,
+            coll: Text::from_str(alloc, "items")?,
+        },
+        write_concern: None,
+    })
+}
+
+/// Whether an error refuses an argument with this text.
+fn refuses(error: Error, text: &str) -> bool {
+    let same = match error.kind() {
+        ErrorKind::InvalidArgument { message } => message.as_str() == text,
+        _ => false,
+    };
+    drop(error);
+    same
+}
+
+/// Whether a build for such a connection comes to this.
+fn builds(alloc: Global, insert: &mut Insert<'_>, sizes: Sizes, built: Built) -> bool {
+    match (insert.build(alloc, &described(sizes)), built) {
+        (Ok(command), Built::Takes(count)) => {
+            let sent = match command.sequences.as_slice() {
+                [documents] => documents.documents.len(),
+                _ => 0,
+            };
+            drop(command);
+            sent == count && insert.statements() == count
+        }
+        (Err(error), Built::Refused(text)) => refuses(error, text),
+        (Ok(command), Built::Refused(_)) => {
+            drop(command);
+            false
+        }
+        (Err(error), Built::Takes(_)) => {
+            drop(error);
+            false
+        }
+    }
+}
+
+/// Whether builds of one insert, one after the other, come to these.
+fn all_build(alloc: Global, rows: &[(Sizes, Built)]) -> Option<bool> {
+    let documents = documents(alloc)?;
+    let options = InsertManyOptions::default();
+    let collection = items(alloc).ok()?;
+    let mut insert = Insert::new(collection, 5, documents.as_slice(), &options);
+    let mut all = true;
+    for (sizes, built) in rows {
+        all = builds(alloc, &mut insert, *sizes, *built) && all;
+    }
+    drop(insert);
+    drop(options);
+    drop(documents);
+    Some(all)
+}
+
+/// Limits under which many documents go out.
+const WIDE: Sizes = Sizes {
+    bson: 29,
+    message: 48_000_000,
+    batch: 100_000,
+};
+
+/// Later builds have as many documents as the first that was taken; where those do not fit they are refused.
+const LATER: &[(Sizes, Built)] = &[
+    (
+        Sizes { batch: 0, ..WIDE },
+        Built::Refused("document at index 5 exceeds the maximum size"),
+    ),
+    (Sizes { batch: 2, ..WIDE }, Built::Takes(2)),
+    (WIDE, Built::Takes(2)),
+    (
+        Sizes { batch: 1, ..WIDE },
+        Built::Refused("document at index 6 exceeds the maximum size"),
+    ),
+    (Sizes { batch: 2, ..WIDE }, Built::Takes(2)),
+];
+
+#[test]
+fn a_first_build_takes_the_longest_front(rt: HostRuntime) -> Result<(), Fail> {
+    for (at, row) in BUILDS.iter().enumerate() {
+        let same = all_build(rt.alloc(), &[*row]) == Some(true);
+        assert!(rt; same, "row {at}");
+    }
+    Ok(())
+}
+
+#[test]
+fn later_builds_take_as_many_documents(rt: HostRuntime) -> Result<(), Fail> {
+    assert!(rt; all_build(rt.alloc(), LATER) == Some(true));
+    Ok(())
+}
+
+#[test]
+fn a_resend_that_does_not_fit_leaves_the_failure(rt: HostRuntime) -> Result<(), Fail> {
+    let narrow = Servers {
+        first: SERVER,
+        further: described(Sizes { bson: 13, ..WIDE }),
+    };
+    let kept = match inserted(rt.alloc(), narrow, &[Given::Reset, Given::Reply(DONE)]) {
+        Some((Ended::Io(IoKind::ConnectionReset), link)) => link.frames().len() == 1,
+        _ => false,
+    };
+    assert!(rt; kept);
+    Ok(())
+}
