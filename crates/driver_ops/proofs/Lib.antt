@@ -1,9 +1,11 @@
 pub mod Entries
+pub mod FailedStatements
 pub mod FindCommand
 pub mod FindLaw
 pub mod Frames
 pub mod InsertCommand
 pub mod InsertCounts
+pub mod InsertFronts
 pub mod InsertIds
 pub mod InsertLaw
 pub mod InsertReading
@@ -11,3 +13,4 @@ pub mod PlainReading
 pub mod ResponseReading
 pub mod StatementCommand
 pub mod StatementLaw
+pub mod UnfailedIds

@@ -1,3 +1,5 @@
 -- What the functions that no other crate calls say of themselves.
+pub mod InsertAnswers
+pub mod InsertFronts
 pub mod Readings
 pub mod Responses

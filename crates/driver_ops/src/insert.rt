@@ -1,26 +1,36 @@
-//! The insert of one document: its command, and what the reply to it says.
-ghost use Rattle.std.specs.Prelude.{◌≡◌, ℕ, List as Listed, IfErr, IfOk, Some, ⊤};
+//! The insert of documents: its command, and what the reply to it says.
+ghost use Rattle.std.specs.Prelude.{◌≡◌, ◌&&◌, ◌+ℤ◌, ℕ, ◌∷◌, [], List as Listed, Ok, Some, pos, length, map, take, IfErr, IfOk, IfSome, ⊤};
+ghost use Rattle.std.specs.List.{list_all};
+ghost use Rattle.std.specs.Ordering.{int_eq};
 ghost use Rattle.driver_error.specs.declared.kind.ErrorKind.TheVariants.{InsertMany, InvalidResponse, Memory};
 ghost use Rattle.driver_error.specs.Conversions.{IsMade, IsNew};
 ghost use Rattle.driver_error.specs.Error.{kind_of};
 ghost use Rattle.driver_error.specs.LabelTexts.{no_labels};
-ghost use Rattle.driver_ops.specs.InsertAnswers.{AnswersOne, ReadsInsert, counts_one, errors_there, failures_of, insert_reply, is_unfailed, odd_insert_text, one_id};
-ghost use Rattle.driver_ops.specs.Inserts.{insert_command, IsOneDocument};
+ghost use Rattle.driver_link.specs.declared.command.CommandName.TheVariants.{Insert as Inserts};
+ghost use Rattle.driver_ops.specs.InsertAnswers.{ReadsInsert, all_ids, counts_all, counts_ordered, counts_unordered, errors_there, failures_of, insert_reply, is_below, is_unfailed, odd_insert_text};
+ghost use Rattle.driver_ops.specs.Inserts.{IsOneSequence, insert_command, is_ordered};
+ghost use Rattle.driver_ops.specs.inside.InsertAnswers.{AnswersFields, failures_with};
+ghost use Rattle.driver_ops.specs.inside.InsertFronts.{built_count};
 ghost use Rattle.driver_ops.specs.inside.Readings.{Gives};
 ghost use Rattle.driver_ops.specs.InsertLawful.{insert_lawful};
-ghost use Rattle.driver_ops.specs.InsertSpec.{insert_spec};
-ghost use Rattle.driver_ops.specs.SendKinds.{first};
+ghost use Rattle.driver_ops.specs.InsertSpec.{ReadsAlone, insert_spec, statements_fixed};
+ghost use Rattle.driver_ops.specs.SendKinds.{first as first_send};
+ghost use Rattle.driver_ops.specs.Targets.{database_of};
 ghost use Rattle.driver_ops.specs.declared.target.OperationTarget.TheVariants.{Collection as Within};
 
+use crate::built_front::BuiltFront;
 use crate::command::Command;
 use crate::defaults::{
     lacks_option, repeats_under_backpressure, repeats_unless_forbidden, stays_for_retry,
     takes_sessions, writes_after_cluster_time,
 };
 use crate::feature::Feature;
+use crate::insert_front::{front, limits_beside, oversized, statements_fixed, taken};
+use crate::inserted::{are_apart, are_below, ids_of, inserted_ids};
 use crate::keys::{BYPASS_DOCUMENT_VALIDATION, COMMENT};
 use crate::operation::{Operation, Reading};
 use crate::option_fields::{push_flag, push_value};
+use crate::own_document::OwnDocument;
 use crate::reply_fields::{Unread, int_at, labels_at};
 use crate::response::odd_reply;
 use crate::target::{Collection, OperationTarget};
@@ -37,48 +47,52 @@ use driver_link::{
 use driver_session::Retryability;
 use std::alloc::{AllocError, Global};
 
-/// A reply tells of no insert of one document.
-const ODD_INSERT: &str = "the reply does not tell of one inserted document";
+/// A reply tells neither of inserted documents nor of failed ones.
+const ODD_INSERT: &str = "the reply does not tell of the inserted documents";
 
-/// The insert of one document, by its bytes and its id, into a collection.
+/// The insert of documents into a collection: those of a caller's list from an index on. The first build takes the
+/// longest front of them that its connection takes, and later ones take the same documents.
 #[derive(Drop)]
-pub struct Insert {
+pub struct Insert<'a> {
     target: OperationTarget,
-    document: Bytes,
-    id: Bson,
-    options: InsertManyOptions,
+    first: usize,
+    documents: &'a [OwnDocument],
+    options: &'a InsertManyOptions,
+    fixed: Option<BuiltFront>,
 }
 
-impl Insert {
-    /// The insert of a document, which has this id, into a collection.
+impl<'a> Insert<'a> {
+    /// The insert of documents into a collection. The first of them stands at the index `first` of the caller's list.
     pub fn new(
         collection: Collection,
-        document: Bytes,
-        id: Bson,
-        options: InsertManyOptions,
-    ) -> Insert
+        first: usize,
+        documents: &'a [OwnDocument],
+        options: &'a InsertManyOptions,
+    ) -> Insert<'a>
         ensures target { result.target ≡ Within collection }
-        ensures document { result.document ≡ document }
-        ensures id { result.id ≡ id }
-        ensures options { result.options ≡ options }
+        ensures first { result.first ≡ first }
+        ensures documents { result.documents.now ≡ documents.now }
+        ensures options { result.options.now ≡ options.now }
+        ensures fixed { result.fixed ≡ None }
     {
         Insert {
             target: OperationTarget::Collection(collection),
-            document,
-            id,
+            first,
+            documents,
             options,
+            fixed: None,
         }
     }
 }
 
-impl Operation for Insert {
+impl Operation for Insert<'_> {
     type Output = InsertManyResult;
 
-    ghost spec = { λ insert. insert_spec insert.target insert.document insert.id insert.options };
+    ghost spec = { λ insert. insert_spec insert.target insert.first insert.documents.now insert.options.now };
 
-    ghost built = { λ insert. Some 1 };
+    ghost built = { λ insert. statements_fixed insert.documents.now (built_count insert.fixed) };
 
-    ghost next = { λ insert. first };
+    ghost next = { λ insert. first_send };
 
     ghost has_read = { λ insert pages. ⊤ };
 
@@ -91,21 +105,32 @@ impl Operation for Insert {
         &self.target
     }
 
-    fn build(&mut self, alloc: Global, _description: &Description) -> Result<Command> {
-        Ok(Command {
-            name: CommandName::Insert,
-            database: Text::from_str(alloc, self.target.database())?,
-            body: insert_body(alloc, self.target.collection(), &self.options)?,
-            sequences: one_sequence(alloc, self.document.try_clone(alloc)?)?,
-        })
+    fn build(&mut self, alloc: Global, description: &Description) -> Result<Command> {
+        let body = insert_body(alloc, self.target.collection(), self.options)?;
+        let limits = limits_beside(description, &body);
+        let fixed = statements_fixed(self.documents, &self.fixed);
+        let count = match taken(self.documents, fixed, &limits) {
+            Ok(count) => count,
+            Err(at) => return Err(oversized(alloc, &limits, self.first, self.documents, at)),
+        };
+        let command = command_of(alloc, &self.target, body, front(self.documents, count))?;
+        self.fixed = Some(BuiltFront { count });
+        Ok(command)
     }
 
     fn statements(&self) -> usize {
-        1
+        statements_of(statements_fixed(self.documents, &self.fixed))
     }
 
     fn read_reply(&mut self, alloc: Global, reply: &Document) -> Result<Reading<InsertManyResult>> {
-        Ok(Reading::Done(read_insert_answer(alloc, reply, &self.id)?))
+        let fixed = statements_fixed(self.documents, &self.fixed);
+        read_front(
+            alloc,
+            reply,
+            is_ordered(self.options),
+            self.documents,
+            fixed,
+        )
     }
 
     fn write_concern(&self) -> Feature<&WriteConcern> {
@@ -140,7 +165,24 @@ impl Operation for Insert {
         stays_for_retry()
     }
 
-    ghost law = { λ insert. insert_lawful insert.target insert.document insert.id insert.options };
+    ghost law = { λ insert. insert_lawful insert.target insert.first insert.documents.now insert.options.now };
+}
+
+/// An insert stops at the first document that fails, unless its options say that it goes on.
+fn is_ordered(options: &InsertManyOptions) -> bool
+    ensures { result ≡ is_ordered options.now }
+{
+    options.ordered.unwrap_or(true)
+}
+
+/// The statements that are fixed. Where none are it tells nothing.
+fn statements_of(fixed: Option<usize>) -> usize
+    ensures { IfSome fixed (λ statements. result ≡ statements) }
+{
+    match fixed {
+        Some(statements) => statements,
+        None => 1,
+    }
 }
 
 /// The body of an insert's command into a collection, without the executor's fields.
@@ -161,24 +203,58 @@ pub fn insert_body(
         BYPASS_DOCUMENT_VALIDATION,
         options.bypass_document_validation,
     )?;
-    body.push(
-        keys::ORDERED,
-        Bson::Boolean(options.ordered.unwrap_or(true)),
-    )?;
+    body.push(keys::ORDERED, Bson::Boolean(is_ordered(options)))?;
     push_value(alloc, &mut body, COMMENT, &options.comment)?;
     Ok(body)
 }
 
-/// The one sequence of an insert command, with one document.
-fn one_sequence(alloc: Global, document: Bytes) -> std::result::Result<List<Sequence>, AllocError>
-    ensures { IfOk result (λ sequences. IsOneDocument sequences document) }
+/// The command of an insert of these documents, with a body.
+fn command_of(
+    alloc: Global,
+    target: &OperationTarget,
+    body: Document,
+    documents: &[OwnDocument],
+) -> std::result::Result<Command, AllocError>
+    ensures name { IfOk result (λ made. made.name ≡ Inserts) }
+    ensures database { IfOk result (λ made. made.database ≡ database_of target.now) }
+    ensures body { IfOk result (λ made. made.body ≡ body) }
+    ensures sequences { IfOk result
+        (λ made. IsOneSequence made.sequences (map (λ own. own.bytes) documents.now)) }
+{
+    Ok(Command {
+        name: CommandName::Insert,
+        database: Text::from_str(alloc, target.database())?,
+        body,
+        sequences: one_sequence(alloc, documents)?,
+    })
+}
+
+/// The one sequence of an insert command, with these documents.
+fn one_sequence(
+    alloc: Global,
+    documents: &[OwnDocument],
+) -> std::result::Result<List<Sequence>, AllocError>
+    ensures { IfOk result (λ sequences. IsOneSequence sequences (map (λ own. own.bytes) documents.now)) }
 {
     let name = Text::from_str(alloc, keys::DOCUMENTS)?;
-    let mut documents = List::new(alloc);
-    documents.push(document)?;
+    let documents = copies_of(alloc, documents)?;
     let mut sequences = List::new(alloc);
     sequences.push(Sequence { name, documents })?;
     Ok(sequences)
+}
+
+/// Copies of the spellings of documents.
+fn copies_of(
+    alloc: Global,
+    documents: &[OwnDocument],
+) -> std::result::Result<List<Bytes>, AllocError>
+    ensures { IfOk result (λ copies. copies ≡ map (λ own. own.bytes) documents.now) }
+{
+    let mut copies = List::with_capacity(alloc, documents.len())?;
+    for own in documents {
+        copies.push(own.bytes.try_clone(alloc)?)?;
+    }
+    Ok(copies)
 }
 
 /// The fields of a reply: the count of inserted documents, the write errors, the write concern error, the
@@ -191,17 +267,49 @@ pub(crate) struct InsertReply {
     labels: List<Text>,
 }
 
-/// What the reply to the insert of a document with this id comes to: the id, the failures that it tells of, or
-/// that it breaks its form.
-pub(crate) fn read_insert_answer(
+/// What the reply to an insert comes to whose command has so many of the documents as are fixed: a first page that is
+/// the whole answer. Where none are fixed it tells nothing.
+fn read_front(
     alloc: Global,
     reply: &Document,
-    id: &Bson,
+    ordered: bool,
+    documents: &[OwnDocument],
+    fixed: Option<usize>,
+) -> Result<Reading<InsertManyResult>>
+    ensures { IfSome fixed (λ statements.
+        ReadsAlone (ReadsInsert ordered (take statements documents.now)) (Ok reply.now ∷ []) result) }
+{
+    match fixed {
+        Some(statements) => read_done(alloc, reply, ordered, front(documents, statements)),
+        None => read_done(alloc, reply, ordered, documents),
+    }
+}
+
+/// What the reply to an insert of these documents comes to, as the whole answer.
+fn read_done(
+    alloc: Global,
+    reply: &Document,
+    ordered: bool,
+    documents: &[OwnDocument],
+) -> Result<Reading<InsertManyResult>>
+    ensures { ReadsAlone (ReadsInsert ordered documents.now) (Ok reply.now ∷ []) result }
+{
+    let output = read_insert_answer(alloc, reply, ordered, documents)?;
+    Ok(Reading::Done(output))
+}
+
+/// What the reply to an insert of these documents comes to: the ids of all of them, the failures that it tells of
+/// with the ids of the others, or that it breaks its form.
+fn read_insert_answer(
+    alloc: Global,
+    reply: &Document,
+    ordered: bool,
+    documents: &[OwnDocument],
 ) -> Result<InsertManyResult>
-    ensures { ReadsInsert id.now reply.now result }
+    ensures { ReadsInsert ordered documents.now reply.now result }
 {
     match insert_reply(alloc, reply) {
-        Ok(found) => answer_of(alloc, found, id),
+        Ok(found) => answer_of(alloc, found, ordered, documents),
         Err(Unread::Wrong) => Err(odd_insert(alloc)),
         Err(Unread::Memory) => Err(Error::from_kind(ErrorKind::Memory)),
     }
@@ -225,25 +333,30 @@ fn insert_reply(alloc: Global, reply: &Document) -> std::result::Result<InsertRe
 }
 
 /// The answer of a reply by its fields.
-fn answer_of(alloc: Global, found: InsertReply, id: &Bson) -> Result<InsertManyResult>
-    ensures { AnswersOne id.now found result }
+fn answer_of(
+    alloc: Global,
+    found: InsertReply,
+    ordered: bool,
+    documents: &[OwnDocument],
+) -> Result<InsertManyResult>
+    ensures { AnswersFields ordered documents.now found result }
 {
-    if !counts_one(found.n, found.errors.as_slice()) {
+    let told = counts_all(alloc, ordered, documents.len(), &found)?;
+    if !told {
         return Err(odd_insert(alloc));
     }
     if is_unfailed(&found) {
-        return one_id(alloc, id);
+        return all_ids(alloc, documents);
     }
-    Err(failed_insert(alloc, found))
+    Err(failure_of(alloc, found, ordered, documents))
 }
 
-/// The answer that names one id.
-fn one_id(alloc: Global, id: &Bson) -> Result<InsertManyResult>
-    ensures ok { IfOk result (λ output. output ≡ one_id id.now) }
+/// The answer that names the ids of all documents.
+fn all_ids(alloc: Global, documents: &[OwnDocument]) -> Result<InsertManyResult>
+    ensures ok { IfOk result (λ output. output ≡ all_ids documents.now) }
     ensures err { IfErr result (λ error. kind_of error ≡ Memory) }
 {
-    let mut inserted_ids = ByIndex::new(alloc);
-    inserted_ids.insert(0, id.try_clone(alloc)?)?;
+    let inserted_ids = ids_of(alloc, documents)?;
     Ok(InsertManyResult { inserted_ids })
 }
 
@@ -254,20 +367,89 @@ fn is_unfailed(found: &InsertReply) -> bool
     found.errors.is_empty() && found.concern.is_none()
 }
 
-/// Whether the counts are those of one document, which was inserted or not.
-fn counts_one(n: i64, errors: &[IndexedWriteError]) -> bool
-    ensures { result ≡ counts_one n errors.now }
+/// Whether the counts are those of an insert of so many documents.
+fn counts_all(
+    alloc: Global,
+    ordered: bool,
+    count: usize,
+    found: &InsertReply,
+) -> std::result::Result<bool, AllocError>
+    ensures { IfOk result (λ told. told ≡ counts_all ordered count found.now.n found.now.errors) }
+{
+    let errors = found.errors.as_slice();
+    if ordered {
+        Ok(counts_ordered(count, found, errors))
+    } else {
+        counts_unordered(alloc, count, found, errors)
+    }
+}
+
+/// Whether all documents were inserted, or those before the one that failed.
+fn counts_ordered(count: usize, found: &InsertReply, errors: &[IndexedWriteError]) -> bool
+    ensures { result ≡ counts_ordered count found.now.n errors.now }
 {
     match errors {
-        [] => n == 1,
-        [error] => n == 0 && error.index == 0,
+        [] => counts(found, count),
+        [error] => error.index < count && counts(found, error.index),
         _ => false,
     }
 }
 
-/// The error of the failures that a reply tells of.
-fn failed_insert(alloc: Global, found: InsertReply) -> Error
-    ensures { IsNew (InsertMany (failures_of found)) found.labels result }
+/// Whether a reply counts so many documents.
+fn counts(found: &InsertReply, count: usize) -> bool
+    ensures { result ≡ int_eq found.now.n (pos count) }
+{
+    found.n as i128 == count as i128
+}
+
+/// Whether all documents were inserted but those that failed, each of which has one write error.
+fn counts_unordered(
+    alloc: Global,
+    count: usize,
+    found: &InsertReply,
+    errors: &[IndexedWriteError],
+) -> std::result::Result<bool, AllocError>
+    ensures { IfOk result (λ told. told ≡ counts_unordered count found.now.n errors.now) }
+{
+    let apart = are_apart(alloc, errors)?;
+    if apart {
+        Ok(counts_others(count, found, errors))
+    } else {
+        Ok(false)
+    }
+}
+
+/// The same where no two write errors are of one document.
+fn counts_others(count: usize, found: &InsertReply, errors: &[IndexedWriteError]) -> bool
+    ensures { result ≡ (list_all (is_below count) errors.now
+        && int_eq (found.now.n +ℤ pos (length errors.now)) (pos count)) }
+{
+    are_below(count, errors) && adds_up(found, errors.len(), count)
+}
+
+/// Whether those that a reply counts and those that failed are so many together.
+fn adds_up(found: &InsertReply, failed: usize, count: usize) -> bool
+    ensures { result ≡ int_eq (found.now.n +ℤ pos failed) (pos count) }
+{
+    found.n as i128 + failed as i128 == count as i128
+}
+
+/// The error of the failures that a reply tells of, with the ids of the documents that were inserted.
+fn failure_of(alloc: Global, found: InsertReply, ordered: bool, documents: &[OwnDocument]) -> Error
+    ensures { IsNew (InsertMany (failures_of ordered documents.now found)) found.labels result }
+{
+    match inserted_ids(alloc, ordered, found.errors.as_slice(), documents) {
+        Ok(ids) => failed_insert(alloc, found, ids),
+        Err(_refused) => {
+            drop(found);
+            Error::from_kind(ErrorKind::Memory)
+        }
+    }
+}
+
+/// The error of the failures that a reply tells of, with these ids.
+fn failed_insert(alloc: Global, found: InsertReply, inserted_ids: ByIndex<Bson>) -> Error
+    ensures { IsNew (InsertMany (failures_with inserted_ids found)) found.labels result }
 {
     let InsertReply {
         errors,
@@ -278,7 +460,7 @@ fn failed_insert(alloc: Global, found: InsertReply) -> Error
     let failures = InsertManyError {
         write_errors: errors_there(errors),
         write_concern_error: concern,
-        inserted_ids: ByIndex::new(alloc),
+        inserted_ids,
     };
     Error::new(alloc, ErrorKind::InsertMany(failures), labels.as_slice())
 }

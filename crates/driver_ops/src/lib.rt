@@ -2,6 +2,7 @@
 #![tactic(auto)]
 
 mod answer;
+mod built_front;
 mod command;
 mod concern;
 mod defaults;
@@ -10,10 +11,13 @@ mod failed_write;
 mod feature;
 mod find_and_modify;
 mod insert;
+mod insert_front;
+mod inserted;
 mod keys;
 pub mod laws;
 mod operation;
 mod option_fields;
+mod own_document;
 mod reply_fields;
 mod response;
 mod spelling;
@@ -34,6 +38,7 @@ pub use find_and_modify::{FindAndModify, find_and_modify_body};
 pub use insert::{Insert, insert_body};
 pub use keys::{BASE_BACKOFF, CODE_NAME, ERROR_INFO};
 pub use operation::{Operation, Reading};
+pub use own_document::OwnDocument;
 pub use response::{CommandResponse, read_response};
 pub use spelling::encode_document;
 pub use target::{Collection, Database, OperationTarget};

@@ -1,0 +1,93 @@
+-- The ids of documents by their indexes, where they were inserted.
+use Rattle.std.proofs.Common.{◌≡◌, ℕ, zero, suc, ◌+◌, ◌-◌, ◌<◌, ◌≤◌, List, [], ◌∷◌, Bool, true, not, ◌&&◌, length, drop, take, get_or, nat_eq, arith, refl, sym, ap, ◌∙◌}
+use Rattle.std.proofs.Math.Seq.{drop-length}
+use Rattle.std.proofs.lemmas.Bool.{le-ltb, lt-ltb}
+use Rattle.std.proofs.lemmas.List.{at_drop_all, drop_more}
+use Rattle.std.specs.Prelude.{if◌then◌else◌, nat_lt}
+use Rattle.std.specs.FinMap as finite
+use Rattle.std.specs.HashSet as bag
+use Rattle.std.specs.Ordering.{nat_cmp}
+use Rattle.bson_lite.specs.declared.bson.Bson.{Bson}
+use Rattle.driver_error.specs.declared.write.IndexedWriteError.{IndexedWriteError}
+use Rattle.driver_ops.specs.declared.own_document.OwnDocument.{OwnDocument}
+use Rattle.driver_ops.specs.InsertAnswers.{ids_where, is_inserted}
+use Rattle.driver_ops.proofs.FailedStatements.{Indexes}
+
+-- the same documents have the same ids
+pub ids_alike : (these those : ℕ → Bool) → ((index : ℕ) → these index ≡ those index) → (documents : List OwnDocument) (at : ℕ)
+    → ids_where these at documents ≡ ids_where those at documents
+unfolding ids_where
+ids_alike these those same [] at = refl
+ids_alike these those same (own ∷ rest) at =
+    ap (λ (here : Bool). if here then finite.insert (ids_where these (at + 1) rest) at own.id else ids_where these (at + 1) rest) (same at)
+    ∙ ap (λ (ids : finite.FinMap nat_cmp Bson). if those at then finite.insert ids at own.id else ids) (ids_alike these those same rest (at + 1))
+
+-- nothing failed
+pub none_failed : (failed : Indexes) → bag.IsEmpty failed → (index : ℕ) → not (bag.contains nat_eq failed index) ≡ true
+none_failed failed none index = rw none refl
+
+-- no document is left, and none has an id
+pub ids_none : (inserted : ℕ → Bool) (documents : List OwnDocument) → finite.empty ≡ ids_where inserted (length documents) (drop (length documents) documents)
+unfolding ids_where
+ids_none inserted documents = rw (drop-length documents) refl
+
+-- the document before those whose ids were put
+pub ids_more : (inserted : ℕ → Bool) (documents : List OwnDocument) (at : ℕ) (own : OwnDocument) (ids now : finite.FinMap nat_cmp Bson) → 0 < at → at ≤ length documents
+    → own ≡ get_or documents (at - 1) own → ids ≡ ids_where inserted at (drop at documents)
+    → now ≡ (if inserted (at - 1) then finite.insert ids (at - 1) own.id else ids) → now ≡ ids_where inserted (at - 1) (drop (at - 1) documents)
+unfolding ids_where
+ids_more inserted documents at own ids now some within read so_far puts =
+    let next : at - 1 + 1 ≡ at = omega arith in
+    let left : drop (at - 1) documents ≡ own ∷ drop at documents =
+    drop_more documents (at - 1) own (omega arith)
+    ∙ ap (λ found. found ∷ drop (at - 1 + 1) documents) (sym read)
+    ∙ ap (λ n. own ∷ drop n documents) next in
+    puts
+    ∙ ap (λ (found : finite.FinMap nat_cmp Bson). if inserted (at - 1) then finite.insert found (at - 1) own.id else found)
+    (so_far ∙ ap (λ n. ids_where inserted n (drop at documents)) (sym next))
+    ∙ ap (λ documents_left. ids_where inserted (at - 1) documents_left) (sym left)
+
+-- none of documents that stand behind an index
+ids_behind : (inserted : ℕ → Bool) (stop at : ℕ) (documents : List OwnDocument) → stop ≤ at
+    → ids_where (λ index. nat_lt index stop && inserted index) at documents ≡ finite.empty
+unfolding ids_where
+ids_behind inserted stop at [] behind = refl
+ids_behind inserted stop at (own ∷ rest) behind =
+    let others = ids_where (λ index. nat_lt index stop && inserted index) (at + 1) rest in
+    ap (λ (here : Bool). if here && inserted at then finite.insert others at own.id else others) (le-ltb at stop behind)
+    ∙ ids_behind inserted stop (at + 1) rest (omega arith)
+
+-- those of documents before an index are those of the front
+ids_front : (inserted : ℕ → Bool) (stop at count : ℕ) (documents : List OwnDocument) → stop ≡ at + count
+    → ids_where (λ index. nat_lt index stop && inserted index) at documents ≡ ids_where inserted at (take count documents)
+unfolding ids_where
+ids_front inserted stop at zero documents is = ids_behind inserted stop at documents (omega arith)
+ids_front inserted stop at (suc count) [] is = refl
+ids_front inserted stop at (suc count) (own ∷ rest) is =
+    let others = ids_where (λ index. nat_lt index stop && inserted index) (at + 1) rest in
+    ap (λ (here : Bool). if here && inserted at then finite.insert others at own.id else others) (lt-ltb at stop (omega arith))
+    ∙ ap (λ (ids : finite.FinMap nat_cmp Bson). if inserted at then finite.insert ids at own.id else ids)
+    (ids_front inserted stop (at + 1) count rest (omega arith))
+
+-- an ordered insert stops at a write error
+ids_stop : (error : IndexedWriteError) (errors : List IndexedWriteError) (documents : List OwnDocument)
+    → ids_where (is_inserted true (error ∷ errors)) 0 documents ≡ ids_where (is_inserted true errors) 0 (take error.index documents)
+ids_stop error errors documents = ids_front (is_inserted true errors) error.index 0 error.index documents (omega arith)
+
+-- one write error less that is left
+pub ids_before : (errors : List IndexedWriteError) (at : ℕ) (error : IndexedWriteError) (before now : List OwnDocument) (all : finite.FinMap nat_cmp Bson)
+    → at < length errors → error ≡ get_or errors at error → now ≡ take error.index before
+    → ids_where (is_inserted true (drop at errors)) 0 before ≡ all → ids_where (is_inserted true (drop (at + 1) errors)) 0 now ≡ all
+ids_before errors at error before now all within read is so_far =
+    let rest = drop (at + 1) errors in
+    let left : drop at errors ≡ error ∷ rest = drop_more errors at error within ∙ ap (λ first. first ∷ rest) (sym read) in
+    ap (λ own. ids_where (is_inserted true rest) 0 own) is
+    ∙ sym (ids_stop error rest before)
+    ∙ ap (λ errors_left. ids_where (is_inserted true errors_left) 0 before) (sym left)
+    ∙ so_far
+
+-- none is left
+pub ids_all : (errors : List IndexedWriteError) (at : ℕ) (inserted : List OwnDocument) (all : finite.FinMap nat_cmp Bson) → length errors ≤ at
+    → ids_where (is_inserted true (drop at errors)) 0 inserted ≡ all → ids_where (λ index. true) 0 inserted ≡ all
+ids_all errors at inserted all past so_far =
+    sym (at_drop_all (λ errors_left. ids_where (is_inserted true errors_left) 0 inserted) errors at past) ∙ so_far

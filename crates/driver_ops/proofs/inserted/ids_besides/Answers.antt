@@ -1,0 +1,20 @@
+-- A place further to the front.
+use Rattle.std.proofs.Common.{◌≤◌, arith, length, nat_eq, not, ◌∙◌}
+use Rattle.std.specs.HashSet.{contains}
+use Rattle.driver_ops.proofs.UnfailedIds.{ids_more, ids_none}
+use Rattle.driver_ops.proofs.inserted.ids_besides.Goals as goal
+
+pub documents-init : goal.documents-init
+documents-init c = record {
+  within = omega arith;
+  found = c.new-ids.ensures ∙ ids_none (λ at. not (contains nat_eq c.args.failed.now at)) c.args.documents.now;
+}
+
+pub documents-preserved : goal.documents-preserved
+documents-preserved c =
+    let within : c.documents.at ≤ length c.args.documents.now = c.documents.invariant.within in
+    record {
+      within = omega arith;
+      found = ids_more (λ at. not (contains nat_eq c.args.failed.now at)) c.args.documents.now c.documents.at c.index-documents-at.result c.documents.ids c.put_id.new.ids
+          c.documents-test.true within c.index-documents-at.is c.documents.invariant.found c.in_ok-put_id.ensures;
+    }
