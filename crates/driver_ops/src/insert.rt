@@ -8,7 +8,7 @@ ghost use Rattle.driver_error.specs.Error.{kind_of};
 ghost use Rattle.driver_error.specs.LabelTexts.{no_labels};
 ghost use Rattle.driver_link.specs.declared.command.CommandName.TheVariants.{Insert as Inserts};
 ghost use Rattle.driver_ops.specs.InsertAnswers.{ReadsInsert, all_ids, counts_all, counts_ordered, counts_unordered, errors_there, failures_of, insert_reply, is_below, is_unfailed, odd_insert_text};
-ghost use Rattle.driver_ops.specs.Inserts.{IsOneSequence, insert_command, is_ordered};
+ghost use Rattle.driver_ops.specs.Inserts.{IsOneSequence, insert_command, insert_is_ordered};
 ghost use Rattle.driver_ops.specs.inside.InsertAnswers.{AnswersFields, failures_with};
 ghost use Rattle.driver_ops.specs.inside.InsertFronts.{built_count};
 ghost use Rattle.driver_ops.specs.inside.Readings.{Gives};
@@ -127,7 +127,7 @@ impl Operation for Insert<'_> {
         read_front(
             alloc,
             reply,
-            is_ordered(self.options),
+            insert_is_ordered(self.options),
             self.documents,
             fixed,
         )
@@ -169,8 +169,8 @@ impl Operation for Insert<'_> {
 }
 
 /// An insert stops at the first document that fails, unless its options say that it goes on.
-fn is_ordered(options: &InsertManyOptions) -> bool
-    ensures { result ≡ is_ordered options.now }
+fn insert_is_ordered(options: &InsertManyOptions) -> bool
+    ensures { result ≡ insert_is_ordered options.now }
 {
     options.ordered.unwrap_or(true)
 }
@@ -203,7 +203,7 @@ pub fn insert_body(
         BYPASS_DOCUMENT_VALIDATION,
         options.bypass_document_validation,
     )?;
-    body.push(keys::ORDERED, Bson::Boolean(is_ordered(options)))?;
+    body.push(keys::ORDERED, Bson::Boolean(insert_is_ordered(options)))?;
     push_value(alloc, &mut body, COMMENT, &options.comment)?;
     Ok(body)
 }

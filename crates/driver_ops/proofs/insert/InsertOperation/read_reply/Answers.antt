@@ -3,15 +3,15 @@ use Rattle.std.proofs.Common.{ℕ, Bool, [], ◌∷◌, take, subst}
 use Rattle.std.specs.Prelude.{IfSome, Option, Ok}
 use Rattle.driver_ops.specs.InsertAnswers.{ReadsInsert}
 use Rattle.driver_ops.specs.InsertSpec.{ReadsAlone}
-use Rattle.driver_ops.specs.Inserts.{is_ordered}
+use Rattle.driver_ops.specs.Inserts.{insert_is_ordered}
 use Rattle.driver_ops.proofs.insert.InsertOperation.read_reply.Goals as goal
 
 pub returns-clause-reads : goal.returns-clause-reads
 returns-clause-reads c =
     let insert = c.args.self.now in
     subst (λ (fixed : Option ℕ). IfSome fixed (λ statements.
-    ReadsAlone (ReadsInsert (is_ordered insert.options.now) (take statements insert.documents.now)) (Ok c.args.reply.now ∷ []) c.read_front.result))
+    ReadsAlone (ReadsInsert (insert_is_ordered insert.options.now) (take statements insert.documents.now)) (Ok c.args.reply.now ∷ []) c.read_front.result))
     c.statements_fixed-fixed.ensures.value
     (subst (λ (ordered : Bool). IfSome c.statements_fixed-fixed.result (λ statements.
     ReadsAlone (ReadsInsert ordered (take statements insert.documents.now)) (Ok c.args.reply.now ∷ []) c.read_front.result))
-    c.is_ordered.ensures c.read_front.ensures)
+    c.insert_is_ordered.ensures c.read_front.ensures)
