@@ -52,7 +52,7 @@ TakesFront limits documents (Some fixed) statements = (statements ≡ fixed) × 
 -- a document is longer than a connection takes
 unfoldable pub document_text : ℕ → ℕ → List ℕ
 document_text most size =
-    codes "insert document must be within " ++ decimal most ++ codes " bytes, but document provided is " ++ decimal size ++ codes " bytes"
+    codes "insert document must be within " ++ (decimal most ++ (codes " bytes, but document provided is " ++ (decimal size ++ codes " bytes")))
 
 -- a document at an index of the caller's list fits into no command, though it is not too long by itself
 unfoldable pub position_text : ℕ → List ℕ

@@ -182,7 +182,6 @@ fn push_size_text(
 }
 
 /// Appends the message about a document of `size` bytes on a connection that takes `most`.
-#[tactic(auto, unfolding(crate::specs::InsertFronts::document_text))]
 fn push_document_text(out: &mut String, most: u64, size: u64) -> Result<(), AllocError>
     ensures { OnOk result (string_bytes out.new ≡ string_bytes out.old ++ document_text most size) }
 {

@@ -32,7 +32,11 @@ pub(crate) fn are_apart(alloc: Global, errors: &[IndexedWriteError]) -> Result<b
 fn indexes_of(alloc: Global, errors: &[IndexedWriteError]) -> Result<Vec<usize>, AllocError>
     ensures { IfOk result (λ indexes. indexes.items ≡ indexes_of errors.now) }
 {
-    errors.iter().map(|error| error.index).collect(alloc)
+    let mut indexes = Vec::new(alloc);
+    for error in errors {
+        indexes.push(error.index)?;
+    }
+    Ok(indexes)
 }
 
 /// Whether no number stands twice, in one pass.

@@ -3,9 +3,9 @@ use Rattle.std.proofs.Common.{◌∙◌}
 use Rattle.driver_ops.proofs.InsertFronts.{size_past, size_there}
 use Rattle.driver_ops.proofs.insert_front.size_at.Goals as goal
 
-pub returns-then-at-len : goal.returns-then-at-len
-returns-then-at-len c =
-    c.size.ensures ∙ size_there c.args.documents.now c.args.at c.index-documents-at.result c.if-at-len.true c.index-documents-at.is
+pub returns-then-at-documents : goal.returns-then-at-documents
+returns-then-at-documents c =
+    c.size.ensures ∙ size_there c.args.documents.now c.args.at c.index-documents-at.result c.if-at-documents.true c.index-documents-at.is
 
-pub returns-else-at-len : goal.returns-else-at-len
-returns-else-at-len c = size_past c.args.documents.now c.args.at c.if-at-len.false
+pub returns-else-at-documents : goal.returns-else-at-documents
+returns-else-at-documents c = size_past c.args.documents.now c.args.at c.if-at-documents.false

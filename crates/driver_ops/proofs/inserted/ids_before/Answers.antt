@@ -6,8 +6,8 @@ use Rattle.driver_ops.proofs.inserted.ids_before.Goals as goal
 
 pub loop-error-preserved : goal.loop-error-preserved
 loop-error-preserved c =
-    ids_before c.args.errors.now c.loop-error.error-index c.error-item.result c.loop-error.inserted.now c.front.result.now
-    (ids_where (is_inserted true c.args.errors.now) 0 c.args.documents.now) c.loop-error-test.true c.error-item.is c.front.ensures c.loop-error.invariant
+    ids_before c.args.errors.now c.loop-error.error-index c.error-item.result c.loop-error.inserted.now c.front-inserted.result.now
+    (ids_where (is_inserted true c.args.errors.now) 0 c.args.documents.now) c.loop-error-test.true c.error-item.is c.front-inserted.ensures c.loop-error.invariant
 
 pub returns : goal.returns
 returns c =

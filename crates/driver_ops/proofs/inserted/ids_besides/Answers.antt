@@ -1,6 +1,9 @@
 -- A place further to the front.
-use Rattle.std.proofs.Common.{◌≤◌, arith, length, nat_eq, not, ◌∙◌}
+use Rattle.std.proofs.Common.{◌≡◌, ◌-◌, ◌≤◌, arith, length, nat_eq, not, subst, sym, ◌∙◌}
+use Rattle.std.specs.Prelude.{if◌then◌else◌}
+use Rattle.std.specs.FinMap as finite
 use Rattle.std.specs.HashSet.{contains}
+use Rattle.driver_ops.specs.declared.own_document.OwnDocument.{OwnDocument}
 use Rattle.driver_ops.proofs.UnfailedIds.{ids_more, ids_none}
 use Rattle.driver_ops.proofs.inserted.ids_besides.Goals as goal
 
@@ -16,5 +19,7 @@ documents-preserved c =
     record {
       within = omega arith;
       found = ids_more (λ at. not (contains nat_eq c.args.failed.now at)) c.args.documents.now c.documents.at c.index-documents-at.result c.documents.ids c.put_id.new.ids
-          c.documents-test.true within c.index-documents-at.is c.documents.invariant.found c.in_ok-put_id.ensures;
+          c.documents-test.true within c.index-documents-at.is c.documents.invariant.found
+          (subst (λ (own : OwnDocument). c.put_id.new.ids ≡ (if not (contains nat_eq c.args.failed.now (c.documents.at - 1)) then finite.insert c.documents.ids (c.documents.at - 1) own.id else c.documents.ids))
+          (sym c.index-documents-at.is) c.in_ok-put_id.ensures);
     }

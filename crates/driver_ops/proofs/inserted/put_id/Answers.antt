@@ -9,8 +9,8 @@ returns-then-contains c =
     let old = c.args.ids.now in
     sym (ap (λ (known : Bool). if not known then finite.insert old c.args.at c.args.id.now else old) (sym c.contains.ensures ∙ c.if-contains.true))
 
-pub returns-else-contains : goal.returns-else-contains
-returns-else-contains c =
+pub returns-in_ok-try_clone : goal.returns-in_ok-try_clone
+returns-in_ok-try_clone c =
     let old = c.args.ids.now in
     subst (λ ids. OnOk c.insert.result (c.insert.new.self ≡ ids))
     (ap (λ id. finite.insert old c.args.at id) c.in_ok-try_clone.ensures.same
