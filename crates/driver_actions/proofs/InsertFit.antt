@@ -1,5 +1,5 @@
 -- An insert whose document fits into a command alone is refused no build.
-use Rattle.std.proofs.Common.{◌≡◌, ℕ, List, [], ◌∷◌, length, sym, ap, subst, arith}
+use Rattle.std.proofs.Common.{◌≡◌, ℕ, List, [], ◌∷◌, length, sym, ap, subst, arith, inl, inr}
 use Rattle.std.specs.Prelude.{Option, Some}
 use Rattle.bson_lite.specs.declared.bson.Bson.{Bson}
 use Rattle.bson_lite.specs.declared.bson.ObjectId.{ObjectId}

@@ -81,10 +81,10 @@ executed_runs spec which asked place before now from count fixed fixed_now execu
 }
 
 -- what holds of the parts that an insert was made with holds of those that it was made from
-pub of_insert : {made target : OperationTarget} {at first : ℕ} {held own : List OwnDocument} {had options : InsertManyOptions}
-    (P : OperationTarget → ℕ → List OwnDocument → InsertManyOptions → Type 0) → made ≡ target → at ≡ first → held ≡ own → had ≡ options → P made at held had → P target first own options
-of_insert {made = made} {at = at} {held = held} {own = own} {first = first} {options = options} P is_target is_first is_own is_options holds =
-    subst (λ t. P t first own options) is_target (subst (λ f. P made f own options) is_first (subst (λ d. P made at d options) is_own (subst (P made at held) is_options holds)))
+pub of_insert : {made target : OperationTarget} {at index : ℕ} {held own : List OwnDocument} {had options : InsertManyOptions}
+    (P : OperationTarget → ℕ → List OwnDocument → InsertManyOptions → Type 0) → made ≡ target → at ≡ index → held ≡ own → had ≡ options → P made at held had → P target index own options
+of_insert {made = made} {at = at} {index = index} {held = held} {own = own} {options = options} P is_target is_first is_own is_options holds =
+    subst (λ t. P t index own options) is_target (subst (λ f. P made f own options) is_first (subst (λ d. P made at d options) is_own (subst (P made at held) is_options holds)))
 
 -- the same of an update
 pub of_update : {made target : OperationTarget} {held filter : List (Pair Bson)} {kept change : UpdateOrReplace} {all multi : Bool} {had options : UpdateOptions}

@@ -31,16 +31,6 @@ returns-in_err-namespace-clause-cause g c =
     let before = moment_of g.S.SessionStore.tells g.L.Link.tells g.K.Clock.tells g.R.Rng.stream c.args.client.now c.args.outside.now in
     caused_exit before (inserts c.args.namespace.now c.args.document.now c.args.options.now) c.from_residual.result c.from_residual.ensures.1
 
-pub returns-in_err-options-clause-makes : goal.returns-in_err-options-clause-makes
-returns-in_err-options-clause-makes g c =
-    let before = moment_of g.S.SessionStore.tells g.L.Link.tells g.K.Clock.tells g.R.Rng.stream c.args.client.now c.args.outside.now in
-    unmade_exit before (inserts c.args.namespace.now c.args.document.now c.args.options.now) c.args.place c.from_residual-in_err-options.result c.from_residual-in_err-options.ensures.1
-
-pub returns-in_err-options-clause-cause : goal.returns-in_err-options-clause-cause
-returns-in_err-options-clause-cause g c =
-    let before = moment_of g.S.SessionStore.tells g.L.Link.tells g.K.Clock.tells g.R.Rng.stream c.args.client.now c.args.outside.now in
-    caused_exit before (inserts c.args.namespace.now c.args.document.now c.args.options.now) c.from_residual-in_err-options.result c.from_residual-in_err-options.ensures.1
-
 pub returns-in_err-own-clause-makes : goal.returns-in_err-own-clause-makes
 returns-in_err-own-clause-makes g c =
     let before = moment_of g.S.SessionStore.tells g.L.Link.tells g.K.Clock.tells g.R.Rng.stream c.args.client.now c.args.outside.now in
@@ -61,7 +51,7 @@ returns-in_err-own-clause-cause g c =
 pub run_single-requires-clause-bodies : goal.run_single-requires-clause-bodies
 run_single-requires-clause-bodies g c =
     let owns = c.in_ok-own.ensures.owns in
-    insert_has c.args.namespace.now c.args.document.now owns.sent c.args.options.now c.args.place c.in_ok-own.own.bytes c.in_ok-own.own.id owns.spelled owns.document.found (c.new-insert.ensures.target ∙ ap (λ n. in_collection n) c.in_ok-namespace.ensures.same) c.new-insert.ensures.document c.new-insert.ensures.id (c.new-insert.ensures.options ∙ c.in_ok-options.ensures.same)
+    insert_has c.args.namespace.now c.args.document.now owns.sent c.args.options.now c.args.place c.in_ok-own.own.document owns.spelled owns.document.found (c.new-insert.ensures.target ∙ ap (λ n. in_collection n) c.in_ok-namespace.ensures.same) c.new-insert.ensures.first c.new-insert.ensures.documents c.new-insert.ensures.options
 
 pub returns-in_err-run_single-clause-makes : goal.returns-in_err-run_single-clause-makes
 returns-in_err-run_single-clause-makes g c =
@@ -70,8 +60,8 @@ returns-in_err-run_single-clause-makes g c =
     let now = moment_of g.S.SessionStore.tells g.L.Link.tells g.K.Clock.tells g.R.Rng.stream c.run_single.new.client c.run_single.new.outside in
     let owns = c.in_ok-own.ensures.owns in
     let p = err_from_is_err_and c.from_residual-in_err-run_single.result c.from_residual-in_err-run_single.ensures.1 in
-    rw (p.1, p.2) (inr (insert_made before mid.store mid.client.options c.in_ok-own.ensures.options c.args.namespace.now c.args.document.now c.args.options.now c.args.place c.in_ok-own.own.bytes c.in_ok-own.own.id c.in_ok-own.own.answer owns c.in_default.ensures now (Err _) (Err _)
-    (insert_ran c.args.namespace.now c.args.document.now owns.sent c.args.options.now c.args.place c.in_ok-own.own.bytes c.in_ok-own.own.id owns.spelled owns.document.found (c.new-insert.ensures.target ∙ ap (λ n. in_collection n) c.in_ok-namespace.ensures.same) c.new-insert.ensures.document c.new-insert.ensures.id (c.new-insert.ensures.options ∙ c.in_ok-options.ensures.same) mid now (Err _) c.in_err-run_single.ensures.runs) refl))
+    rw (p.1, p.2) (inr (insert_made before mid.store mid.client.options c.in_ok-own.ensures.options c.args.namespace.now c.args.document.now c.args.options.now c.args.place c.in_ok-own.own.document c.in_ok-own.own.answer owns c.in_default.ensures now (Err _) (Err _)
+    (insert_ran c.args.namespace.now c.args.document.now owns.sent c.args.options.now c.args.place c.in_ok-own.own.document owns.spelled owns.document.found (c.new-insert.ensures.target ∙ ap (λ n. in_collection n) c.in_ok-namespace.ensures.same) c.new-insert.ensures.first c.new-insert.ensures.documents c.new-insert.ensures.options mid now (Err _) c.in_err-run_single.ensures.runs) refl))
 
 pub returns-in_err-run_single-clause-cause : goal.returns-in_err-run_single-clause-cause
 returns-in_err-run_single-clause-cause g c =
@@ -80,8 +70,8 @@ returns-in_err-run_single-clause-cause g c =
     let now = moment_of g.S.SessionStore.tells g.L.Link.tells g.K.Clock.tells g.R.Rng.stream c.run_single.new.client c.run_single.new.outside in
     let owns = c.in_ok-own.ensures.owns in
     let p = err_from_is_err_and c.from_residual-in_err-run_single.result c.from_residual-in_err-run_single.ensures.1 in
-    rw (p.1, p.2) (made_caused before now (inserts c.args.namespace.now c.args.document.now c.args.options.now) c.args.place (Err _) (insert_made before mid.store mid.client.options c.in_ok-own.ensures.options c.args.namespace.now c.args.document.now c.args.options.now c.args.place c.in_ok-own.own.bytes c.in_ok-own.own.id c.in_ok-own.own.answer owns c.in_default.ensures now (Err _) (Err _)
-    (insert_ran c.args.namespace.now c.args.document.now owns.sent c.args.options.now c.args.place c.in_ok-own.own.bytes c.in_ok-own.own.id owns.spelled owns.document.found (c.new-insert.ensures.target ∙ ap (λ n. in_collection n) c.in_ok-namespace.ensures.same) c.new-insert.ensures.document c.new-insert.ensures.id (c.new-insert.ensures.options ∙ c.in_ok-options.ensures.same) mid now (Err _) c.in_err-run_single.ensures.runs) refl))
+    rw (p.1, p.2) (made_caused before now (inserts c.args.namespace.now c.args.document.now c.args.options.now) c.args.place (Err _) (insert_made before mid.store mid.client.options c.in_ok-own.ensures.options c.args.namespace.now c.args.document.now c.args.options.now c.args.place c.in_ok-own.own.document c.in_ok-own.own.answer owns c.in_default.ensures now (Err _) (Err _)
+    (insert_ran c.args.namespace.now c.args.document.now owns.sent c.args.options.now c.args.place c.in_ok-own.own.document owns.spelled owns.document.found (c.new-insert.ensures.target ∙ ap (λ n. in_collection n) c.in_ok-namespace.ensures.same) c.new-insert.ensures.first c.new-insert.ensures.documents c.new-insert.ensures.options mid now (Err _) c.in_err-run_single.ensures.runs) refl))
 
 pub returns-clause-makes : goal.returns-clause-makes
 returns-clause-makes g c =
@@ -89,8 +79,8 @@ returns-clause-makes g c =
     let mid = moment_of g.S.SessionStore.tells g.L.Link.tells g.K.Clock.tells g.R.Rng.stream c.own_document.new.client c.args.outside.now in
     let now = moment_of g.S.SessionStore.tells g.L.Link.tells g.K.Clock.tells g.R.Rng.stream c.run_single.new.client c.run_single.new.outside in
     let owns = c.in_ok-own.ensures.owns in
-    insert_made before mid.store mid.client.options c.in_ok-own.ensures.options c.args.namespace.now c.args.document.now c.args.options.now c.args.place c.in_ok-own.own.bytes c.in_ok-own.own.id c.in_ok-own.own.answer owns c.in_default.ensures now (Ok _) (Ok _)
-    (insert_ran c.args.namespace.now c.args.document.now owns.sent c.args.options.now c.args.place c.in_ok-own.own.bytes c.in_ok-own.own.id owns.spelled owns.document.found (c.new-insert.ensures.target ∙ ap (λ n. in_collection n) c.in_ok-namespace.ensures.same) c.new-insert.ensures.document c.new-insert.ensures.id (c.new-insert.ensures.options ∙ c.in_ok-options.ensures.same) mid now (Ok _) c.in_ok-run_single.ensures.runs) refl
+    insert_made before mid.store mid.client.options c.in_ok-own.ensures.options c.args.namespace.now c.args.document.now c.args.options.now c.args.place c.in_ok-own.own.document c.in_ok-own.own.answer owns c.in_default.ensures now (Ok _) (Ok _)
+    (insert_ran c.args.namespace.now c.args.document.now owns.sent c.args.options.now c.args.place c.in_ok-own.own.document owns.spelled owns.document.found (c.new-insert.ensures.target ∙ ap (λ n. in_collection n) c.in_ok-namespace.ensures.same) c.new-insert.ensures.first c.new-insert.ensures.documents c.new-insert.ensures.options mid now (Ok _) c.in_ok-run_single.ensures.runs) refl
 
 pub returns-clause-cause : goal.returns-clause-cause
 returns-clause-cause g c =
