@@ -1,11 +1,11 @@
 #!/usr/bin/env python3
 """Times a small insert: by a call of its own over a link that answers from memory, and as one of a list over the
-model server.
+model server; and the cut of a list of them: the longest front of their sizes, and the build of their batch.
 
 Proves and builds crates/write_bench as the gate's first run does (`rt run`: LLVM, the default level), and runs
-each work with 1,000 and with 10,000 inserts. A figure of a call is what the larger run takes more, over the calls
-that it makes more, so the start of the program is left out; it has in it the insert that is made anew for each call
-and let go again. Processor time is the median of some runs. Where valgrind is installed, callgrind counts
+each work with a number of inserts and with ten times as many: 1,000 for calls, 10,000 for cuts. A figure of a call
+is what the larger run takes more, over the calls that it makes more, so the start of the program is left out; it has
+in it the insert that is made anew for each call and let go again. Processor time is the median of some runs. Where valgrind is installed, callgrind counts
 instructions, and two tables for each work say where those of a call go: the ten functions that take most
 themselves, all instances of a generic function in one row, and the ten that take most with all that they call, each
 instance in a row of its own.
@@ -24,8 +24,13 @@ import tempfile
 
 CRATE = os.path.join(os.path.dirname(os.path.abspath(__file__)), "..", "crates", "write_bench")
 PROGRAM = os.path.join(CRATE, "out", "write_bench")
-WORKS = {"single": "ok={count}", "list": "ok={count} entries={count}"}
-FEW, MANY = 1_000, 10_000
+WORKS = {
+    "single": ("ok={count}", 1_000),
+    "list": ("ok={count} entries={count}", 1_000),
+    "split": ("front={count}", 10_000),
+    "build": ("taken={count}", 10_000),
+}
+TIMES = 10
 ROWS = 10
 
 # A line of callgrind_annotate: a count, its share, and a file with a function, as
@@ -40,7 +45,7 @@ def spent():
 
 def seconds(program, work, count, runs):
     """The processor seconds of a run, which must end well."""
-    wanted = f"{work} {count}: {WORKS[work].format(count=count)}\n"
+    wanted = f"{work} {count}: {WORKS[work][0].format(count=count)}\n"
     times = []
     for _ in range(runs):
         before = spent()
@@ -90,10 +95,9 @@ def with_callees(path):
     return sums
 
 
-def table(title, few, many, whole):
+def table(title, few, many, whole, calls):
     """The functions that take most of a call, whose instructions are `whole`."""
     print(title)
-    calls = MANY - FEW
     each = {name: (count - few.get(name, 0)) / calls for name, count in many.items()}
     dearest = sorted(each.items(), key=lambda item: (-item[1], item[0]))[:ROWS]
     for name, count in dearest:
@@ -105,17 +109,19 @@ def table(title, few, many, whole):
 
 def measure(program, work, runs, folder):
     """Prints the figures of a call, and where its instructions go."""
-    few, many = (seconds(program, work, count, runs) for count in (FEW, MANY))
-    print(f"{work}: a call of {MANY} over {FEW}, median of {runs} runs")
-    print(f"{1e6 * (many - few) / (MANY - FEW):>10.2f} us of processor time ({few * 1e3:.1f} and {many * 1e3:.1f} ms)")
+    counts = (WORKS[work][1], TIMES * WORKS[work][1])
+    calls = counts[1] - counts[0]
+    few, many = (seconds(program, work, count, runs) for count in counts)
+    print(f"{work}: an insert of {counts[1]} over {counts[0]}, median of {runs} runs")
+    print(f"{1e6 * (many - few) / calls:>10.2f} us of processor time ({few * 1e3:.1f} and {many * 1e3:.1f} ms)")
     if shutil.which("valgrind") is None or shutil.which("callgrind_annotate") is None:
         print("         - instructions: valgrind is not installed\n")
         return
-    (few, few_path), (many, many_path) = (counted(program, work, count, folder) for count in (FEW, MANY))
-    whole = (many - few) / (MANY - FEW)
-    print(f"{whole:>10.0f} instructions ({few / 1e6:.1f} and {many / 1e6:.1f} M)\n")
-    table("of these in the function itself", own(few_path), own(many_path), whole)
-    table("in the function and all that it calls", with_callees(few_path), with_callees(many_path), whole)
+    (few, few_path), (many, many_path) = (counted(program, work, count, folder) for count in counts)
+    whole = (many - few) / calls
+    print(f"{whole:>10.0f} instructions ({few / 1e6:.1f} and {many / 1e6:.1f} M, {many / few:.2f} times)\n")
+    table("of these in the function itself", own(few_path), own(many_path), whole, calls)
+    table("in the function and all that it calls", with_callees(few_path), with_callees(many_path), whole, calls)
 
 
 def main():

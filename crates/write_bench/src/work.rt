@@ -1,4 +1,5 @@
-//! The two ways to make so many inserts, and what came out of them.
+//! What is timed: ways to make so many inserts, and the cut of a list of so many; and what came out of them.
+use crate::batches::{build_batch, split_front};
 use crate::inserts::{all_served, insert, insert_calls, new_client, outside_with};
 use crate::one_reply::OneReply;
 use bson_lite::List;
@@ -10,13 +11,17 @@ use model_server::{ModelServer, USUAL_SETUP};
 use rand_pcg::Pcg32;
 use std::alloc::Global;
 
-/// How so many inserts are made.
+/// What is done with so many inserts.
 #[derive(Clone, Copy)]
 pub enum Work {
-    /// By a call each, over a link that answers from memory.
+    /// They are made by a call each, over a link that answers from memory.
     Single,
-    /// As one list, over a model server that serves each exchange.
+    /// They are made as one list, over a model server that serves each exchange.
     List,
+    /// The longest front of their sizes is found.
+    Split,
+    /// The command of their batch is built.
+    Build,
 }
 
 impl Work {
@@ -25,6 +30,8 @@ impl Work {
         match word {
             "single" => Some(Work::Single),
             "list" => Some(Work::List),
+            "split" => Some(Work::Split),
+            "build" => Some(Work::Build),
             _ => None,
         }
     }
@@ -33,15 +40,17 @@ impl Work {
     pub fn limit(self) -> u32 {
         match self {
             Work::Single => 1_000_000,
-            Work::List => 100_000,
+            Work::List | Work::Split | Work::Build => 100_000,
         }
     }
 
-    /// Makes so many inserts, and says how many are Ok. An error is that of the first one that is not.
+    /// Does it with so many inserts, and says how many came through. An error is that of the first one that did not.
     pub fn run(self, alloc: Global, count: u32) -> Result<String> {
         match self {
             Work::Single => one_by_one(alloc, count),
             Work::List => as_list(alloc, count),
+            Work::Split => split_front(alloc, count),
+            Work::Build => build_batch(alloc, count),
         }
     }
 }
