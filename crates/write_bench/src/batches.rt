@@ -19,10 +19,7 @@ const WIDE: Limits = Limits {
 
 /// Splits so many sizes, and says how long the front is.
 pub fn split_front(alloc: Global, count: u32) -> Result<String> {
-    let mut sizes: Vec<u64> = Vec::new(alloc);
-    for _ in 0..count {
-        sizes.push(29)?;
-    }
+    let sizes = vec![in alloc; 29u64; count as usize]?;
     let front = match sizes.as_slice() {
         [] => 0,
         sizes => split(sizes, &WIDE).unwrap_or(0),
