@@ -201,26 +201,48 @@ fn all_build(alloc: Global, rows: &[(Sizes, Built)]) -> Option<bool> {
     Some(all)
 }
 
-/// Limits under which many documents go out.
-const WIDE: Sizes = Sizes {
-    bson: 29,
-    message: 48_000_000,
-    batch: 100_000,
-};
-
 /// Later builds have as many documents as the first that was taken; where those do not fit they are refused.
 const LATER: &[(Sizes, Built)] = &[
     (
-        Sizes { batch: 0, ..WIDE },
+        Sizes {
+            bson: 29,
+            message: 48_000_000,
+            batch: 0,
+        },
         Built::Refused("document at index 5 exceeds the maximum size"),
     ),
-    (Sizes { batch: 2, ..WIDE }, Built::Takes(2)),
-    (WIDE, Built::Takes(2)),
     (
-        Sizes { batch: 1, ..WIDE },
+        Sizes {
+            bson: 29,
+            message: 48_000_000,
+            batch: 2,
+        },
+        Built::Takes(2),
+    ),
+    (
+        Sizes {
+            bson: 29,
+            message: 48_000_000,
+            batch: 3,
+        },
+        Built::Takes(2),
+    ),
+    (
+        Sizes {
+            bson: 29,
+            message: 48_000_000,
+            batch: 1,
+        },
         Built::Refused("document at index 6 exceeds the maximum size"),
     ),
-    (Sizes { batch: 2, ..WIDE }, Built::Takes(2)),
+    (
+        Sizes {
+            bson: 29,
+            message: 48_000_000,
+            batch: 2,
+        },
+        Built::Takes(2),
+    ),
 ];
 
 #[test]
@@ -242,7 +264,11 @@ fn later_builds_take_as_many_documents(rt: HostRuntime) -> Result<(), Fail> {
 fn a_resend_that_does_not_fit_leaves_the_failure(rt: HostRuntime) -> Result<(), Fail> {
     let narrow = Servers {
         first: SERVER,
-        further: described(Sizes { bson: 13, ..WIDE }),
+        further: described(Sizes {
+            bson: 13,
+            message: 48_000_000,
+            batch: 100_000,
+        }),
     };
     let kept = match inserted(rt.alloc(), narrow, &[Given::Reset, Given::Reply(DONE)]) {
         Some((Ended::Io(IoKind::ConnectionReset), link)) => link.frames().len() == 1,

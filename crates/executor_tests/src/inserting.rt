@@ -8,13 +8,20 @@ use driver_link::{
     ClientOptions, CountingIds, Description, InsertManyOptions, Link, MemClock, WriteConcern,
 };
 use driver_session::PlainStore;
-use model_server::USUAL_SETUP;
 use rand_core::SeedableRng;
 use rand_pcg::Pcg32;
 use std::alloc::{AllocError, Global};
 
 /// A connection's server that takes sessions and retryable writes.
-pub(crate) const SERVER: Description = USUAL_SETUP.description;
+pub(crate) const SERVER: Description = Description {
+    max_wire_version: Some(25),
+    max_bson_object_size: 16_777_216,
+    max_message_size_bytes: 48_000_000,
+    max_write_batch_size: 100_000,
+    supports_sessions: true,
+    supports_retryable_writes: true,
+    sharded: false,
+};
 
 /// What a caller is told whose deployment takes no transaction numbers.
 const NO_NUMBERS: &str =
