@@ -160,7 +160,9 @@ fn execute_operation_with_retry<O: Operation, S: SessionStore, L: Link, K: Clock
     }
 }
 
-/// The failure of an attempt that failed, or else its end.
+/// The failure of an attempt that failed, or else its end. Inlined, since a call of it clears and copies what both
+/// ends leave empty.
+#[inline(always)]
 fn failure_of<T>(attempt: AttemptEnd<T>) -> std::result::Result<AttemptFailure, AttemptEnd<T>>
     ensures { FailureOf attempt result }
 {
