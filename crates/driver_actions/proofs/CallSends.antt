@@ -32,7 +32,7 @@ use Rattle.driver_actions.specs.SingleCalls.{Made, Makes, MakesCall, first_place
 use Rattle.driver_actions.specs.SingleCompleteness.{RaisesNumbers, RaisesTold}
 use Rattle.driver_actions.proofs.OwnIds.{OnlyDrew}
 use Rattle.driver_actions.proofs.ServerMaking.{told_refl}
-use Rattle.driver_actions.proofs.SingleWrites.WritesMade.{made_drew, made_left, unmade_drew_by}
+use Rattle.driver_actions.proofs.CallWrites.WritesMade.{made_drew, made_left, unmade_drew_by}
 
 -- one call of a single write: where it failed, nothing may have been sent
 abbrev pub Sends : Moment → Moment → WriteForm → Place → Result SingleAnswer Error → Type 0

@@ -11,7 +11,7 @@ use Rattle.driver_actions.specs.declared.call.Outcome.{Outcome}
 use Rattle.driver_actions.specs.CallByCall.{CallCaused, IsTimed, with_clock}
 use Rattle.driver_actions.proofs.CallSends.{SendsCall, by_call, call_sends}
 use Rattle.driver_actions.proofs.OwnIds.{OnlyDrew}
-use Rattle.driver_actions.proofs.SingleWrites.WritesMade.{made_drew, made_left}
+use Rattle.driver_actions.proofs.CallWrites.WritesMade.{made_drew, made_left}
 
 -- between two moments the clock was only read, and no random word was drawn
 pub record OnlyReads (before now : Moment) : Type 0 where

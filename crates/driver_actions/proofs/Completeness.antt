@@ -65,9 +65,9 @@ use Rattle.driver_actions.specs.SingleCalls.{Made, Makes, MakesCall, Runs, Tells
 use Rattle.driver_actions.proofs.CallSends.{call_sends, pool_kept, sends_own}
 use Rattle.driver_actions.proofs.OwnIds.{OnlyDrew}
 use Rattle.driver_actions.proofs.Refusals.{accepted_not_refused}
-use Rattle.driver_actions.proofs.SingleWrites.Entries.{may_send, new_place, placed_at}
-use Rattle.driver_actions.proofs.SingleWrites.Readiness.{MayGo, bare_goes, go_again, go_answered, lent_goes}
-use Rattle.driver_actions.proofs.SingleWrites.WritesMade.{made_drew}
+use Rattle.driver_actions.proofs.CallWrites.Entries.{may_send, new_place, placed_at}
+use Rattle.driver_actions.proofs.CallWrites.Readiness.{MayGo, bare_goes, go_again, go_answered, lent_goes}
+use Rattle.driver_actions.proofs.CallWrites.WritesMade.{made_drew}
 use Rattle.driver_actions.proofs.StandingRuns.{stands_count}
 
 -- an accepted input is refused only for want of memory

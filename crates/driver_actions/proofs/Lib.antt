@@ -13,4 +13,4 @@ pub mod InputFaults
 pub mod Refusals
 pub mod CallsInOrder
 pub mod Completeness
-pub mod SingleWrites
+pub mod CallWrites

@@ -36,8 +36,8 @@ use Rattle.driver_actions.specs.Standing.{AllBelow, AllOwn}
 use Rattle.driver_actions.specs.SingleCalls.{Made, first_place}
 use Rattle.driver_actions.proofs.SpelledAnswers.{Answered, answered_none, answered_more, own_at}
 use Rattle.driver_actions.proofs.LogEntries.{mine_all}
-use Rattle.driver_actions.proofs.SingleWrites.Entries.{entry_told, makes_entry, may_stand, new_place, only_write, placed_at}
-use Rattle.driver_actions.proofs.SingleWrites.WritesMade.{LeftBy, made_drew, made_left, made_own}
+use Rattle.driver_actions.proofs.CallWrites.Entries.{entry_told, makes_entry, may_stand, new_place, only_write, placed_at}
+use Rattle.driver_actions.proofs.CallWrites.WritesMade.{LeftBy, made_drew, made_left, made_own}
 use Rattle.driver_actions.proofs.CallSends.{Sends, SendsCall, mid_pool, mid_run}
 
 -- what holds after a number of calls

@@ -7,7 +7,7 @@ use Rattle.driver_ops.specs.Targets.{in_collection}
 use Rattle.driver_actions.specs.Forms.{deletes}
 use Rattle.driver_actions.proofs.Causes.{caused_input, made_caused}
 use Rattle.driver_actions.proofs.Parts.{unmade_early, unmade_input}
-use Rattle.driver_actions.proofs.SingleWrites.WriteOperations.{delete_has, delete_made, delete_ran}
+use Rattle.driver_actions.proofs.CallWrites.WriteOperations.{delete_has, delete_made, delete_ran}
 use Rattle.driver_actions.proofs.delete.delete_found.Goals as goal
 
 pub returns-in-Some-clause-makes : goal.returns-in-Some-clause-makes

@@ -7,7 +7,7 @@ use Rattle.driver_ops.specs.Targets.{in_collection}
 use Rattle.driver_actions.specs.Forms.{finds}
 use Rattle.driver_actions.proofs.Causes.{caused_input, made_caused}
 use Rattle.driver_actions.proofs.Parts.{unmade_early, unmade_input}
-use Rattle.driver_actions.proofs.SingleWrites.WriteOperations.{find_has, find_made, find_ran}
+use Rattle.driver_actions.proofs.CallWrites.WriteOperations.{find_has, find_made, find_ran}
 use Rattle.driver_actions.proofs.find.find_and_modify.Goals as goal
 
 pub returns-in-Some-clause-makes : goal.returns-in-Some-clause-makes

@@ -8,7 +8,7 @@ use Rattle.driver_actions.specs.Forms.{inserts}
 use Rattle.driver_actions.proofs.Causes.{caused_input, caused_memory, made_caused}
 use Rattle.driver_actions.proofs.Parts.{insert_made, may_draw, unmade_early, unmade_input, unmade_memory}
 use Rattle.driver_actions.proofs.Refusals.{own_memory}
-use Rattle.driver_actions.proofs.SingleWrites.WriteOperations.{insert_has, insert_ran}
+use Rattle.driver_actions.proofs.CallWrites.WriteOperations.{insert_has, insert_ran}
 use Rattle.driver_actions.proofs.insert.insert_one.Goals as goal
 
 pub returns-in-Some-clause-makes : goal.returns-in-Some-clause-makes

@@ -2,7 +2,7 @@
 use Rattle.std.proofs.Common.{ap, refl}
 use Rattle.std.specs.Prelude.{Ok, Err}
 use Rattle.driver_exec.proofs.Refusing.{executes_client}
-use Rattle.driver_actions.proofs.SingleWrites.WriteOperations.{executed_runs, still_one}
+use Rattle.driver_actions.proofs.CallWrites.WriteOperations.{executed_runs, still_one}
 use Rattle.driver_actions.proofs.single_operation.run_single.Goals as goal
 
 pub returns-in-Ok-clause-runs : goal.returns-in-Ok-clause-runs

@@ -7,7 +7,7 @@ use Rattle.driver_ops.specs.Targets.{in_collection}
 use Rattle.driver_actions.specs.Forms.{updates}
 use Rattle.driver_actions.proofs.Causes.{caused_input, made_caused}
 use Rattle.driver_actions.proofs.Parts.{unmade_early, unmade_input}
-use Rattle.driver_actions.proofs.SingleWrites.WriteOperations.{update_has, update_made, update_ran}
+use Rattle.driver_actions.proofs.CallWrites.WriteOperations.{update_has, update_made, update_ran}
 use Rattle.driver_actions.proofs.update.update_found.Goals as goal
 
 pub returns-in-Some-clause-makes : goal.returns-in-Some-clause-makes

@@ -4,7 +4,7 @@ use Rattle.driver_actions.specs.Forms.{form_of}
 use Rattle.driver_actions.specs.SingleCalls.{first_place}
 use Rattle.driver_actions.proofs.CallSends.{makes_raises}
 use Rattle.driver_actions.proofs.Completeness.{single_completes}
-use Rattle.driver_actions.proofs.SingleWrites.Entries.{makes_entry, makes_keeps}
+use Rattle.driver_actions.proofs.CallWrites.Entries.{makes_entry, makes_keeps}
 use Rattle.driver_actions.proofs.single.ClientSingleWrites.single.Goals as goal
 
 pub returns-clause-keeps : goal.returns-clause-keeps

@@ -33,7 +33,7 @@ use Rattle.driver_actions.specs.Singles.{BecomesSingle}
 use Rattle.driver_actions.specs.Standing.{AllBelow}
 use Rattle.driver_actions.proofs.CallSends.{mid_run, pool_kept}
 use Rattle.driver_actions.proofs.OwnIds.{OnlyDrew}
-use Rattle.driver_actions.proofs.SingleWrites.WritesMade.{made_drew, made_left, made_own, unmade_drew_by}
+use Rattle.driver_actions.proofs.CallWrites.WritesMade.{made_drew, made_left, made_own, unmade_drew_by}
 
 -- a write in its place
 abbrev pub placed_at : Place → Written → PlacedWrite
