@@ -34,7 +34,7 @@ TIMES = 10
 ROWS = 10
 
 # A line of callgrind_annotate: a count, its share, and a file with a function, as
-#  4,426 (1.75%)  ???:driver_exec::execute::execute_operation_with_retry::<#33556ab3133f353b> [/tmp/write_bench]
+#  4,426 (1.75%)  ???:driver_exec::execute::execute_operation_with_retry::<#33556ab3133f353b> [write_bench]
 LINE = re.compile(r"^ *([\d,]+) \( *[\d.]+%\)  ([^:\n]*):(.+?)(?: \[[^\]]*\])?$", re.MULTILINE)
 
 
