@@ -1,14 +1,17 @@
 #!/usr/bin/env python3
 """Times a small insert: by a call of its own over a link that answers from memory, and as one of a list over the
-model server; and the cut of a list of them: the longest front of their sizes, and the build of their batch.
+model server; the cut of a list of them: the longest front of their sizes, and the build of their batch; and one
+insert of many documents in one batch, over that link too.
 
 Proves and builds crates/write_bench as the gate's first run does (`rt run`: LLVM, the default level), and runs
-each work with a number of inserts and with ten times as many: 1,000 for calls, 10,000 for cuts. A figure of a call
-is what the larger run takes more, over the calls that it makes more, so the start of the program is left out; it has
-in it the insert that is made anew for each call and let go again. Processor time is the median of some runs. Where valgrind is installed, callgrind counts
-instructions, and two tables for each work say where those of a call go: the ten functions that take most
-themselves, all instances of a generic function in one row, and the ten that take most with all that they call, each
-instance in a row of its own.
+each work with a number of inserts and with ten times as many: 1,000 for calls and for documents of one call, 10,000
+for cuts. A figure of a call is what the larger run takes more, over the calls that it makes more, so the start of the
+program is left out; it has in it the insert that is made anew for each call and let go again. Processor time is the
+median of some runs. Where valgrind is installed, callgrind counts instructions, and two tables for each work say where
+those of a call go: the ten functions that take most themselves, all instances of a generic function in one row, and the
+ten that take most with all that they call, each instance in a row of its own. Two last lines say what `InsertMany::run`
+alone takes for each document: what `many` takes more than `given`, in which the same documents are made, handed in and
+let go; and all that callgrind counts inside of `run`, which lets them go too.
 
 usage: bench/write.py [RUNS [PROGRAM]]      (RUNS: 9 if left out; with a PROGRAM nothing is built)
 """
@@ -29,6 +32,8 @@ WORKS = {
     "list": ("ok={count} entries={count}", 1_000),
     "split": ("front={count}", 10_000),
     "build": ("taken={count}", 10_000),
+    "given": ("given={count}", 1_000),
+    "many": ("ids={count}", 1_000),
 }
 TIMES = 10
 ROWS = 10
@@ -36,6 +41,9 @@ ROWS = 10
 # A line of callgrind_annotate: a count, its share, and a file with a function, as
 #  4,426 (1.75%)  ???:driver_exec::execute::execute_operation_with_retry::<#33556ab3133f353b> [write_bench]
 LINE = re.compile(r"^ *([\d,]+) \( *[\d.]+%\)  ([^:\n]*):(.+?)(?: \[[^\]]*\])?$", re.MULTILINE)
+
+# The function that runs an insert of many documents, by its name there.
+RUN = re.compile(r"\bInsertMany\b.*::run\b")
 
 
 def spent():
@@ -108,7 +116,8 @@ def table(title, few, many, whole, calls):
 
 
 def measure(program, work, runs, folder):
-    """Prints the figures of a call, and where its instructions go."""
+    """Prints the figures of a call, and where its instructions go. It answers for both numbers of inserts how many
+    instructions the run took, and the file that callgrind left, or None without callgrind."""
     counts = (WORKS[work][1], TIMES * WORKS[work][1])
     calls = counts[1] - counts[0]
     few, many = (seconds(program, work, count, runs) for count in counts)
@@ -116,12 +125,38 @@ def measure(program, work, runs, folder):
     print(f"{1e6 * (many - few) / calls:>10.2f} us of processor time ({few * 1e3:.1f} and {many * 1e3:.1f} ms)")
     if shutil.which("valgrind") is None or shutil.which("callgrind_annotate") is None:
         print("         - instructions: valgrind is not installed\n")
-        return
+        return None
     (few, few_path), (many, many_path) = (counted(program, work, count, folder) for count in counts)
     whole = (many - few) / calls
     print(f"{whole:>10.0f} instructions ({few / 1e6:.1f} and {many / 1e6:.1f} M, {many / few:.2f} times)\n")
     table("of these in the function itself", own(few_path), own(many_path), whole, calls)
     table("in the function and all that it calls", with_callees(few_path), with_callees(many_path), whole, calls)
+    return {counts[0]: (few, few_path), counts[1]: (many, many_path)}
+
+
+def inside_run(path):
+    """The instructions of `InsertMany::run` with all that it calls, or None where it has no function of its own."""
+    return max((count for name, count in with_callees(path).items() if RUN.search(name)), default=None)
+
+
+def each_and_times(title, sums):
+    """Prints the figures of a document, for the smaller number and the larger one, and how often the first sum goes
+    into the second."""
+    (few, few_sum), (many, many_sum) = sorted(sums.items())
+    print(f"{few_sum / few:>10.0f} and {many_sum / many:.0f} ({many_sum / few_sum:.2f} times for all) {title}")
+
+
+def run_alone(given, many):
+    """Prints what `InsertMany::run` alone takes."""
+    few, most = sorted(many)
+    print(f"many: instructions of `InsertMany::run` for each document, of {few} and of {most}")
+    each_and_times("more than `given`", {count: many[count][0] - given[count][0] for count in many})
+    inside = {count: inside_run(path) for count, (_, path) in many.items()}
+    if None in inside.values():
+        print("         - inside of `run`: it has no function of its own")
+    else:
+        each_and_times("inside of `run`", inside)
+    print()
 
 
 def main():
@@ -130,8 +165,9 @@ def main():
     if len(sys.argv) <= 2:
         subprocess.run(["rt", "run", "--jobs", "1"], cwd=CRATE, check=True, stdout=subprocess.DEVNULL)
     with tempfile.TemporaryDirectory() as folder:
-        for work in WORKS:
-            measure(program, work, runs, folder)
+        taken = {work: measure(program, work, runs, folder) for work in WORKS}
+        if taken["many"] is not None:
+            run_alone(taken["given"], taken["many"])
 
 
 if __name__ == "__main__":

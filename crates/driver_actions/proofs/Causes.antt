@@ -1,5 +1,5 @@
 -- The causes of ends, from those of their parts.
-use Rattle.std.proofs.Common.{◌≡◌, refl, sym, ap, subst, ◌∙◌, inl, inr}
+use Rattle.std.proofs.Common.{◌≡◌, ℕ, refl, sym, ap, subst, ◌∙◌, inl, inr}
 use Rattle.std.specs.Prelude.{IsErrAnd, Some, Result, Ok, Err}
 use Rattle.driver_error.specs.declared.error.Error.{Error}
 use Rattle.driver_error.specs.declared.kind.ErrorKind.TheVariants as kind
@@ -13,13 +13,12 @@ use Rattle.driver_ops.specs.StatementSpec.{delete_spec, find_spec, update_spec}
 use Rattle.driver_ops.specs.Targets.{in_collection}
 use Rattle.driver_exec.specs.Causes.{end_of, outline_of}
 use Rattle.driver_exec.specs.Moment.{Moment}
-use Rattle.driver_actions.specs.declared.call.Answer.{Answer}
 use Rattle.driver_actions.specs.declared.call.Answer.TheVariants as answer
-use Rattle.driver_actions.specs.declared.call.Call.{Call}
 use Rattle.driver_actions.specs.declared.call.Call.TheVariants.{Single}
 use Rattle.driver_actions.specs.declared.call.SingleAnswer.{SingleAnswer}
 use Rattle.driver_actions.specs.declared.call.SingleWrite.{SingleWrite}
-use Rattle.driver_actions.specs.Causes.{BecomesEnd, EndsAsCaused, EndsEarly, HasCause, OperationCaused, RefusesFirst, WriteCaused}
+use Rattle.driver_actions.specs.CallMaking.{HasCause}
+use Rattle.driver_actions.specs.Causes.{BecomesEnd, EndsAsCaused, EndsEarly, OperationCaused, RefusesFirst, WriteCaused}
 use Rattle.driver_actions.specs.Forms.{WriteForm, deletes, finds, form_of, inserts, updates}
 use Rattle.driver_actions.specs.Inputs.{IsAccepted, TellsInput}
 use Rattle.driver_actions.specs.SingleCalls.{Made, Runs, Tells}
@@ -155,15 +154,11 @@ cause_same before now form given result same cause = record {
 }
 
 -- the cause of a single write is that of its call, with its answer
-pub call_cause_ok : (before now : Moment) (write : SingleWrite) (given : SingleAnswer) → WriteCaused {A = SingleAnswer} before now (form_of write) (Ok given)
-    → HasCause {A = Answer} before now (Single write) (Ok (answer.Single given))
-call_cause_ok before now write given cause = cause_same before now (form_of write) (Ok given) (Ok (answer.Single given)) tt cause
-
--- the single write of a call
-abbrev pub single_of : Call → SingleWrite
-single_of (Single write) = write
+pub call_cause_ok : (before now : Moment) (write : SingleWrite) (number : ℕ) (given : SingleAnswer) → WriteCaused {A = SingleAnswer} before now (form_of write) (Ok given)
+    → HasCause before now (Single write) number (Ok (answer.Single given))
+call_cause_ok before now write number given cause = cause_same before now (form_of write) (Ok given) (Ok (answer.Single given)) tt cause
 
 -- or with its error
-pub cause_err : (before now : Moment) (call : Call) (error : Error) → WriteCaused {A = SingleAnswer} before now (form_of (single_of call)) (Err error)
-    → HasCause {A = Answer} before now call (Err error)
-cause_err before now (Single write) error cause = cause_same before now (form_of write) (Err error) (Err error) refl cause
+pub cause_err : (before now : Moment) (write : SingleWrite) (number : ℕ) (error : Error) → WriteCaused {A = SingleAnswer} before now (form_of write) (Err error)
+    → HasCause before now (Single write) number (Err error)
+cause_err before now write number error cause = cause_same before now (form_of write) (Err error) (Err error) refl cause

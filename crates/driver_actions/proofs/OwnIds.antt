@@ -7,9 +7,12 @@ use Rattle.bson_lite.specs.declared.bson.ObjectId.{ObjectId}
 use Rattle.bson_lite.specs.declared.document.Pair.{Pair}
 use Rattle.bson_lite.specs.Fields.{id_key, value_of, with_id}
 use Rattle.driver_error.specs.declared.error.Error.{Error}
+use Rattle.driver_error.specs.declared.results.InsertOneResult.{InsertOneResult}
 use Rattle.driver_session.specs.StoreTells.{DrawsObjectId, MayDrawObjectId, StoreTells}
+use Rattle.driver_ops.specs.declared.own_document.OwnDocument.{OwnDocument}
 use Rattle.driver_exec.specs.Moment.{Moment}
-use Rattle.driver_actions.specs.OwnIds.{DrawsOwn, DrawsOwnId, HasOwnId, MayDrawBy}
+use Rattle.driver_actions.specs.OwnIds.{DrawsOwn, DrawsOwnId, HasOwnId, MayDrawBy, Owns}
+use Rattle.driver_actions.specs.inside.OwnDocuments.{IsSent}
 
 -- a document that has an id keeps it, and nothing is drawn
 pub has_own_id : (store : StoreTells) (document : List (Pair Bson)) (value copy : Bson) → ◌≡◌ {A = Option Bson} (Some value) (value_of id_key document) → copy ≡ value
@@ -31,13 +34,18 @@ pub has_drawn_id : (store store_now : StoreTells) (given now : List (Pair Bson))
 has_drawn_id store store_now given now id value none twelve draws is found =
     record { id = id; twelve = twelve; draws = subst (λ f. DrawsOwnId f store store_now id) none draws; document = is; found = found }
 
+-- a document that is sent owns its id where the answer tells it
+pub owns_answered : (store store_now : StoreTells) (given : List (Pair Bson)) (own : OwnDocument) (answer : InsertOneResult) → IsSent store store_now given own
+    → answer ≡ record { inserted_id = own.id } → Owns store store_now given own answer
+owns_answered store store_now given own answer found is = record { sent = found.sent; document = found.document; spelled = found.spelled; answer_is = is }
+
 -- an object id was drawn or not, and nothing else changed
 pub record OnlyDrew (before now : Moment) : Type 0 where
   pub draws : MayDrawObjectId before.store now.store
   pub rest : now ≡ record before { store = now.store }
 
 -- where the id of a document was drawn, if it had none, only that changed
-own_drawn : (found : Option Bson) (store now : StoreTells) (id : ObjectId) → DrawsOwnId found store now id → MayDrawObjectId store now
+pub own_drawn : (found : Option Bson) (store now : StoreTells) (id : ObjectId) → DrawsOwnId found store now id → MayDrawObjectId store now
 own_drawn None store now id draws = inr (id.bytes, draws)
 own_drawn (Some value) store now id same = inl same
 

@@ -27,11 +27,11 @@ use Rattle.driver_actions.specs.declared.call.Outcome.{Outcome}
 use Rattle.driver_actions.specs.declared.call.SingleAnswer.{SingleAnswer}
 use Rattle.driver_actions.specs.declared.call.SingleAnswer.TheVariants.{Inserted}
 use Rattle.driver_actions.specs.CallByCall.{CallCaused, with_clock}
-use Rattle.driver_actions.specs.Causes.{HasCause}
+use Rattle.driver_actions.specs.CallMaking.{HasCause, MakesCall}
 use Rattle.driver_actions.specs.Forms.{WriteForm, asked_in, deletes, finds, inserts, updates, written_in}
 use Rattle.driver_actions.specs.Inputs.{IsAccepted, TellsInput}
 use Rattle.driver_actions.specs.OwnIds.{DrawsOwn, MayDrawId, Owns}
-use Rattle.driver_actions.specs.SingleCalls.{Made, Makes, MakesCall, MayDrawFor, Runs, Tells}
+use Rattle.driver_actions.specs.SingleCalls.{Made, Makes, MayDrawFor, Runs, Tells}
 
 -- the store of a client alone changes where its options stay
 same_client : (before : Moment) (store : StoreTells) (options : ClientOptions) → options ≡ before.client.options
@@ -109,6 +109,6 @@ unmade_memory before now namespace document options place error draws memory = i
 pub call_caused : (before now : Moment) (first last : ClockTells) (call : Call) (number : ℕ) (outcome : Outcome)
     → ReadsClock before.clock first outcome.started_ms → ReadsClock last now.clock outcome.ended_ms
     → MakesCall (with_clock before first) (with_clock now last) call number outcome.result
-    → HasCause (with_clock before first) (with_clock now last) call outcome.result → CallCaused number before now call outcome
+    → HasCause (with_clock before first) (with_clock now last) call number outcome.result → CallCaused number before now call outcome
 call_caused before now first last call number outcome started ended makes cause =
     record { first = first; started = started; clock = last; ended = ended; makes = makes; cause = cause }

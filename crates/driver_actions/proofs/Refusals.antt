@@ -139,6 +139,18 @@ pub refuses_none : (document : List (Pair Bson)) → is_some (value_of id_key do
     → min (length (spelling document)) (2 ^ 64 - 1) ≤ 2147483630 → RefusesDocument document None
 refuses_none document none is fits = named_none document false none is (lt_within (length (spelling document)) (omega arith))
 
+-- a document is refused alike with each id
+pub refused_alike : (document : List (Pair Bson)) (one other : ObjectId) → length one.bytes ≡ 12 → length other.bytes ≡ 12
+    → refusal_within 96 (with_id one document) ≡ refusal_within 96 (with_id other document)
+refused_alike document one other twelve twelve_other = by_own (is_some (value_of id_key document)) refl
+  where
+    by_own : (own : Bool) → is_some (value_of id_key document) ≡ own → refusal_within 96 (with_id one document) ≡ refusal_within 96 (with_id other document)
+    by_own true there =
+        refuses_own document (value_of id_key document) refl there one twelve ∙ sym (refuses_own document (value_of id_key document) refl there other twelve_other)
+    by_own false none =
+        ap (refusal_within 96) (with_none one document none) ∙ refusal_named one document twelve
+        ∙ sym (ap (refusal_within 96) (with_none other document none) ∙ refusal_named other document twelve_other)
+
 -- a document that may nest 96 levels deep has a spelling
 none_of_less : (deep : ℕ) (zero long b : Bool) → nat_lt 96 deep ≡ b → (if b then Some TooDeep else (if zero then Some ZeroByte else by_length long)) ≡ None
     → (if nat_lt 100 deep then Some TooDeep else (if zero then Some ZeroByte else by_length long)) ≡ None
@@ -149,7 +161,7 @@ none_of_less deep zero long false at is =
     not_deep : (deep : ℕ) → nat_lt 96 deep ≡ false → nat_lt 100 deep ≡ false
     not_deep deep at = grind (arith, nat_tests)
 
-spelled_within : (document : List (Pair Bson)) → refusal_within 96 document ≡ None → refusal document ≡ None
+pub spelled_within : (document : List (Pair Bson)) → refusal_within 96 document ≡ None → refusal document ≡ None
 spelled_within document is =
     none_of_less (nesting document) (zero_in document) (nat_lt 2147483647 (length (spelling document))) (nat_lt 96 (nesting document)) refl is
 

@@ -3,11 +3,16 @@ use Rattle.std.proofs.Common.{◌≡◌, ℕ, ◌+◌, ◌<◌, arith, List, [],
 use Rattle.std.specs.Prelude.{Option, None, Some, Result, Ok, Err, slice_get}
 use Rattle.std.specs.Result.{result_ok}
 use Rattle.std.proofs.lemmas.List.{append-nil}
+use Rattle.bson_lite.specs.declared.bson.Bson.{Bson}
+use Rattle.bson_lite.specs.declared.document.Pair.{Pair}
+use Rattle.bson_lite.specs.declared.namespace.Namespace.{Namespace}
 use Rattle.driver_error.specs.declared.error.Error.{Error}
+use Rattle.driver_error.specs.declared.results.InsertManyResult.{InsertManyResult}
 use Rattle.driver_link.specs.declared.machine.Entry.{Entry}
 use Rattle.driver_link.specs.declared.machine.Send.{Send}
 use Rattle.driver_link.specs.declared.machine.Server.{Server}
 use Rattle.driver_link.specs.declared.machine.Place.{Place}
+use Rattle.driver_link.specs.declared.write_options.InsertManyOptions.{InsertManyOptions}
 use Rattle.driver_link.specs.Cases.{writes_of}
 use Rattle.driver_link.specs.Exchange.{after_picks, empty_server}
 use Rattle.driver_link.specs.Once.{Once}
@@ -18,27 +23,35 @@ use Rattle.driver_link.proofs.SettledExchanges.{after_settled, empty_orderly, em
 use Rattle.driver_link.specs.Apart.{AllApart}
 use Rattle.driver_session.specs.Pool.{Pool, empty_pool}
 use Rattle.driver_session.proofs.PoolTells.{same_told}
+use Rattle.driver_ops.specs.Targets.{in_collection}
 use Rattle.driver_exec.specs.BetweenCalls.{Between, Sound}
 use Rattle.driver_exec.specs.Moment.{Moment}
 use Rattle.driver_exec.proofs.InvariantSteps.Leaving.{Left, left_of}
 use Rattle.driver_actions.specs.declared.call.Answer.{Answer}
 use Rattle.driver_actions.specs.declared.call.Answer.TheVariants as answer
 use Rattle.driver_actions.specs.declared.call.Call.{Call}
-use Rattle.driver_actions.specs.declared.call.Call.TheVariants.{Single}
+use Rattle.driver_actions.specs.declared.call.Call.TheVariants.{InsertMany, Single}
 use Rattle.driver_actions.specs.declared.call.Outcome.{Outcome}
 use Rattle.driver_actions.specs.declared.call.SingleAnswer.{SingleAnswer}
 use Rattle.driver_actions.specs.declared.call.SingleWrite.{SingleWrite}
-use Rattle.driver_actions.specs.Calls.{OwnAt, write_at, written}
+use Rattle.driver_actions.specs.CallMaking.{MakesCall}
+use Rattle.driver_actions.specs.Calls.{Done, OwnAt, call_result, write_at, written}
 use Rattle.driver_actions.specs.Forms.{WriteForm, asked_in, form_of}
 use Rattle.driver_actions.specs.MainTheorem.{MainTheorem}
+use Rattle.driver_actions.specs.ManyCalls.{MadeMany, MakesMany}
+use Rattle.driver_actions.specs.ManyEntries.{MayWriteCall}
 use Rattle.driver_actions.specs.SingleEntries.{HasOwnEntry, MayWrite}
 use Rattle.driver_actions.specs.Standing.{AllBelow, AllOwn}
-use Rattle.driver_actions.specs.SingleCalls.{Made, first_place}
-use Rattle.driver_actions.proofs.SpelledAnswers.{Answered, answered_none, answered_more, own_at}
+use Rattle.driver_actions.specs.SingleCalls.{Made, Makes, first_place}
+use Rattle.driver_actions.proofs.BatchesMade.{Advances}
+use Rattle.driver_actions.proofs.BatchWrites.{IsOfCall}
+use Rattle.driver_actions.proofs.SpelledAnswers.{Answered, answered_none, answered_more, answered_with, own_at}
 use Rattle.driver_actions.proofs.LogEntries.{mine_all}
-use Rattle.driver_actions.proofs.CallWrites.Entries.{entry_told, makes_entry, may_stand, new_place, only_write, placed_at}
-use Rattle.driver_actions.proofs.CallWrites.WritesMade.{LeftBy, made_drew, made_left, made_own}
-use Rattle.driver_actions.proofs.CallSends.{Sends, SendsCall, mid_pool, mid_run}
+use Rattle.driver_actions.proofs.CallWrites.Entries.{entry_told, makes_entry, may_stand, new_place, placed_at}
+use Rattle.driver_actions.proofs.CallWrites.WritesMade.{LeftBy, made_drew, made_left, made_own, unmade_drew_by}
+use Rattle.driver_actions.proofs.CallSends.{mid_pool, mid_run, only_write}
+use Rattle.driver_actions.proofs.ManyMade.{IsGiven, made_advances, made_stands, unmade_drew}
+use Rattle.driver_actions.proofs.ManyInLog.{many_done, many_own, many_result}
 
 -- what holds after a number of calls
 pub record Ran (calls : List Call) (outcomes : List Outcome) (pool : Pool) (server : Server) : Type 0 where
@@ -155,19 +168,20 @@ module _ (calls : List Call) (outcomes : List Outcome) (before now : Moment) (po
           (subst (λ log. Once log) left.log left.sound.settled.once) (subst (λ log. Has log stands.entry) left.log stands.has) stands.placed stands.tells is ran.answered);
     }
 
-  -- a call that failed
+  -- a single write that failed
   ran_failed : (write : SingleWrite) (error : Error) → slice_get calls (length outcomes) ≡ Some (Single write)
-      → Sends before now (form_of write) (first_place (length outcomes)) (Err error)
+      → Makes before now (form_of write) (first_place (length outcomes)) (Err error)
       → result_ok last.result ≡ None → Ran calls (outcomes ++ last ∷ []) pool_now run_now.server
-  ran_failed write error at sends none = elim sends [
-    | inl unsent ↦
+  ran_failed write error at makes none = elim makes [
+    | inl unmade ↦
+        let unsent = unmade_drew_by (form_of write) before now error unmade.draws in
         let same_pool = same_told pool_now pool (sym pool_now_is ∙ mid_pool before now pool unsent pool_is) in
         let same = same_told run_now run (sym run_now_is ∙ mid_run before now unsent ∙ run_is) in
         ran_same none same_pool (ap (λ r. r.server) same)
     | inr made ↦ ran_unanswered write at (Err error) made none
   ]
 
-  -- a call that was done: its entry stands
+  -- one that was done: its entry stands
   ran_done : (write : SingleWrite) (given : SingleAnswer) → slice_get calls (length outcomes) ≡ Some (Single write)
       → (made : Made before now (form_of write) (first_place (length outcomes)) (Ok given))
       → result_ok last.result ≡ Some (answer.Single given) → Ran calls (outcomes ++ last ∷ []) pool_now run_now.server
@@ -177,11 +191,80 @@ module _ (calls : List Call) (outcomes : List Outcome) (before now : Moment) (po
       (written write) given (makes_entry before now (first_place (length outcomes)) (form_of write) (Ok given) made)
       (may_write write at (Ok given) made))
 
+  -- an insert of many documents
+  module _ (namespace : Namespace) (documents : List (List (Pair Bson))) (options : InsertManyOptions) (at : slice_get calls (length outcomes) ≡ Some (InsertMany namespace documents options)) where
+    -- it may be made
+    may_call : MayWriteCall pool pool_now run (length outcomes)
+    may_call = record {
+      between = ran.between;
+      sound = ran.sound;
+      new = λ earlier found write has stands of_call. let below : write.place.call < length outcomes = ran.below earlier found write has stands in absurd (omega (arith, below, of_call));
+      apart = apart;
+    }
+
+    -- one that was made
+    module _ (result : Result InsertManyResult Error) (made : MadeMany before now (in_collection namespace) documents options (length outcomes) result) where
+      -- all went on
+      went_on : Advances (IsOfCall (IsGiven documents) namespace (length outcomes)) pool_now run run_now
+      went_on = made_advances before now (in_collection namespace) documents options (length outcomes) result made pool pool_now run run_now pool_is pool_now_is run_is run_now_is may_call
+
+      -- all that was sent is of the calls that were made
+      many_below : AllBelow (length outcomes + 1) run_now.server.trace
+      many_below = λ send found write has stands. elim (went_on.which send has) [
+        | inl earlier ↦ below_later (length outcomes) run.server.trace ran.below send found write earlier stands
+        | inr own ↦ let is : write.place.call ≡ length outcomes = (own found write stands).of_call in omega (arith, is)
+      ]
+
+      -- and the caller's own
+      own_many : AllOwn calls run_now.server.trace
+      own_many = λ send found write has stands. elim (went_on.which send has) [
+        | inl earlier ↦ ran.own send found write earlier stands
+        | inr own ↦ many_own calls (length outcomes) namespace documents options at write (own found write stands)
+      ]
+
+      -- with what the log spells of the calls that answered
+      ran_many : Answered calls (outcomes ++ last ∷ []) (run.server.log ++ went_on.more) → Ran calls (outcomes ++ last ∷ []) pool_now run_now.server
+      ran_many answered = record {
+        between = went_on.between;
+        sound = went_on.sound;
+        below = one_more outcomes last run_now.server.trace many_below;
+        own = own_many;
+        answered = subst (λ log. Answered calls (outcomes ++ last ∷ []) log) (sym went_on.log) answered;
+      }
+
+    -- one that failed
+    many_failed : (error : Error) → MakesMany before now (in_collection namespace) documents options (length outcomes) (Err error) → result_ok last.result ≡ None
+        → Ran calls (outcomes ++ last ∷ []) pool_now run_now.server
+    many_failed error makes none = elim makes [
+      | inl unmade ↦
+          let drew = unmade_drew before now documents error unmade.draws in
+          let same_pool = same_told pool_now pool (sym pool_now_is ∙ drew.pool ∙ pool_is) in
+          let same = same_told run_now run (sym run_now_is ∙ ap (λ moment. server_run moment.link) drew.rest ∙ run_is) in
+          ran_same none same_pool (ap (λ r. r.server) same)
+      | inr made ↦ ran_many (Err error) made (answered_none calls outcomes run.server.log (went_on (Err error) made).more last none ran.answered)
+    ]
+
+    -- one that was done: the entries of its documents stand
+    many_answered : (output : InsertManyResult) → MadeMany before now (in_collection namespace) documents options (length outcomes) (Ok output) → result_ok last.result ≡ Some (answer.Many output)
+        → Ran calls (outcomes ++ last ∷ []) pool_now run_now.server
+    many_answered output made is =
+        let on = went_on (Ok output) made in
+        let stands = made_stands before now (in_collection namespace) documents options (length outcomes) (Ok output) made pool pool_now run run_now pool_is pool_now_is run_is run_now_is may_call in
+        let done = many_done calls (length outcomes) namespace documents options at run_now.server.log output stands.0 stands.1 in
+        let spelled = many_result calls (length outcomes) namespace documents options at run_now.server.log output stands.0 stands.1 on.sound.settled.once in
+        ran_many (Ok output) made
+        (answered_with calls outcomes run.server.log on.more (answer.Many output) last (subst (λ log. Done calls (length outcomes) log) on.log done)
+        (subst (λ log. call_result calls (length outcomes) log ≡ Some (answer.Many output)) on.log spelled) is ran.answered)
+
   -- one call more
   pub ran_more : (call : Call) (result : Result Answer Error) → last.result ≡ result → slice_get calls (length outcomes) ≡ Some call
-      → SendsCall before now call (length outcomes) result → Ran calls (outcomes ++ last ∷ []) pool_now run_now.server
-  ran_more (Single write) (Ok (answer.Single given)) is at sends = ran_done write given at sends (ap result_ok is)
-  ran_more (Single write) (Err error) is at sends = ran_failed write error at sends (ap result_ok is)
+      → MakesCall before now call (length outcomes) result → Ran calls (outcomes ++ last ∷ []) pool_now run_now.server
+  ran_more (Single write) (Ok (answer.Single given)) is at makes = ran_done write given at makes (ap result_ok is)
+  ran_more (Single write) (Ok (answer.Many output)) is at makes = absurd makes
+  ran_more (Single write) (Err error) is at makes = ran_failed write error at makes (ap result_ok is)
+  ran_more (InsertMany namespace documents options) (Ok (answer.Many output)) is at makes = many_answered namespace documents options at output makes (ap result_ok is)
+  ran_more (InsertMany namespace documents options) (Ok (answer.Single given)) is at makes = absurd makes
+  ran_more (InsertMany namespace documents options) (Err error) is at makes = many_failed namespace documents options at error makes (ap result_ok is)
 
 -- before the first call
 pub ran_none : (calls : List Call) (pool : Pool) (server : Server) → pool ≡ empty_pool → server ≡ empty_server → Ran calls [] pool server

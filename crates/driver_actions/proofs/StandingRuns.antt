@@ -1,8 +1,9 @@
 -- A run of calls over any store and any link stands before its first call, after one call more, and where calls are
 -- appended to its list.
-use Rattle.std.proofs.Common.{◌≡◌, ℕ, ◌+◌, ◌<◌, ◌≤◌, List, [], ◌∷◌, ◌++◌, length, take, refl, sym, ap, subst, ◌∙◌, arith, length-append}
+use Rattle.std.proofs.Common.{◌≡◌, ℕ, ◌+◌, ◌<◌, ◌≤◌, List, [], ◌∷◌, ◌++◌, length, map, sum, take, refl, sym, ap, subst, ◌∙◌, arith, length-append}
 use Rattle.std.specs.Prelude.{pos, Option, None, Some, slice_get}
-use Rattle.std.proofs.lemmas.List.{length-take-le, take-append-le}
+use Rattle.std.proofs.lemmas.List.{length-take-le, map_push, take-append-le}
+use Rattle.std.proofs.lemmas.List.Sums.{sum_by_push}
 use Rattle.driver_link.specs.Exchange.{empty_server}
 use Rattle.driver_link.specs.LinkState.{server_run}
 use Rattle.driver_link.specs.ServerRun.{IsFresh, ServerRun}
@@ -16,10 +17,12 @@ use Rattle.driver_exec.specs.Moment.{Moment}
 use Rattle.driver_actions.specs.declared.call.Call.{Call}
 use Rattle.driver_actions.specs.declared.call.Outcome.{Outcome}
 use Rattle.driver_actions.specs.CallByCall.{CallCaused, with_clock}
-use Rattle.driver_actions.specs.MainTheorem.{KeepsMakingWhereTold}
+use Rattle.driver_actions.specs.CallMaking.{MakesCall}
+use Rattle.driver_actions.specs.MainTheorem.{KeepsMakingWhereTold, all_numbers_of, numbers_of}
+use Rattle.driver_actions.specs.ManyCompleteness.{RaisesByWhereTold}
 use Rattle.driver_actions.specs.Standing.{Leaves, LeavesWhereTold, RunInvariant, RunState, new_run, run_more}
 use Rattle.driver_actions.proofs.AppendedCalls.{ran_appended, take_next, take_none}
-use Rattle.driver_actions.proofs.CallSends.{SendsCall, call_sends, sends_draws, sends_making, sends_within}
+use Rattle.driver_actions.proofs.EachCall.{call_moves}
 use Rattle.driver_actions.proofs.RunSteps.{Ran, ran_none, ran_more, ran_holds}
 
 -- before the first call
@@ -32,7 +35,7 @@ leaves_none pool run new fresh =
       sound = ran.sound;
       below = ran.below;
       own = ran.own;
-      numbers = subst (λ p. NumbersWithin (pos 0) p.idle) (sym new) tt;
+      numbers = subst (λ p. NumbersWithin (pos (all_numbers_of [])) p.idle) (sym new) tt;
     }
 
 -- the same of what store and link tell
@@ -51,6 +54,17 @@ ran_of calls outcomes pool run leaves = record {
   answered = record { done = leaves.holds.done; result = leaves.holds.result };
 }
 
+-- one call more takes its numbers behind those of the others
+all_numbers_more : (calls : List Call) (call : Call) → all_numbers_of calls + numbers_of call ≡ all_numbers_of (calls ++ call ∷ [])
+unfolding all_numbers_of
+all_numbers_more calls call = sym (ap sum (map_push numbers_of calls call) ∙ sum_by_push (λ x. x) (map numbers_of calls) (numbers_of call))
+
+-- what rises by so many at most, where the pools are told
+raises_told : (count : ℕ) (store store_now : Option Pool) (pool pool_now : Pool) → store ≡ Some pool → store_now ≡ Some pool_now → RaisesByWhereTold count store store_now
+    → (most : ℕ) → NumbersWithin (pos most) pool.idle → NumbersWithin (pos (most + count)) pool_now.idle
+raises_told count store store_now pool pool_now is now_is raises =
+    subst (λ n. RaisesByWhereTold count (Some pool) n) now_is (subst (λ p. RaisesByWhereTold count p store_now) is raises)
+
 -- one call more
 module _ (calls : List Call) (call : Call) (outcomes : List Outcome) (last : Outcome) where
   abbrev longer : List Call
@@ -59,7 +73,7 @@ module _ (calls : List Call) (call : Call) (outcomes : List Outcome) (last : Out
   abbrev more : List Outcome
   more = outcomes ++ last ∷ []
 
-  module _ (before now : Moment) (sends : SendsCall before now call (length outcomes) last.result) where
+  module _ (before now : Moment) (makes : MakesCall before now call (length outcomes) last.result) where
     -- where pool and server are told
     leaves_more : (pool pool_now : Pool) (run run_now : ServerRun) → before.store.pool ≡ Some pool → now.store.pool ≡ Some pool_now → server_run before.link ≡ Some run
         → server_run now.link ≡ Some run_now → AllApart pool_now.drawn → Leaves calls outcomes pool run → Leaves (calls ++ call ∷ []) (outcomes ++ last ∷ []) pool_now run_now
@@ -69,24 +83,24 @@ module _ (calls : List Call) (call : Call) (outcomes : List Outcome) (last : Out
         = length-append outcomes (last ∷ []) ∙ ap (λ n. n + 1) count ∙ sym (length-append calls (call ∷ [])) in
         let at : slice_get longer (length outcomes) ≡ Some call = ap (slice_get longer) count ∙ get_last calls call in
         let ran = ran_appended calls (call ∷ []) outcomes count pool run.server (ran_of calls outcomes pool run leaves) in
-        let ran_now = ran_more longer outcomes before now pool pool_now run run_now is now_is run_is run_now_is last apart ran call last.result refl at sends in
-        let numbers = sends_within before now call (length outcomes) last.result sends pool pool_now is now_is leaves.numbers in
+        let ran_now = ran_more longer outcomes before now pool pool_now run run_now is now_is run_is run_now_is last apart ran call last.result refl at makes in
+        let moves = call_moves before now call (length outcomes) last.result makes in
+        let numbers = raises_told (numbers_of call) before.store.pool now.store.pool pool pool_now is now_is moves.raises (all_numbers_of calls) leaves.numbers in
         record {
           holds = ran_holds longer more pool_now run_now.server counts ran_now;
           between = ran_now.between;
           sound = ran_now.sound;
           below = ran_now.below;
           own = ran_now.own;
-          numbers = subst (λ n. NumbersWithin (pos n) pool_now.idle) (sym (length-append outcomes (last ∷ []))) numbers;
+          numbers = subst (λ n. NumbersWithin (pos n) pool_now.idle) (all_numbers_more calls call) numbers;
         }
 
     -- whatever store and link tell
     leaves_more_told : DrawnApart now.store → LeavesWhereTold calls outcomes before.store.pool (server_run before.link)
         → LeavesWhereTold (calls ++ call ∷ []) (outcomes ++ last ∷ []) now.store.pool (server_run now.link)
     leaves_more_told apart leaves =
-        let draws = sends_draws before now call (length outcomes) last.result sends in
-        let making = sends_making before now call (length outcomes) last.result sends in
-        of_told before.store.pool now.store.pool (server_run before.link) (server_run now.link) refl refl refl refl draws.more draws.drawn making apart leaves
+        let moves = call_moves before now call (length outcomes) last.result makes in
+        of_told before.store.pool now.store.pool (server_run before.link) (server_run now.link) refl refl refl refl moves.draws.more moves.draws.drawn moves.making apart leaves
       where
         -- by what is told
         of_told : (pool pool_now : Option Pool) (run run_now : Option ServerRun) → before.store.pool ≡ pool → now.store.pool ≡ pool_now → server_run before.link ≡ run
@@ -120,14 +134,14 @@ stands_count run calls now stands =
     left_count (take run.made calls) run.outcomes now.store.pool (server_run now.link) stands.left ∙ length-take-le run.made calls stands.within
 
 -- one call more, between two moments whose clocks do not matter
-stands_sent : (run now : RunState) (calls : List Call) (call : Call) (last : Outcome) (before after : Moment) → now ≡ run_more run last → run.made < length calls
-    → slice_get calls run.made ≡ Some call → SendsCall before after call run.made last.result → RunInvariant run calls before → DrawnApart after.store → RunInvariant now calls after
-stands_sent run now calls call last before after is_more within next sends stands apart =
+stands_made : (run now : RunState) (calls : List Call) (call : Call) (last : Outcome) (before after : Moment) → now ≡ run_more run last → run.made < length calls
+    → slice_get calls run.made ≡ Some call → MakesCall before after call run.made last.result → RunInvariant run calls before → DrawnApart after.store → RunInvariant now calls after
+stands_made run now calls call last before after is_more within next makes stands apart =
     let front = take run.made calls in
     let step : take (run.made + 1) calls ≡ front ++ call ∷ [] = take_next calls run.made call next in
     let count = stands_count run calls before stands in
-    let sends_here = subst (λ n. SendsCall before after call n last.result) (sym count) sends in
-    let left = leaves_more_told front call run.outcomes last before after sends_here apart stands.left in
+    let makes_here = subst (λ n. MakesCall before after call n last.result) (sym count) makes in
+    let left = leaves_more_told front call run.outcomes last before after makes_here apart stands.left in
     subst (λ r. RunInvariant r calls after) (sym is_more) (record {
       within = one_within run.made (length calls) within;
       left = subst (λ made. LeavesWhereTold made (run.outcomes ++ last ∷ []) after.store.pool (server_run after.link)) (sym step) left;
@@ -144,9 +158,8 @@ pub stands_more : (run now : RunState) (calls : List Call) (call : Call) (last :
 stands_more run now calls call last before after is_more within next caused stands apart =
     let began = with_clock before caused.first in
     let ended = with_clock after caused.clock in
-    let sends = call_sends began ended call run.made last.result caused.makes in
     let stood : RunInvariant run calls began = record { within = stands.within; left = stands.left; closed = stands.closed } in
-    let now_stands = stands_sent run now calls call last began ended is_more within next sends stood apart in
+    let now_stands = stands_made run now calls call last began ended is_more within next caused.makes stood apart in
     record { within = now_stands.within; left = now_stands.left; closed = now_stands.closed }
 
 -- calls that are appended to the list

@@ -1,9 +1,12 @@
 -- The writes of a list of calls by their places, and what the log says of a call.
-use Rattle.std.specs.Prelude.{◌≡◌, ℕ, Bool, ◌==◌, ◌&&◌, List, [], ◌∷◌, length, Option, None, Some, ◌⊎◌, slice_get, if◌then◌else◌, IsSome}
+use Rattle.std.specs.Prelude.{◌≡◌, ℕ, ◌+◌, Bool, ◌==◌, ◌&&◌, List, [], ◌∷◌, length, Option, None, Some, ◌⊎◌, slice_get, if◌then◌else◌, IsSome}
+use Rattle.std.specs.FinMap as finite
 use Rattle.std.specs.Option.{option_and_then, option_map}
+use Rattle.std.specs.Ordering.{nat_cmp}
 use Rattle.bson_lite.specs.declared.bson.Bson.{Bson}
 use Rattle.bson_lite.specs.declared.bson.ObjectId.{ObjectId}
 use Rattle.bson_lite.specs.declared.document.Pair.{Pair}
+use Rattle.bson_lite.specs.declared.namespace.Namespace.{Namespace}
 use Rattle.bson_lite.specs.Fields.{value_of, id_key, with_id}
 use Rattle.driver_link.specs.declared.machine.Entry.{Entry}
 use Rattle.driver_link.specs.declared.machine.Place.{Place}
@@ -15,7 +18,7 @@ use Rattle.driver_ops.specs.FoundAnswers.{found_by}
 use Rattle.driver_actions.specs.declared.call.Answer.{Answer}
 use Rattle.driver_actions.specs.declared.call.Answer.TheVariants as answer
 use Rattle.driver_actions.specs.declared.call.Call.{Call}
-use Rattle.driver_actions.specs.declared.call.Call.TheVariants.{Single}
+use Rattle.driver_actions.specs.declared.call.Call.TheVariants.{InsertMany, Single}
 use Rattle.driver_actions.specs.declared.call.SingleAnswer.{SingleAnswer}
 use Rattle.driver_actions.specs.declared.call.SingleAnswer.TheVariants.{Deleted, Found, Inserted, Updated}
 use Rattle.driver_actions.specs.declared.call.SingleWrite.{SingleWrite}
@@ -25,9 +28,14 @@ use Rattle.driver_actions.specs.Forms.{form_of, written_in}
 abbrev pub written : SingleWrite → Written
 written write = written_in (form_of write)
 
+-- the insert of a document as it was given
+abbrev pub given_insert : Namespace → List (Pair Bson) → Written
+given_insert namespace document = record { kind = kind.Insert; namespace = namespace; document = document }
+
 -- the write of a call at an index
 abbrev pub write_in : Call → ℕ → Option Written
 write_in (Single write) index = if index == 0 then Some (written write) else None
+write_in (InsertMany namespace documents options) index = option_map (given_insert namespace) (slice_get documents index)
 
 -- the write that the caller gave at a place
 unfoldable pub write_at : List Call → Place → Option Written
@@ -90,10 +98,23 @@ answer_by kind.Update entry = option_map (λ result. Updated result) (updated_by
 answer_by kind.Delete entry = option_map (λ result. Deleted result) (deleted_by entry.result)
 answer_by kind.FindAndModify entry = option_map (λ found. Found found) (found_by entry.result)
 
+-- an id at an index beside others, where there is one
+abbrev pub put_id : ℕ → Option Bson → Option (finite.FinMap nat_cmp Bson) → Option (finite.FinMap nat_cmp Bson)
+put_id index (Some id) (Some ids) = Some (finite.insert ids index id)
+put_id index id ids = None
+
+-- the ids of the documents of a call in the log, by their indexes, from one on: none where an entry is missing
+abbrev pub ids_in_log : ℕ → ℕ → List (List (Pair Bson)) → List Entry → Option (finite.FinMap nat_cmp Bson)
+ids_in_log call index [] log = Some finite.empty
+ids_in_log call index (document ∷ documents) log =
+    put_id index (option_and_then entry_id (entry_at (record { call = call; index = index }) log)) (ids_in_log call (index + 1) documents log)
+
 -- the answer of a call that the log spells
 abbrev pub result_of : Call → ℕ → List Entry → Option Answer
 result_of (Single write) call log =
     option_map (λ given. answer.Single given) (option_and_then (answer_by (written write).kind) (entry_at (record { call = call; index = 0 }) log))
+result_of (InsertMany namespace documents options) call log =
+    option_map (λ ids. answer.Many (record { inserted_ids = ids })) (ids_in_log call 0 documents log)
 
 -- the answer of the call at a number that the log spells
 unfoldable pub call_result : List Call → ℕ → List Entry → Option Answer

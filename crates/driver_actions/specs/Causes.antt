@@ -22,9 +22,7 @@ use Rattle.driver_ops.specs.Targets.{in_collection}
 use Rattle.driver_exec.specs.Causes.{ErrorOutline, end_of}
 use Rattle.driver_exec.specs.Moment.{Moment}
 use Rattle.driver_exec.specs.OperationCauses.{Caused}
-use Rattle.driver_actions.specs.declared.call.Call.{Call}
-use Rattle.driver_actions.specs.declared.call.Call.TheVariants.{Single}
-use Rattle.driver_actions.specs.Forms.{WriteForm, deletes, finds, form_of, inserts, updates}
+use Rattle.driver_actions.specs.Forms.{WriteForm, deletes, finds, inserts, updates}
 use Rattle.driver_actions.specs.Inputs.{InputRefused, TellsInput}
 use Rattle.driver_actions.specs.OwnIds.{DrawsOwn}
 
@@ -89,7 +87,3 @@ OperationCaused before now (finds namespace filter modification options) result 
 pub record WriteCaused {A : Type 0} (before now : Moment) (form : WriteForm) (result : Result A Error) : Type 0 where
   pub caused : EndsEarly before now form result ⊎ OperationCaused before now form result
   pub refused : RefusesFirst before now form (end_of result)
-
--- so does a call
-abbrev pub HasCause : {A : Type 0} → Moment → Moment → Call → Result A Error → Type 0
-HasCause before now (Single write) result = WriteCaused before now (form_of write) result

@@ -1,7 +1,7 @@
 -- The main theorem for one list of calls: one outcome per call, no write twice in the log and every
 -- entry the caller's own, late arrivals included, and an Ok call's writes there once with the answer
 -- that the log spells.
-use Rattle.std.specs.Prelude.{◌≡◌, ℕ, ◌≤◌, pos, ◌<ℤ◌, true, List, [], ◌∷◌, length, Option, None, Some, IfSome, Result, ◌⊎◌, slice_get}
+use Rattle.std.specs.Prelude.{◌≡◌, ℕ, ◌≤◌, pos, ◌<ℤ◌, true, List, [], ◌∷◌, length, map, sum, Option, None, Some, IfSome, Result, ◌⊎◌, slice_get}
 use Rattle.std.specs.Option.{option_and_then}
 use Rattle.std.specs.Result.{result_ok}
 use Rattle.bson_lite.specs.declared.bson.ObjectId.{ObjectId}
@@ -9,34 +9,38 @@ use Rattle.bson_lite.specs.Fields.{with_id}
 use Rattle.bson_lite.specs.Spelling.{refusal, spelling}
 use Rattle.driver_batches.specs.Sizes.{Fits}
 use Rattle.driver_error.specs.declared.error.Error.{Error}
+use Rattle.driver_link.specs.declared.machine.Item.{Item}
 use Rattle.driver_link.specs.declared.machine.PlacedWrite.{PlacedWrite}
 use Rattle.driver_link.specs.declared.machine.Send.{Send}
 use Rattle.driver_link.specs.declared.machine.Server.{Server}
 use Rattle.driver_link.specs.declared.machine.Setup.{Setup}
-use Rattle.driver_link.specs.declared.machine.WriteKind.{WriteKind}
 use Rattle.driver_link.specs.declared.options.ClientOptions.{ClientOptions}
 use Rattle.driver_link.specs.declared.options.Description.{Description}
 use Rattle.driver_link.specs.Cases.{writes_of}
 use Rattle.driver_link.specs.Exchange.{after_picks, replayed, empty_server}
 use Rattle.driver_link.specs.Once.{Once}
 use Rattle.driver_link.specs.LinkState.{server_run, setup_of}
+use Rattle.driver_link.specs.Retried.{IsGentleItem}
 use Rattle.driver_link.specs.ServerRun.{IsFresh, ServerRun}
 use Rattle.driver_session.specs.Session.{last_number}
 use Rattle.driver_session.specs.StoreTells.{DrawnApart, IsNewStore}
 use Rattle.driver_ops.specs.Fields.{IsSixteen, SendContext}
 use Rattle.driver_ops.specs.InsertFronts.{insert_limits}
+use Rattle.driver_ops.specs.Targets.{in_collection}
 use Rattle.driver_exec.specs.Concerns.{concern_refusal}
-use Rattle.driver_exec.specs.Gentle.{EndsWell, IsGentleWhereTold}
+use Rattle.driver_exec.specs.Gentle.{EndsWell}
 use Rattle.driver_exec.specs.Moment.{Moment}
 use Rattle.driver_exec.specs.OperationCauses.{DrawsNumbers}
 use Rattle.driver_actions.specs.declared.call.Answer.{Answer}
 use Rattle.driver_actions.specs.declared.call.Call.{Call}
 use Rattle.driver_actions.specs.declared.call.Outcome.{Outcome}
-use Rattle.driver_actions.specs.declared.call.Call.TheVariants.{Single}
+use Rattle.driver_actions.specs.declared.call.Call.TheVariants.{InsertMany, Single}
 use Rattle.driver_actions.specs.Calls.{Mine, Done, call_result}
 use Rattle.driver_actions.specs.CallByCall.{CallByCall, CallCaused}
 use Rattle.driver_actions.specs.Forms.{WriteForm, body_in, concern_in, form_of, inserts, kind_in, repeats_in}
 use Rattle.driver_actions.specs.Inputs.{IsAccepted}
+use Rattle.driver_actions.specs.ManyCompleteness.{InsertsHaveNumbers, IsGentleCallWhereTold, IsValidMany, ServesInserts}
+use Rattle.driver_actions.specs.ManyLeft.{LeavesByCall}
 
 -- the answer of the call at a number, where it is Ok
 abbrev pub answer_at : List Outcome → ℕ → Option Answer
@@ -56,60 +60,79 @@ FitsAlone description (inserts namespace document options) =
     (id : ObjectId) → length id.bytes ≡ 12 → Fits (insert_limits namespace options description) (length (spelling (with_id id document)) ∷ [])
 FitsAlone description other = Unit {0}
 
--- a write is valid as the call of a number, under a client's options, over a link that tells its setup or not: its input is accepted,
+-- a write is valid after at most so many numbers, under a client's options, over a link that tells its setup or not: its input is accepted,
 -- its write concern is not refused, its command has a spelling with that concern under any session and number or none, it fits into
--- a command over the setup's connections, and fewer calls came before it than a session has numbers
-pub record IsValidWrite (call : ℕ) (options : ClientOptions) (setup : Option Setup) (form : WriteForm) : Type 0 where
+-- a command over the setup's connections, and a session has one number more
+pub record IsValidWrite (most : ℕ) (options : ClientOptions) (setup : Option Setup) (form : WriteForm) : Type 0 where
   pub accepted : IsAccepted form
   pub concerned : concern_refusal (concern_in form options) ≡ None
   pub command : (context : SendContext) → context.concern ≡ concern_in form options → IsSixteen context.session → refusal (body_in form context) ≡ None
   pub fits : IfSome setup (λ setup. FitsAlone setup.description form)
-  pub number : pos call <ℤ last_number
+  pub number : pos most <ℤ last_number
 
--- the call at a number of a list is valid at a moment
+-- how many numbers of sessions a call takes at most: one for each of its batches, of which each has a write at least
+abbrev pub numbers_of : Call → ℕ
+numbers_of (Single write) = 1
+numbers_of (InsertMany namespace documents options) = length documents
+
+-- how many calls take together
+unfoldable pub all_numbers_of : List Call → ℕ
+all_numbers_of calls = sum (map numbers_of calls)
+
+-- a call is valid at a moment, after at most so many numbers
 abbrev pub IsValid : ℕ → Moment → Call → Type 0
-IsValid call before (Single write) = IsValidWrite call before.client.options (setup_of before.link) (form_of write)
+IsValid most before (Single write) = IsValidWrite most before.client.options (setup_of before.link) (form_of write)
+IsValid most before (InsertMany namespace documents options) =
+    IsValidMany most before.client.options (setup_of before.link) (in_collection namespace) documents options
 
 -- one of the writes is of this call
 abbrev pub HasWriteOf : ℕ → List PlacedWrite → Type 0
 HasWriteOf call [] = ⊥
 HasWriteOf call (write ∷ writes) = (write.place.call ≡ call) ⊎ HasWriteOf call writes
 
+-- a send carries writes of this call, and of no other
+pub record IsSendOf (call : ℕ) (send : Send) : Type 0 where
+  pub some : HasWriteOf call (writes_of send)
+  pub all : (at : ℕ) (write : PlacedWrite) → slice_get (writes_of send) at ≡ Some write → write.place.call ≡ call
+
 -- the sends of a call's command have numbers: the link tells that its connections take sessions and retryable writes, the write
 -- may be repeated, and the client's options do not forbid it
 abbrev pub MayRepeat : Moment → Call → Type 0
 MayRepeat before (Single write) = DrawsNumbers true (repeats_in (form_of write) before.client.options) (setup_of before.link)
+MayRepeat before (InsertMany namespace documents options) = InsertsHaveNumbers before.client.options (setup_of before.link)
 
--- the kind of a call's writes
-abbrev pub kind_of_call : Call → WriteKind
-kind_of_call (Single write) = kind_in (form_of write)
+-- the items that serve a call's commands as usual
+abbrev pub ServesCall : Call → (Item → Type 0)
+ServesCall (Single write) = IsGentleItem (kind_in (form_of write))
+ServesCall (InsertMany namespace documents options) = ServesInserts
 
 -- the part of a schedule that a call takes is gentle: none of its selections and check-outs fails, and each of its sends is
--- served as usual; where its sends have numbers one of them may get no reply instead
+-- served as usual; where its sends have numbers one of each command may get no reply instead
 abbrev pub IsGentle : Moment → Moment → Call → Type 0
-IsGentle before now call = IsGentleWhereTold (kind_of_call call) (MayRepeat before call) (server_run before.link) (server_run now.link)
+IsGentle before now call = IsGentleCallWhereTold (ServesCall call) (MayRepeat before call) (server_run before.link) (server_run now.link)
 
 -- completeness of a call: a valid one whose part of the schedule is gentle ends well, whatever came before it
-abbrev pub CallCompletes : ℕ → Moment → Moment → Call → Result Answer Error → Type 0
-CallCompletes number before now call result = IsValid number before call → IsGentle before now call → EndsWell result
+abbrev pub CallCompletes : List Call → Moment → Moment → Call → Result Answer Error → Type 0
+CallCompletes earlier before now call result = IsValid (all_numbers_of earlier) before call → IsGentle before now call → EndsWell result
 
--- each send that a told server got between two moments has a write of this call
+-- each send that a told server got between two moments carries writes of this call, and of no other
 abbrev pub SendsOwn : ℕ → Option ServerRun → Option ServerRun → Type 0
 SendsOwn call None now = Unit {0}
 SendsOwn call (Some told) None = ⊥
 SendsOwn call (Some told) (Some now) =
-    (at : ℕ) (send : Send) → length told.server.trace ≤ at → slice_get now.server.trace at ≡ Some send → HasWriteOf call (writes_of send)
+    (at : ℕ) (send : Send) → length told.server.trace ≤ at → slice_get now.server.trace at ≡ Some send → IsSendOf call send
 
 -- a call between two moments: it was made and ended with its cause, and well where it is valid and its part is gentle; all
--- that was sent is its own
-pub record CallEnds (number : ℕ) (before now : Moment) (call : Call) (outcome : Outcome) : Type 0 where
-  pub caused : CallCaused number before now call outcome
-  pub complete : CallCompletes number before now call outcome.result
-  pub sends_own : SendsOwn number (server_run before.link) (server_run now.link)
+-- that was sent is its own, and what an insert of many documents told of them is so
+pub record CallEnds (earlier : List Call) (before now : Moment) (call : Call) (outcome : Outcome) : Type 0 where
+  pub caused : CallCaused (length earlier) before now call outcome
+  pub complete : CallCompletes earlier before now call outcome.result
+  pub sends_own : SendsOwn (length earlier) (server_run before.link) (server_run now.link)
+  pub leaves : LeavesByCall (length earlier) before now call outcome.result
 
 -- each call of a list ended so
 abbrev pub HaveEnded : List Call → List Outcome → Moment → Moment → Type 0
-HaveEnded calls outcomes before now = CallByCall CallEnds 0 calls outcomes before now
+HaveEnded calls outcomes before now = CallByCall CallEnds [] calls outcomes before now
 
 -- the main theorem of a link that tells its server
 abbrev pub MainTheoremWhereTold : List Call → List Outcome → Option ServerRun → Type 0

@@ -25,13 +25,9 @@ use Rattle.driver_exec.specs.Keeping.{KeepsInvariant, OkHasEntries}
 use Rattle.driver_exec.specs.Moment.{Moment}
 use Rattle.driver_exec.specs.OperationCauses.{Caused}
 use Rattle.driver_exec.specs.Resending.{SendsOneCommand}
-use Rattle.driver_actions.specs.declared.call.Answer.{Answer}
-use Rattle.driver_actions.specs.declared.call.Answer.TheVariants as answer
-use Rattle.driver_actions.specs.declared.call.Call.{Call}
-use Rattle.driver_actions.specs.declared.call.Call.TheVariants.{Single}
 use Rattle.driver_actions.specs.declared.call.SingleAnswer.{SingleAnswer}
 use Rattle.driver_actions.specs.declared.call.SingleAnswer.TheVariants.{Deleted, Found, Inserted, Updated}
-use Rattle.driver_actions.specs.Forms.{WriteForm, asked_in, deletes, finds, form_of, inserts, updates, written_in}
+use Rattle.driver_actions.specs.Forms.{WriteForm, asked_in, deletes, finds, inserts, updates, written_in}
 use Rattle.driver_actions.specs.Inputs.{IsAccepted, TellsInput}
 use Rattle.driver_actions.specs.OwnIds.{DrawsOwn, MayDrawBy}
 use Rattle.driver_actions.specs.Singles.{BecomesSingle}
@@ -117,8 +113,3 @@ Makes before now form place (Err error) = Unmade before now form error ⊎ Made 
 -- the first place of a call
 abbrev pub first_place : ℕ → Place
 first_place call = record { call = call; index = 0 }
-
--- one call of a list, by its number
-abbrev pub MakesCall : Moment → Moment → Call → ℕ → Result Answer Error → Type 0
-MakesCall before now (Single write) call (Ok (answer.Single given)) = Made before now (form_of write) (first_place call) (Ok given)
-MakesCall before now (Single write) call (Err error) = Makes before now (form_of write) (first_place call) (Err error)

@@ -2,6 +2,7 @@
 use Rattle.std.specs.Prelude.{ℕ, ◌+◌, pos, true, Option, Some, Result}
 use Rattle.driver_error.specs.declared.error.Error.{Error}
 use Rattle.driver_link.specs.declared.machine.Place.{Place}
+use Rattle.driver_link.specs.Retried.{IsGentleItem}
 use Rattle.driver_link.specs.LinkState.{server_run, setup_of}
 use Rattle.driver_link.specs.ServerRun.{ServerRun}
 use Rattle.driver_session.specs.Pool.{Pool}
@@ -37,5 +38,5 @@ MayCompleteWhereTold most pool pool_now run place = ⊥
 abbrev pub CompletesSingle : Moment → Moment → WriteForm → Place → Result SingleAnswer Error → Type 0
 CompletesSingle before now form place result =
     (most : ℕ) → MayCompleteWhereTold most before.store.pool now.store.pool (server_run before.link) place → IsValidWrite most before.client.options (setup_of before.link) form
-    → IsGentleWhereTold (kind_in form) (DrawsNumbers true (repeats_in form before.client.options) (setup_of before.link)) (server_run before.link) (server_run now.link)
+    → IsGentleWhereTold (IsGentleItem (kind_in form)) (DrawsNumbers true (repeats_in form before.client.options) (setup_of before.link)) (server_run before.link) (server_run now.link)
     → EndsWell result

@@ -14,7 +14,7 @@ use Rattle.driver_actions.specs.declared.call.Call.{Call}
 use Rattle.driver_actions.specs.declared.call.Outcome.{Outcome}
 use Rattle.driver_actions.specs.Calls.{OwnAt, write_at}
 use Rattle.driver_actions.specs.CallByCall.{CallCaused}
-use Rattle.driver_actions.specs.MainTheorem.{CallEnds, MainTheorem}
+use Rattle.driver_actions.specs.MainTheorem.{CallEnds, MainTheorem, all_numbers_of}
 
 -- a run of calls: how many were made, for how many there is room, their outcomes, and the slots of open sessions, of which
 -- there are none until calls open sessions
@@ -47,7 +47,7 @@ MakesCaused run now calls before after = MakesNext run now calls (λ call outcom
 
 -- and well, where it is valid and its part of the schedule is gentle
 abbrev pub MakesEnded : RunState → RunState → List Call → Moment → Moment → Type 0
-MakesEnded run now calls before after = MakesNext run now calls (λ call outcome. CallEnds run.made before after call outcome)
+MakesEnded run now calls before after = MakesNext run now calls (λ call outcome. CallEnds (take run.made calls) before after call outcome)
 
 -- each write of a trace is the caller's own
 abbrev pub AllOwn : List Call → List Send → Type 0
@@ -59,14 +59,14 @@ AllBelow made trace = (send : Send) (at : ℕ) (write : PlacedWrite) → Has tra
 
 -- what these calls with these outcomes left: the main theorem holds of them; nothing is lent, and no
 -- number that was sent is above its session's; the trace is orderly, the server settled, and each write that was
--- sent is of one of the calls, in a place of a call that was made; and no idle session's number is above the count of the calls
+-- sent is of one of the calls, in a place of a call that was made; and no idle session's number is above those that the calls take at most
 pub record Leaves (calls : List Call) (outcomes : List Outcome) (pool : Pool) (run : ServerRun) : Type 0 where
   pub holds : MainTheorem calls outcomes run.server
   pub between : Between pool run.server.trace
   pub sound : Sound run.server
   pub below : AllBelow (length outcomes) run.server.trace
   pub own : AllOwn calls run.server.trace
-  pub numbers : NumbersWithin (pos (length outcomes)) pool.idle
+  pub numbers : NumbersWithin (pos (all_numbers_of calls)) pool.idle
 
 -- a store and a link tell what these calls left
 abbrev pub LeavesWhereTold : List Call → List Outcome → Option Pool → Option ServerRun → Type 0

@@ -1,6 +1,6 @@
 //! Calls and what they answer, as plain data.
-use bson_lite::{Document, Namespace};
-use driver_error::{DeleteResult, Error, InsertOneResult, UpdateResult};
+use bson_lite::{Document, List, Namespace};
+use driver_error::{DeleteResult, Error, InsertManyResult, InsertOneResult, UpdateResult};
 use driver_link::{
     DeleteOptions, FindOneAndDeleteOptions, FindOneAndReplaceOptions, FindOneAndUpdateOptions,
     InsertManyOptions, UpdateModifications, UpdateOptions,
@@ -83,13 +83,23 @@ pub enum SingleAnswer {
 /// One call of a driver's user.
 #[derive(Debug, Drop)]
 pub enum Call {
-    Single { write: SingleWrite },
+    /// A write of one statement.
+    Single {
+        write: SingleWrite,
+    },
+    /// Inserts documents, each with an id put first where it has none, in as few batches as the server's limits allow.
+    InsertMany {
+        namespace: Namespace,
+        documents: List<Document>,
+        options: InsertManyOptions,
+    },
 }
 
 /// What a call answers.
 #[derive(Debug, Drop)]
 pub enum Answer {
     Single(SingleAnswer),
+    Many(InsertManyResult),
 }
 
 /// How a call ended. The clock is read in milliseconds before and after it.

@@ -1,12 +1,27 @@
-//! Laws: of one call and its times, of a run between two of its calls, and of one exchange.
-ghost use Rattle.std.specs.Prelude.{◌++◌, ◌∷◌, ℕ, List, []};
+//! Laws: of one call and its times, of a run between two of its calls, of one exchange, and of what the batches of an
+//! insert tell together.
+ghost use Rattle.std.specs.Prelude.{◌≡◌, ◌++◌, ◌∷◌, ℕ, List, [], Ok, Result, Some};
+ghost use Rattle.std.specs.FinMap as finite;
+ghost use Rattle.bson_lite.specs.declared.bson.Bson.{Bson};
+ghost use Rattle.bson_lite.specs.declared.document.Pair.{Pair};
+ghost use Rattle.driver_error.specs.declared.error.Error.{Error};
+ghost use Rattle.driver_error.specs.declared.results.InsertManyResult.{InsertManyResult};
+ghost use Rattle.driver_error.specs.LabelTexts.{has_label};
 ghost use Rattle.driver_link.specs.declared.machine.Scheduled.{Scheduled};
 ghost use Rattle.driver_link.specs.declared.machine.Send.{Send};
 ghost use Rattle.driver_link.specs.declared.machine.Server.{Server};
+ghost use Rattle.driver_link.specs.declared.write_options.InsertManyOptions.{InsertManyOptions};
 ghost use Rattle.driver_link.specs.Exchange.{after_picks, exchanged};
 ghost use Rattle.driver_link.specs.Settled.{Has, IsOrderly, IsPlain, IsSettled, MayJoin};
+ghost use Rattle.driver_ops.specs.declared.own_document.OwnDocument.{OwnDocument};
+ghost use Rattle.driver_ops.specs.declared.target.OperationTarget.{OperationTarget};
+ghost use Rattle.driver_ops.specs.InsertAnswers.{all_ids};
 ghost use Rattle.driver_exec.specs.Moment.{Moment};
+ghost use Rattle.driver_actions.specs.BatchTells.{AllOk, AllWentIn, AreInOrder, TellsId, all_errors, last_concern, some_failed, some_labelled};
+ghost use Rattle.driver_actions.specs.Batches.{BatchEnd, MakesBatches};
 ghost use Rattle.driver_actions.specs.CallByCall.{CallCaused, IsTimed};
+ghost use Rattle.driver_actions.specs.ManyAnswers.{gathered, nothing_gathered};
+ghost use Rattle.driver_actions.specs.ManyCalls.{MadeMany, RanShort};
 ghost use Rattle.driver_actions.specs.Standing.{RunInvariant, RunState};
 ghost use Rattle.driver_actions.specs.declared.call.Call.{Call};
 ghost use Rattle.driver_actions.specs.declared.call.Outcome.{Outcome};
@@ -42,4 +57,74 @@ pub fn an_exchange_keeps_the_invariant()
 pub fn late_arrivals_keep_the_invariant()
     ensures { (trace : List Send) (server : Server) (picks : List ℕ) →
         IsOrderly trace → IsSettled trace server → IsSettled trace (after_picks server picks) }
+{}
+
+/// Where batches one after another all went in, from the first document to the last, the ids that are gathered are
+/// those of all documents, by the indexes of the caller's list.
+pub fn all_ids_are_gathered()
+    ensures { (own : List OwnDocument) (ends : List BatchEnd) → AllWentIn 0 own ends →
+        (gathered nothing_gathered ends).inserted_ids ≡ (all_ids own).inserted_ids }
+{}
+
+/// Batches as a call makes them, where memory did not run out between them and each is Ok, all went in, each with the
+/// ids of its own documents.
+pub fn batches_that_are_ok_went_in()
+    ensures { (target : OperationTarget) (options : InsertManyOptions) (call : ℕ) (ends : List BatchEnd)
+        (index : ℕ) (own : List OwnDocument) (before now : Moment) →
+        MakesBatches ⊥ target options call index own ends before now → AllOk ends →
+        AllWentIn index own ends }
+{}
+
+/// So an insert that is answered Ok answers the ids of all its documents, by the indexes of the caller's list.
+pub fn an_ok_answers_all_ids()
+    ensures { (before now : Moment) (target : OperationTarget) (documents : List (List (Pair Bson)))
+        (options : InsertManyOptions) (call : ℕ) (output : InsertManyResult)
+        (made : MadeMany before now target documents options call (Ok output)) →
+        output ≡ all_ids made.own }
+{}
+
+/// An id that is gathered under an index is told by one of the ends, for one of its own documents: the one that has
+/// this index in the caller's list.
+pub fn a_gathered_id_is_of_a_batch()
+    ensures { (ends : List BatchEnd) (index : ℕ) (id : Bson) →
+        finite.get (gathered nothing_gathered ends).inserted_ids index ≡ Some id →
+        (end : BatchEnd) × (Has ends end × TellsId index id end) }
+{}
+
+/// And where ends lie one behind another, each id that one of them tells for one of its own documents is gathered
+/// under the index that this document has in the caller's list, also where other documents of its batch failed.
+pub fn an_id_of_a_batch_is_gathered()
+    ensures { (ends : List BatchEnd) (end : BatchEnd) (index : ℕ) (id : Bson) → AreInOrder 0 ends →
+        Has ends end → TellsId index id end →
+        finite.get (gathered nothing_gathered ends).inserted_ids index ≡ Some id }
+{}
+
+/// Batches as a call makes them lie one behind another, also where memory ran out between them.
+pub fn batches_of_a_call_are_in_order()
+    ensures { (target : OperationTarget) (options : InsertManyOptions) (call : ℕ) (ends : List BatchEnd)
+        (index : ℕ) (own : List OwnDocument) (before now : Moment) (result : Result InsertManyResult Error) →
+        MakesBatches (RanShort result) target options call index own ends before now →
+        AreInOrder index ends }
+{}
+
+/// The write errors that are gathered are those of all ends, in their order, each under the index of the caller's
+/// list.
+pub fn all_write_errors_are_gathered()
+    ensures { (ends : List BatchEnd) → (gathered nothing_gathered ends).errors ≡ all_errors ends }
+{}
+
+/// The write concern error that is gathered is that of the last end that tells one, and none where none does.
+pub fn the_last_concern_error_is_gathered()
+    ensures { (ends : List BatchEnd) → (gathered nothing_gathered ends).concern ≡ last_concern ends }
+{}
+
+/// A label is gathered exactly where one of the ends that are an error of kind InsertMany has it.
+pub fn all_labels_are_gathered()
+    ensures { (ends : List BatchEnd) (label : List ℕ) →
+        has_label (gathered nothing_gathered ends).labels label ≡ some_labelled label ends }
+{}
+
+/// A failure is gathered exactly where one of the ends is an error of kind InsertMany.
+pub fn a_failure_is_gathered_where_one_is_told()
+    ensures { (ends : List BatchEnd) → (gathered nothing_gathered ends).failed ≡ some_failed ends }
 {}

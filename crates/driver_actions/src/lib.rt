@@ -4,21 +4,31 @@
 //! an Ok call's writes there exactly once with the answer that the log spells.
 #![tactic(auto)]
 
+mod batches;
+mod behind;
 pub mod call;
 pub mod call_run;
 mod delete;
 mod faults;
 mod find;
+mod gathered;
 mod insert;
+mod insert_all;
+pub mod insert_many;
 pub mod laws;
 mod making;
+mod many_refusal;
+mod own_ids;
 mod refusal;
 pub mod run;
 mod single;
 mod single_operation;
+pub mod to_document;
 mod update;
 
 pub use call::{Answer, Call, Outcome, SingleAnswer, SingleWrite};
 pub use call_run::CallRun;
+pub use insert_many::{InsertMany, ManyInserts};
 pub use run::run_calls;
 pub use single::SingleWrites;
+pub use to_document::ToDocument;

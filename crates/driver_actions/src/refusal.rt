@@ -100,7 +100,7 @@ pub(crate) fn find_refusal(
 }
 
 /// The error of a fault that was looked for, or of want of memory.
-fn error_of(fault: Result<Option<EncodeFault>, AllocError>) -> Option<Error>
+pub(crate) fn error_of(fault: Result<Option<EncodeFault>, AllocError>) -> Option<Error>
     ensures { ErrorOfFault fault result }
 {
     match fault {
@@ -112,7 +112,7 @@ fn error_of(fault: Result<Option<EncodeFault>, AllocError>) -> Option<Error>
 
 /// Why a collection is refused by its database's name.
 #[tactic(auto, using(crate::proofs::Refusals::name_dotted, crate::proofs::Refusals::name_taken))]
-fn name_refusal(alloc: Global, namespace: &Namespace) -> Option<Error>
+pub(crate) fn name_refusal(alloc: Global, namespace: &Namespace) -> Option<Error>
     ensures { JudgesArgument (name_refusal namespace.now) result }
 {
     if has_dot(&namespace.db) {
@@ -204,7 +204,7 @@ fn operator_replacement(alloc: Global) -> Error
 }
 
 /// The error of an argument that is refused with this message.
-fn refused(alloc: Global, text: &str) -> Error
+pub(crate) fn refused(alloc: Global, text: &str) -> Error
     ensures { IsMade (InvalidArgument text.now) no_labels result }
 {
     match Text::from_str(alloc, text) {
@@ -230,7 +230,7 @@ fn insert_fault(
 }
 
 /// Why a document is refused by itself once it has an id, whichever id it gets. It takes no memory.
-fn document_refusal(document: &Document) -> Option<EncodeFault>
+pub(crate) fn document_refusal(document: &Document) -> Option<EncodeFault>
     ensures { RefusesDocument document.now result }
 {
     let refused = refusal_within(document, LEVELS);

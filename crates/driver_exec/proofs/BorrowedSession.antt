@@ -1,5 +1,5 @@
 -- The session that an operation borrows: lent by its store, and what comes back of it.
-use Rattle.std.proofs.Common.{◌≡◌, ℕ, ◌<◌, List, sym, subst}
+use Rattle.std.proofs.Common.{◌≡◌, ℕ, ◌<◌, ◌≤◌, List, sym, subst, arith}
 use Rattle.std.specs.Prelude.{ℤ, Option, None, Some, unwrap_or}
 use Rattle.std.specs.Option.{option_map}
 use Rattle.driver_session.specs.StoreTells.{LendsSession, StoreTells}
@@ -59,3 +59,9 @@ id_of session = option_map (λ s. s.id) session
 -- the number of the send before
 abbrev pub number_of : Option (Option ℤ) → Option ℤ
 number_of sent = unwrap_or sent None
+
+-- without a number at most one send went out
+pub one_at_most : (sent : Option (Option ℤ)) (count : ℕ) → CountFits sent count → number_of sent ≡ None → count ≤ 1
+one_at_most None count fits none = omega (arith, fits)
+one_at_most (Some None) count fits none = omega (arith, fits)
+one_at_most (Some (Some number)) count fits none = absurd (let e : ◌≡◌ {A = Option ℤ} (Some number) None = none in cc)

@@ -29,7 +29,7 @@ use Rattle.driver_exec.specs.Holding.{DrawsNumber, DrawsSession, GivesNumber, Ex
 use Rattle.driver_exec.specs.Resending.{AnsweredLast, IsNumbered, SentTimes, SentWithin}
 use Rattle.driver_exec.proofs.Attempts.{raises, stays}
 use Rattle.driver_exec.proofs.SendRelations.{answered_last, begins_unsent, none_sent, sent_answered, sent_counted, sent_lost, sent_maybe}
-use Rattle.driver_exec.proofs.BorrowedSession.{CountFits, HeldFrom, HoldsFrom, HoldsLast, MayGoOn, NumberFits, Unnumbered, id_of, lends_then_stays, number_of}
+use Rattle.driver_exec.proofs.BorrowedSession.{CountFits, HeldFrom, HoldsFrom, HoldsLast, MayGoOn, NumberFits, Unnumbered, id_of, lends_then_stays, number_of, one_at_most}
 
 module _ {A : Type 0} (spec : OperationSpec A) (batch : Batch) (store : StoreTells) (link : Option ServerRun) where
   -- what was done so far, in at most so many attempts
@@ -140,12 +140,6 @@ module _ {A : Type 0} (spec : OperationSpec A) (batch : Batch) (store : StoreTel
       by_sent (Some (Some number)) fits = fits
       by_sent (Some None) fits = stays holds.lent session fits
       by_sent None fits = stays holds.lent session fits
-
-  -- without a number at most one send went out
-  one_at_most : (sent : Option (Option ℤ)) (count : ℕ) → CountFits sent count → number_of sent ≡ None → count ≤ 1
-  one_at_most None count fits none = omega (arith, fits)
-  one_at_most (Some None) count fits none = omega (arith, fits)
-  one_at_most (Some (Some number)) count fits none = absurd (let e : ◌≡◌ {A = Option ℤ} (Some number) None = none in cc)
 
   pub course_over : (most : ℕ) (store_now : StoreTells) (link_now : Option ServerRun) (session : Option Session) (sent : Option (Option ℤ))
       → Course most store_now link_now session sent → Over most store_now link_now session sent
@@ -378,6 +372,10 @@ module _ {A : Type 0} (spec : OperationSpec A) (batch : Batch) (store : StoreTel
           (subst (λ r. TakesStep (server_run mid) (server_run now) send r) is (exchanges.exchanges.steps _ (exchanges.reads body asked))) in
           subst (λ id. AnsweredLast link (server_run now) (send_of (under id (number_of (held_after result held).sent)) body) course.count bytes) (sym kept.id)
           (subst (λ sent. AnsweredLast link (server_run now) (send_of (under (id_of numbered.session) (number_of sent)) body) course.count bytes) (sym kept.sent) last)
+
+      -- it is one send more
+      pub fits_now : CountFits (held_after result held).sent (suc course.count)
+      fits_now = subst (λ s. CountFits s (suc course.count)) (sym kept.sent) (fits_more ready.sent number course.count goes course.fits is_drawn.again)
 
       -- without a number there was none before it
       pub first_alone : number_of (held_after result held).sent ≡ None → course.count ≡ 0

@@ -32,7 +32,7 @@ none_sent None is = refl
 none_sent (Some number) is = absurd (let e : true ≡ false = is in cc)
 
 -- what comes of an exchange does not undo its send
-after_sent : (result : Result (List ℕ) LinkError) (held : ExecutionSession) → (held_after result held).sent ≡ held.sent
+pub after_sent : (result : Result (List ℕ) LinkError) (held : ExecutionSession) → (held_after result held).sent ≡ held.sent
 after_sent (Ok reply) held = refl
 after_sent (Err (Fault fault labels)) held = by_network (is_network fault)
   where

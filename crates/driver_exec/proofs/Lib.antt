@@ -1,6 +1,8 @@
 pub mod AttemptSequence
 pub mod Attempts
 pub mod BorrowedSession
+pub mod BuiltCommands
+pub mod BuiltSends
 pub mod Causes
 pub mod ClockReadings
 pub mod CommandParts
@@ -12,12 +14,16 @@ pub mod FaultErrors
 pub mod FixedNumbers
 pub mod HeldSessions
 pub mod InvariantSteps
+pub mod KeptFailures
 pub mod Moments
 pub mod Moves
 pub mod OneAttempt
 pub mod OneCommand
 pub mod OperationCauses
+pub mod OperationMoments
 pub mod Progress
+pub mod ReadFailures
+pub mod ReadReplies
 pub mod RetryFold
 pub mod Rewording
 pub mod Sameness

@@ -12,7 +12,7 @@ use Rattle.driver_link.specs.declared.fault.LinkFault.TheVariants.{Io, Selection
 use Rattle.driver_link.specs.declared.keys.TheConstants.{SELECTION_FAILURE}
 use Rattle.driver_link.specs.declared.machine.Send.{Send}
 use Rattle.driver_link.specs.declared.machine.SendBody.{SendBody}
-use Rattle.driver_link.specs.declared.machine.WriteKind.{WriteKind}
+use Rattle.driver_link.specs.declared.machine.Item.{Item}
 use Rattle.driver_link.specs.declared.options.Address.{Address}
 use Rattle.driver_link.specs.declared.options.Conn.{Conn}
 use Rattle.driver_link.specs.Counting.{Counts, Listed, check_out_fault, checked_out, fault_where, is_listed, one_more, overload_labels, select_fault, selected}
@@ -212,7 +212,7 @@ module _ {A : Type 0} (op : AttemptedOperation A) (past : Option RetryState) (bo
   ]
 
 -- in a gentle part no call fails that is counted
-module _ {does : WriteKind} (repeats : Type 0) (told told_now : ServerRun) (gentle : IsGentlePart does repeats told told_now) where
+module _ {Serves : Item → Type 0} (repeats : Type 0) (told told_now : ServerRun) (gentle : IsGentlePart Serves repeats told told_now) where
   -- a call that was counted before the end of the part is of it
   counted : (from at to : ℕ) → min from (2 ^ 64 - 1) ≤ at → min (one_more at) (2 ^ 64 - 1) ≤ to → IsCounted from to at
   counted from at to after before = (after, capped_last (2 ^ 64 - 1) at to before)

@@ -4,6 +4,7 @@ use Rattle.std.specs.Prelude.{ℤ, Bool, true, Option, None, Some, Result, Ok, E
 use Rattle.driver_error.specs.declared.error.Error.{Error}
 use Rattle.driver_link.specs.Clock.{ClockTells}
 use Rattle.driver_link.specs.declared.fault.LinkError.TheVariants.{Fault}
+use Rattle.driver_link.specs.Counting.{OnlyCounts}
 use Rattle.driver_link.specs.LinkState.{LinkState, server_run}
 use Rattle.driver_session.specs.declared.retryability.Retryability.{Retryability}
 use Rattle.driver_session.specs.declared.retryability.Retryability.TheVariants as may
@@ -19,14 +20,18 @@ use Rattle.driver_exec.specs.declared.attempt_end.AttemptEnd.TheVariants.{Done, 
 use Rattle.driver_exec.specs.declared.failure.AttemptFailure.{AttemptFailure}
 use Rattle.driver_exec.specs.Attempting.{AttemptState, AttemptedOperation, EndsAtOnce, EndsRefused, MakesAttempt, RefusedAgain, attempted_operation, besides_out, on_connection}
 use Rattle.driver_exec.specs.Concerns.{concern_of}
-use Rattle.driver_exec.specs.Executing.{Ends, EndsWith, Proceeds, first_state}
+use Rattle.driver_exec.specs.Executing.{Ends, EndsNotAllowed, EndsWith, Proceeds, first_state}
 use Rattle.driver_exec.specs.Holding.{DrawsNumber, DrawsSession, GivesBack, GivesNumber, ExecutionSession}
 use Rattle.driver_exec.specs.Moment.{Moment}
-use Rattle.driver_exec.specs.Resending.{Borrows, EndsWithReading, SendsOneCommand, SentWithin}
+use Rattle.driver_exec.specs.Resending.{Borrows, EndsWithReading, IsReadFailure, SendsOneCommand, SentWithin}
 use Rattle.driver_exec.specs.Retry.{RetryState, may_be_sent}
 use Rattle.driver_exec.specs.inside.Executing.{Reaches}
 use Rattle.driver_exec.proofs.Attempts.{may_raise, stays}
 use Rattle.driver_exec.proofs.AttemptSequence.{AtMostOne, attempts_left, decided_fewer, decided_sent, one_left}
+use Rattle.driver_exec.proofs.KeptFailures.{FailureAt, ReadAt, again_read, decided_read, link_read, ready_read}
+use Rattle.driver_exec.proofs.OperationCauses.{KeptHas}
+use Rattle.driver_exec.proofs.ReadFailures.{ended_unread, fault_unread}
+use Rattle.driver_exec.proofs.ReadReplies.{reads_one}
 use Rattle.driver_exec.proofs.RetryFold.{Came, came_of}
 use Rattle.driver_exec.proofs.OneAttempt.{early_counted, selected_counted}
 use Rattle.driver_exec.proofs.SendRelations.{none_sent}
@@ -52,6 +57,20 @@ module _ {A : Type 0} (op : AttemptedOperation A) (sharded : Bool) (store : Stor
             (subst (λ n. may_be_sent failure.phase n ≡ true) fails.makes.1 (decided_sent earlier failure op.retryability sharded reaches.0 fails.decides)),
       )
 
+  -- the failure that is kept, where only a reply spells it, was read by then
+  reaches_read : (clock : ClockTells) (count : ℕ) (fixed : Option ℕ) (failures : List AttemptFailure) (kept : Option RetryState) (now : AttemptState) → Reaches op sharded (first_state store link clock count fixed) failures kept now
+      → KeptHas (FailureAt op link (length failures) now) kept
+  reaches_read clock count fixed [] kept now reaches = subst (KeptHas (FailureAt op link 0 now)) (sym reaches.0) tt
+  reaches_read clock count fixed (failure ∷ failures) kept now reaches =
+      let mid = reaches.1.1.0 in
+      let rest = reaches.1.1.1 in
+      let earlier = rest.0 in
+      let came = reaches_course clock count fixed failures earlier mid rest.1.0 in
+      let has = reaches_read clock count fixed failures earlier mid rest.1.0 in
+      let fails = rest.1.1 in
+      subst (KeptHas (FailureAt op link (suc (length failures)) now)) (sym reaches.1.0)
+      (decided_read op store link earlier (length failures) mid came.1 came.0 sharded earlier now failure (Ok reaches.0) fails.makes has fails.decides)
+
   -- how many attempts there were
   pub record Few (failures : List AttemptFailure) (kept : Option RetryState) : Type 0 where
     pub once : AtMostOne kept
@@ -69,7 +88,8 @@ module _ {A : Type 0} (op : AttemptedOperation A) (sharded : Bool) (store : Stor
       subst (Few (failure ∷ failures)) (sym reaches.1.0) (record { once = fewer.once; left = omega (arith, few.left, fewer.fewer) })
 
   -- the last attempt
-  module _ (most : ℕ) (few : most ≤ 1) (kept : Option RetryState) (mid now : AttemptState) (goes : MayGoOn mid.held.sent) (course : CourseAt op store link most mid) where
+  module _ (most : ℕ) (few : most ≤ 1) (kept : Option RetryState) (mid now : AttemptState) (goes : MayGoOn mid.held.sent) (course : CourseAt op store link most mid)
+      (has : KeptHas (FailureAt op link most mid) kept) where
     over_course : CourseAt op store link (suc most) now → OverAt op store link (suc most) now
     over_course done = course_over op.spec op.batch store (server_run link) (suc most) now.store (server_run now.link) now.held.session now.held.sent done
 
@@ -193,8 +213,18 @@ module _ {A : Type 0} (op : AttemptedOperation A) (sharded : Bool) (store : Stor
     LastAt result = OverAt op store link (suc most) now
         × EndsWithReading op.spec op.batch (server_run link) (server_run now.link) (id_of now.held.session) (number_of now.held.sent) result
 
-    err_last : (error : Error) (result : Result A Error) → result ≡ Err error → OverAt op store link (suc most) now → LastAt result
-    err_last error result is over = subst LastAt (sym is) (over, tt)
+    -- an error, where what only a reply spells was read in one
+    err_last : (error : Error) (result : Result A Error) → result ≡ Err error → OverAt op store link (suc most) now → FailureAt op link most now error → LastAt result
+    err_last error result is over reads = subst LastAt (sym is) (
+      over,
+      λ read. reads_one op.spec op.batch (server_run link) most (server_run now.link) now.held.session now.held.sent error (omega (arith, few)) (reads read),
+    )
+
+    -- the error of the failure that is kept
+    kept_last : (retry : RetryState) → kept ≡ Some retry → ((error : Error) → ReadAt op link most mid error → ReadAt op link most now error) → FailureAt op link most now retry.failure.error
+    kept_last retry is still =
+        let was : FailureAt op link most mid retry.failure.error = subst (KeptHas (FailureAt op link most mid)) is has in
+        λ read. still retry.failure.error (was read)
 
     attempt_last : (past : Option RetryState) (attempt : AttemptEnd A) (result : Result A Error) → MakesAttempt op past mid now attempt → EndsWith kept attempt result → LastAt result
     attempt_last past (Done output) result makes ends =
@@ -203,28 +233,42 @@ module _ {A : Type 0} (op : AttemptedOperation A) (sharded : Bool) (store : Stor
           reads_at op store link past most mid goes course now makes.address makes.conn (Ok makes.reply) makes.sends few makes.reply output refl makes.reads,
         )
     attempt_last past (Failed failure) result makes ends = absurd ends
-    attempt_last past (Unselected error) result makes ends = by_kept kept ends
+    attempt_last past (Unselected error) result makes ends = by_kept kept refl ends
       where
-        over : OverAt op store link (suc most) now
-        over = more_course (only_link op store link most mid now makes.rest (selected_counted mid.link now.link (Err (Fault makes.fault makes.labels)) makes.selects).server course)
+        counts : OnlyCounts (server_run mid.link) (server_run now.link)
+        counts = (selected_counted mid.link now.link (Err (Fault makes.fault makes.labels)) makes.selects).server
 
-        by_kept : (kept : Option RetryState) → EndsWith {A = A} kept (Unselected error) result → LastAt result
-        by_kept None ends = err_last error result ends over
-        by_kept (Some retry) ends = err_last retry.failure.error result ends over
-    attempt_last past Stopped result makes ends = by_kept kept ends
+        over : OverAt op store link (suc most) now
+        over = more_course (only_link op store link most mid now makes.rest counts course)
+
+        by_kept : (found : Option RetryState) → kept ≡ found → EndsWith {A = A} found (Unselected error) result → LastAt result
+        by_kept None is ends = err_last error result ends over (λ read. absurd (fault_unread makes.fault makes.labels may.None error makes.is read))
+        by_kept (Some retry) is ends = err_last retry.failure.error result ends over (kept_last retry is (λ other. link_read op link most mid now other makes.rest counts))
+    attempt_last past Stopped result makes ends = by_kept kept refl ends
       where
         over : OverAt op store link (suc most) now
         over = more_course (ready_course op store link most mid now makes.1.address makes.1.conn makes.1.readies course)
 
-        by_kept : (kept : Option RetryState) → EndsWith {A = A} kept Stopped result → LastAt result
-        by_kept None ends = absurd ends
-        by_kept (Some retry) ends = err_last retry.failure.error result ends over
-    attempt_last past Unfit result makes ends = by_kept kept ends
+        by_kept : (found : Option RetryState) → kept ≡ found → EndsWith {A = A} found Stopped result → LastAt result
+        by_kept None is ends = absurd ends
+        by_kept (Some retry) is ends = err_last retry.failure.error result ends over
+            (kept_last retry is (λ other. ready_read op link most mid now makes.1.address makes.1.conn other makes.1.readies))
+    attempt_last past Unfit result makes ends = by_kept kept refl ends
       where
-        by_kept : (kept : Option RetryState) → EndsWith {A = A} kept Unfit result → LastAt result
-        by_kept None ends = absurd ends
-        by_kept (Some retry) ends = err_last retry.failure.error result ends (more_over (again_over past makes.1))
-    attempt_last past (Ended error) result makes ends = err_last error result ends (ended_over past error makes)
+        by_kept : (found : Option RetryState) → kept ≡ found → EndsWith {A = A} found Unfit result → LastAt result
+        by_kept None is ends = absurd ends
+        by_kept (Some retry) is ends = err_last retry.failure.error result ends (more_over (again_over past makes.1))
+            (kept_last retry is (λ other. again_read op link past most mid now other makes.1))
+    attempt_last past (Ended error) result makes ends =
+        err_last error result ends (ended_over past error makes) (λ read. absurd (ended_unread op past mid now error read makes))
+
+  -- the last attempt failed, and its failure may not be followed by another
+  refused_read : (most : ℕ) (kept : Option RetryState) (mid now : AttemptState) (result : Result A Error) → MayGoOn mid.held.sent → CourseAt op store link most mid
+      → KeptHas (FailureAt op link most mid) kept → (refused : EndsNotAllowed op sharded kept mid now result) → FailureAt op link (suc most) now refused.error
+  refused_read most kept mid now result goes course has refused = elim refused.refused [
+    | inl is ↦ decided_read op store link kept most mid goes course sharded kept now refused.failure (Err refused.error) refused.makes has is
+    | inr memory ↦ λ read. absurd (subst IsReadFailure memory read)
+  ]
 
   -- the operation is over
   record Finished (now : AttemptState) (result : Result A Error) : Type 0 where
@@ -237,30 +281,41 @@ module _ {A : Type 0} (op : AttemptedOperation A) (sharded : Bool) (store : Stor
       → Ends op sharded kept mid now result → Finished now result
   finishes clock count fixed failures kept mid now result reaches ends =
       let came = reaches_course clock count fixed failures kept mid reaches in
+      let has = reaches_read clock count fixed failures kept mid reaches in
       let few = reaches_few clock count fixed failures kept mid reaches in
       elim ends [
         | inl last ↦
             let left = one_left kept few.once last.goes_on in
             let one : length failures ≤ 1 = omega (arith, few.left, left) in
-            let over = attempt_last (length failures) one kept mid now came.1 came.0 kept last.attempt result last.makes last.ends in
+            let over = attempt_last (length failures) one kept mid now came.1 came.0 has kept last.attempt result last.makes last.ends in
             record { most = suc (length failures); few = omega arith; over = over.0; ends = over.1 }
         | inr other ↦ elim other [
-          | inl limit ↦ record {
-            most = length failures;
-            few = omega (arith, few.left);
-            over = subst (OverAt op store link (length failures)) (sym limit.same)
-                (course_over op.spec op.batch store (server_run link) (length failures) mid.store (server_run mid.link) mid.held.session mid.held.sent came.0);
-            ends = subst (λ r. EndsWithReading op.spec op.batch (server_run link) (server_run now.link) (id_of now.held.session) (number_of now.held.sent) r) (sym limit.result_is) tt;
-          }
+          | inl limit ↦
+              let two : length failures ≤ 2 = omega (arith, few.left) in
+              let was : FailureAt op link (length failures) mid limit.retry.failure.error = subst (KeptHas (FailureAt op link (length failures) mid)) limit.is has in
+              let reads : FailureAt op link (length failures) now limit.retry.failure.error
+              = subst (λ state. FailureAt op link (length failures) state limit.retry.failure.error) (sym limit.same) was in
+              record {
+                most = length failures;
+                few = two;
+                over = subst (OverAt op store link (length failures)) (sym limit.same)
+                    (course_over op.spec op.batch store (server_run link) (length failures) mid.store (server_run mid.link) mid.held.session mid.held.sent came.0);
+                ends = subst (λ r. EndsWithReading op.spec op.batch (server_run link) (server_run now.link) (id_of now.held.session) (number_of now.held.sent) r) (sym limit.result_is)
+                    (λ read. reads_one op.spec op.batch (server_run link) (length failures) (server_run now.link) now.held.session now.held.sent limit.retry.failure.error two (reads read));
+              }
           | inr refused ↦
               let left = one_left kept few.once refused.goes_on in
               let one : length failures ≤ 1 = omega (arith, few.left, left) in
               let done = failed_course op store link kept (length failures) mid came.1 came.0 now refused.failure refused.makes in
+              let two : suc (length failures) ≤ 2 = omega (arith, one) in
+              let reads : FailureAt op link (suc (length failures)) now refused.error
+              = refused_read (length failures) kept mid now result came.1 came.0 has refused in
               record {
                 most = suc (length failures);
-                few = omega arith;
+                few = two;
                 over = course_over op.spec op.batch store (server_run link) (suc (length failures)) now.store (server_run now.link) now.held.session now.held.sent done;
-                ends = subst (λ r. EndsWithReading op.spec op.batch (server_run link) (server_run now.link) (id_of now.held.session) (number_of now.held.sent) r) (sym refused.result_is) tt;
+                ends = subst (λ r. EndsWithReading op.spec op.batch (server_run link) (server_run now.link) (id_of now.held.session) (number_of now.held.sent) r) (sym refused.result_is)
+                    (λ read. reads_one op.spec op.batch (server_run link) (suc (length failures)) (server_run now.link) now.held.session now.held.sent refused.error two (reads read));
               }
         ]
       ]

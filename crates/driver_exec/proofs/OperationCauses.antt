@@ -61,10 +61,10 @@ use Rattle.driver_exec.proofs.FixedNumbers.{MayBeFixed, first_fixed, ready_sent,
 use Rattle.driver_exec.proofs.OneAttempt.{early_counted, later_of}
 
 -- a link noted these; its count of faults did not fall, and its setup stays
-record Adds (link now : LinkState) (items : List Answered) : Type 0 where
-  noted : GainsAll link.answers now.answers items
-  later : link.faults ≤ now.faults
-  setup : setup_of now ≡ setup_of link
+pub record Adds (link now : LinkState) (items : List Answered) : Type 0 where
+  pub noted : GainsAll link.answers now.answers items
+  pub later : link.faults ≤ now.faults
+  pub setup : setup_of now ≡ setup_of link
 
 -- a link that was not called noted nothing
 adds_nothing : (link : LinkState) → Adds link link []
@@ -178,17 +178,17 @@ reworded_same : (found : LinkFault) (error : Error) → kind_of error ≡ fault_
 reworded_same found error is = (reworded_is error).0 ∙ ap reworded_kind is ∙ reworded_fault found
 
 -- the error of the failure that is kept has a property
-abbrev KeptHas : (Error → Type 0) → Option RetryState → Type 0
+abbrev pub KeptHas : (Error → Type 0) → Option RetryState → Type 0
 KeptHas P None = Unit {0}
 KeptHas P (Some kept) = P kept.failure.error
 
 -- the error of the failure that a decision keeps, or that it answers, has a property
-abbrev ResultHas : (Error → Type 0) → Result RetryState Error → Type 0
+abbrev pub ResultHas : (Error → Type 0) → Result RetryState Error → Type 0
 ResultHas P (Ok kept) = P kept.failure.error
 ResultHas P (Err error) = P error
 
 -- a property that follows from another
-kept_has : (P Q : Error → Type 0) (kept : Option RetryState) → ((error : Error) → P error → Q error) → KeptHas P kept → KeptHas Q kept
+pub kept_has : (P Q : Error → Type 0) (kept : Option RetryState) → ((error : Error) → P error → Q error) → KeptHas P kept → KeptHas Q kept
 kept_has P Q None then_has has = tt
 kept_has P Q (Some kept) then_has has = then_has kept.failure.error has
 
@@ -223,7 +223,7 @@ module _ (P : Error → Type 0) where
       by_test false = holds
 
   -- and after what is decided in an operation
-  decided_has : {A : Type 0} (op : AttemptedOperation A) (sharded : Bool) (kept : Option RetryState) (failure : AttemptFailure) (result : Result RetryState Error) → KeptHas P kept
+  pub decided_has : {A : Type 0} (op : AttemptedOperation A) (sharded : Bool) (kept : Option RetryState) (failure : AttemptFailure) (result : Result RetryState Error) → KeptHas P kept
       → P (reworded failure.error) → decide kept failure op.retryability sharded ≡ result → ResultHas P result
   decided_has op sharded kept failure result has new is = subst (ResultHas P) is (decide_has kept failure op.retryability sharded has new)
 
@@ -276,24 +276,24 @@ module _ {A : Type 0} (spec : OperationSpec A) (batch : Batch) (which : SendKind
   on = record { spec = spec; fixed = fixed; retryability = retryability; concern = concern; setup = setup_of link; number = next_number store }
 
   -- what it holds at a moment
-  abbrev HeldAt : AttemptState → Type 0
+  abbrev pub HeldAt : AttemptState → Type 0
   HeldAt now = HeldSoFar store (setup_of link) now.store now.held.session now.held.sent
 
   -- the number of its command's statements at a moment
-  abbrev FixedAt : AttemptState → Type 0
+  abbrev pub FixedAt : AttemptState → Type 0
   FixedAt now = MayBeFixed spec fixed (setup_of link) batch.statements now.fixed
 
   -- the next session's number is at its end, and each send would have one
-  record AtLast : Type 0 where
-    draws : DrawsNumbers spec.sessions retryability (setup_of link)
-    last : IsLast (next_number store)
+  pub record AtLast : Type 0 where
+    pub draws : DrawsNumbers spec.sessions retryability (setup_of link)
+    pub last : IsLast (next_number store)
 
   -- what an end by an error needs
-  abbrev Needs : ℕ → ℕ → List Answered → Error → Type 0
+  abbrev pub Needs : ℕ → ℕ → List Answered → Error → Type 0
   Needs before now items error = EndNeeds on before now items (Some (outline_of error))
 
   -- an error that may end the operation where the numbers are at their end
-  abbrev Lasts : Error → Type 0
+  abbrev pub Lasts : Error → Type 0
   Lasts error = KindAtLast (kind_of error)
 
   -- a command that is not built again is built by the number that was fixed when the operation began
@@ -337,7 +337,7 @@ module _ {A : Type 0} (spec : OperationSpec A) (batch : Batch) (which : SendKind
           (exchange_adds sends.ready.link now.link conn sends.exchanges.frame (front batch) result sends.exchanges.exchanges)
 
       -- it had as many statements as a first build takes
-      first_sent : TakesFirst spec fixed (setup_of link) batch.statements
+      pub first_sent : TakesFirst spec fixed (setup_of link) batch.statements
       first_sent = sends_first op fixed (setup_of link) past mid now address conn result sends (is_conn sends.ready address conn sends.readies) fixed_so_far
 
       -- which are fixed then
@@ -571,13 +571,13 @@ module _ {A : Type 0} (spec : OperationSpec A) (batch : Batch) (which : SendKind
     ]
 
   -- an operation has come so far
-  record SoFar (kept : Option RetryState) (now : AttemptState) : Type 0 where
-    items : List Answered
-    adds : Adds link now.link items
-    held_so_far : HeldAt now
-    fixed_so_far : FixedAt now
-    needs : KeptHas (Needs link.faults now.link.faults items) kept
-    early : AtLast → AllEarly items × (now.held.sent ≡ None) × KeptHas Lasts kept
+  pub record SoFar (kept : Option RetryState) (now : AttemptState) : Type 0 where
+    pub items : List Answered
+    pub adds : Adds link now.link items
+    pub held_so_far : HeldAt now
+    pub fixed_so_far : FixedAt now
+    pub needs : KeptHas (Needs link.faults now.link.faults items) kept
+    pub early : AtLast → AllEarly items × (now.held.sent ≡ None) × KeptHas Lasts kept
 
   -- an operation that has not begun
   begins : (clock : ClockTells) (count : ℕ) → SoFar None (first_state store link clock count fixed)
@@ -638,7 +638,7 @@ module _ {A : Type 0} (spec : OperationSpec A) (batch : Batch) (which : SendKind
     }
 
   -- each moment that an operation reaches
-  reaches_far : (clock : ClockTells) (count : ℕ) (sharded : Bool) (failures : List AttemptFailure) (kept : Option RetryState) (now : AttemptState) → Reaches op sharded (first_state store link clock count fixed) failures kept now → SoFar kept now
+  pub reaches_far : (clock : ClockTells) (count : ℕ) (sharded : Bool) (failures : List AttemptFailure) (kept : Option RetryState) (now : AttemptState) → Reaches op sharded (first_state store link clock count fixed) failures kept now → SoFar kept now
   reaches_far clock count sharded [] kept now reaches = subst (λ k. SoFar k now) (sym reaches.0) (subst (SoFar None) (sym reaches.1) (begins clock count))
   reaches_far clock count sharded (failure ∷ failures) kept now reaches =
       let mid = reaches.1.1.0 in

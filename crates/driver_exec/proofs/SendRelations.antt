@@ -1,4 +1,4 @@
--- The sends of a command, one after another: how many went out, and what answers the last.
+-- The sends of a command, one after another: how many went out, what answers the last, and what answered one of them.
 use Rattle.std.proofs.Common.{◌≡◌, ℕ, zero, suc, List, refl, sym, subst, ◌∙◌, inl, inr}
 use Rattle.std.specs.Prelude.{Option, None, Some, ◌⊎◌, Ok, Err}
 use Rattle.driver_link.specs.declared.fault.LinkError.TheVariants.{Fault, Memory}
@@ -7,13 +7,13 @@ use Rattle.driver_link.specs.declared.machine.Send.{Send}
 use Rattle.driver_link.specs.Counting.{KeepsServer, OnlyCounts}
 use Rattle.driver_link.specs.ServerRun.{ServerRun, TakesStep, run_after}
 use Rattle.driver_link.proofs.Lists.{none_is_some}
-use Rattle.driver_exec.specs.Resending.{AnsweredLast, SendsWhereTold, SentTimes}
+use Rattle.driver_exec.specs.Resending.{AnsweredAmong, AnsweredLast, SendsWhereTold, SentTimes}
 
 keeps_server_twice : (a b c : ServerRun) → KeepsServer a b → KeepsServer b c → KeepsServer a c
 keeps_server_twice a b c first second =
     record { server = second.server ∙ first.server; setup = second.setup ∙ first.setup; schedule = second.schedule ∙ first.schedule }
 
-keeps_refl : (told : ServerRun) → KeepsServer told told
+pub keeps_refl : (told : ServerRun) → KeepsServer told told
 keeps_refl told = record { server = refl; setup = refl; schedule = refl }
 
 -- calls that were only counted behind the sends
@@ -92,3 +92,60 @@ module _ (link : Option ServerRun) (send : Send) (count : ℕ) where
         reply = steps.1;
         rest = keeps_refl (run_after mid send);
       })
+
+-- the reply to the last send is the reply to one, behind which no other went out
+pub last_among : (link now : Option ServerRun) (send : Send) (earlier : ℕ) (bytes : List ℕ) → AnsweredLast link now send earlier bytes → AnsweredAmong link now send earlier 0 bytes
+last_among None now send earlier bytes last = last
+last_among (Some told) None send earlier bytes last = absurd last
+last_among (Some told) (Some now) send earlier bytes last = record { mid = last.mid; sent = last.sent; reply = last.reply; rest = last.rest }
+
+-- the reply to one of the sends
+module _ (link : Option ServerRun) (send : Send) (earlier later : ℕ) (bytes : List ℕ) where
+  -- before calls that were only counted
+  pub among_counted : (mid now : Option ServerRun) → AnsweredAmong link mid send earlier later bytes → OnlyCounts mid now → AnsweredAmong link now send earlier later bytes
+  among_counted mid now among counts = by_link link mid now among counts
+    where
+      by_link : (link mid now : Option ServerRun) → AnsweredAmong link mid send earlier later bytes → OnlyCounts mid now → AnsweredAmong link now send earlier later bytes
+      by_link None mid now among counts = subst (λ told. OnlyCounts told now) among counts
+      by_link (Some told) None now among counts = absurd among
+      by_link (Some told) (Some mid) None among counts = absurd counts
+      by_link (Some told) (Some mid) (Some now) among counts = record {
+        mid = among.mid;
+        sent = among.sent;
+        reply = among.reply;
+        rest = sends_counted (run_after among.mid send) mid now send later among.rest counts;
+      }
+
+  -- before one send more
+  among_more : (mid now : Option ServerRun) → AnsweredAmong link mid send earlier later bytes → ((told : ServerRun) → mid ≡ Some told → now ≡ Some (run_after told send)) → (mid ≡ None → now ≡ None)
+      → AnsweredAmong link now send earlier (suc later) bytes
+  among_more mid now among steps none = by_link link mid among steps none
+    where
+      by_link : (link mid : Option ServerRun) → AnsweredAmong link mid send earlier later bytes → ((told : ServerRun) → mid ≡ Some told → now ≡ Some (run_after told send)) → (mid ≡ None → now ≡ None)
+          → AnsweredAmong link now send earlier (suc later) bytes
+      by_link None mid among steps none = none among
+      by_link (Some told) None among steps none = absurd among
+      by_link (Some told) (Some mid) among steps none = subst (λ n. AnsweredAmong (Some told) n send earlier (suc later) bytes) (sym (steps mid refl)) (record {
+        mid = among.mid;
+        sent = among.sent;
+        reply = among.reply;
+        rest = (mid, (among.rest, keeps_refl (run_after mid send)));
+      })
+
+  -- before one that was answered
+  pub among_answered : (mid now : Option ServerRun) (more : List ℕ) → AnsweredAmong link mid send earlier later bytes → TakesStep mid now send (Ok more)
+      → AnsweredAmong link now send earlier (suc later) bytes
+  among_answered None now more among steps = among_more None now among (λ told is. absurd (none_is_some told is)) (λ none. steps)
+  among_answered (Some mid) now more among steps = among_more (Some mid) now among (λ told is. steps_at told is) (λ none. absurd (none_is_some mid (sym none)))
+    where
+      steps_at : (told : ServerRun) → ◌≡◌ {A = Option ServerRun} (Some mid) (Some told) → now ≡ Some (run_after told send)
+      steps_at told is = let same : mid ≡ told = cc is in subst (λ t. now ≡ Some (run_after t send)) same steps.0
+
+  -- before one whose exchange failed by a fault
+  pub among_lost : (mid now : Option ServerRun) (fault : LinkFault) (labels : List (List ℕ)) → AnsweredAmong link mid send earlier later bytes → TakesStep mid now send (Err (Fault fault labels))
+      → AnsweredAmong link now send earlier (suc later) bytes
+  among_lost None now fault labels among steps = among_more None now among (λ told is. absurd (none_is_some told is)) (λ none. steps)
+  among_lost (Some mid) now fault labels among steps = among_more (Some mid) now among (λ told is. steps_at told is) (λ none. absurd (none_is_some mid (sym none)))
+    where
+      steps_at : (told : ServerRun) → ◌≡◌ {A = Option ServerRun} (Some mid) (Some told) → now ≡ Some (run_after told send)
+      steps_at told is = let same : mid ≡ told = cc is in subst (λ t. now ≡ Some (run_after t send)) same steps.0

@@ -12,6 +12,7 @@ use Rattle.driver_ops.specs.Fields.{under}
 use Rattle.driver_ops.specs.Operations.{Batch, OperationSpec, send_of}
 use Rattle.driver_ops.specs.SendKinds.{SendKind}
 use Rattle.driver_exec.specs.Causes.{end_of}
+use Rattle.driver_exec.specs.Concerns.{concern_of}
 use Rattle.driver_exec.specs.Executing.{Executes, RefusesConcern}
 use Rattle.driver_exec.specs.Moment.{Moment}
 use Rattle.driver_exec.specs.OperationCauses.{Caused, Grounds, KindNeeds, grounds}
@@ -21,6 +22,7 @@ use Rattle.driver_exec.proofs.Causes.{notes_nothing}
 use Rattle.driver_exec.proofs.ClockReadings.{proceeds_read, read_same}
 use Rattle.driver_exec.proofs.OperationCauses.{proceeds_caused}
 use Rattle.driver_exec.proofs.OneCommand.{proceeds_draws, proceeds_lends, proceeds_sends_one_command}
+use Rattle.driver_exec.proofs.ReadFailures.{concern_unread}
 use Rattle.driver_exec.proofs.SendRelations.{begins_unsent}
 use Rattle.driver_exec.proofs.SendCounts.{proceeds_few, proceeds_once}
 
@@ -39,7 +41,8 @@ module _ {A : Type 0} (spec : OperationSpec A) (batch : Batch) (which : SendKind
       sends = subst (λ moment. SentTimes (server_run before.link) (server_run moment.link) (send_of (under None None) body) 0) (sym refuses.same)
           (begins_unsent (server_run before.link) (send_of (under None None) body));
     };
-    ends = subst (EndsWithReading spec batch (server_run before.link) (server_run now.link) None None) (sym refuses.result_is) tt;
+    ends = subst (EndsWithReading spec batch (server_run before.link) (server_run now.link) None None) (sym refuses.result_is)
+        (λ read. absurd (concern_unread (concern_of spec which before.client.options) refuses.error refuses.is read));
   }
 
   -- its error is that of the concern, or of want of memory

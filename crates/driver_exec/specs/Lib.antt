@@ -13,6 +13,7 @@ pub mod Moment
 pub mod OldDeployment
 pub mod OperationCauses
 pub mod Readings
+pub mod Reporting
 pub mod Resending
 pub mod Retry
 pub mod inside

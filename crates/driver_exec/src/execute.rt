@@ -11,6 +11,7 @@ ghost use Rattle.driver_exec.specs.Holding.{holds_nothing};
 ghost use Rattle.driver_exec.specs.Keeping.{KeepsInvariant, OkHasEntries};
 ghost use Rattle.driver_exec.specs.Moment.{moment_of};
 ghost use Rattle.driver_exec.specs.OperationCauses.{Caused};
+ghost use Rattle.driver_exec.specs.Reporting.{ErrIsReported, HasRun};
 ghost use Rattle.driver_exec.specs.Resending.{SendsOneCommand};
 ghost use Rattle.driver_exec.specs.Retry.{Decides, decide};
 ghost use Rattle.driver_exec.specs.inside.Attempting.{attempt_state};
@@ -38,8 +39,10 @@ use std::sync::ledger::Ledger;
 /// failure may not be followed by another. An error is that of the concern, or of the failure which is kept, or
 /// what ended the operation at once. `sends` counts the sends of its command, each once, of which there are two
 /// at most (`laws` says this, and what of store and clock stays). Where store and link tell, and its places are
-/// new, it keeps what stands between the operations of one client (`keeps`), and an Ok has the entry of each of
-/// its writes in the log, which tell the output (`entries`).
+/// new, it keeps what stands between the operations of one client (`keeps`), an Ok has the entry of each of its
+/// writes in the log, which tell the output (`entries`), and a failure that only a reply spells was read in the
+/// machine's own reply, with the entries of the statements that did not fail in the log (`reported`). Where it was
+/// done, or ended so, it has built its command (`ran`).
 pub fn execute_operation<O: Operation, S: SessionStore, L: Link, K: Clock, R: Rng, Q: Ledger>(
     alloc: Global,
     client: &mut Client<S>,
@@ -69,6 +72,15 @@ pub fn execute_operation<O: Operation, S: SessionStore, L: Link, K: Clock, R: Rn
         (moment_of S.tells L.tells K.tells R.stream client.old outside.old)
         (moment_of S.tells L.tells K.tells R.stream client.new outside.new)
         result }
+    ensures reported { (statements : ℕ) → IsFixed (O.built op.new) statements → (body : SendBody) →
+        AsksFor (O.spec op.old) (batch_of places.now statements) body → ErrIsReported (O.spec op.old)
+        (batch_of places.now statements) body
+        (moment_of S.tells L.tells K.tells R.stream client.old outside.old)
+        (moment_of S.tells L.tells K.tells R.stream client.new outside.new)
+        result }
+    ensures ran { HasRun (O.spec op.old) (O.next op.old)
+        (moment_of S.tells L.tells K.tells R.stream client.old outside.old)
+        (O.built op.old) (O.built op.new) result }
     ensures caused { Caused (O.spec op.old) (O.next op.old) (O.built op.old)
         (moment_of S.tells L.tells K.tells R.stream client.old outside.old)
         (moment_of S.tells L.tells K.tells R.stream client.new outside.new)

@@ -9,6 +9,7 @@ ghost use Rattle.driver_exec.specs.Executing.{Executes};
 ghost use Rattle.driver_exec.specs.Keeping.{KeepsInvariant, OkHasEntries};
 ghost use Rattle.driver_exec.specs.Moment.{DrawsInOrder, KeepsLent, Moment};
 ghost use Rattle.driver_exec.specs.Readings.{OnlyRead};
+ghost use Rattle.driver_exec.specs.Reporting.{ErrIsReported, HasRun};
 ghost use Rattle.driver_exec.specs.Resending.{SendsOneCommand};
 
 use driver_ops::Operation;
@@ -27,6 +28,23 @@ pub fn one_command_has_its_entries<O: Operation>()
         (body : SendBody) → AsksFor (O.spec op) batch body →
         SendsOneCommand (O.spec op) batch before now result →
         OkHasEntries (O.spec op) body before now result }
+{}
+
+/// And where it ended with a failure that only a reply spells, that was read in the model server's own reply to
+/// its command, and the entries of the statements that did not fail stand.
+pub fn one_command_has_its_failures<O: Operation>()
+    ensures { (op : O) (batch : Batch) (before now : Moment) (result : Result O.Output Error)
+        (body : SendBody) → AsksFor (O.spec op) batch body →
+        SendsOneCommand (O.spec op) batch before now result →
+        ErrIsReported (O.spec op) batch body before now result }
+{}
+
+/// An operation that was done, or that ended with such a failure, has built its command.
+pub fn an_operation_that_ran_has_built<O: Operation>()
+    ensures { (op : O) (batch : Batch) (which : SendKind) (before now : Moment) (count more : ℕ)
+        (fixed later : Option ℕ) (result : Result O.Output Error) →
+        Executes (O.spec op) batch which before now count more fixed later result →
+        HasRun (O.spec op) which before fixed later result }
 {}
 
 /// An operation lends no session in the end: each is lent as often after it as before.

@@ -1,5 +1,5 @@
--- The entries of the statements of a send outside transactions, where none failed: there is one for each write, and each of them
--- stands in the log.
+-- The entries of the statements of a send outside transactions: each stands in the log, and where none failed there is one for
+-- each write.
 use Rattle.std.proofs.Common.{◌≡◌, ℕ, zero, suc, ◌+◌, Bool, true, false, List, [], ◌∷◌, ◌++◌, refl, sym, ap, subst, ◌∙◌, inl, inr, arith}
 use Rattle.std.specs.Prelude.{ℤ, ◌&&◌, Option, None, Some, ◌⊎◌, slice_get, if◌then◌else◌}
 use Rattle.std.specs.FinMap as finite
@@ -245,15 +245,21 @@ module _ (trace : List Send) (send : Send) (orderly : IsOrderly trace) (sent : H
       free_stands free entry (subst (λ d. IsToldOf send.session send.number (writes_of send) d entry) (is ∙ only_is free)
       (told_from send.session send.number (writes_of send) done entry has))
 
--- where each statement ran now or had its kept result the entries of its writes stand in the log
-pub entries_stand : (trace : List Send) (server : Server) (send : Send) (step : Scheduled) (entries : List Entry) → IsEither send → MayJoin trace send
-    → IsSettled trace server → RanOrKept server send step entries → (entry : Entry) → Has entries entry → Has (exchanged server send step).log entry
+-- where the statements of a send are told the entries of those that ran now or had their kept results stand in the log
+pub told_entries_stand : (trace : List Send) (server : Server) (send : Send) (step : Scheduled) (done : List Statement) → IsEither send → MayJoin trace send
+    → IsSettled trace server → statements_in server send step ≡ Some done → (entry : Entry) → Has (entries_counted send.session send.number (writes_of send) done) entry
+    → Has (exchanged server send step).log entry
 unfolding statements_in exchanged met
-entries_stand trace server send step entries is_either orderly settled stand entry has =
+told_entries_stand trace server send step done is_either orderly settled told entry has =
     let before = traced (after_picks server step.deliver) send in
     let came = longer trace send orderly (after_picks server step.deliver) (after_settled trace server step.deliver (orderly_front trace send orderly) settled) in
-    let outside_of = told_outside before send step.item stand.done stand.told in
-    let told : Has (entries_counted send.session send.number (writes_of send) stand.done) entry = subst (λ all. Has all entry) stand.entries_are has in
+    let outside_of = told_outside before send step.item done told in
     let here : Has (met before send (Serve outside_of.plan.results outside_of.plan.fail outside_of.plan.concern outside_of.plan.page)).log entry
-    = either_stands (trace ++ send ∷ []) send orderly (has_last trace send) before came outside_of.plan outside_of.case is_either stand.done outside_of.done_is entry told in
+    = either_stands (trace ++ send ∷ []) send orderly (has_last trace send) before came outside_of.plan outside_of.case is_either done outside_of.done_is entry has in
     subst (λ item. Has (met before send item).log entry) (sym outside_of.item_is) here
+
+-- so where each of them did so
+pub entries_stand : (trace : List Send) (server : Server) (send : Send) (step : Scheduled) (entries : List Entry) → IsEither send → MayJoin trace send
+    → IsSettled trace server → RanOrKept server send step entries → (entry : Entry) → Has entries entry → Has (exchanged server send step).log entry
+entries_stand trace server send step entries is_either orderly settled stand entry has =
+    told_entries_stand trace server send step stand.done is_either orderly settled stand.told entry (subst (λ all. Has all entry) stand.entries_are has)

@@ -1,5 +1,6 @@
 pub mod Entries
 pub mod FailedStatements
+pub mod FailureReading
 pub mod FindCommand
 pub mod FindLaw
 pub mod Frames

@@ -14,13 +14,13 @@ use Rattle.driver_link.specs.declared.write_options.DeleteOptions.{DeleteOptions
 use Rattle.driver_link.specs.declared.write_options.InsertManyOptions.{InsertManyOptions}
 use Rattle.driver_link.specs.declared.write_options.UpdateOptions.{UpdateOptions}
 use Rattle.driver_actions.specs.declared.call.Call.{Call}
-use Rattle.driver_actions.specs.declared.call.Call.TheVariants.{Single}
+use Rattle.driver_actions.specs.declared.call.Call.TheVariants.{InsertMany, Single}
 use Rattle.driver_actions.specs.declared.call.SingleWrite.TheVariants.{DeleteMany, DeleteOne, FindOneAndDelete, FindOneAndReplace, FindOneAndUpdate, InsertOne, ReplaceOne, UpdateMany, UpdateOne}
 use Rattle.serde_json.specs.Data.{Data, array, object, no_members, member}
 use Rattle.driver_script.specs.declared.calls.DeleteParts.{DeleteParts}
 use Rattle.driver_script.specs.declared.calls.SharedOptions.{SharedOptions}
 use Rattle.driver_script.specs.declared.calls.UpdateParts.{UpdateParts}
-use Rattle.driver_script.specs.declared.keys.TheConstants.{COMMENT, DELETE_MANY, DELETE_ONE, DOC, FILTER, FIND_ONE_AND_DELETE, FIND_ONE_AND_REPLACE, FIND_ONE_AND_UPDATE, INSERT_ONE, NS, PIPELINE, REPLACE_ONE, UPDATE, UPDATE_MANY, UPDATE_ONE, UPSERT, WRITE_CONCERN}
+use Rattle.driver_script.specs.declared.keys.TheConstants.{COMMENT, DELETE_MANY, DELETE_ONE, DOC, DOCS, FILTER, FIND_ONE_AND_DELETE, FIND_ONE_AND_REPLACE, FIND_ONE_AND_UPDATE, INSERT_MANY, INSERT_ONE, NS, ORDERED, PIPELINE, REPLACE_ONE, UPDATE, UPDATE_MANY, UPDATE_ONE, UPSERT, WRITE_CONCERN}
 use Rattle.driver_script.specs.Json.{has_only, list_of, needed_part, optional_part}
 use Rattle.driver_script.specs.Options.{flag_of, write_concern_of}
 use Rattle.driver_script.specs.Values.{document_of, namespace_of, value_of}
@@ -34,9 +34,9 @@ unfoldable pub shared_of : Data → Option SharedOptions
 shared_of d = option_and_then (λ write_concern. option_map (shared_with write_concern) (optional_part value_of COMMENT.now d)) (optional_part write_concern_of WRITE_CONCERN.now d)
 
 -- the options of an insert, of which these are set
-abbrev pub insert_options : SharedOptions → InsertManyOptions
-insert_options shared = record {
-  ordered = None;
+abbrev pub insert_options : Option Bool → SharedOptions → InsertManyOptions
+insert_options ordered shared = record {
+  ordered = ordered;
   bypass_document_validation = None;
   comment = shared.comment;
   write_concern = shared.write_concern;
@@ -46,8 +46,20 @@ insert_options shared = record {
 unfoldable pub insert_one_of : Data → Option Call
 insert_one_of d =
     if has_only (NS.now ∷ DOC.now ∷ WRITE_CONCERN.now ∷ COMMENT.now ∷ []) d
-    then option_and_then (λ namespace. option_and_then (λ document. option_map (λ shared. Single (InsertOne namespace document (insert_options shared)))
+    then option_and_then (λ namespace. option_and_then (λ document. option_map (λ shared. Single (InsertOne namespace document (insert_options None shared)))
     (shared_of d)) (needed_part document_of DOC.now d)) (needed_part namespace_of NS.now d)
+    else None
+
+-- the options of an insert of many documents, under their keys of an object
+unfoldable pub insert_options_of : Data → Option InsertManyOptions
+insert_options_of d = option_and_then (λ ordered. option_map (insert_options ordered) (shared_of d)) (optional_part flag_of ORDERED.now d)
+
+-- an insert of many documents: an object with its namespace, the list of the documents, which may be empty, and its options
+unfoldable pub insert_many_of : Data → Option Call
+insert_many_of d =
+    if has_only (NS.now ∷ DOCS.now ∷ ORDERED.now ∷ WRITE_CONCERN.now ∷ COMMENT.now ∷ []) d
+    then option_and_then (λ namespace. option_and_then (λ documents. option_map (λ options. InsertMany namespace documents options)
+    (insert_options_of d)) (needed_part (list_of document_of) DOCS.now d)) (needed_part namespace_of NS.now d)
     else None
 
 -- a pipeline: an object with the list of its stages
@@ -216,14 +228,18 @@ update_under name d =
     if bytes_eq name UPDATE_MANY.now then update_many_of d else (
     if bytes_eq name REPLACE_ONE.now then replace_one_of d else find_under name d))
 
--- the write whose parts stand under its name
+-- the write of one statement whose parts stand under its name
 unfoldable pub write_under : List ℕ → Data → Option Call
 write_under name d =
     if bytes_eq name INSERT_ONE.now then insert_one_of d else (
     if bytes_eq name DELETE_ONE.now then delete_one_of d else (
     if bytes_eq name DELETE_MANY.now then delete_many_of d else update_under name d))
 
+-- the call whose parts stand under its name: an insert of many documents, or a write of one statement
+unfoldable pub call_under : List ℕ → Data → Option Call
+call_under name d = if bytes_eq name INSERT_MANY.now then insert_many_of d else write_under name d
+
 -- a call: an object whose one key names it
 unfoldable pub call_of : Data → Option Call
-call_of (object (member name d no_members)) = write_under name d
+call_of (object (member name d no_members)) = call_under name d
 call_of d = None

@@ -1,6 +1,6 @@
 -- The texts of a script's keys and of its names of items, calls and levels, and how many calls a script may hold.
 use Rattle.std.specs.Prelude.{◌≡◌, codes}
-use Rattle.driver_script.specs.declared.keys.TheConstants.{AFTER, ARRAY, AVAILABLE, BATCH, BSON, BYTES, CALLS, CHECK_OUT, CODE, COMMENT, DATE, DELETE_MANY, DELETE_ONE, DELIVER, DOC, DOUBLE, FAIL, FAULTS, FILTER, FIND_ONE_AND_DELETE, FIND_ONE_AND_REPLACE, FIND_ONE_AND_UPDATE, INSERT_ONE, INT64, INTERRUPTED, ITEM, JOURNAL, LABELS, LATE, LIMITS, LINEARIZABLE, LOCAL, LOST, MAJORITY, MESSAGE, MODIFIED, N, NS, OID, OPTIONS, PIPELINE, READ_CONCERN, REFUSED, REPLACE_ONE, REPLY_LOST, RESULTS, RETRY_WRITES, SCHEDULE, SELECT, SERVE, SNAPSHOT, TS, UPDATE, UPDATE_MANY, UPDATE_ONE, UPSERT, UPSERTED, VALUE, W, WRITE_CONCERN, WRITE_CONCERN_ERROR, W_TIMEOUT}
+use Rattle.driver_script.specs.declared.keys.TheConstants.{AFTER, ARRAY, AVAILABLE, BATCH, BSON, BYTES, CALLS, CHECK_OUT, CODE, COMMENT, DATE, DELETE_MANY, DELETE_ONE, DELIVER, DOC, DOCS, DOUBLE, FAIL, FAULTS, FILTER, FIND_ONE_AND_DELETE, FIND_ONE_AND_REPLACE, FIND_ONE_AND_UPDATE, INSERT_MANY, INSERT_ONE, INT64, INTERRUPTED, ITEM, JOURNAL, LABELS, LATE, LIMITS, LINEARIZABLE, LOCAL, LOST, MAJORITY, MESSAGE, MODIFIED, N, NS, OID, OPTIONS, ORDERED, PIPELINE, READ_CONCERN, REFUSED, REPLACE_ONE, REPLY_LOST, RESULTS, RETRY_WRITES, SCHEDULE, SELECT, SERVE, SNAPSHOT, TS, UPDATE, UPDATE_MANY, UPDATE_ONE, UPSERT, UPSERTED, VALUE, W, WRITE_CONCERN, WRITE_CONCERN_ERROR, W_TIMEOUT}
 use Rattle.driver_script.specs.declared.script.TheConstants.{MOST_CALLS}
 
 -- each key is its text
@@ -20,6 +20,7 @@ pub record HaveTexts : Type 0 where
   pub delete_one : DELETE_ONE.now ≡ codes "deleteOne"
   pub deliver : DELIVER.now ≡ codes "deliver"
   pub doc : DOC.now ≡ codes "doc"
+  pub docs : DOCS.now ≡ codes "docs"
   pub double : DOUBLE.now ≡ codes "double"
   pub fail : FAIL.now ≡ codes "fail"
   pub faults : FAULTS.now ≡ codes "faults"
@@ -27,6 +28,7 @@ pub record HaveTexts : Type 0 where
   pub find_one_and_delete : FIND_ONE_AND_DELETE.now ≡ codes "findOneAndDelete"
   pub find_one_and_replace : FIND_ONE_AND_REPLACE.now ≡ codes "findOneAndReplace"
   pub find_one_and_update : FIND_ONE_AND_UPDATE.now ≡ codes "findOneAndUpdate"
+  pub insert_many : INSERT_MANY.now ≡ codes "insertMany"
   pub insert_one : INSERT_ONE.now ≡ codes "insertOne"
   pub int64 : INT64.now ≡ codes "int64"
   pub interrupted : INTERRUPTED.now ≡ codes "interrupted"
@@ -45,6 +47,7 @@ pub record HaveTexts : Type 0 where
   pub ns : NS.now ≡ codes "ns"
   pub oid : OID.now ≡ codes "oid"
   pub options : OPTIONS.now ≡ codes "options"
+  pub ordered : ORDERED.now ≡ codes "ordered"
   pub pipeline : PIPELINE.now ≡ codes "pipeline"
   pub read_concern : READ_CONCERN.now ≡ codes "readConcern"
   pub refused : REFUSED.now ≡ codes "refused"

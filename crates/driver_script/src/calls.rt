@@ -1,14 +1,14 @@
 //! Readers of a script's calls: each is an object whose one key names it.
 ghost use Rattle.std.specs.Prelude.{◌≡◌};
 ghost use Rattle.serde_json.specs.View.{view};
-ghost use Rattle.driver_script.specs.Calls.{call_of, delete_many_of, delete_one_of, delete_options, delete_parts_of, find_delete_options, find_one_and_delete_of, find_one_and_replace_of, find_one_and_update_of, find_replace_options, find_under, find_update_options, insert_one_of, insert_options, pipeline_of, replace_one_of, shared_of, update_many_of, update_of, update_one_of, update_options, update_options_of, update_parts_of, update_under, write_under};
+ghost use Rattle.driver_script.specs.Calls.{call_of, call_under, delete_many_of, delete_one_of, delete_options, delete_parts_of, find_delete_options, find_one_and_delete_of, find_one_and_replace_of, find_one_and_update_of, find_replace_options, find_under, find_update_options, insert_many_of, insert_one_of, insert_options, insert_options_of, pipeline_of, replace_one_of, shared_of, update_many_of, update_of, update_one_of, update_options, update_options_of, update_parts_of, update_under, write_under};
 ghost use Rattle.driver_script.specs.Json.{GivesPart};
 
 use crate::json::{FromJson, Unread, is_object_of, read_needed, read_optional};
 use crate::keys::{
-    COMMENT, DELETE_MANY, DELETE_ONE, DOC, FILTER, FIND_ONE_AND_DELETE, FIND_ONE_AND_REPLACE,
-    FIND_ONE_AND_UPDATE, INSERT_ONE, NS, PIPELINE, REPLACE_ONE, UPDATE, UPDATE_MANY, UPDATE_ONE,
-    UPSERT, WRITE_CONCERN,
+    COMMENT, DELETE_MANY, DELETE_ONE, DOC, DOCS, FILTER, FIND_ONE_AND_DELETE, FIND_ONE_AND_REPLACE,
+    FIND_ONE_AND_UPDATE, INSERT_MANY, INSERT_ONE, NS, ORDERED, PIPELINE, REPLACE_ONE, UPDATE,
+    UPDATE_MANY, UPDATE_ONE, UPSERT, WRITE_CONCERN,
 };
 use bson_lite::{Bson, Document, Namespace};
 use driver_actions::{Call, SingleWrite};
@@ -57,11 +57,11 @@ fn read_shared(alloc: Global, value: &Value) -> Result<SharedOptions, Unread>
 }
 
 /// The options of an insert, of which these are set.
-fn insert_options(shared: SharedOptions) -> InsertManyOptions
-    ensures { result ≡ insert_options shared }
+fn insert_options(ordered: Option<bool>, shared: SharedOptions) -> InsertManyOptions
+    ensures { result ≡ insert_options ordered shared }
 {
     InsertManyOptions {
-        ordered: None,
+        ordered,
         bypass_document_validation: None,
         comment: shared.comment,
         write_concern: shared.write_concern,
@@ -82,8 +82,35 @@ fn insert_one(alloc: Global, value: &Value) -> Result<Call, Unread>
         write: SingleWrite::InsertOne {
             namespace,
             document,
-            options: insert_options(shared),
+            options: insert_options(None, shared),
         },
+    })
+}
+
+/// The options of an insert of many documents, under their keys.
+#[tactic(auto, unfolding(crate::specs::Calls::insert_options_of))]
+fn read_insert_options(alloc: Global, value: &Value) -> Result<InsertManyOptions, Unread>
+    ensures { GivesPart result (insert_options_of (view value.now)) }
+{
+    let ordered = read_optional(alloc, value, ORDERED)?;
+    let shared = read_shared(alloc, value)?;
+    Ok(insert_options(ordered, shared))
+}
+
+#[tactic(auto, unfolding(crate::specs::Calls::insert_many_of))]
+fn insert_many(alloc: Global, value: &Value) -> Result<Call, Unread>
+    ensures { GivesPart result (insert_many_of (view value.now)) }
+{
+    if !is_object_of(value, &[NS, DOCS, ORDERED, WRITE_CONCERN, COMMENT]) {
+        return Err(Unread::Wrong);
+    }
+    let namespace = read_needed(alloc, value, NS)?;
+    let documents = read_needed(alloc, value, DOCS)?;
+    let options = read_insert_options(alloc, value)?;
+    Ok(Call::InsertMany {
+        namespace,
+        documents,
+        options,
     })
 }
 
@@ -433,7 +460,7 @@ fn update_under(alloc: Global, name: &str, value: &Value) -> Result<Call, Unread
     find_under(alloc, name, value)
 }
 
-/// The write whose parts stand under its name.
+/// The write of one statement whose parts stand under its name.
 #[tactic(auto, unfolding(crate::specs::Calls::write_under))]
 fn write_under(alloc: Global, name: &str, value: &Value) -> Result<Call, Unread>
     ensures { GivesPart result (write_under name.now (view value.now)) }
@@ -450,6 +477,17 @@ fn write_under(alloc: Global, name: &str, value: &Value) -> Result<Call, Unread>
     update_under(alloc, name, value)
 }
 
+/// The call whose parts stand under its name: an insert of many documents, or a write of one statement.
+#[tactic(auto, unfolding(crate::specs::Calls::call_under))]
+fn call_under(alloc: Global, name: &str, value: &Value) -> Result<Call, Unread>
+    ensures { GivesPart result (call_under name.now (view value.now)) }
+{
+    if name == INSERT_MANY {
+        return insert_many(alloc, value);
+    }
+    write_under(alloc, name, value)
+}
+
 impl FromJson for Call {
     ghost spec = { call_of };
 
@@ -460,7 +498,7 @@ impl FromJson for Call {
         };
         let mut entries = members.iter();
         match (entries.next(), entries.next()) {
-            (Some((name, inner)), None) => write_under(alloc, name.as_str(), inner),
+            (Some((name, inner)), None) => call_under(alloc, name.as_str(), inner),
             _ => Err(Unread::Wrong),
         }
     }

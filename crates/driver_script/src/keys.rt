@@ -30,6 +30,8 @@ pub const DELIVER: &str = "deliver";
 
 pub const DOC: &str = "doc";
 
+pub const DOCS: &str = "docs";
+
 pub const DOUBLE: &str = "double";
 
 pub const FAIL: &str = "fail";
@@ -43,6 +45,8 @@ pub const FIND_ONE_AND_DELETE: &str = "findOneAndDelete";
 pub const FIND_ONE_AND_REPLACE: &str = "findOneAndReplace";
 
 pub const FIND_ONE_AND_UPDATE: &str = "findOneAndUpdate";
+
+pub const INSERT_MANY: &str = "insertMany";
 
 pub const INSERT_ONE: &str = "insertOne";
 
@@ -82,6 +86,9 @@ pub const NS: &str = "ns";
 pub const OID: &str = "oid";
 
 pub const OPTIONS: &str = "options";
+
+/// Whether an insert of many documents stops at the first one that fails.
+pub const ORDERED: &str = "ordered";
 
 pub const PIPELINE: &str = "pipeline";
 

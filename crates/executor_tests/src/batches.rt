@@ -1,11 +1,13 @@
-//! The build of an insert of three documents under limits of the connection: how many go out, or why none does; and
-//! one insert whose resend the next connection does not take.
+//! An insert of three documents: under limits of the connection how many go out, or why none does, and what a reply
+//! tells of them; and one insert whose resend the next connection does not take.
 use crate::faking::{DONE, Given, Servers, inserted};
 use crate::inserting::{Ended, SERVER};
 use bson_lite::{Bson, Document, List, Namespace, ObjectId, Text};
-use driver_error::{Error, ErrorKind, IoKind};
+use driver_error::{Error, ErrorKind, InsertManyError, IoKind};
 use driver_link::{Description, InsertManyOptions};
-use driver_ops::{Collection, Insert, Operation, OwnDocument, encode_document};
+use driver_ops::{
+    Collection, CommandResponse, Insert, Operation, OwnDocument, encode_document, read_response,
+};
 use std::alloc::{AllocError, Global};
 use std::test::Fail;
 
@@ -245,6 +247,120 @@ const LATER: &[(Sizes, Built)] = &[
     ),
 ];
 
+/// `{ok: 1, n: 2, writeErrors: [{index: 1, code: 11000, errmsg: "dup"}]}`
+const TWO_WENT_IN: &[u8] =
+    b"\x53\0\0\0\x10ok\0\x01\0\0\0\x10n\0\x02\0\0\0\x04writeErrors\0\x32\0\0\0\x030\0\x2a\0\0\0\x10index\0\x01\0\0\0\x10code\0\xf8\x2a\0\0\x02errmsg\0\x04\0\0\0dup\0\0\0\0";
+
+/// `{ok: 1, n: 1, writeErrors: [{index: 1, code: 11000, errmsg: "dup"}]}`
+const ONE_WENT_IN: &[u8] =
+    b"\x53\0\0\0\x10ok\0\x01\0\0\0\x10n\0\x01\0\0\0\x04writeErrors\0\x32\0\0\0\x030\0\x2a\0\0\0\x10index\0\x01\0\0\0\x10code\0\xf8\x2a\0\0\x02errmsg\0\x04\0\0\0dup\0\0\0\0";
+
+/// What an insert of three documents reads in a reply that tells of its second one's failure.
+#[derive(Clone, Copy)]
+enum Told {
+    /// Which of the three have their ids listed beside the failure.
+    Lists(bool, bool, bool),
+    /// The reply breaks its form.
+    Odd,
+}
+
+/// Replies to the insert of three documents, and whether it is ordered: in an ordered one those before the failure went
+/// in, in another one all beside it. Each breaks its form where it counts what the other kind of insert would.
+const REPLIES: &[(bool, &[u8], Told)] = &[
+    (false, TWO_WENT_IN, Told::Lists(true, false, true)),
+    (true, ONE_WENT_IN, Told::Lists(true, false, false)),
+    (false, ONE_WENT_IN, Told::Odd),
+    (true, TWO_WENT_IN, Told::Odd),
+];
+
+/// The document of a reply, or none where there is no memory.
+fn reply_of(alloc: Global, bytes: &[u8]) -> Option<Document> {
+    match read_response(alloc, bytes) {
+        Ok(response) => {
+            let CommandResponse { ok: _, body } = response;
+            Some(body)
+        }
+        Err(error) => {
+            drop(error);
+            None
+        }
+    }
+}
+
+/// Whether the one write error is that of the second document.
+fn has_second_alone(failures: &InsertManyError) -> bool {
+    match &failures.write_errors {
+        Some(errors) => match errors.as_slice() {
+            [error] => error.index == 1 && error.code == 11000,
+            _ => false,
+        },
+        None => false,
+    }
+}
+
+/// Whether failures tell of the second document, beside the ids of those that went in.
+fn lists(failures: &InsertManyError, told: Told) -> bool {
+    let ids = &failures.inserted_ids;
+    match told {
+        Told::Lists(first, second, third) => {
+            ids.get(0).is_some() == first
+                && ids.get(1).is_some() == second
+                && ids.get(2).is_some() == third
+                && has_second_alone(failures)
+        }
+        Told::Odd => false,
+    }
+}
+
+/// Whether an error tells this.
+fn tells(error: &Error, told: Told) -> bool {
+    match error.kind() {
+        ErrorKind::InsertMany(failures) => lists(failures, told),
+        ErrorKind::InvalidResponse { .. } => matches!(told, Told::Odd),
+        _ => false,
+    }
+}
+
+/// Whether an insert that was built reads this in a reply.
+fn reads(alloc: Global, insert: &mut Insert<'_>, reply: &Document, told: Told) -> bool {
+    match insert.read_reply(alloc, reply) {
+        Ok(reading) => {
+            drop(reading);
+            false
+        }
+        Err(error) => {
+            let same = tells(&error, told);
+            drop(error);
+            same
+        }
+    }
+}
+
+/// Whether the insert of three documents, ordered or not, goes out whole and reads this in a reply. The first of them
+/// is the caller's fifth from 0, and a reply counts them from 0.
+fn all_read(alloc: Global, ordered: bool, reply: &[u8], told: Told) -> Option<bool> {
+    let collection = items(alloc).ok()?;
+    let documents = documents(alloc)?;
+    let reply = reply_of(alloc, reply)?;
+    let options = InsertManyOptions {
+        ordered: Some(ordered),
+        ..InsertManyOptions::default()
+    };
+    let usual = Sizes {
+        bson: 16_777_216,
+        message: 48_000_000,
+        batch: 100_000,
+    };
+    let mut insert = Insert::new(collection, 5, documents.as_slice(), &options);
+    let built = builds(alloc, &mut insert, usual, Built::Takes(3));
+    let read = reads(alloc, &mut insert, &reply, told);
+    drop(insert);
+    drop(reply);
+    drop(options);
+    drop(documents);
+    Some(built && read)
+}
+
 #[test]
 fn a_first_build_takes_the_longest_front(rt: HostRuntime) -> Result<(), Fail> {
     for (at, row) in BUILDS.iter().enumerate() {
@@ -261,6 +377,16 @@ fn later_builds_take_as_many_documents(rt: HostRuntime) -> Result<(), Fail> {
 }
 
 #[test]
+fn a_reply_to_three_documents_lists_those_that_went_in(rt: HostRuntime) -> Result<(), Fail> {
+    for (ordered, reply, told) in REPLIES {
+        let same = all_read(rt.alloc(), *ordered, reply, *told) == Some(true);
+        let size = reply.len();
+        assert!(rt; same, "to a reply of {size} bytes, ordered {ordered:?}");
+    }
+    Ok(())
+}
+
+#[test]
 fn a_resend_that_does_not_fit_leaves_the_failure(rt: HostRuntime) -> Result<(), Fail> {
     let narrow = Servers {
         first: SERVER,
@@ -271,7 +397,9 @@ fn a_resend_that_does_not_fit_leaves_the_failure(rt: HostRuntime) -> Result<(), 
         }),
     };
     let kept = match inserted(rt.alloc(), narrow, &[Given::Reset, Given::Reply(DONE)]) {
-        Some((Ended::Io(IoKind::ConnectionReset), link)) => link.frames().len() == 1,
+        Some((Ended::Io(IoKind::ConnectionReset), link)) => {
+            link.frames().len() == 1 && link.connections().len() == 2
+        }
         _ => false,
     };
     assert!(rt; kept);

@@ -42,6 +42,8 @@ pub(crate) enum Ended {
     /// Under its write concern no server would answer what became of it.
     Unacknowledged,
     InvalidConcern,
+    /// There are no documents.
+    NoneGiven,
     /// The name of the database `a.b` has a dot.
     Dotted,
     /// The update begins with no operator.
@@ -93,6 +95,9 @@ fn how_refused(message: &str) -> Ended {
     }
     if message == "invalid write concern" {
         return Ended::InvalidConcern;
+    }
+    if message == "No documents provided to insert_many" {
+        return Ended::NoneGiven;
     }
     if message == "invalid database name a.b: name cannot contain period" {
         return Ended::Dotted;

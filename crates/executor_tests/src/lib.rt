@@ -1,8 +1,8 @@
 //! Tests of the executor and of calls over it: what one insert comes to over a model server with a schedule and
 //! over a fake link, when it is timed and its session lent, every short schedule over a few inserts and over one
-//! write of each kind, what each kind sends, how many documents an insert takes, which writes are refused, what
-//! replies tell, and the store and the replies with ample memory. They stand apart since a row crosses executor and
-//! server.
+//! write of each kind, what each kind sends, how many documents an insert takes, what inserts of many answer, which
+//! writes are refused, what replies tell, and the store and the replies with ample memory. They stand apart since a
+//! row crosses executor and server.
 #![tactic(auto)]
 
 #[cfg(test)]
@@ -27,6 +27,12 @@ mod frames;
 mod inserting;
 #[cfg(test)]
 mod kinds;
+#[cfg(test)]
+mod many_failures;
+#[cfg(test)]
+mod many_inserts;
+#[cfg(test)]
+mod many_refusals;
 #[cfg(test)]
 mod meeting;
 #[cfg(test)]

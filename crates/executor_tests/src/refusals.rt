@@ -407,7 +407,7 @@ fn skips_one_id(alloc: Global, outcomes: &[Outcome]) -> bool {
 }
 
 /// The outcomes of calls by a new client over a link, and how many frames were sent.
-fn outcomes_over(
+pub(crate) fn outcomes_over(
     alloc: Global,
     link: FakeLink,
     calls: &[Call],

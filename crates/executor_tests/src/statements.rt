@@ -140,7 +140,7 @@ const ALL_DELETED: &[&[u8]] = &[
 /// An `insertOne` with every option, whose document goes out beside the body:
 /// `{insert: "items", bypassDocumentValidation: true, ordered: false, comment: "note", lsid: {id: UUID(..01)},
 /// txnNumber: 1, writeConcern: {w: 1}, $db: "shop"}`
-const INSERTED: &[&[u8]] = &[
+pub(crate) const INSERTED: &[&[u8]] = &[
     b"\xad\0\0\0",
     b"\x02insert\0\x06\0\0\0items\0",
     b"\x08bypassDocumentValidation\0\x01",
@@ -297,7 +297,7 @@ fn is_spelled(frame: &Frame, body: &[u8], sequences: usize) -> bool {
 }
 
 /// Whether a link was given one such frame.
-fn has_one_frame(link: &FakeLink, body: &[u8], sequences: usize) -> bool {
+pub(crate) fn has_one_frame(link: &FakeLink, body: &[u8], sequences: usize) -> bool {
     match link.frames() {
         [frame] => is_spelled(frame, body, sequences),
         _ => false,

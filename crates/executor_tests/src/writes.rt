@@ -158,7 +158,7 @@ fn nested(alloc: Global, levels: usize) -> Result<Document, AllocError> {
 }
 
 /// A document with this flaw.
-fn flawed(alloc: Global, flaw: Flaw) -> Result<Document, AllocError> {
+pub(crate) fn flawed(alloc: Global, flaw: Flaw) -> Result<Document, AllocError> {
     match flaw {
         Flaw::Levels(levels) => nested(alloc, levels),
         Flaw::ZeroByte => around(alloc, "x", number(alloc, "a\0b", 1)?),

@@ -1,3 +1,4 @@
+mod FailureOrder
 mod IdSets
 mod Made
 mod Pieces

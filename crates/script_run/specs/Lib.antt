@@ -1,5 +1,6 @@
 pub mod Distinct
 pub mod Ended
+pub mod FailedWrites
 pub mod Lines
 pub mod Report
 pub mod Streamed

@@ -1,10 +1,12 @@
 -- The lines of a report: one for each call, each send and each entry of the log.
 use Rattle.std.specs.Prelude.{ℕ, ◌+◌, List, [], ◌∷◌, ◌++◌, map, codes, decimal, Option, Result, Ok, Err}
+use Rattle.std.specs.FinMap as finite
 use Rattle.std.specs.Fmt.{signed_decimal}
 use Rattle.bson_lite.specs.declared.bson.Bson.{Bson}
 use Rattle.bson_lite.specs.declared.document.Pair.{Pair}
 use Rattle.driver_error.specs.declared.error.Error.{Error}
 use Rattle.driver_error.specs.declared.results.DeleteResult.{DeleteResult}
+use Rattle.driver_error.specs.declared.results.InsertManyResult.{InsertManyResult}
 use Rattle.driver_error.specs.declared.results.InsertOneResult.{InsertOneResult}
 use Rattle.driver_error.specs.declared.results.UpdateResult.{UpdateResult}
 use Rattle.driver_link.specs.declared.keys.TheConstants.{ABORT_TRANSACTION, BULK_WRITE, COMMIT_TRANSACTION, DELETE, FIND_AND_MODIFY, GET_MORE, INSERT, KILL_CURSORS, UPDATE}
@@ -24,7 +26,7 @@ use Rattle.driver_actions.specs.declared.call.Outcome.{Outcome}
 use Rattle.driver_actions.specs.declared.call.SingleAnswer.TheVariants.{Deleted, Found, Inserted, Updated}
 use Rattle.driver_actions.specs.declared.call.SingleWrite.{SingleWrite}
 use Rattle.driver_actions.specs.declared.call.SingleWrite.TheVariants.{DeleteMany, DeleteOne, FindOneAndDelete, FindOneAndReplace, FindOneAndUpdate, InsertOne, ReplaceOne, UpdateMany, UpdateOne}
-use Rattle.driver_script.specs.declared.keys.TheConstants.{DELETE_MANY, DELETE_ONE, FIND_ONE_AND_DELETE, FIND_ONE_AND_REPLACE, FIND_ONE_AND_UPDATE, INSERT_ONE, REPLACE_ONE, UPDATE_MANY, UPDATE_ONE}
+use Rattle.driver_script.specs.declared.keys.TheConstants.{DELETE_MANY, DELETE_ONE, FIND_ONE_AND_DELETE, FIND_ONE_AND_REPLACE, FIND_ONE_AND_UPDATE, INSERT_MANY, INSERT_ONE, REPLACE_ONE, UPDATE_MANY, UPDATE_ONE}
 use Rattle.script_run.specs.Words.{session_text, number_text, listed, place_text, value_text, value_text_or_none, error_text}
 
 -- the end of a line
@@ -59,12 +61,17 @@ deleted_text deleted = codes "ok deleted=" ++ decimal deleted.deleted_count
 unfoldable pub found_text : Option (List (Pair Bson)) → List ℕ
 found_text found = codes "ok found=" ++ value_text_or_none (document_in found)
 
+-- what an insert of many answered: how many documents it inserted
+unfoldable pub many_text : InsertManyResult → List ℕ
+many_text many = codes "ok inserted=" ++ decimal (finite.len many.inserted_ids)
+
 -- what a call answered
 unfoldable pub answer_text : Answer → List ℕ
 answer_text (answer.Single (Inserted inserted)) = inserted_text inserted
 answer_text (answer.Single (Updated updated)) = updated_text updated
 answer_text (answer.Single (Deleted deleted)) = deleted_text deleted
 answer_text (answer.Single (Found found)) = found_text found
+answer_text (answer.Many many) = many_text many
 
 -- how a call ended
 abbrev pub result_text : Result Answer Error → List ℕ
@@ -86,6 +93,7 @@ single_name (FindOneAndReplace namespace filter replacement options) = FIND_ONE_
 -- the key of a call in a script
 unfoldable pub call_name : Call → List ℕ
 call_name (call.Single write) = single_name write
+call_name (call.InsertMany namespace documents options) = INSERT_MANY.now
 
 -- the line of a call
 unfoldable pub call_line : ℕ → Call → Outcome → List ℕ

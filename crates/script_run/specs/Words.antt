@@ -1,5 +1,5 @@
 -- The words of a report: ids, numbers, places, values and errors.
-use Rattle.std.specs.Prelude.{ℕ, ◌/◌, ◌%◌, ◌==◌, false, if◌then◌else◌, ℤ, List, [], ◌∷◌, ◌++◌, codes, decimal, Option, None, Some, is_none}
+use Rattle.std.specs.Prelude.{ℕ, ◌/◌, ◌%◌, ◌==◌, false, if◌then◌else◌, ℤ, List, [], ◌∷◌, ◌++◌, map, codes, decimal, Option, None, Some, is_none}
 use Rattle.std.specs.Fmt.{digits, digit_glyph, signed_decimal}
 use Rattle.bson_lite.specs.declared.bson.Bson.{Bson, out-Bson}
 use Rattle.bson_lite.specs.declared.bson.Bson.TheOpen.{Bson-F}
@@ -11,11 +11,16 @@ use Rattle.driver_error.specs.declared.error.Error.{Error}
 use Rattle.driver_error.specs.declared.kind.ErrorKind.TheVariants as kind
 use Rattle.driver_error.specs.declared.kind.IoKind.{IoKind}
 use Rattle.driver_error.specs.declared.kind.IoKind.TheVariants as io
+use Rattle.driver_error.specs.declared.write.IndexedWriteError.{IndexedWriteError}
+use Rattle.driver_error.specs.declared.write.InsertManyError.{InsertManyError}
+use Rattle.driver_error.specs.declared.write.WriteConcernError.{WriteConcernError}
 use Rattle.driver_error.specs.declared.write.WriteFailure.{WriteFailure}
 use Rattle.driver_error.specs.declared.write.WriteFailure.TheVariants as failure
 use Rattle.driver_error.specs.Error.{ErrorKind, kind_of, labels_of, source_of}
 use Rattle.driver_error.specs.LabelTexts.{in_order}
 use Rattle.driver_link.specs.declared.machine.Place.{Place}
+use Rattle.script_run.specs.declared.failed_writes.FailedWrite.{FailedWrite}
+use Rattle.script_run.specs.FailedWrites.{failed_in_order}
 
 -- a byte as two hexadecimal digits
 abbrev pub two_digits : ℕ → List ℕ
@@ -126,11 +131,38 @@ unfoldable pub failure_text : WriteFailure → List ℕ
 failure_text (failure.WriteConcernError error) = codes "WriteConcernError " ++ signed_decimal error.code
 failure_text (failure.WriteError error) = codes "WriteError " ++ signed_decimal error.code
 
+-- a write that failed: its index and the code
+unfoldable pub failed_text : FailedWrite → List ℕ
+failed_text write = decimal write.index ++ codes ":" ++ signed_decimal write.code
+
+-- the writes of these errors in order of their indexes, or `-` where there is none
+abbrev pub failed_or_none : Option (List IndexedWriteError) → List ℕ
+failed_or_none None = codes "-"
+failed_or_none (Some errors) = listed (map failed_text (failed_in_order errors))
+
+-- the same behind their name
+unfoldable pub write_errors_text : Option (List IndexedWriteError) → List ℕ
+write_errors_text errors = codes "errors=" ++ failed_or_none errors
+
+-- the code of a write concern error, or `-`
+abbrev pub concern_code : Option WriteConcernError → List ℕ
+concern_code None = codes "-"
+concern_code (Some error) = signed_decimal error.code
+
+-- the same behind its name
+unfoldable pub concern_text : Option WriteConcernError → List ℕ
+concern_text concern = codes " writeConcern=" ++ concern_code concern
+
+-- why an insert of many failed: its write errors and its write concern error
+unfoldable pub many_failure_text : InsertManyError → List ℕ
+many_failure_text many = write_errors_text many.write_errors ++ concern_text many.write_concern_error
+
 -- what belongs to an error's kind, or `-`
 unfoldable pub detail : ErrorKind → List ℕ
 detail (kind.InvalidArgument message) = message
 detail (kind.Authentication message) = message
 detail (kind.BsonSerialization fault) = fault_name fault
+detail (kind.InsertMany many) = many_failure_text many
 detail (kind.Command error) = signed_decimal error.code
 detail (kind.DnsResolve message) = message
 detail (kind.Internal message) = message

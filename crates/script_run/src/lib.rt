@@ -5,6 +5,7 @@
 
 mod details;
 mod distinct;
+mod failed_writes;
 pub mod laws;
 mod lines;
 pub mod program;

@@ -3,14 +3,14 @@ ghost use Rattle.std.specs.Prelude.{◌≡◌, ◌++◌, map, string_bytes, IfOk
 ghost use Rattle.driver_link.specs.Cases.{body_writes};
 ghost use Rattle.driver_ops.specs.OptionFields.{document_in};
 ghost use Rattle.script_run.specs.Words.{listed, place_text};
-ghost use Rattle.script_run.specs.Lines.{inserted_text, count_text, counts_text, upserted_text, updated_text, deleted_text, found_text, answer_text, result_text, single_name, call_name, call_line, call_lines, write_name, command_name, send_line, send_lines, entry_line, entry_lines};
+ghost use Rattle.script_run.specs.Lines.{inserted_text, count_text, counts_text, upserted_text, updated_text, deleted_text, found_text, many_text, answer_text, result_text, single_name, call_name, call_line, call_lines, write_name, command_name, send_line, send_lines, entry_line, entry_lines};
 
 use crate::words::{
     push_error, push_number, push_place, push_places, push_session, push_value, push_value_or_none,
 };
 use bson_lite::{Bson, Document, TryClone};
 use driver_actions::{Answer, Call, Outcome, SingleAnswer, SingleWrite};
-use driver_error::{DeleteResult, Error, InsertOneResult, UpdateResult};
+use driver_error::{DeleteResult, Error, InsertManyResult, InsertOneResult, UpdateResult};
 use driver_link::keys::{
     ABORT_TRANSACTION, BULK_WRITE, COMMIT_TRANSACTION, DELETE, FIND_AND_MODIFY, GET_MORE, INSERT,
     KILL_CURSORS, UPDATE,
@@ -18,7 +18,7 @@ use driver_link::keys::{
 use driver_link::{Entry, Send, SendBody, SendCommand};
 use driver_script::keys::{
     DELETE_MANY, DELETE_ONE, FIND_ONE_AND_DELETE, FIND_ONE_AND_REPLACE, FIND_ONE_AND_UPDATE,
-    INSERT_ONE, REPLACE_ONE, UPDATE_MANY, UPDATE_ONE,
+    INSERT_MANY, INSERT_ONE, REPLACE_ONE, UPDATE_MANY, UPDATE_ONE,
 };
 use std::alloc::{AllocError, Global};
 
@@ -97,6 +97,15 @@ fn push_found(alloc: Global, out: &mut String, found: &Option<Document>) -> Resu
     push_value_or_none(alloc, out, &value)
 }
 
+#[tactic(auto, unfolding(crate::specs::Lines::many_text))]
+fn push_many(out: &mut String, many: &InsertManyResult) -> Result<(), AllocError>
+    ensures { OnOk result (string_bytes out.new ≡ string_bytes out.old ++ many_text many.now) }
+{
+    let count = many.inserted_ids.len();
+    write!(out, "ok inserted={count}")?;
+    Ok(())
+}
+
 #[tactic(auto, unfolding(crate::specs::Lines::answer_text))]
 fn push_answer(alloc: Global, out: &mut String, answer: &Answer) -> Result<(), AllocError>
     ensures { OnOk result (string_bytes out.new ≡ string_bytes out.old ++ answer_text answer.now) }
@@ -106,6 +115,7 @@ fn push_answer(alloc: Global, out: &mut String, answer: &Answer) -> Result<(), A
         Answer::Single(SingleAnswer::Updated(updated)) => push_updated(alloc, out, updated),
         Answer::Single(SingleAnswer::Deleted(deleted)) => push_deleted(out, deleted),
         Answer::Single(SingleAnswer::Found(found)) => push_found(alloc, out, found),
+        Answer::Many(many) => push_many(out, many),
     }
 }
 
@@ -128,6 +138,7 @@ fn name_of_call(call: &Call) -> &'static str
 {
     match call {
         Call::Single { write } => name_of_single(write),
+        Call::InsertMany { .. } => INSERT_MANY,
     }
 }
 

@@ -224,7 +224,7 @@ pub(crate) fn push_error(alloc: Global, out: &mut String, error: &Error) -> Resu
     out.push_str("err ")?;
     out.push_str(name_of_kind(error.kind()))?;
     out.push_str(" ")?;
-    push_detail(out, error.kind())?;
+    push_detail(alloc, out, error.kind())?;
     out.push_str(" labels=")?;
     push_labels(out, labels.as_slice())?;
     out.push_str(" source=")?;

@@ -239,7 +239,55 @@ waiting: 0
 totals: calls=3 ok=3 sends=4 entries=3
 ";
 
-const EXAMPLES: [Row; 9] = [
+const INSERT_MANY: &str = r#"{
+  "limits": {"batch": 2},
+  "calls": [
+    {"insertMany": {"ns": "shop.items", "docs": [
+      [["_id", 1], ["item", "tea"]],
+      [["_id", 2], ["item", "salt"]],
+      [["_id", 3], ["item", "rice"]]
+    ]}},
+    {"insertMany": {"ns": "shop.items", "docs": [
+      [["_id", 3], ["item", "oats"]],
+      [["_id", 4], ["item", "oil"]],
+      [["_id", 5], ["item", "figs"]]
+    ]}},
+    {"insertMany": {"ns": "shop.items", "ordered": false, "docs": [
+      [["_id", 3], ["item", "oats"]],
+      [["_id", 4], ["item", "oil"]],
+      [["_id", 5], ["item", "figs"]]
+    ]}}
+  ],
+  "schedule": [
+    "replyLost",
+    "serve",
+    "serve",
+    {"serve": {"fail": [[0, 11000]]}},
+    {"serve": {"fail": [[0, 11000]]}}
+  ]
+}
+"#;
+
+const REPORT_OF_INSERT_MANY: &str = "call 0 insertMany: ok inserted=3
+call 1 insertMany: err InsertMany errors=0:11000 writeConcern=- labels=- source=-
+call 2 insertMany: err InsertMany errors=0:11000 writeConcern=- labels=- source=-
+send 0: insert session=1 number=1 places=0.0,0.1
+send 1: insert session=1 number=1 places=0.0,0.1
+send 2: insert session=2 number=1 places=0.2
+send 3: insert session=2 number=2 places=1.0,1.1
+send 4: insert session=2 number=3 places=2.0,2.1
+send 5: insert session=2 number=4 places=2.2
+entry 0: 0.0 session=1 number=1 n=1
+entry 1: 0.1 session=1 number=1 n=1
+entry 2: 0.2 session=2 number=1 n=1
+entry 3: 2.1 session=2 number=3 n=1
+entry 4: 2.2 session=2 number=4 n=1
+ids: distinct
+waiting: 0
+totals: calls=3 ok=1 sends=6 entries=5
+";
+
+const EXAMPLES: [Row; 10] = [
     Row {
         script: LOST_REPLY,
         report: REPORT_OF_LOST_REPLY,
@@ -275,6 +323,10 @@ const EXAMPLES: [Row; 9] = [
     Row {
         script: CLAIMED_JOB,
         report: REPORT_OF_CLAIMED_JOB,
+    },
+    Row {
+        script: INSERT_MANY,
+        report: REPORT_OF_INSERT_MANY,
     },
 ];
 

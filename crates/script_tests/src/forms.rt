@@ -3,7 +3,7 @@ use crate::scripts::ran;
 use std::alloc::{AllocError, Global};
 use std::test::Fail;
 
-const CALLS: [&str; 28] = [
+const CALLS: [&str; 32] = [
     "{\"insertOne\":{\"doc\":[],\"ns\":\"a.b\"}}",
     "{\"insertOne\":{\"ns\":\"a.b\",\"doc\":[],\"writeConcern\":{},\"comment\":{\"array\":[null]}}}",
     "{\"updateOne\":{\"ns\":\"a.b\",\"filter\":[],\"update\":[]}}",
@@ -32,9 +32,13 @@ const CALLS: [&str; 28] = [
     "{\"findOneAndReplace\":{\"ns\":\"a.b\",\"filter\":[],\"doc\":[]}}",
     "{\"findOneAndReplace\":{\"ns\":\"a.b\",\"filter\":[],\"doc\":[[\"x\",1]],\"comment\":{\"array\":[]}}}",
     "{\"findOneAndReplace\":{\"ns\":\"a.b\",\"filter\":[],\"doc\":[],\"writeConcern\":{\"w\":\"majority\",\"wtimeout\":1,\"j\":true}}}",
+    "{\"insertMany\":{\"ns\":\"a.b\",\"docs\":[]}}",
+    "{\"insertMany\":{\"ns\":\"a.b\",\"docs\":[[]]}}",
+    "{\"insertMany\":{\"docs\":[[[\"x\",1]],[],[[\"_id\",{\"doc\":[]}]]],\"ns\":[\"a\",\"b\"],\"ordered\":true}}",
+    "{\"insertMany\":{\"ns\":\"a.b\",\"docs\":[[],[]],\"ordered\":false,\"writeConcern\":{\"w\":\"majority\"},\"comment\":null}}",
 ];
 
-const NO_CALLS: [&str; 76] = [
+const NO_CALLS: [&str; 96] = [
     "{}",
     "[]",
     "\"deleteOne\"",
@@ -61,7 +65,27 @@ const NO_CALLS: [&str; 76] = [
     "{\"findOneAndReplace\":{\"ns\":\"a.b\",\"filter\":[],\"doc\":[],\"upsert\":false}}",
     "{\"findOneAndReplace\":{\"ns\":\"a.b\",\"filter\":[],\"doc\":{\"pipeline\":[]}}}",
     "{\"findOneAndReplace\":{\"ns\":\"ab\",\"filter\":[],\"doc\":[]}}",
-    "{\"insertMany\":{\"ns\":\"a.b\",\"docs\":[[]]}}",
+    "{\"insertMany\":[]}",
+    "{\"insertMany\":{}}",
+    "{\"insertMany\":{\"ns\":\"a.b\"}}",
+    "{\"insertMany\":{\"docs\":[[]]}}",
+    "{\"insertMany\":{\"ns\":\"ab\",\"docs\":[[]]}}",
+    "{\"insertMany\":{\"ns\":\"a.b\",\"docs\":{}}}",
+    "{\"insertMany\":{\"ns\":\"a.b\",\"docs\":null}}",
+    "{\"insertMany\":{\"ns\":\"a.b\",\"docs\":\"x\"}}",
+    "{\"insertMany\":{\"ns\":\"a.b\",\"docs\":[[\"x\",1]]}}",
+    "{\"insertMany\":{\"ns\":\"a.b\",\"docs\":[[[\"x\",1]],{}]}}",
+    "{\"insertMany\":{\"ns\":\"a.b\",\"docs\":[[[\"x\",1]],[[\"x\",1,2]]]}}",
+    "{\"insertMany\":{\"ns\":\"a.b\",\"docs\":[[],null]}}",
+    "{\"insertMany\":{\"ns\":\"a.b\",\"doc\":[]}}",
+    "{\"insertMany\":{\"ns\":\"a.b\",\"docs\":[[]],\"doc\":[]}}",
+    "{\"insertMany\":{\"ns\":\"a.b\",\"docs\":[[]],\"upsert\":true}}",
+    "{\"insertMany\":{\"ns\":\"a.b\",\"docs\":[[]],\"ordered\":1}}",
+    "{\"insertMany\":{\"ns\":\"a.b\",\"docs\":[[]],\"ordered\":\"false\"}}",
+    "{\"insertMany\":{\"ns\":\"a.b\",\"docs\":[[]],\"ordered\":null}}",
+    "{\"insertMany\":{\"ns\":\"a.b\",\"docs\":[[]],\"writeConcern\":1}}",
+    "{\"insertMany\":{\"ns\":\"a.b\",\"docs\":[[]],\"comment\":[]}}",
+    "{\"InsertMany\":{\"ns\":\"a.b\",\"docs\":[[]]}}",
     "{\"deleteOne\":{\"ns\":\"a.b\",\"filter\":[]},\"deleteMany\":{\"ns\":\"a.b\",\"filter\":[]}}",
     "{\"deleteOne\":[]}",
     "{\"deleteOne\":{}}",

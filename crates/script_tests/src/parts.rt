@@ -1,11 +1,12 @@
 //! What is read of the options of a client, of the limits of a server, and of the parts of a call.
 use crate::schedules::script_in;
-use bson_lite::{Bson, Document, Namespace};
+use bson_lite::{Bson, Document, List, Namespace};
 use driver_actions::{Call, SingleWrite};
 use driver_link::{
-    Acknowledgment, ClientOptions, DeleteOptions, ReadConcern, ReadConcernLevel, Setup,
-    UpdateModifications, UpdateOptions, WriteConcern,
+    Acknowledgment, ClientOptions, DeleteOptions, InsertManyOptions, ReadConcern, ReadConcernLevel,
+    Setup, UpdateModifications, UpdateOptions, WriteConcern,
 };
+use driver_script::Script;
 use std::alloc::{AllocError, Global};
 use std::test::Fail;
 
@@ -20,6 +21,27 @@ const CALLS: [&str; 9] = [
     "{\"findOneAndDelete\":{\"ns\":\"shop.items.old\",\"filter\":[[\"f\",2]],\"writeConcern\":{\"w\":11},\"comment\":12}}",
     "{\"findOneAndUpdate\":{\"ns\":\"shop.items.old\",\"filter\":[[\"f\",2]],\"update\":[[\"$set\",3]],\"writeConcern\":{\"w\":11},\"comment\":12}}",
     "{\"findOneAndReplace\":{\"ns\":\"shop.items.old\",\"filter\":[[\"f\",2]],\"doc\":[[\"d\",1]],\"writeConcern\":{\"w\":11},\"comment\":12}}",
+];
+
+/// An insert of two documents as a script writes it, and what is read of `ordered`.
+struct Inserts {
+    call: &'static str,
+    ordered: Option<bool>,
+}
+
+const INSERTS: [Inserts; 3] = [
+    Inserts {
+        call: "{\"insertMany\":{\"ns\":\"shop.items.old\",\"docs\":[[[\"d\",1]],[]],\"writeConcern\":{\"w\":11},\"comment\":12}}",
+        ordered: None,
+    },
+    Inserts {
+        call: "{\"insertMany\":{\"ns\":\"shop.items.old\",\"docs\":[[[\"d\",1]],[]],\"ordered\":false,\"writeConcern\":{\"w\":11},\"comment\":12}}",
+        ordered: Some(false),
+    },
+    Inserts {
+        call: "{\"insertMany\":{\"ordered\":true,\"comment\":12,\"writeConcern\":{\"w\":11},\"docs\":[[[\"d\",1]],[]],\"ns\":[\"shop\",\"items.old\"]}}",
+        ordered: Some(true),
+    },
 ];
 
 /// The levels of read concerns that are known.
@@ -258,13 +280,60 @@ fn is_call(write: &SingleWrite, number: usize) -> bool {
     }
 }
 
-/// Whether this call, which has this number, is read with all its parts.
-fn is_read(alloc: Global, call: &str, number: usize) -> Result<bool, AllocError> {
+/// Whether an insert of many has its two shared options, this `ordered`, and no other option.
+fn are_insert_options(options: &InsertManyOptions, ordered: Option<bool>) -> bool {
+    are_shared(&options.write_concern, &options.comment)
+        && options.ordered == ordered
+        && options.bypass_document_validation.is_none()
+}
+
+/// Whether the documents are the two of the test, in their order.
+fn are_documents(documents: &List<Document>) -> bool {
+    match documents.as_slice() {
+        [first, second] => has_one(first, "d", 1) && second.is_empty(),
+        _ => false,
+    }
+}
+
+/// Whether a call is the insert of many of the test, with this `ordered`.
+fn is_insert_many(call: &Call, ordered: Option<bool>) -> bool {
+    match call {
+        Call::InsertMany {
+            namespace,
+            documents,
+            options,
+        } => {
+            is_namespace(namespace)
+                && are_documents(documents)
+                && are_insert_options(options, ordered)
+        }
+        Call::Single { .. } => false,
+    }
+}
+
+/// The script of one call.
+fn script_of(alloc: Global, call: &str) -> Result<Option<Script>, AllocError> {
     let mut text = String::new(alloc);
     text.push_str("{\"calls\":[")?;
     text.push_str(call)?;
     text.push_str("]}")?;
-    match script_in(alloc, text.as_str())? {
+    script_in(alloc, text.as_str())
+}
+
+/// Whether the insert of a row is read with all its parts.
+fn is_insert_read(alloc: Global, row: &Inserts) -> Result<bool, AllocError> {
+    match script_of(alloc, row.call)? {
+        Some(script) => match script.calls.as_slice() {
+            [call] => Ok(is_insert_many(call, row.ordered)),
+            _ => Ok(false),
+        },
+        None => Ok(false),
+    }
+}
+
+/// Whether this call, which has this number, is read with all its parts.
+fn is_read(alloc: Global, call: &str, number: usize) -> Result<bool, AllocError> {
+    match script_of(alloc, call)? {
         Some(script) => match script.calls.as_slice() {
             [Call::Single { write }] => Ok(is_call(write, number)),
             _ => Ok(false),
@@ -362,6 +431,23 @@ fn all_calls_are_read(alloc: Global) -> Result<bool, AllocError> {
         }
     }
     Ok(true)
+}
+
+/// The number of the first insert of many that is not read as its row says.
+fn first_unread(alloc: Global) -> Result<Option<usize>, AllocError> {
+    for (at, row) in INSERTS.iter().enumerate() {
+        if !is_insert_read(alloc, row)? {
+            return Ok(Some(at));
+        }
+    }
+    Ok(None)
+}
+
+#[test]
+fn the_parts_of_an_insert_of_many_are_read(rt: HostRuntime) -> Result<(), Fail> {
+    let wrong = first_unread(rt.alloc())?;
+    assert_eq!(rt; wrong, None);
+    Ok(())
 }
 
 #[test]

@@ -88,6 +88,15 @@ pub(crate) fn ran(
     Ok((status, Bytes::from_slice(alloc, sink.contents())?))
 }
 
+/// What is left of the run of a script whose report has so much room.
+pub(crate) fn run_of(alloc: Global, script: &str, room: usize) -> Result<Run, AllocError> {
+    let mut source = source_of(alloc, script.as_bytes(), None)?;
+    let mut sink = MemSink::new(alloc, room, List::new(alloc))?;
+    let mut run = Run::new();
+    let _status = run_script(alloc, &mut source, &mut sink, &mut run);
+    Ok(run)
+}
+
 /// The words of a command.
 fn words_of(alloc: Global, texts: &[&str]) -> Result<Vec<Text>, AllocError> {
     let mut words = Vec::new(alloc);

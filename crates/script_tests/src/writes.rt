@@ -414,7 +414,7 @@ totals: calls=1 ok=1 sends=1 entries=1
 ];
 
 /// Whether the script of a row is reported as the row says.
-fn is_reported(alloc: Global, row: &Row) -> Result<bool, AllocError> {
+pub(crate) fn is_reported(alloc: Global, row: &Row) -> Result<bool, AllocError> {
     let mut script = String::new(alloc);
     script.push_str("{\"calls\":[")?;
     script.push_str(row.calls)?;

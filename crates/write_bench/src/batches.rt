@@ -58,7 +58,7 @@ fn small_documents(
 }
 
 /// The collection `bench.a`.
-fn bench(alloc: Global) -> std::result::Result<Collection, AllocError> {
+pub fn bench(alloc: Global) -> std::result::Result<Collection, AllocError> {
     Ok(Collection {
         namespace: Namespace {
             db: Text::from_str(alloc, "bench")?,

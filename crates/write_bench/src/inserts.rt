@@ -10,10 +10,16 @@ use rand_core::SeedableRng;
 use rand_pcg::Pcg32;
 use std::alloc::{AllocError, Global};
 
-/// The insert of `{x: number}` into `bench.a`.
-pub fn insert(alloc: Global, number: u32) -> Result<SingleWrite, AllocError> {
+/// The document `{x: number}`.
+pub fn small(alloc: Global, number: u32) -> Result<Document, AllocError> {
     let mut document = Document::new(alloc);
     document.push("x", Bson::Int32(number.cast_signed()))?;
+    Ok(document)
+}
+
+/// The insert of `{x: number}` into `bench.a`.
+pub fn insert(alloc: Global, number: u32) -> Result<SingleWrite, AllocError> {
+    let document = small(alloc, number)?;
     let namespace = Namespace {
         db: Text::from_str(alloc, "bench")?,
         coll: Text::from_str(alloc, "a")?,

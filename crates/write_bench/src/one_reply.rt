@@ -5,8 +5,8 @@ use driver_link::{Address, Conn, Frame, Link, LinkError, Place, SelectionCriteri
 use model_server::USUAL_SETUP;
 use std::alloc::{AllocError, Global};
 
-/// The reply `{ok: 1, n: 1}`.
-const DONE: &[u8] = b"\x14\0\0\0\x10ok\0\x01\0\0\0\x10n\0\x01\0\0\0\0";
+/// The front of a reply `{ok: 1, n: ..}`, up to the number behind `n`.
+const DONE: &[u8] = b"\x14\0\0\0\x10ok\0\x01\0\0\0\x10n\0";
 
 /// A link that gives the same reply to each exchange, whatever is sent.
 #[derive(Drop)]
@@ -15,11 +15,12 @@ pub struct OneReply {
 }
 
 impl OneReply {
-    /// One that answers that one document was written.
-    pub fn new(alloc: Global) -> Result<OneReply, AllocError> {
-        Ok(OneReply {
-            reply: Bytes::from_slice(alloc, DONE)?,
-        })
+    /// One that answers that so many documents were written.
+    pub fn new(alloc: Global, count: u32) -> Result<OneReply, AllocError> {
+        let mut reply = Bytes::from_slice(alloc, DONE)?;
+        reply.extend_from_slice(&count.to_le_bytes())?;
+        reply.extend_from_slice(b"\0")?;
+        Ok(OneReply { reply })
     }
 }
 

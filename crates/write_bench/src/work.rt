@@ -1,6 +1,8 @@
-//! What is timed: ways to make so many inserts, and the cut of a list of so many; and what came out of them.
+//! What is timed: ways to make so many inserts, one insert of so many documents, and the cut of a list of so many; and
+//! what came out of them.
 use crate::batches::{build_batch, split_front};
 use crate::inserts::{all_served, insert, insert_calls, new_client, outside_with};
+use crate::many::{hand_in, insert_at_once};
 use crate::one_reply::OneReply;
 use bson_lite::List;
 use driver_actions::{Call, Outcome, SingleWrites, run_calls};
@@ -22,6 +24,10 @@ pub enum Work {
     Split,
     /// The command of their batch is built.
     Build,
+    /// They are handed in as one insert of many documents, which is not run.
+    Given,
+    /// They are handed in as one insert of many documents, which is run over a link that answers from memory.
+    Many,
 }
 
 impl Work {
@@ -32,6 +38,8 @@ impl Work {
             "list" => Some(Work::List),
             "split" => Some(Work::Split),
             "build" => Some(Work::Build),
+            "given" => Some(Work::Given),
+            "many" => Some(Work::Many),
             _ => None,
         }
     }
@@ -40,7 +48,7 @@ impl Work {
     pub fn limit(self) -> u32 {
         match self {
             Work::Single => 1_000_000,
-            Work::List | Work::Split | Work::Build => 100_000,
+            Work::List | Work::Split | Work::Build | Work::Given | Work::Many => 100_000,
         }
     }
 
@@ -51,13 +59,15 @@ impl Work {
             Work::List => as_list(alloc, count),
             Work::Split => split_front(alloc, count),
             Work::Build => build_batch(alloc, count),
+            Work::Given => hand_in(alloc, count),
+            Work::Many => insert_at_once(alloc, count),
         }
     }
 }
 
 fn one_by_one(alloc: Global, count: u32) -> Result<String> {
     let mut client = new_client(alloc);
-    let mut outside = outside_with(OneReply::new(alloc)?);
+    let mut outside = outside_with(OneReply::new(alloc, 1)?);
     let mut done = 0u32;
     for number in 0..count {
         let write = insert(alloc, number)?;

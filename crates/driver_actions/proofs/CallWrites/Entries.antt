@@ -1,5 +1,5 @@
 -- What a single write does to what stands between operations, and the entry of one that was done.
-use Rattle.std.proofs.Common.{◌≡◌, ℕ, zero, suc, ◌<◌, arith, List, [], ◌∷◌, refl, sym, ap, subst, ◌∙◌, inl, inr}
+use Rattle.std.proofs.Common.{◌≡◌, ℕ, ◌<◌, arith, List, [], ◌∷◌, refl, sym, ap, subst, ◌∙◌, inl, inr}
 use Rattle.std.specs.Prelude.{ℤ, Option, None, Some, Result, Ok, Err, slice_get}
 use Rattle.std.specs.Option.{option_map}
 use Rattle.bson_lite.specs.Fields.{id_key, value_of}
@@ -31,18 +31,13 @@ use Rattle.driver_actions.specs.SingleCalls.{Made, Makes, Runs, Tells, first_pla
 use Rattle.driver_actions.specs.SingleEntries.{HasOwnEntry, HasOwnEntryWhereTold, HasWritten, IsNewPlace, KeepsSingle, KeepsSingleWhereTold, MayWrite, OkHasEntry}
 use Rattle.driver_actions.specs.Singles.{BecomesSingle}
 use Rattle.driver_actions.specs.Standing.{AllBelow}
-use Rattle.driver_actions.proofs.CallSends.{mid_run, pool_kept}
+use Rattle.driver_actions.proofs.CallSends.{mid_run, only_write, pool_kept}
 use Rattle.driver_actions.proofs.OwnIds.{OnlyDrew}
 use Rattle.driver_actions.proofs.CallWrites.WritesMade.{made_drew, made_left, made_own, unmade_drew_by}
 
 -- a write in its place
 abbrev pub placed_at : Place → Written → PlacedWrite
 placed_at place sent = record { place = place; written = sent }
-
--- the one write of a command
-pub only_write : (write : PlacedWrite) (at : ℕ) (found : PlacedWrite) → slice_get (write ∷ []) at ≡ Some found → (at ≡ 0) × (found ≡ write)
-only_write write zero found is = (refl, cc is)
-only_write write (suc at) found is = absurd (let e : ◌≡◌ {A = Option PlacedWrite} None (Some found) = is in cc)
 
 -- its place may be sent where it is new
 pub may_send : (trace : List Send) (form : WriteForm) (place : Place) (sent : Written) → IsNewPlace trace place → MaySendPlaces trace (asked_in form place sent)

@@ -16,7 +16,6 @@ use Rattle.driver_link.specs.declared.options.Conn.{Conn}
 use Rattle.driver_link.specs.Cursors.{Reply}
 use Rattle.driver_link.specs.Exchange.{exchanged, next_step, step_at}
 use Rattle.driver_link.specs.LinkState.{server_run, setup_of}
-use Rattle.driver_link.specs.Retried.{IsGentleItem}
 use Rattle.driver_link.specs.ServerRun.{IsReply, ServerRun, TakesStep, run_after, run_answer}
 use Rattle.driver_link.proofs.Lists.{none_is_some}
 use Rattle.driver_session.specs.declared.retryability.Retryability.TheVariants as may
@@ -41,10 +40,10 @@ use Rattle.driver_exec.proofs.Completeness.Ends.{ReadsPlainly, lossy_none, has_o
 use Rattle.driver_exec.proofs.Completeness.Sessions.{KnownCommand, attempted, MayGo, IsReadied, IsPrepared, again_readied, is_conn, reached_at, readied_at}
 
 module _ {A : Type 0} (known : KnownCommand A) where
-  open known use {spec, batch, fixed, body, does, retryability, told, link, Ready, ready_answers, ready_again}
+  open known use {spec, batch, fixed, body, Serves, retryability, told, link, Ready, ready_answers, ready_again}
 
   -- the part that is gentle
-  module _ (told_now : ServerRun) (gentle : IsGentlePart does (DrawsNumbers true retryability (setup_of link)) told told_now) where
+  module _ (told_now : ServerRun) (gentle : IsGentlePart Serves (DrawsNumbers true retryability (setup_of link)) told told_now) where
     -- one exchange of the part was lost, from a moment on
     pub record Lost (from : ServerRun) (now : AttemptState) : Type 0 where
       pub draws : DrawsNumbers true retryability (setup_of link)
@@ -145,7 +144,7 @@ module _ {A : Type 0} (known : KnownCommand A) where
         plain_reply : (reply_bytes : List ℕ) → TakesStep (Some before) (server_run now.link) send (Ok reply_bytes) → HasPlain reply_bytes
         plain_reply reply_bytes stepped = elim (gentle.items (length before.server.trace) (of_part stepped.0)) [
           | inl serves ↦
-              let here = ready_answers (held_id sends.numbered) sends.number before.server step ready_here (subst (λ s. IsGentleItem does s.item) step_is serves) in
+              let here = ready_answers (held_id sends.numbered) sends.number before.server step ready_here sends.exchanges.framed.command sends.exchanges.framed.built.is (subst (λ s. Serves s.item) step_is serves) in
               record { reply = here.reply; plain = here.plain; spells = subst (λ o. IsReply o reply_bytes) here.is stepped.1 }
           | inr loses ↦ absurd (subst (λ o. IsReply o reply_bytes) (lossy_none before.server send step (subst (λ s. IsLossy s.item) step_is loses.1)) stepped.1)
         ]
@@ -155,7 +154,7 @@ module _ {A : Type 0} (known : KnownCommand A) where
             → DrawsNumbers true retryability (setup_of link) × IsLossy (step_at told.schedule (length before.server.trace)).item
         lossy_item none is = elim (gentle.items (length before.server.trace) (of_part is)) [
           | inl serves ↦
-              let here = ready_answers (held_id sends.numbered) sends.number before.server step ready_here (subst (λ s. IsGentleItem does s.item) step_is serves) in
+              let here = ready_answers (held_id sends.numbered) sends.number before.server step ready_here sends.exchanges.framed.command sends.exchanges.framed.built.is (subst (λ s. Serves s.item) step_is serves) in
               absurd (none_is_some here.reply (sym none ∙ here.is))
           | inr loses ↦ loses
         ]

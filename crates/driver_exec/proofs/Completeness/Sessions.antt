@@ -7,22 +7,22 @@ use Rattle.driver_error.specs.declared.kind.ErrorKind.TheVariants as kind
 use Rattle.driver_error.specs.Error.{kind_of}
 use Rattle.driver_link.specs.Clock.{ClockTells}
 use Rattle.driver_link.specs.declared.concerns.WriteConcern.{WriteConcern}
+use Rattle.driver_link.specs.declared.machine.Item.{Item}
 use Rattle.driver_link.specs.declared.machine.Scheduled.{Scheduled}
 use Rattle.driver_link.specs.declared.machine.Send.{Send}
 use Rattle.driver_link.specs.declared.machine.SendBody.{SendBody}
 use Rattle.driver_link.specs.declared.machine.Server.{Server}
-use Rattle.driver_link.specs.declared.machine.WriteKind.{WriteKind}
 use Rattle.driver_link.specs.declared.options.Address.{Address}
 use Rattle.driver_link.specs.declared.options.Conn.{Conn}
 use Rattle.driver_link.specs.declared.options.Description.{Description}
 use Rattle.driver_link.specs.Exchange.{exchanged}
 use Rattle.driver_link.specs.LinkState.{LinkState, server_run, setup_of}
-use Rattle.driver_link.specs.Retried.{IsGentleItem}
 use Rattle.driver_link.specs.ServerRun.{ServerRun}
 use Rattle.driver_session.specs.declared.retryability.Retryability.{Retryability}
 use Rattle.driver_session.specs.declared.retryability.Retryability.TheVariants as may
 use Rattle.driver_session.specs.Session.{IsAtItsEnd, Numbers, Session, last_number}
 use Rattle.driver_session.specs.StoreTells.{DrawnApart, LendsSession, StoreTells}
+use Rattle.driver_ops.specs.declared.command.Command.{Command}
 use Rattle.driver_ops.specs.Fields.{SendContext, under}
 use Rattle.driver_ops.specs.Operations.{AsksFor, Batch, HasNoSpelling, OperationSpec, Refuses, send_of}
 use Rattle.driver_ops.specs.SendKinds.{SendKind}
@@ -47,8 +47,8 @@ pub record KnownCommand (A : Type 0) : Type 1 where
   pub fixed : Option ℕ
   pub which : SendKind
   pub body : SendBody
-  -- the kind of its writes
-  pub does : WriteKind
+  -- an item serves its command as usual
+  pub Serves : Item → Type 0
   pub asked : AsksFor spec batch body
   -- what of it may be repeated by its own rules
   pub retryability : Retryability
@@ -62,9 +62,9 @@ pub record KnownCommand (A : Type 0) : Type 1 where
   pub link_is : server_run link ≡ Some told
   -- a send may go out to a server
   pub Ready : Send → Server → Type 0
-  -- then a gentle step answers it plainly
+  -- then a gentle step answers it plainly, once its command was built
   pub ready_answers : (session : Option (List ℕ)) (number : Option ℤ) (server : Server) (step : Scheduled) → Ready (send_of (under session number) body) server
-      → IsGentleItem does step.item → AnswersPlainly spec batch.statements server (send_of (under session number) body) step
+      → (command : Command) → spec.commands which batch.statements command → Serves step.item → AnswersPlainly spec batch.statements server (send_of (under session number) body) step
   -- and after a lossy one it may go out again
   pub ready_again : (id : List ℕ) (number : ℤ) (server : Server) (step : Scheduled) → Ready (send_of (under (Some id) (Some number)) body) server → IsLossy step.item
       → Ready (send_of (under (Some id) (Some number)) body) (exchanged server (send_of (under (Some id) (Some number)) body) step)

@@ -10,7 +10,7 @@ use Rattle.driver_link.specs.declared.machine.Server.{Server}
 use Rattle.driver_link.specs.Apart.{AllApart}
 use Rattle.driver_link.specs.LinkState.{server_run}
 use Rattle.driver_link.specs.Settled.{Has, IsEither, IsPlain, IsSettled, IsUnder, MayJoin}
-use Rattle.driver_link.specs.ServerRun.{ServerRun}
+use Rattle.driver_link.specs.ServerRun.{ServerRun, run_after}
 use Rattle.driver_session.specs.Pool.{Pool, taken_back}
 use Rattle.driver_session.specs.Session.{Session}
 use Rattle.driver_session.proofs.IdDraws.{drawn_back}
@@ -22,7 +22,7 @@ use Rattle.driver_exec.specs.Keeping.{StandsBefore}
 use Rattle.driver_exec.specs.Moment.{Moment}
 use Rattle.driver_exec.specs.Resending.{Borrowed, Borrows, SendsWhereTold, SentTimes}
 use Rattle.driver_exec.proofs.TraceSessions.{Holding, joined_holds, lends_holds, number_raised, taken_between}
-use Rattle.driver_exec.proofs.InvariantSteps.Sends.{Going, begins, between_free, holding_free, numbered_goes, numbered_joins, numbered_new, numbered_send, unnumbered_goes, unnumbered_new, unnumbered_send}
+use Rattle.driver_exec.proofs.InvariantSteps.Sends.{Going, begins, between_free, holding_free, numbered_goes, numbered_joins, numbered_new, numbered_onward, numbered_send, unnumbered_goes, unnumbered_new, unnumbered_send}
 
 -- what sends of a command leave of a told pool and a told server
 pub record Left (session : Option (List ℕ)) (number : Option ℤ) (body : SendBody) (pool_now : Pool) (old now : Server) : Type 0 where
@@ -156,6 +156,12 @@ module _ (before now : Moment) (pool pool_now : Pool) (run run_now : ServerRun) 
       settled = (numbered_goes (Some id) (Some number) body HoldsNumbered keep_numbered run start_going join_numbered plain earlier mid sends).settled;
     }
 
+    -- the sends behind one that is answered keep each entry
+    numbered_further : (earlier later : ℕ) (mid : ServerRun) → SendsWhereTold run mid own_send earlier → SendsWhereTold (run_after mid own_send) run_now own_send later
+        → (entry : Entry) → Has (run_after mid own_send).server.log entry → Has run_now.server.log entry
+    numbered_further earlier later mid sends rest entry has =
+        numbered_onward (Some id) (Some number) body HoldsNumbered keep_numbered run start_going join_numbered plain earlier mid sends later run_now rest entry has
+
   -- its sends have none
   module _ (id : List ℕ) (borrowed : Borrowed before.store now.store id None) where
     abbrev free_send : Send
@@ -233,6 +239,13 @@ module _ (before now : Moment) (pool pool_now : Pool) (run run_now : ServerRun) 
       by_session None (Some number) borrows once sends = absurd (let e : ◌≡◌ {A = Option ℤ} (Some number) None = borrows.1 in cc)
       by_session None None borrows once sends = bare_left (pool_stays borrows.0) count (once refl) sends
 
+  -- where there is no send behind one that is answered each entry stays too
+  unnumbered_further : (session : Option (List ℕ)) (later : ℕ) (mid : ServerRun) → later ≡ 0 → SendsWhereTold (run_after mid (send_of (under session None) body)) run_now (send_of (under session None) body) later
+      → (entry : Entry) → Has (run_after mid (send_of (under session None) body)).server.log entry → Has run_now.server.log entry
+  unnumbered_further session later mid none rest entry has =
+      let stays = subst (SendsWhereTold (run_after mid (send_of (under session None) body)) run_now (send_of (under session None) body)) none rest in
+      subst (λ s. Has s.log entry) (sym stays.server) has
+
   -- after so many sends one more may go out: any with a number, and the first without one
   pub may_go : (session : Option (List ℕ)) (number : Option ℤ) (earlier : ℕ) (mid : ServerRun) → Borrows before.store now.store session number → (number ≡ None → earlier ≡ 0)
       → SendsWhereTold run mid (send_of (under session number) body) earlier → MayGo (send_of (under session number) body) mid.server
@@ -240,3 +253,11 @@ module _ (before now : Moment) (pool pool_now : Pool) (run run_now : ServerRun) 
   may_go None (Some number) earlier mid borrows once sends = absurd (let e : ◌≡◌ {A = Option ℤ} (Some number) None = borrows.1 in cc)
   may_go session None earlier mid borrows once sends =
       unnumbered_may session mid (subst (SendsWhereTold run mid (send_of (under session None) body)) (once refl) sends)
+
+  -- and behind one that is answered each entry stays
+  pub further : (session : Option (List ℕ)) (number : Option ℤ) (earlier later : ℕ) (mid : ServerRun) → Borrows before.store now.store session number → (number ≡ None → later ≡ 0)
+      → SendsWhereTold run mid (send_of (under session number) body) earlier → SendsWhereTold (run_after mid (send_of (under session number) body)) run_now (send_of (under session number) body) later
+      → (entry : Entry) → Has (run_after mid (send_of (under session number) body)).server.log entry → Has run_now.server.log entry
+  further (Some id) (Some number) earlier later mid borrows alone sends rest entry has = numbered_further id number borrows earlier later mid sends rest entry has
+  further None (Some number) earlier later mid borrows alone sends rest entry has = absurd (let e : ◌≡◌ {A = Option ℤ} (Some number) None = borrows.1 in cc)
+  further session None earlier later mid borrows alone sends rest entry has = unnumbered_further session later mid (alone refl) rest entry has

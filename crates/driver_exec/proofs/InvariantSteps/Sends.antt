@@ -12,7 +12,7 @@ use Rattle.driver_link.specs.Counting.{KeepsServer}
 use Rattle.driver_link.specs.Exchange.{exchanged, next_step}
 use Rattle.driver_link.specs.Settled.{Has, IsOrderly, IsPlain, IsSettled, IsUnder, IsUnnumbered, IsWrite, MayJoin, SharePlace}
 use Rattle.driver_link.specs.ServerRun.{ServerRun, run_after}
-use Rattle.driver_link.proofs.Lists.{has_either, has_last}
+use Rattle.driver_link.proofs.Lists.{has_either, has_last, has_left}
 use Rattle.driver_link.proofs.LogGrowth.{exchanged_keeps}
 use Rattle.driver_link.proofs.OrderlyTraces.{orderly_again, orderly_new}
 use Rattle.driver_link.proofs.SettledExchanges.{exchanged_settled}
@@ -112,6 +112,33 @@ module _ (session : Option (List ℕ)) (number : Option ℤ) (body : SendBody)
         let joins = subst (λ s. MayJoin s.trace sent) (sym sends.1.0.server) first in
         subst (Going told.server) (sym sends.1.1.server) (goes told.server mid.server (next_step mid.schedule mid.server) joins before)
     unnumbered_goes (suc (suc count)) now one sends = absurd (omega arith)
+
+    -- what goes on behind one of them keeps each entry
+    record Onward (mid now : ServerRun) : Type 0 where
+      keeping : Keeping now
+      entries : (entry : Entry) → Has mid.server.log entry → Has now.server.log entry
+
+    onward : IsPlain sent → (mid : ServerRun) → Keeping mid → (count : ℕ) (now : ServerRun) → SendsWhereTold mid now sent count → Onward mid now
+    unfolding Keeping
+    onward plain mid keeping zero now sends = record {
+      keeping = kept mid now sends keeping;
+      entries = λ entry has. subst (λ s. Has s.log entry) (sym sends.server) has;
+    }
+    onward plain mid keeping (suc count) now sends =
+        let last = sends.0 in
+        let far = onward plain mid keeping count last sends.1.0 in
+        let exchanges = exchanged_keeps last.server.trace last.server sent (next_step last.schedule last.server) far.keeping.1 far.keeping.0.settled in record {
+          keeping = kept (run_after last sent) now sends.1.1 (one_more plain last far.keeping);
+          entries = λ entry has.
+              let longer = has_left last.server.log exchanges.more entry (far.entries entry has) in
+              subst (λ s. Has s.log entry) (sym sends.1.1.server) (subst (λ log. Has log entry) (sym exchanges.log) longer);
+        }
+
+    -- so do the sends behind one that is answered
+    pub numbered_onward : IsPlain sent → (earlier : ℕ) (mid : ServerRun) → SendsWhereTold told mid sent earlier → (later : ℕ) (now : ServerRun) → SendsWhereTold (run_after mid sent) now sent later
+        → (entry : Entry) → Has (run_after mid sent).server.log entry → Has now.server.log entry
+    numbered_onward plain earlier mid before later now after entry has =
+        (onward plain (run_after mid sent) (one_more plain mid (numbered_keeps plain earlier mid before)) later now after).entries entry has
 
     -- before the last send
     pub numbered_joins : IsPlain sent → (count : ℕ) (now : ServerRun) → SendsWhereTold told now sent count → MayJoin now.server.trace sent

@@ -1,23 +1,36 @@
--- What an operation does to what stands between operations, read off what it leaves; and the entries of one that was done.
-use Rattle.std.proofs.Common.{◌≡◌, ℕ, List, refl, sym, ap, subst, inl, inr}
+-- What an operation does to what stands between operations, read off what it leaves; the entries of one that was done, and of one
+-- whose failure a reply spells.
+use Rattle.std.proofs.Common.{◌≡◌, ℕ, ◌+◌, List, refl, sym, ap, subst, inl, inr, arith}
 use Rattle.std.specs.Prelude.{ℤ, Option, None, Some, Result, Ok, Err}
 use Rattle.bson_lite.specs.declared.bson.Bson.{Bson}
 use Rattle.bson_lite.specs.declared.document.Pair.{Pair}
 use Rattle.driver_error.specs.declared.error.Error.{Error}
+use Rattle.driver_error.specs.Error.{kind_of}
+use Rattle.driver_link.specs.declared.machine.Entry.{Entry}
 use Rattle.driver_link.specs.declared.machine.SendBody.{SendBody}
 use Rattle.driver_link.specs.Exchange.{next_step}
 use Rattle.driver_link.specs.LinkState.{server_run}
 use Rattle.driver_link.specs.Settled.{Has, IsWrite}
-use Rattle.driver_link.specs.ServerRun.{IsReply, ServerRun, run_answer}
+use Rattle.driver_link.specs.ServerRun.{IsReply, ServerRun, run_after, run_answer}
 use Rattle.driver_session.specs.Pool.{Pool}
 use Rattle.driver_ops.specs.Fields.{under}
 use Rattle.driver_ops.specs.OperationLaw.{IsLawful}
-use Rattle.driver_ops.specs.Operations.{AsksFor, Batch, OperationSpec, ReadsOutput, send_of}
-use Rattle.driver_ops.proofs.Entries.{entries_are, entries_stand}
+use Rattle.driver_ops.specs.Operations.{AsksFor, Batch, OperationSpec, ReadsAnswer, ReadsOutput, send_of}
+use Rattle.driver_ops.proofs.Entries.{entries_are, entries_stand, told_entries_stand}
+use Rattle.driver_ops.proofs.FailureReading.{failure_told}
 use Rattle.driver_exec.specs.Keeping.{AreWritten, HasEntries, KeepsInvariant, KeepsWhereTold, OkHasEntries}
 use Rattle.driver_exec.specs.Moment.{Moment}
-use Rattle.driver_exec.specs.Resending.{AnsweredLast, LastAnswer, SendsOneCommand}
-use Rattle.driver_exec.proofs.InvariantSteps.Leaving.{MayGo, left_of, may_go}
+use Rattle.driver_exec.specs.Reporting.{ErrIsReported, IsReported, IsToldBy}
+use Rattle.driver_exec.specs.Resending.{AmongAnswers, AnsweredAmong, AnsweredLast, IsReadFailure, LastAnswer, SendsOneCommand}
+use Rattle.driver_exec.proofs.InvariantSteps.Leaving.{MayGo, further, left_of, may_go}
+use Rattle.driver_exec.proofs.ReadFailures.{read_when_done}
+
+-- of two numbers that are none together each is none
+none_first : (earlier later : ℕ) → earlier + later ≡ 0 → earlier ≡ 0
+none_first earlier later none = omega (arith, none)
+
+none_second : (earlier later : ℕ) → earlier + later ≡ 0 → later ≡ 0
+none_second earlier later none = omega (arith, none)
 
 module _ {A : Type 0} (spec : OperationSpec A) (batch : Batch) (before now : Moment) (body : SendBody) (asked : AsksFor spec batch body) where
   -- an operation keeps what stands
@@ -38,6 +51,72 @@ module _ {A : Type 0} (spec : OperationSpec A) (batch : Batch) (before now : Mom
       of_told (Some pool) None run run_now is now_is run_is run_now_is = tt
       of_told (Some pool) (Some pool_now) None run_now is now_is run_is run_now_is = tt
       of_told (Some pool) (Some pool_now) (Some run) None is now_is run_is run_now_is = tt
+
+  -- a failure that is read in the reply to one of the sends is told, and the entries of what did not fail stand
+  one_failure : IsWrite body → (session : Option (List ℕ)) (number : Option ℤ) (run run_now : ServerRun) (earlier later : ℕ) (bytes : List ℕ) (bare error : Error)
+      → (among : AmongAnswers run run_now (send_of (under session number) body) earlier later bytes) → MayGo (send_of (under session number) body) among.mid.server
+      → ((entry : Entry) → Has (run_after among.mid (send_of (under session number) body)).server.log entry → Has run_now.server.log entry)
+      → ReadsAnswer spec batch.statements bytes (Err bare) → kind_of error ≡ kind_of bare → IsReadFailure (kind_of error)
+      → IsToldBy spec batch.statements body run run_now error
+  one_failure writes session number run run_now earlier later bytes bare error among may keeps reads same failure = of_answer (run_answer among.mid (send_of (under session number) body)) refl among.reply
+    where
+      of_answer : (answer : Option (List (Pair Bson))) → run_answer among.mid (send_of (under session number) body) ≡ answer → IsReply answer bytes
+          → IsToldBy spec batch.statements body run run_now error
+      of_answer None is given = absurd given
+      of_answer (Some reply) is given =
+          let send = send_of (under session number) body in
+          let step = next_step among.mid.schedule among.mid.server in
+          let read = read_when_done spec batch.statements bytes bare reads (subst IsReadFailure same failure) in
+          let tells = failure_told spec batch.statements body (under session number) among.mid.server step reply bytes bare writes is given read in
+          record {
+            context = under session number;
+            earlier = earlier;
+            later = later;
+            bytes = bytes;
+            among = among;
+            reply = reply;
+            answer = is;
+            spelled = given;
+            bare = bare;
+            reads = reads;
+            same_kind = same;
+            done = tells.done;
+            told = tells.told;
+            stand = λ entry has. keeps entry
+                (told_entries_stand among.mid.server.trace among.mid.server send step tells.done may.either may.joins may.settled tells.told entry has);
+          }
+
+  -- so it is of each told pool and server
+  err_failures : (error : Error) → SendsOneCommand spec batch before now (Err error) → ErrIsReported spec batch body before now (Err error)
+  err_failures error sends = of_told before.store.pool now.store.pool (server_run before.link) (server_run now.link) refl refl refl refl
+    where
+      among_told : (link link_now : Option ServerRun) (run run_now : ServerRun) (earlier later : ℕ) (bytes : List ℕ) → link ≡ Some run → link_now ≡ Some run_now
+          → AnsweredAmong link link_now (send_of (under sends.session sends.number) body) earlier later bytes
+          → AmongAnswers run run_now (send_of (under sends.session sends.number) body) earlier later bytes
+      among_told link link_now run run_now earlier later bytes is now_is answered =
+          subst (λ n. AnsweredAmong (Some run) n (send_of (under sends.session sends.number) body) earlier later bytes) now_is
+          (subst (λ o. AnsweredAmong o link_now (send_of (under sends.session sends.number) body) earlier later bytes) is answered)
+
+      of_told : (pool pool_now : Option Pool) (run run_now : Option ServerRun) → before.store.pool ≡ pool → now.store.pool ≡ pool_now → server_run before.link ≡ run
+          → server_run now.link ≡ run_now → IsReported spec batch.statements body error pool pool_now run run_now
+      of_told (Some pool) (Some pool_now) (Some run) (Some run_now) is now_is run_is run_now_is = λ stands failure.
+          let one = sends.ends failure in
+          let among = among_told (server_run before.link) (server_run now.link) run run_now one.earlier one.later one.bytes run_is run_now_is (one.answered body asked) in
+          let may = may_go before now pool pool_now run run_now is now_is run_is run_now_is body stands sends.session sends.number one.earlier among.mid sends.borrows
+          (λ none. none_first one.earlier one.later (one.once none)) among.sent in
+          one_failure stands.may_send.writes sends.session sends.number run run_now one.earlier one.later one.bytes one.bare error among may
+          (further before now pool pool_now run run_now is now_is run_is run_now_is body stands sends.session sends.number one.earlier one.later among.mid sends.borrows
+          (λ none. none_second one.earlier one.later (one.once none)) among.sent among.rest)
+          one.reads one.same_kind failure
+      of_told None pool_now run run_now is now_is run_is run_now_is = tt
+      of_told (Some pool) None run run_now is now_is run_is run_now_is = tt
+      of_told (Some pool) (Some pool_now) None run_now is now_is run_is run_now_is = tt
+      of_told (Some pool) (Some pool_now) (Some run) None is now_is run_is run_now_is = tt
+
+  -- and of each end
+  pub one_command_failures : (result : Result A Error) → SendsOneCommand spec batch before now result → ErrIsReported spec batch body before now result
+  one_command_failures (Ok output) sends = tt
+  one_command_failures (Err error) sends = err_failures error sends
 
   module _ (lawful : IsLawful spec) where
     -- the output that is read in the last reply is told by entries that stand

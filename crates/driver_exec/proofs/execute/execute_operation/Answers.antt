@@ -1,12 +1,13 @@
--- A concern that is refused leaves all as it was; else the operation's attempts, and the session that came back, tell what it left
--- and the cause of its end.
+-- A concern that is refused leaves all as it was; else the operation's attempts, and the session that came back, tell what it
+-- left, the cause of its end, and what it built.
 use Rattle.std.proofs.Common.{◌≡◌, ℕ, List, refl, sym, ap, inl, inr, subst, ◌∙◌}
 use Rattle.std.specs.Prelude.{Option, None, Some, Err}
 use Rattle.driver_ops.specs.Operations.{batch_of}
 use Rattle.driver_exec.specs.Client.{store_of}
 use Rattle.driver_exec.specs.Concerns.{IsConcernError, concern_of, concern_refusal}
+use Rattle.driver_exec.proofs.BuiltCommands.{executes_built}
 use Rattle.driver_exec.proofs.CommandParts.{fixed_some}
-use Rattle.driver_exec.proofs.InvariantSteps.Standing.{one_command_entries, one_command_keeps}
+use Rattle.driver_exec.proofs.InvariantSteps.Standing.{one_command_entries, one_command_failures, one_command_keeps}
 use Rattle.driver_exec.proofs.WholeOperation.{executes_caused, executes_sends_one_command}
 use Rattle.driver_exec.proofs.execute.execute_operation.Goals as goal
 use Rattle.driver_exec.specs.inside.Attempting.{attempt_state}
@@ -58,6 +59,19 @@ returns-clause-entries g c = λ statements fixed body asked.
     one_command_entries (g.O.Operation.spec c.args.op.now) (batch_of c.args.places.now statements) _ _ body asked (g.met.O.Operation.law c.args.op.now) c.execute_operation_with_retry-held.result.1
     (returns-clause-one_command g c statements fixed)
 
+pub returns-clause-reported : goal.returns-clause-reported
+returns-clause-reported g c = λ statements fixed body asked.
+    one_command_failures (g.O.Operation.spec c.args.op.now) (batch_of c.args.places.now statements) _ _ body asked c.execute_operation_with_retry-held.result.1
+    (returns-clause-one_command g c statements fixed)
+
+-- a number that is fixed, if one is
+pub returns-clause-ran : goal.returns-clause-ran
+returns-clause-ran g c =
+    let some = fixed_some (g.O.Operation.built c.execute_operation_with_retry-held.new.op) in
+    executes_built (g.O.Operation.spec c.args.op.now) (batch_of c.args.places.now some.0) (g.O.Operation.next c.args.op.now) _ _ c.args.sends.now c.execute_operation_with_retry-held.new.sends
+    (g.O.Operation.built c.args.op.now) (g.O.Operation.built c.execute_operation_with_retry-held.new.op)
+    c.execute_operation_with_retry-held.result.1 (returns-clause-executes g c some.0 some.1)
+
 pub returns-in-Some-clause-executes : goal.returns-in-Some-clause-executes
 returns-in-Some-clause-executes g c = λ statements fixed. inl (record {
   error = c.in-Some.error;
@@ -82,3 +96,13 @@ returns-in-Some-clause-caused g c =
 pub returns-in-Some-clause-keeps : goal.returns-in-Some-clause-keeps
 returns-in-Some-clause-keeps g c = λ statements fixed body asked.
     one_command_keeps (g.O.Operation.spec c.args.op.now) (batch_of c.args.places.now statements) _ _ body asked (Err c.in-Some.error) (returns-in-Some-clause-one_command g c statements fixed)
+
+pub returns-in-Some-clause-reported : goal.returns-in-Some-clause-reported
+returns-in-Some-clause-reported g c = λ statements fixed body asked.
+    one_command_failures (g.O.Operation.spec c.args.op.now) (batch_of c.args.places.now statements) _ _ body asked (Err c.in-Some.error) (returns-in-Some-clause-one_command g c statements fixed)
+
+pub returns-in-Some-clause-ran : goal.returns-in-Some-clause-ran
+returns-in-Some-clause-ran g c =
+    let some = fixed_some (g.O.Operation.built c.args.op.now) in
+    executes_built (g.O.Operation.spec c.args.op.now) (batch_of c.args.places.now some.0) (g.O.Operation.next c.args.op.now) _ _ c.args.sends.now c.args.sends.now (g.O.Operation.built c.args.op.now) (g.O.Operation.built c.args.op.now)
+    (Err c.in-Some.error) (returns-in-Some-clause-executes g c some.0 some.1)

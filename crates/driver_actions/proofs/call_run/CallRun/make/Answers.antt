@@ -1,6 +1,6 @@
 -- One call is made, its outcome is appended, and the run stands as before.
 use Rattle.driver_exec.specs.Moment.{moment_of}
-use Rattle.driver_actions.proofs.CallSends.{caused_draws, caused_lends, caused_making, caused_replayed}
+use Rattle.driver_actions.proofs.EachCall.{caused_draws, caused_lends, caused_making, caused_replayed}
 use Rattle.driver_actions.proofs.Completeness.{call_ends}
 use Rattle.driver_actions.proofs.StandingRuns.{caused_at, stands_more}
 use Rattle.driver_actions.proofs.call_run.CallRun.make.Goals as goal

@@ -1,0 +1,214 @@
+-- Batches one after another: those so far, and how the next one goes on or ends the call.
+use Rattle.std.proofs.Common.{◌≡◌, ℕ, ◌+◌, ◌≤◌, List, [], ◌∷◌, ◌++◌, drop, length, refl, sym, ap, subst, ◌∙◌, inl, inr}
+use Rattle.std.proofs.lemmas.List.{drop-drop, drop_all}
+use Rattle.std.specs.Prelude.{Bool, true, false, IsErrAnd, Some, Result, Ok, Err}
+use Rattle.driver_error.specs.declared.error.Error.{Error}
+use Rattle.driver_error.specs.declared.kind.ErrorKind.TheVariants as kind
+use Rattle.driver_error.specs.declared.results.InsertManyResult.{InsertManyResult}
+use Rattle.driver_error.specs.Error.{IsAlone, kind_of}
+use Rattle.driver_error.specs.LabelTexts.{no_labels}
+use Rattle.driver_link.specs.declared.write_options.InsertManyOptions.{InsertManyOptions}
+use Rattle.driver_ops.specs.declared.own_document.OwnDocument.{OwnDocument}
+use Rattle.driver_ops.specs.declared.target.OperationTarget.{OperationTarget}
+use Rattle.driver_ops.specs.Inserts.{insert_is_ordered}
+use Rattle.driver_exec.specs.Moment.{Moment}
+use Rattle.driver_actions.specs.declared.gathered.Gathered.{Gathered}
+use Rattle.driver_actions.specs.Batches.{BatchEnd, GoesOn, MakesBatch, MakesBatches, goes_on}
+use Rattle.driver_actions.specs.ManyAnswers.{AllOfDocuments, AnswersMany, EndsAlone, TellsGathered, count_of, gathered, nothing_gathered, with_result}
+use Rattle.driver_actions.specs.ManyCalls.{RanShort}
+use Rattle.driver_actions.specs.inside.Batches.{AllGathered, BatchesMade, GathersBatch, StopsBatches}
+
+-- batches of which each lets the next one be begun, from an index and the documents that are left there to another
+abbrev pub MakesFront : OperationTarget → InsertManyOptions → ℕ → ℕ → List OwnDocument → List BatchEnd → ℕ → List OwnDocument → Moment → Moment → Type 0
+MakesFront target options call index own [] reached left before now = (now ≡ before) × ((reached ≡ index) × (left ≡ own))
+MakesFront target options call index own (end ∷ ends) reached left before now =
+    (mid : Moment) × (MakesBatch target options call index own before mid end
+    × GoesOn (λ later rest. MakesFront target options call later rest ends reached left mid now) (insert_is_ordered options) index own end)
+
+module _ (target : OperationTarget) (options : InsertManyOptions) (call : ℕ) where
+  -- one batch more
+  front_more : (index : ℕ) (own : List OwnDocument) (ends : List BatchEnd) (reached : ℕ) (left : List OwnDocument) (before mid now : Moment) (end : BatchEnd) (count : ℕ)
+      → MakesFront target options call index own ends reached left before mid → MakesBatch target options call reached left mid now end
+      → goes_on (insert_is_ordered options) end.result ≡ true → end.statements ≡ Some count
+      → MakesFront target options call index own (ends ++ end ∷ []) (reached + count) (drop count left) before now
+  front_more index own [] reached left before mid now end count front makes on told =
+      let here : MakesBatch target options call index own before now end =
+      subst (λ m. MakesBatch target options call index own m now end) front.0
+      (subst (λ n. MakesBatch target options call n own mid now end) front.1.0
+      (subst (λ l. MakesBatch target options call reached l mid now end) front.1.1 makes)) in (
+        now,
+        (
+          here,
+          record {
+            on = on;
+            statements = count;
+            told = told;
+            rest = (refl, (ap (λ n. n + count) front.1.0, ap (drop count) front.1.1));
+          },
+        ),
+      )
+  front_more index own (one ∷ ends) reached left before mid now end count front makes on told =
+      let goes = front.1.1 in (
+        front.0,
+        (
+          front.1.0,
+          record {
+            on = goes.on;
+            statements = goes.statements;
+            told = goes.told;
+            rest = front_more (index + goes.statements) (drop goes.statements own) ends reached left front.0 mid now end count goes.rest makes on told;
+          },
+        ),
+      )
+
+  -- then what comes behind them
+  front_then : (short : Type 0) (index : ℕ) (own : List OwnDocument) (ends : List BatchEnd) (reached : ℕ) (left : List OwnDocument) (before mid now : Moment) (later : List BatchEnd)
+      → MakesFront target options call index own ends reached left before mid → MakesBatches short target options call reached left later mid now
+      → MakesBatches short target options call index own (ends ++ later) before now
+  front_then short index own [] reached left before mid now later front rest =
+      subst (λ m. MakesBatches short target options call index own later m now) front.0
+      (subst (λ n. MakesBatches short target options call n own later mid now) front.1.0
+      (subst (λ l. MakesBatches short target options call reached l later mid now) front.1.1 rest))
+  front_then short index own (one ∷ ends) reached left before mid now later front rest =
+      let goes = front.1.1 in (
+        front.0,
+        (
+          front.1.0,
+          inl (record {
+            on = goes.on;
+            statements = goes.statements;
+            told = goes.told;
+            rest = front_then short (index + goes.statements) (drop goes.statements own) ends reached left front.0 mid now later goes.rest rest;
+          }),
+        ),
+      )
+
+  -- batches behind which no document is left are so in a call that ran short too
+  never_short : (short : Type 0) (index : ℕ) (own : List OwnDocument) (ends : List BatchEnd) (before now : Moment)
+      → MakesBatches ⊥ target options call index own ends before now → MakesBatches short target options call index own ends before now
+  never_short short index own [] before now made = (made.0, elim made.1 [ inl none ↦ inl none | inr never ↦ absurd never ])
+  never_short short index own (end ∷ ends) before now made = (
+    made.0,
+    (
+      made.1.0,
+      elim made.1.1 [
+        | inl goes ↦ inl (record {
+          on = goes.on;
+          statements = goes.statements;
+          told = goes.told;
+          rest = never_short short (index + goes.statements) (drop goes.statements own) ends made.0 now goes.rest;
+        })
+        | inr stops ↦ inr stops
+      ],
+    ),
+  )
+
+-- what is told of batches, and of others behind them
+gathered_then : (so_far : Gathered) (ends later : List BatchEnd) → gathered so_far (ends ++ later) ≡ gathered (gathered so_far ends) later
+gathered_then so_far [] later = refl
+gathered_then so_far (end ∷ ends) later = gathered_then (with_result so_far end.first (count_of end.statements) end.result) ends later
+
+all_then : (ends later : List BatchEnd) → AllOfDocuments ends → AllOfDocuments later → AllOfDocuments (ends ++ later)
+all_then [] later all more = more
+all_then (end ∷ ends) later all more = (all.0, all_then ends later all.1 more)
+
+-- an error that ends the later ones alone ends all of them so
+alone_behind_one : (end : BatchEnd) (later : List BatchEnd) (error : Error) → EndsAlone later error → EndsAlone (end ∷ later) error
+alone_behind_one end [] error alone = absurd alone
+alone_behind_one end (one ∷ later) error alone = alone
+
+alone_then : (ends later : List BatchEnd) (error : Error) → EndsAlone later error → EndsAlone (ends ++ later) error
+alone_then [] later error alone = alone
+alone_then (end ∷ ends) later error alone = alone_behind_one end (ends ++ later) error (alone_then ends later error alone)
+
+-- the batches so far, from the first document on: each lets the next one be begun, and this was gathered of them
+pub record SoFar (target : OperationTarget) (options : InsertManyOptions) (call : ℕ) (own : List OwnDocument) (before now : Moment) (reached : ℕ) (told : Gathered) : Type 0 where
+  pub ends : List BatchEnd
+  pub front : MakesFront target options call 0 own ends reached (drop reached own) before now
+  pub documents : AllOfDocuments ends
+  pub told_is : told ≡ gathered nothing_gathered ends
+
+-- no batch
+pub begins : (target : OperationTarget) (options : InsertManyOptions) (call : ℕ) (own : List OwnDocument) (at : Moment) (told : Gathered) → told ≡ nothing_gathered
+    → SoFar target options call own at at 0 told
+begins target options call own at told nothing = record { ends = []; front = (refl, (refl, refl)); documents = tt; told_is = nothing }
+
+module _ (target : OperationTarget) (options : InsertManyOptions) (call : ℕ) (own : List OwnDocument) (before mid : Moment) (reached : ℕ) (told : Gathered) (far : SoFar target options call own before mid reached told) where
+  -- what is gathered of them with the next one
+  gathered_more : (now : Moment) (later : Gathered) (on : Bool) (count : ℕ) (next : GathersBatch target options call reached own mid now told later on count)
+      → later ≡ gathered nothing_gathered (far.ends ++ next.end ∷ [])
+  gathered_more now later on count next =
+      next.told_is
+      ∙ ap (λ t. with_result t reached count next.end.result) far.told_is
+      ∙ ap (λ n. with_result (gathered nothing_gathered far.ends) n count next.end.result) (sym next.makes.begins)
+      ∙ ap (λ n. with_result (gathered nothing_gathered far.ends) next.end.first n next.end.result) (sym (ap count_of next.counted.told))
+      ∙ sym (gathered_then nothing_gathered far.ends (next.end ∷ []))
+
+  -- the next one, behind which another is begun
+  pub goes_further : (now : Moment) (later : Gathered) (count : ℕ) → GathersBatch target options call reached own mid now told later true count
+      → SoFar target options call own before now (reached + count) later
+  goes_further now later count next = record {
+    ends = far.ends ++ next.end ∷ [];
+    front = subst (λ l. MakesFront target options call 0 own (far.ends ++ next.end ∷ []) (reached + count) l before now) (drop-drop count reached own)
+        (front_more target options call 0 own far.ends reached (drop reached own) before mid now next.end count far.front next.makes next.goes next.counted.told);
+    documents = all_then far.ends (next.end ∷ []) far.documents (next.of_documents, tt);
+    told_is = gathered_more now later true count next;
+  }
+
+  -- the next one, behind which no other is begun
+  pub goes_no_further : (now : Moment) (later : Gathered) (count : ℕ) → GathersBatch target options call reached own mid now told later false count
+      → AllGathered target options call own before now later
+  goes_no_further now later count next = record {
+    ends = far.ends ++ next.end ∷ [];
+    batches = front_then target options call ⊥ 0 own far.ends reached (drop reached own) before mid now (next.end ∷ []) far.front
+        (now, (next.makes, inr (record { over = next.goes; none = refl; same = refl })));
+    documents = all_then far.ends (next.end ∷ []) far.documents (next.of_documents, tt);
+    told_is = gathered_more now later false count next;
+  }
+
+  -- the call ended with an error there
+  pub stops_there : (now : Moment) (error : Error) → StopsBatches target options call reached (drop reached own) mid now error → StopsBatches target options call 0 own before now error
+  stops_there now error stops = record {
+    ends = far.ends ++ stops.ends;
+    makes = front_then target options call (kind_of error ≡ kind.Memory) 0 own far.ends reached (drop reached own) before mid now stops.ends far.front stops.makes;
+    why = elim stops.why [ inl memory ↦ inl memory | inr alone ↦ inr (alone_then far.ends stops.ends error alone) ];
+  }
+
+  -- no document is left
+  pub all_done : length own ≤ reached → AllGathered target options call own before mid told
+  all_done all = record {
+    ends = far.ends ++ [];
+    batches = front_then target options call ⊥ 0 own far.ends reached (drop reached own) before mid mid [] far.front (refl, inl (drop_all reached own all));
+    documents = all_then far.ends [] far.documents tt;
+    told_is = far.told_is ∙ sym (gathered_then nothing_gathered far.ends []);
+  }
+
+-- the answer of a call by the ends of its batches
+answers_told : (ends : List BatchEnd) (told : Gathered) (result : Result InsertManyResult Error) → AllOfDocuments ends → told ≡ gathered nothing_gathered ends → TellsGathered told result
+    → AnswersMany ends result
+answers_told ends told (Ok output) all is tells = (all, subst (λ t. TellsGathered t (Ok output)) is tells)
+answers_told ends told (Err error) all is tells = inr (inr (all, subst (λ t. TellsGathered t (Err error)) is tells))
+
+module _ (target : OperationTarget) (options : InsertManyOptions) (call : ℕ) (own : List OwnDocument) (before now : Moment) where
+  -- of a call whose batches are done
+  pub done_answered : (told : Gathered) (result : Result InsertManyResult Error) → AllGathered target options call own before now told → TellsGathered told result
+      → BatchesMade target options call own before now result
+  done_answered told result all tells = record {
+    ends = all.ends;
+    batches = never_short target options call (RanShort result) 0 own all.ends before now all.batches;
+    answers = answers_told all.ends told result all.documents all.told_is tells;
+  }
+
+  -- of one that ended with an error
+  pub stopped_answered : (error : Error) → StopsBatches target options call 0 own before now error → BatchesMade target options call own before now (Err error)
+  stopped_answered error stops = record {
+    ends = stops.ends;
+    batches = stops.makes;
+    answers = elim stops.why [ inl memory ↦ inl memory | inr alone ↦ inr (inl alone) ];
+  }
+
+-- and of one for which there was no memory before its first batch, as the exit of a `?` returns it
+pub short_answered : (target : OperationTarget) (options : InsertManyOptions) (call : ℕ) (own : List OwnDocument) (at : Moment) (result : Result InsertManyResult Error)
+    → IsErrAnd result (λ error. IsAlone kind.Memory no_labels error) → BatchesMade target options call own at at result
+short_answered target options call own at (Ok output) exits = absurd exits
+short_answered target options call own at (Err error) exits = record { ends = []; batches = (refl, inr exits.kind_is); answers = inl exits.kind_is }

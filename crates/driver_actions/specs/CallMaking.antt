@@ -1,0 +1,37 @@
+-- How a call of a list is made, and why it ended as it did, by what it does.
+use Rattle.std.specs.Prelude.{ℕ, Result, Ok, Err}
+use Rattle.driver_error.specs.declared.error.Error.{Error}
+use Rattle.driver_error.specs.declared.results.InsertManyResult.{InsertManyResult}
+use Rattle.driver_ops.specs.Targets.{in_collection}
+use Rattle.driver_exec.specs.Moment.{Moment}
+use Rattle.driver_actions.specs.declared.call.Answer.{Answer}
+use Rattle.driver_actions.specs.declared.call.Answer.TheVariants as answer
+use Rattle.driver_actions.specs.declared.call.Call.{Call}
+use Rattle.driver_actions.specs.declared.call.Call.TheVariants.{InsertMany, Single}
+use Rattle.driver_actions.specs.declared.call.SingleAnswer.{SingleAnswer}
+use Rattle.driver_actions.specs.Causes.{WriteCaused}
+use Rattle.driver_actions.specs.Forms.{form_of}
+use Rattle.driver_actions.specs.ManyCalls.{MakesMany, ManyCaused}
+use Rattle.driver_actions.specs.SingleCalls.{Makes, first_place}
+
+-- an answer is that of a single write
+abbrev pub OfSingle : (Result SingleAnswer Error → Type 0) → Result Answer Error → Type 0
+OfSingle P (Ok (answer.Single given)) = P (Ok given)
+OfSingle P (Ok other) = ⊥
+OfSingle P (Err error) = P (Err error)
+
+-- an answer is that of an insert of many documents
+abbrev pub OfMany : (Result InsertManyResult Error → Type 0) → Result Answer Error → Type 0
+OfMany P (Ok (answer.Many output)) = P (Ok output)
+OfMany P (Ok other) = ⊥
+OfMany P (Err error) = P (Err error)
+
+-- one call of a list, by its number
+abbrev pub MakesCall : Moment → Moment → Call → ℕ → Result Answer Error → Type 0
+MakesCall before now (Single write) call result = OfSingle (Makes before now (form_of write) (first_place call)) result
+MakesCall before now (InsertMany namespace documents options) call result = OfMany (MakesMany before now (in_collection namespace) documents options call) result
+
+-- and it ended with its cause
+abbrev pub HasCause : Moment → Moment → Call → ℕ → Result Answer Error → Type 0
+HasCause before now (Single write) call result = WriteCaused before now (form_of write) result
+HasCause before now (InsertMany namespace documents options) call result = OfMany (ManyCaused before now (in_collection namespace) documents options call) result

@@ -1,0 +1,107 @@
+//! The ids of the caller's documents: each its own, else the next object id to come, drawn once.
+ghost use Rattle.std.specs.Prelude.{◌≡◌, IfErr, IfOk, IsSome};
+ghost use Rattle.bson_lite.specs.Fields.{id_key, value_of};
+ghost use Rattle.driver_session.specs.StoreTells.{MayDrawObjectId};
+ghost use Rattle.driver_exec.specs.Client.{options_of, store_of};
+ghost use Rattle.driver_actions.specs.Causes.{TellsOwnRefusal};
+ghost use Rattle.driver_actions.specs.ManyIds.{OwnsAll};
+ghost use Rattle.driver_actions.specs.OwnIds.{Owns, PutsId};
+ghost use Rattle.driver_actions.specs.inside.OwnDocuments.{DrawsFront, IsSent, MayDrawTwelve, TellsOneRefusal};
+
+use bson_lite::{Bson, Document, ID_KEY, List, TryClone, get_or_prepend_id_field};
+use driver_error::{InsertOneResult, Result};
+use driver_exec::Client;
+use driver_ops::{OwnDocument, encode_document};
+use driver_session::SessionStore;
+use std::alloc::Global;
+
+/// A document as it is sent, and the answer that tells its id.
+#[derive(Drop)]
+pub(crate) struct AnsweredDocument {
+    pub(crate) document: OwnDocument,
+    pub(crate) answer: InsertOneResult,
+}
+
+/// The caller's documents as they are sent, each with its id. Ids are drawn in order for those that have none.
+pub(crate) fn own_documents<S: SessionStore>(
+    alloc: Global,
+    client: &mut Client<S>,
+    documents: &[Document],
+) -> Result<List<OwnDocument>>
+    ensures owns { IfOk result (λ own. OwnsAll (S.tells (store_of client.old)) (S.tells (store_of client.new))
+        documents.now own) }
+    ensures refusal { IfErr result (λ error. TellsOneRefusal documents.now error) }
+    ensures draws { DrawsFront (S.tells (store_of client.old)) (S.tells (store_of client.new)) documents.now }
+    ensures options { options_of client.new ≡ options_of client.old }
+{
+    let mut own = List::with_capacity(alloc, documents.len())?;
+    for document in documents {
+        let made = sent_document(alloc, client, document)?;
+        own.push(made)?;
+    }
+    Ok(own)
+}
+
+/// A caller's document with an id, and the answer that tells it.
+#[tactic(auto, using(crate::proofs::OwnIds::owns_answered))]
+pub(crate) fn own_document<S: SessionStore>(
+    alloc: Global,
+    client: &mut Client<S>,
+    document: &Document,
+) -> Result<AnsweredDocument>
+    ensures refusal { IfErr result (λ error. TellsOwnRefusal document.now error) }
+    ensures owns { IfOk result (λ own. Owns (S.tells (store_of client.old)) (S.tells (store_of client.new))
+        document.now own.document own.answer) }
+    ensures draws { MayDrawObjectId (S.tells (store_of client.old)) (S.tells (store_of client.new)) }
+    ensures unused { IsSome (value_of id_key document.now) →
+        S.tells (store_of client.new) ≡ S.tells (store_of client.old) }
+    ensures options { options_of client.new ≡ options_of client.old }
+{
+    let document = sent_document(alloc, client, document)?;
+    let answer = InsertOneResult {
+        inserted_id: document.id.try_clone(alloc)?,
+    };
+    Ok(AnsweredDocument { document, answer })
+}
+
+/// A caller's document as it is sent, with an id.
+fn sent_document<S: SessionStore>(
+    alloc: Global,
+    client: &mut Client<S>,
+    document: &Document,
+) -> Result<OwnDocument>
+    ensures refusal { IfErr result (λ error. TellsOwnRefusal document.now error) }
+    ensures owns { IfOk result (λ own. IsSent (S.tells (store_of client.old)) (S.tells (store_of client.new))
+        document.now own) }
+    ensures draws { MayDrawObjectId (S.tells (store_of client.old)) (S.tells (store_of client.new)) }
+    ensures drawn { MayDrawTwelve (S.tells (store_of client.old)) (S.tells (store_of client.new)) }
+    ensures unused { IsSome (value_of id_key document.now) →
+        S.tells (store_of client.new) ≡ S.tells (store_of client.old) }
+    ensures options { options_of client.new ≡ options_of client.old }
+{
+    let mut document = document.try_clone(alloc)?;
+    let id = put_id(alloc, client, &mut document)?;
+    let bytes = encode_document(alloc, &document)?;
+    Ok(OwnDocument { bytes, id })
+}
+
+/// Puts a new id first in a document that has none, and answers a copy of the document's id.
+fn put_id<S: SessionStore>(
+    alloc: Global,
+    client: &mut Client<S>,
+    document: &mut Document,
+) -> Result<Bson>
+    ensures id { PutsId (S.tells (store_of client.old)) (S.tells (store_of client.new))
+        document.old document.new result }
+    ensures draws { MayDrawObjectId (S.tells (store_of client.old)) (S.tells (store_of client.new)) }
+    ensures drawn { MayDrawTwelve (S.tells (store_of client.old)) (S.tells (store_of client.new)) }
+    ensures unused { IsSome (value_of id_key document.old) →
+        S.tells (store_of client.new) ≡ S.tells (store_of client.old) }
+    ensures options { options_of client.new ≡ options_of client.old }
+{
+    if let Some(id) = document.get(ID_KEY) {
+        return Ok(id.try_clone(alloc)?);
+    }
+    let id = client.object_id();
+    Ok(get_or_prepend_id_field(alloc, document, id)?)
+}
