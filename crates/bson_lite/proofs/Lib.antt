@@ -3,8 +3,10 @@ pub mod Found
 pub mod FinMaps
 pub mod Framing
 pub mod Loops
+pub mod Named
 pub mod Nested
 pub mod Numbers
+pub mod Rising
 pub mod Sound
 pub mod Steps
 pub mod Takes

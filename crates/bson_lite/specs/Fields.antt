@@ -1,5 +1,5 @@
 -- The fields of a document by their keys.
-use Rattle.std.specs.Prelude.{ℕ, Bool, false, ◌==◌, if◌then◌else◌, List, [], ◌∷◌, codes, Option, Some, None, is_some, ℤ, pos, bytes_eq}
+use Rattle.std.specs.Prelude.{ℕ, Bool, false, ◌==◌, if◌then◌else◌, List, [], ◌∷◌, ◌++◌, codes, Option, Some, None, is_some, ℤ, pos, bytes_eq}
 use Rattle.bson_lite.specs.declared.bson.Bson as bson
 use Rattle.bson_lite.specs.declared.bson.Bson.{Bson, out-Bson}
 use Rattle.bson_lite.specs.declared.bson.Bson.TheOpen.{Bson-F}
@@ -18,6 +18,10 @@ id_key = codes "_id"
 -- the document with this id as its first pair, unless it has an id
 abbrev pub with_id : ObjectId → List (Pair Bson) → List (Pair Bson)
 with_id id document = if is_some (value_of id_key document) then document else record { key = id_key; value = bson.ObjectId id } ∷ document
+
+-- the element of an object id under the key of a document's id
+abbrev pub id_element : ObjectId → List ℕ
+id_element id = 7 ∷ (id_key ++ 0 ∷ id.bytes)
 
 -- a key that names an operator begins with `$`
 abbrev pub is_operator : List ℕ → Bool

@@ -1,15 +1,23 @@
 //! From a document to its bytes, which are all there before the first is written.
-ghost use Rattle.std.specs.Prelude.{◌≡◌, ◌+◌, ◌%◌, ◌≤◌, ◌++◌, ◌∷◌, [], length, take, drop, map};
+ghost use Rattle.std.specs.Prelude.{◌≡◌, ◌+◌, ◌%◌, ◌≤◌, ◌++◌, ◌∷◌, [], None, length, take, drop, map};
+ghost use Rattle.bson_lite.specs.Fields.{id_element, id_key, value_of, with_id};
 ghost use Rattle.bson_lite.specs.Spelling.{Encodes, refusal, spelled, framed, counted, four, body_of, numbered};
 ghost use Rattle.bson_lite.specs.Writing.{HasRoom, Puts};
 
-use crate::bson::{Binary, Bson, Regex, Timestamp};
+use crate::bson::{Binary, Bson, ObjectId, Regex, Timestamp};
 use crate::document::{Document, Pair};
 use crate::fault::EncodeFault;
+use crate::fields::ID_KEY;
 use crate::survey::surveyed;
 use crate::text::{Bytes, Text};
 use itoa::Buffer;
 use std::alloc::Global;
+
+/// The length that the element of an object id adds to a document.
+const ID_LENGTH: usize = 17;
+
+/// The greatest length that the format can state.
+const LONGEST: usize = 2_147_483_647;
 
 /// The one spelling of a document.
 pub fn encode(alloc: Global, document: &Document) -> Result<Bytes, EncodeFault>
@@ -21,6 +29,20 @@ pub fn encode(alloc: Global, document: &Document) -> Result<Bytes, EncodeFault>
     Ok(Bytes::from_vec(out))
 }
 
+/// The one spelling of a document once it has this id: put first, unless the document has one of its own.
+pub fn encode_with_id(
+    alloc: Global,
+    document: &Document,
+    id: &ObjectId,
+) -> Result<Bytes, EncodeFault>
+    ensures { Encodes (with_id id.now document.now) result }
+{
+    match document.get(ID_KEY) {
+        Some(_) => encode(alloc, document),
+        None => encode_named(alloc, document, id),
+    }
+}
+
 /// Why `encode` refuses a document, if it does. It takes no memory.
 pub fn encode_refusal(document: &Document) -> Option<EncodeFault>
     ensures { result ≡ refusal document.now }
@@ -29,6 +51,39 @@ pub fn encode_refusal(document: &Document) -> Option<EncodeFault>
         Ok(_) => None,
         Err(fault) => Some(fault),
     }
+}
+
+/// The spelling of a document without an id behind this one.
+fn encode_named(alloc: Global, document: &Document, id: &ObjectId) -> Result<Bytes, EncodeFault>
+    requires { value_of id_key document.now ≡ None }
+    ensures { Encodes (with_id id.now document.now) result }
+{
+    let length = surveyed(document)?;
+    if length > LONGEST - ID_LENGTH {
+        return Err(EncodeFault::TooLong);
+    }
+    let mut out = vec![in alloc; 0; length + ID_LENGTH]?;
+    put_named(out.as_mut_slice(), id, document.pairs());
+    Ok(Bytes::from_vec(out))
+}
+
+/// Writes a document with an id before its pairs over all bytes.
+fn put_named(out: &mut [u8], id: &ObjectId, pairs: &[Pair<Bson>]) -> usize
+    requires { HasRoom (framed (id_element id.now ++ body_of pairs.now)) 0 out.old }
+    ensures { Puts (framed (id_element id.now ++ body_of pairs.now)) 0 out.old out.new result }
+{
+    let end = put_elements(out, id, pairs);
+    close(out, 0, end)
+}
+
+/// Writes the element of an id and those of the pairs behind it, from the fifth byte on.
+fn put_elements(out: &mut [u8], id: &ObjectId, pairs: &[Pair<Bson>]) -> usize
+    requires { HasRoom (id_element id.now ++ body_of pairs.now) 4 out.old }
+    ensures { Puts (id_element id.now ++ body_of pairs.now) 4 out.old out.new result }
+{
+    let end = put_head(out, 4, 7, ID_KEY);
+    let end = put(out, end, &id.bytes);
+    put_pairs(out, end, pairs)
 }
 
 #[cycle(put)]

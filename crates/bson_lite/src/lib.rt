@@ -29,7 +29,7 @@ pub use by_index::ByIndex;
 pub use copy::TryClone;
 pub use decoding::decode;
 pub use document::{Document, Pair};
-pub use encoding::{encode, encode_refusal};
+pub use encoding::{encode, encode_refusal, encode_with_id};
 pub use fault::{DecodeFault, EncodeFault};
 pub use fields::{
     ID_KEY, get_int, get_or_prepend_id_field, replacement_document_check, update_document_check,

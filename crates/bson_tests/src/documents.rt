@@ -2,7 +2,7 @@
 //! The helpers promise nothing, so that a test's proof has little to read.
 use bson_lite::{
     Bson, Bytes, DecodeFault, Document, EncodeFault, ObjectId, RawDocumentBuf, Text, TryClone,
-    decode, encode, encode_refusal, encoded_len, get_int, get_or_prepend_id_field,
+    decode, encode, encode_refusal, encode_with_id, encoded_len, get_int, get_or_prepend_id_field,
     replacement_document_check, update_document_check,
 };
 use std::alloc::{AllocError, Global};
@@ -32,6 +32,11 @@ pub(crate) fn read(alloc: Global, bytes: &[u8]) -> Result<Document, DecodeFault>
 fn put_id(alloc: Global, document: &mut Document, last: u8) -> Result<Bson, AllocError> {
     let bytes = [0, 0, 0, 0, 0, 0, 0, 0, 0, 0, 0, last];
     get_or_prepend_id_field(alloc, document, ObjectId { bytes })
+}
+
+fn spelled_with(alloc: Global, document: &Document, last: u8) -> Result<Bytes, EncodeFault> {
+    let bytes = [0, 0, 0, 0, 0, 0, 0, 0, 0, 0, 0, last];
+    encode_with_id(alloc, document, &ObjectId { bytes })
 }
 
 fn kept(alloc: Global, document: &Document) -> Result<RawDocumentBuf, EncodeFault> {
@@ -72,6 +77,22 @@ fn worked_documents(rt: HostRuntime) -> Result<(), Fail> {
     assert_eq!(rt; encoded_len(&document), 29);
     assert_eq!(rt; number_at(&document, "x"), Some(1));
     assert_eq!(rt; number_at(&document, "y"), None);
+    Ok(())
+}
+
+#[test]
+fn documents_behind_an_id(rt: HostRuntime) -> Result<(), Fail> {
+    let alloc = rt.alloc();
+    let mut document = one(alloc, "x", Bson::Int32(1))?;
+    assert_eq!(rt;
+        spelled_with(alloc, &document, 1)?.as_slice(),
+        WITH_ID.as_slice()
+    );
+    put_id(alloc, &mut document, 1)?;
+    assert_eq!(rt;
+        spelled_with(alloc, &document, 2)?.as_slice(),
+        WITH_ID.as_slice()
+    );
     Ok(())
 }
 

@@ -9,6 +9,7 @@ use Rattle.bson_lite.specs.declared.document.Pair.{Pair}
 use Rattle.bson_lite.specs.declared.fault.EncodeFault.{EncodeFault}
 use Rattle.bson_lite.specs.declared.fault.EncodeFault.TheVariants.{Memory, TooDeep, TooLong, ZeroByte}
 use Rattle.bson_lite.specs.Spelling.{depth, nesting, refusal_within, zero_in, zero_within}
+use Rattle.bson_lite.proofs.Named.{by_tests}
 use Rattle.driver_link.specs.Numbers.{field}
 use Rattle.driver_actions.specs.Inputs.{is_deep, is_long, values_refusal}
 use Rattle.driver_actions.specs.inside.Faults.{before_length, before_zero, first_of, value_fault, values_fault}
@@ -27,10 +28,7 @@ text_depth text = search (rules, bson.the_lemmas)
 text_zero : (text : List ℕ) → zero_within (bson.String text) ≡ false
 text_zero text = search (rules, bson.the_lemmas)
 
--- the fault by what was tested
-abbrev pub by_tests : Bool → Bool → Bool → Option EncodeFault
-by_tests deep zero long = if deep then Some TooDeep else (if zero then Some ZeroByte else (if long then Some TooLong else None))
-
+-- a text is refused for nothing but its length
 pub text_fault : (text : List ℕ) → values_fault (bson.String text ∷ []) ≡ None
 text_fault text = ap (λ d. first_of (by_tests (nat_lt 96 d) (zero_within (bson.String text)) false) None) (text_depth text)
     ∙ ap (λ z. first_of (by_tests false z false) None) (text_zero text)

@@ -9,6 +9,7 @@ use Rattle.bson_lite.specs.declared.fault.EncodeFault.TheVariants.{Memory, TooDe
 use Rattle.bson_lite.specs.declared.namespace.Namespace.{Namespace}
 use Rattle.bson_lite.specs.Fields.{with_id}
 use Rattle.bson_lite.specs.Spelling.{nesting, zero_in}
+use Rattle.bson_lite.proofs.Named.{by_tests}
 use Rattle.driver_error.specs.declared.error.Error.{Error}
 use Rattle.driver_error.specs.declared.kind.ErrorKind.TheVariants as kind
 use Rattle.driver_error.specs.Error.{ErrorKind, kind_of}
@@ -25,7 +26,7 @@ use Rattle.driver_actions.specs.ManyInputs.{AreTwelve, IsManyAccepted, ManyInput
 use Rattle.driver_actions.specs.inside.Faults.{before_length, before_zero, first_of, length_fault, values_fault}
 use Rattle.driver_actions.specs.inside.ManyFaults.{own_fault, own_faults, zero_id}
 use Rattle.driver_actions.specs.inside.OwnDocuments.{TellsOneRefusal}
-use Rattle.driver_actions.proofs.InputFaults.{by_tests, first_twice}
+use Rattle.driver_actions.proofs.InputFaults.{first_twice}
 use Rattle.driver_actions.proofs.ManyFaults.{own_refused, refused_values}
 use Rattle.driver_actions.proofs.Refusals.{spelled_within}
 

@@ -1,38 +1,87 @@
 -- The id of a caller's document, from what the store drew for it.
 use Rattle.std.proofs.Common.{◌≡◌, List, [], ◌∷◌, length, refl, sym, ap, subst, ◌∙◌, inl, inr}
-use Rattle.std.specs.Prelude.{true, Option, None, Some, is_some}
-use Rattle.std.proofs.lemmas.Bool.{cond-true}
+use Rattle.std.specs.Prelude.{Option, None, Some, ◌⊎◌, Result, Ok, Err, IfOk}
+use Rattle.bson_lite.specs.declared.bson.Bson as bson
 use Rattle.bson_lite.specs.declared.bson.Bson.{Bson}
 use Rattle.bson_lite.specs.declared.bson.ObjectId.{ObjectId}
 use Rattle.bson_lite.specs.declared.document.Pair.{Pair}
 use Rattle.bson_lite.specs.Fields.{id_key, value_of, with_id}
+use Rattle.bson_lite.specs.Spelling.{Spells}
+use Rattle.bson_lite.proofs.Named.{kept_with, none_found, with_none}
 use Rattle.driver_error.specs.declared.error.Error.{Error}
+use Rattle.driver_error.specs.declared.kind.ErrorKind.TheVariants.{Memory}
 use Rattle.driver_error.specs.declared.results.InsertOneResult.{InsertOneResult}
+use Rattle.driver_error.specs.Error.{kind_of}
 use Rattle.driver_session.specs.StoreTells.{DrawsObjectId, MayDrawObjectId, StoreTells}
 use Rattle.driver_ops.specs.declared.own_document.OwnDocument.{OwnDocument}
+use Rattle.driver_ops.specs.Encoding.{IsUnspelled}
 use Rattle.driver_exec.specs.Moment.{Moment}
-use Rattle.driver_actions.specs.OwnIds.{DrawsOwn, DrawsOwnId, HasOwnId, MayDrawBy, Owns}
+use Rattle.driver_actions.specs.Causes.{TellsOwnRefusal}
+use Rattle.driver_actions.specs.OwnIds.{DrawsOwn, DrawsOwnId, MayDrawBy, Owns}
 use Rattle.driver_actions.specs.inside.OwnDocuments.{IsSent}
 
--- a document that has an id keeps it, and nothing is drawn
-pub has_own_id : (store : StoreTells) (document : List (Pair Bson)) (value copy : Bson) → ◌≡◌ {A = Option Bson} (Some value) (value_of id_key document) → copy ≡ value
-    → HasOwnId store store document document copy
-has_own_id store document value copy found same =
-    let there : is_some (value_of id_key document) ≡ true = ap is_some (sym found) in
-    let id : ObjectId = record { bytes = 0 ∷ 0 ∷ 0 ∷ 0 ∷ 0 ∷ 0 ∷ 0 ∷ 0 ∷ 0 ∷ 0 ∷ 0 ∷ 0 ∷ [] } in
-    record {
-      id = id;
-      twelve = refl;
-      draws = subst (λ f. DrawsOwnId f store store id) found refl;
-      document = sym (cond-true (is_some (value_of id_key document)) document _ there);
-      found = sym found ∙ ap (λ v. Some v) (sym same);
-    }
+-- an id of twelve bytes
+abbrev some_id : ObjectId
+some_id = record { bytes = 0 ∷ 0 ∷ 0 ∷ 0 ∷ 0 ∷ 0 ∷ 0 ∷ 0 ∷ 0 ∷ 0 ∷ 0 ∷ 0 ∷ [] }
 
--- one that has none gets the id that was drawn
-pub has_drawn_id : (store store_now : StoreTells) (given now : List (Pair Bson)) (id : ObjectId) (value : Bson) → ◌≡◌ {A = Option Bson} None (value_of id_key given) → length id.bytes ≡ 12
-    → DrawsObjectId store store_now id.bytes → now ≡ with_id id given → value_of id_key now ≡ Some value → HasOwnId store store_now given now value
-has_drawn_id store store_now given now id value none twelve draws is found =
-    record { id = id; twelve = twelve; draws = subst (λ f. DrawsOwnId f store store_now id) none draws; document = is; found = found }
+-- a document that has an id is sent with it, and nothing is drawn
+pub sent_as_given : (store : StoreTells) (document : List (Pair Bson)) (value : Bson) (own : OwnDocument) → ◌≡◌ {A = Option Bson} (Some value) (value_of id_key document)
+    → own.id ≡ value → Spells document own.bytes → IsSent store store document own
+sent_as_given store document value own found same spelled = record {
+  sent = document;
+  document = record {
+    id = some_id;
+    twelve = refl;
+    draws = subst (λ (given : Option Bson). DrawsOwnId given store store some_id) found refl;
+    document = sym (kept_with some_id document value found);
+    found = sym found ∙ ap (λ (v : Bson). Some v) (sym same);
+  };
+  spelled = spelled;
+}
+
+pub if_sent_as_given : (store : StoreTells) (document : List (Pair Bson)) (value : Bson) (result : Result OwnDocument Error) → ◌≡◌ {A = Option Bson} (Some value) (value_of id_key document)
+    → IfOk result (λ own. own.id ≡ value) → IfOk result (λ own. Spells document own.bytes) → IfOk result (λ own. IsSent store store document own)
+if_sent_as_given store document value (Ok own) found same spelled = sent_as_given store document value own found same spelled
+if_sent_as_given store document value (Err error) found same spelled = tt
+
+-- the id that is found where one was put first
+found_first : (id : ObjectId) (document : List (Pair Bson)) → ◌≡◌ {A = Option Bson} (value_of id_key document) None → value_of id_key (with_id id document) ≡ Some (bson.ObjectId id)
+found_first id document none = ap (value_of id_key) (with_none id document (none_found document none))
+
+-- one that has none is sent with the id that was drawn
+pub sent_drawn : (store now : StoreTells) (document : List (Pair Bson)) (id : ObjectId) (own : OwnDocument) → ◌≡◌ {A = Option Bson} (value_of id_key document) None
+    → length id.bytes ≡ 12 → DrawsObjectId store now id.bytes → own.id ≡ bson.ObjectId id → Spells (with_id id document) own.bytes → IsSent store now document own
+sent_drawn store now document id own none twelve draws is spelled = record {
+  sent = with_id id document;
+  document = record {
+    id = id;
+    twelve = twelve;
+    draws = subst (λ (given : Option Bson). DrawsOwnId given store now id) (sym none) draws;
+    document = refl;
+    found = found_first id document none ∙ ap (λ (v : Bson). Some v) (sym is);
+  };
+  spelled = spelled;
+}
+
+-- why a document that has an id is refused
+pub refused_as_given : (document : List (Pair Bson)) (value : Bson) (error : Error) → ◌≡◌ {A = Option Bson} (Some value) (value_of id_key document)
+    → (kind_of error ≡ Memory) ⊎ IsUnspelled document error → TellsOwnRefusal document error
+refused_as_given document value error found why = elim why [
+  | inl memory ↦ inl memory
+  | inr unspelled ↦ inr (record {
+    id = some_id;
+    twelve = refl;
+    unspelled = subst (λ (given : List (Pair Bson)). IsUnspelled given error) (sym (kept_with some_id document value found)) unspelled;
+  })
+]
+
+-- and one that has none
+pub refused_drawn : (document : List (Pair Bson)) (id : ObjectId) (error : Error) → length id.bytes ≡ 12
+    → (kind_of error ≡ Memory) ⊎ IsUnspelled (with_id id document) error → TellsOwnRefusal document error
+refused_drawn document id error twelve why = elim why [
+  | inl memory ↦ inl memory
+  | inr unspelled ↦ inr (record { id = id; twelve = twelve; unspelled = unspelled })
+]
 
 -- a document that is sent owns its id where the answer tells it
 pub owns_answered : (store store_now : StoreTells) (given : List (Pair Bson)) (own : OwnDocument) (answer : InsertOneResult) → IsSent store store_now given own

@@ -13,6 +13,7 @@ use Rattle.bson_lite.specs.declared.fault.EncodeFault.{EncodeFault}
 use Rattle.bson_lite.specs.declared.fault.EncodeFault.TheVariants.{TooDeep, ZeroByte, TooLong}
 use Rattle.bson_lite.specs.Fields.{begins_with_operator, value_of, id_key, with_id}
 use Rattle.bson_lite.specs.Spelling.{refusal, refusal_within, nesting, zero_in, spelling, spelled, depth, zero_within, deepest_pair, on_value, body_of, framed, element}
+use Rattle.bson_lite.proofs.Named.{by_tests, id_pair, refusal_named, refused_named, with_none}
 use Rattle.driver_error.specs.declared.kind.ErrorKind.TheVariants as kind
 use Rattle.driver_error.specs.declared.error.Error.{Error}
 use Rattle.driver_error.specs.Conversions.{IsMade}
@@ -27,68 +28,13 @@ use Rattle.driver_actions.specs.Causes.{RefusesFirst, TellsOwnRefusal}
 use Rattle.driver_actions.specs.Forms.{WriteForm, command_body, deletes, finds, inserts, namespace_in, updates}
 use Rattle.driver_actions.specs.Inputs.{InputRefused, IsAccepted, JudgesInput, RefusesValues, TellsInput, argument_refusal, change_refusal, dotted_text, else_text, has_dot, is_long, name_refusal, operator_refusal, replacement_text, update_text, value_list}
 use Rattle.driver_actions.specs.inside.Faults.{ErrorOfFault, IsArgumentError, RefusesDocument, first_of, length_fault, values_fault}
-use Rattle.driver_actions.proofs.InputFaults.{by_tests, document_first, document_taken}
-
--- the pair of an id
-abbrev pub id_pair : ObjectId → Pair Bson
-id_pair id = record { key = id_key; value = bson.ObjectId id }
-
-depth_of_id : (id : ObjectId) → depth (bson.ObjectId id) ≡ 0
-depth_of_id id = search (rules, bson.the_lemmas)
-
-zero_of_id : (id : ObjectId) → zero_within (bson.ObjectId id) ≡ false
-zero_of_id id = search (rules, bson.the_lemmas)
-
-spelled_id : (id : ObjectId) → spelled (bson.ObjectId id) ≡ (7, id.bytes)
-spelled_id id = search (rules, bson.the_lemmas)
-
-max_zero : (n : ℕ) → max 0 n ≡ n
-max_zero n = omega arith
-
-nesting_named : (id : ObjectId) (document : List (Pair Bson)) → nesting (id_pair id ∷ document) ≡ nesting document
-nesting_named id document =
-    let rest = deepest_pair (map (on_value depth) document) in
-    ap (λ n. suc (max n rest)) (depth_of_id id) ∙ ap suc (max_zero rest)
-
-zero_named : (id : ObjectId) (document : List (Pair Bson)) → zero_in (id_pair id ∷ document) ≡ zero_in document
-zero_named id document = ap (λ b. (false || b) || zero_in document) (zero_of_id id)
-
-length_framed : (body : List ℕ) → length (framed body) ≡ length body + 5
-length_framed body = omega (arith, length-append body (0 ∷ []))
-
-length_named : (id : ObjectId) (document : List (Pair Bson)) → length id.bytes ≡ 12 → length (spelling (id_pair id ∷ document)) ≡ length (spelling document) + 17
-length_named id document twelve =
-    let body : body_of (id_pair id ∷ document) ≡ element id_key (7, id.bytes) ++ body_of document
-    = ap (λ value. element id_key value ++ body_of document) (spelled_id id) in
-    let parts = length-append (element id_key (7, id.bytes)) (body_of document) in
-    ap (λ b. length (framed b)) body ∙ length_framed (element id_key (7, id.bytes) ++ body_of document)
-    ∙ omega (arith, parts, twelve, length_framed (body_of document))
-
--- the refusal by depth, zero bytes and length
-abbrev refused_by : ℕ → Bool → ℕ → Option EncodeFault
-refused_by deep zero long =
-    if nat_lt 96 deep then Some TooDeep else (
-    if zero then Some ZeroByte else (
-    if nat_lt 2147483647 long then Some TooLong else None))
-
-refusal_named : (id : ObjectId) (document : List (Pair Bson)) → length id.bytes ≡ 12
-    → refusal_within 96 (id_pair id ∷ document) ≡ refused_by (nesting document) (zero_in document) (length (spelling document) + 17)
-refusal_named id document twelve =
-    ap (λ n. refused_by n (zero_in (id_pair id ∷ document)) (length (spelling (id_pair id ∷ document)))) (nesting_named id document)
-    ∙ ap (λ b. refused_by (nesting document) b (length (spelling (id_pair id ∷ document)))) (zero_named id document)
-    ∙ ap (λ n. refused_by (nesting document) (zero_in document) n) (length_named id document twelve)
+use Rattle.driver_actions.proofs.InputFaults.{document_first, document_taken}
 
 -- a document that has an id
 pub refuses_own : (document : List (Pair Bson)) (found : Option Bson) → value_of id_key document ≡ found → is_some found ≡ true
     → RefusesDocument document (refusal_within 96 document)
 refuses_own document found at there = λ id twelve.
     ap (refusal_within 96) (cond-true (is_some (value_of id_key document)) document (id_pair id ∷ document) (ap is_some at ∙ there))
-
-with_none : (id : ObjectId) (document : List (Pair Bson)) → is_some (value_of id_key document) ≡ false → with_id id document ≡ id_pair id ∷ document
-with_none id document none = cond-false (is_some (value_of id_key document)) document (id_pair id ∷ document) none
-
-lt_longer : (long : ℕ) → nat_lt 2147483647 long ≡ true → nat_lt 2147483647 (long + 17) ≡ true
-lt_longer long is = grind (arith, nat_tests)
 
 lt_above : (long : ℕ) → 2147483647 < long + 17 → nat_lt 2147483647 (long + 17) ≡ true
 lt_above long more = grind (arith, nat_tests)
@@ -100,16 +46,6 @@ lt_within long fits = grind (arith, nat_tests)
 abbrev by_length : Bool → Option EncodeFault
 by_length long = if long then Some TooLong else None
 
-longer_length : (long : ℕ) (fault : EncodeFault) (b : Bool) → nat_lt 2147483647 long ≡ b → by_length b ≡ Some fault → by_length (nat_lt 2147483647 (long + 17)) ≡ Some fault
-longer_length long fault true at is = ap by_length (lt_longer long at) ∙ is
-longer_length long fault false at is = absurd (let e : ◌≡◌ {A = Option EncodeFault} None (Some fault) = is in cc)
-
-longer_tests : (deep zero : Bool) (long : ℕ) (fault : EncodeFault) → by_tests deep zero (nat_lt 2147483647 long) ≡ Some fault
-    → by_tests deep zero (nat_lt 2147483647 (long + 17)) ≡ Some fault
-longer_tests true zero long fault is = is
-longer_tests false true long fault is = is
-longer_tests false false long fault is = longer_length long fault (nat_lt 2147483647 long) refl is
-
 none_tests : (deep zero : Bool) (long : ℕ) (b : Bool) → by_tests deep zero (nat_lt 2147483647 long) ≡ None → nat_lt 2147483647 (long + 17) ≡ b
     → by_tests deep zero (nat_lt 2147483647 (long + 17)) ≡ by_length b
 none_tests true zero long b is at = absurd (let e : ◌≡◌ {A = Option EncodeFault} (Some TooDeep) None = is in cc)
@@ -120,13 +56,12 @@ none_tests false false long b is at = ap by_length at
 pub refuses_named : (document : List (Pair Bson)) (fault : EncodeFault) → is_some (value_of id_key document) ≡ false → refusal_within 96 document ≡ Some fault
     → RefusesDocument document (Some fault)
 refuses_named document fault none is = λ id twelve.
-    ap (refusal_within 96) (with_none id document none) ∙ refusal_named id document twelve
-    ∙ longer_tests (nat_lt 96 (nesting document)) (zero_in document) (length (spelling document)) fault is
+    ap (refusal_within 96) (with_none id document none) ∙ refused_named 96 id document fault twelve is
 
 named_none : (document : List (Pair Bson)) (b : Bool) → is_some (value_of id_key document) ≡ false → refusal_within 96 document ≡ None
     → nat_lt 2147483647 (length (spelling document) + 17) ≡ b → RefusesDocument document (by_length b)
 named_none document b none is at = λ id twelve.
-    ap (refusal_within 96) (with_none id document none) ∙ refusal_named id document twelve
+    ap (refusal_within 96) (with_none id document none) ∙ refusal_named 96 id document twelve
     ∙ none_tests (nat_lt 96 (nesting document)) (zero_in document) (length (spelling document)) b is at
 
 -- one that is too long with an id
@@ -148,8 +83,8 @@ refused_alike document one other twelve twelve_other = by_own (is_some (value_of
     by_own true there =
         refuses_own document (value_of id_key document) refl there one twelve ∙ sym (refuses_own document (value_of id_key document) refl there other twelve_other)
     by_own false none =
-        ap (refusal_within 96) (with_none one document none) ∙ refusal_named one document twelve
-        ∙ sym (ap (refusal_within 96) (with_none other document none) ∙ refusal_named other document twelve_other)
+        ap (refusal_within 96) (with_none one document none) ∙ refusal_named 96 one document twelve
+        ∙ sym (ap (refusal_within 96) (with_none other document none) ∙ refusal_named 96 other document twelve_other)
 
 -- a document that may nest 96 levels deep has a spelling
 none_of_less : (deep : ℕ) (zero long b : Bool) → nat_lt 96 deep ≡ b → (if b then Some TooDeep else (if zero then Some ZeroByte else by_length long)) ≡ None

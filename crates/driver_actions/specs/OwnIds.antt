@@ -1,5 +1,5 @@
 -- The id of a caller's document: its own, else the next object id to come, which is drawn for it.
-use Rattle.std.specs.Prelude.{◌≡◌, List, length, Option, None, Some, IsSome, ◌⊎◌, Result, Ok, Err}
+use Rattle.std.specs.Prelude.{◌≡◌, List, length, Option, None, Some, IsSome, ◌⊎◌}
 use Rattle.bson_lite.specs.declared.bson.Bson.{Bson}
 use Rattle.bson_lite.specs.declared.bson.ObjectId.{ObjectId}
 use Rattle.bson_lite.specs.declared.document.Pair.{Pair}
@@ -25,11 +25,6 @@ pub record HasOwnId (store store_now : StoreTells) (given now : List (Pair Bson)
   pub draws : DrawsOwnId (value_of id_key given) store store_now id
   pub document : now ≡ with_id id given
   pub found : value_of id_key now ≡ Some value
-
--- a document has its id, and that is answered; an error tells of want of memory
-abbrev pub PutsId : StoreTells → StoreTells → List (Pair Bson) → List (Pair Bson) → Result Bson Error → Type 0
-PutsId store store_now given now (Ok value) = HasOwnId store store_now given now value
-PutsId store store_now given now (Err error) = kind_of error ≡ Memory
 
 -- the id of a document was drawn where it has none, and nothing else changed
 pub record DrawsOwn (before now : Moment) (document : List (Pair Bson)) (id : ObjectId) : Type 0 where

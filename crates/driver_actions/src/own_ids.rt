@@ -1,17 +1,18 @@
 //! The ids of the caller's documents: each its own, else the next object id to come, drawn once.
-ghost use Rattle.std.specs.Prelude.{◌≡◌, IfErr, IfOk, IsSome};
+ghost use Rattle.std.specs.Prelude.{◌≡◌, IfErr, IfOk, IsSome, None, Some};
 ghost use Rattle.bson_lite.specs.Fields.{id_key, value_of};
+ghost use Rattle.bson_lite.specs.Spelling.{Spells};
 ghost use Rattle.driver_session.specs.StoreTells.{MayDrawObjectId};
 ghost use Rattle.driver_exec.specs.Client.{options_of, store_of};
 ghost use Rattle.driver_actions.specs.Causes.{TellsOwnRefusal};
 ghost use Rattle.driver_actions.specs.ManyIds.{OwnsAll};
-ghost use Rattle.driver_actions.specs.OwnIds.{Owns, PutsId};
-ghost use Rattle.driver_actions.specs.inside.OwnDocuments.{DrawsFront, IsSent, MayDrawTwelve, TellsOneRefusal};
+ghost use Rattle.driver_actions.specs.OwnIds.{Owns};
+ghost use Rattle.driver_actions.specs.inside.OwnDocuments.{DrawsFront, DrawsTwelve, IsSent, MayDrawTwelve, TellsOneRefusal};
 
-use bson_lite::{Bson, Document, ID_KEY, List, TryClone, get_or_prepend_id_field};
+use bson_lite::{Bson, Document, ID_KEY, List, TryClone};
 use driver_error::{InsertOneResult, Result};
 use driver_exec::Client;
-use driver_ops::{OwnDocument, encode_document};
+use driver_ops::{OwnDocument, encode_document, encode_document_with_id};
 use driver_session::SessionStore;
 use std::alloc::Global;
 
@@ -79,29 +80,40 @@ fn sent_document<S: SessionStore>(
         S.tells (store_of client.new) ≡ S.tells (store_of client.old) }
     ensures options { options_of client.new ≡ options_of client.old }
 {
-    let mut document = document.try_clone(alloc)?;
-    let id = put_id(alloc, client, &mut document)?;
-    let bytes = encode_document(alloc, &document)?;
+    match document.get(ID_KEY) {
+        Some(id) => sent_with_own_id(alloc, document, id),
+        None => sent_with_new_id(alloc, client, document),
+    }
+}
+
+/// A document that has this id, as it is sent: as it was given.
+fn sent_with_own_id(alloc: Global, document: &Document, id: &Bson) -> Result<OwnDocument>
+    requires has { Some id.now ≡ value_of id_key document.now }
+    ensures refusal { IfErr result (λ error. TellsOwnRefusal document.now error) }
+    ensures id { IfOk result (λ own. own.id ≡ id.now) }
+    ensures spelled { IfOk result (λ own. Spells document.now own.bytes) }
+{
+    let bytes = encode_document(alloc, document)?;
+    let id = id.try_clone(alloc)?;
     Ok(OwnDocument { bytes, id })
 }
 
-/// Puts a new id first in a document that has none, and answers a copy of the document's id.
-fn put_id<S: SessionStore>(
+/// A document that has no id, as it is sent: behind a new one.
+#[tactic(auto, using(crate::proofs::OwnIds::sent_drawn))]
+fn sent_with_new_id<S: SessionStore>(
     alloc: Global,
     client: &mut Client<S>,
-    document: &mut Document,
-) -> Result<Bson>
-    ensures id { PutsId (S.tells (store_of client.old)) (S.tells (store_of client.new))
-        document.old document.new result }
-    ensures draws { MayDrawObjectId (S.tells (store_of client.old)) (S.tells (store_of client.new)) }
-    ensures drawn { MayDrawTwelve (S.tells (store_of client.old)) (S.tells (store_of client.new)) }
-    ensures unused { IsSome (value_of id_key document.old) →
-        S.tells (store_of client.new) ≡ S.tells (store_of client.old) }
+    document: &Document,
+) -> Result<OwnDocument>
+    requires has_none { value_of id_key document.now ≡ None }
+    ensures refusal { IfErr result (λ error. TellsOwnRefusal document.now error) }
+    ensures owns { IfOk result (λ own. IsSent (S.tells (store_of client.old)) (S.tells (store_of client.new))
+        document.now own) }
+    ensures drawn { DrawsTwelve (S.tells (store_of client.old)) (S.tells (store_of client.new)) }
     ensures options { options_of client.new ≡ options_of client.old }
 {
-    if let Some(id) = document.get(ID_KEY) {
-        return Ok(id.try_clone(alloc)?);
-    }
     let id = client.object_id();
-    Ok(get_or_prepend_id_field(alloc, document, id)?)
+    let bytes = encode_document_with_id(alloc, document, &id)?;
+    let id = Bson::ObjectId(id);
+    Ok(OwnDocument { bytes, id })
 }

@@ -40,6 +40,6 @@ pub use keys::{BASE_BACKOFF, CODE_NAME, ERROR_INFO};
 pub use operation::{Operation, Reading};
 pub use own_document::OwnDocument;
 pub use response::{CommandResponse, read_response};
-pub use spelling::encode_document;
+pub use spelling::{encode_document, encode_document_with_id};
 pub use target::{Collection, Database, OperationTarget};
 pub use update::{Update, update_body};

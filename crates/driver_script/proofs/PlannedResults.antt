@@ -22,7 +22,7 @@ use Rattle.driver_link.specs.Numbers.{field}
 use Rattle.driver_link.specs.WellFormed.{IsCount, IsItem, IsPlan, IsShallow, IsShallowValue}
 use Rattle.driver_link.proofs.Lists.{none_is_some, none_told, some_is_some}
 use Rattle.driver_actions.specs.Inputs.{is_long}
-use Rattle.driver_actions.proofs.InputFaults.{by_tests}
+use Rattle.bson_lite.proofs.Named.{by_tests}
 use Rattle.driver_script.specs.declared.keys.TheConstants.{CODE, FAIL, MESSAGE, MODIFIED, N, RESULTS, UPSERTED, VALUE, WRITE_CONCERN_ERROR}
 use Rattle.driver_script.specs.Json.{has_only, list_of, needed_part, optional_part}
 use Rattle.driver_script.specs.Plans.{built_code, built_plan, concern_error_in, concern_error_of, concern_error_with, failing_in, failing_of, failing_with, is_built_code, is_spelled_within, may_be_found, may_be_upserted, plan_in, plan_with, planned_of, serve_in, serve_of, serve_with}
