@@ -1,9 +1,9 @@
 -- A `HashMap` and the finite map that contracts see in its place: the keys have the order R and the
 -- test `eq`, and the two tie the same keys.
-use Rattle.std.proofs.Common.{true, Option, None, ◌≡◌, ℕ, suc, ◌+◌, Bool, false, cond, ◌||◌, List, [], ◌∷◌, length, Some, is_some, refl, sym, ap, ◌∙◌, add-one, nat_eq, ◌≤◌, arith}
+use Rattle.std.proofs.Common.{true, Option, ◌≡◌, ℕ, suc, ◌+◌, Bool, false, cond, ◌||◌, List, [], ◌∷◌, length, Some, is_some, refl, sym, ap, ◌∙◌, add-one, arith}
 use Rattle.std.specs.declared.cmp.Ordering.{Ordering}
 use Rattle.std.specs.declared.cmp.Ordering.TheVariants.{Less, Equal, Greater}
-use Rattle.std.specs.Cmp.{IsTotalOrder, eq_by_cmp_equiv, nat_cmp_total, unsigned_ties}
+use Rattle.std.specs.Cmp.{IsTotalOrder, eq_by_cmp_equiv, nat_cmp_total}
 use Rattle.std.specs.Ordering.{eq_by_cmp, is_eq, nat_cmp}
 use Rattle.std.specs.FinMap as finite
 use Rattle.std.specs.FinMap.Entries.{is_some-find}
@@ -13,7 +13,6 @@ use Rattle.std.specs.Option.{option_map}
 use Rattle.std.specs.List.{AllByRecursion, IsDistinct, list_any}
 use Rattle.std.specs.Map.{lookup, keys_of}
 use Rattle.std.proofs.lemmas.Map.Keys.{IsDistinct-head, IsDistinct-tail}
-use Rattle.std.proofs.lemmas.Bool.{eqb-true}
 use Rattle.bson_lite.specs.Indexed.{insert_each, changed_entries, changed}
 
 -- a key that no key ties with is not found
@@ -57,49 +56,6 @@ module _ {K X S : Type 0} {R : K → K → Ordering} (o : IsTotalOrder R) (eq : 
       ∙ ap (cond (eq_by_cmp R q k) (Some v)) (sym (get-from_hash_map m q))
       ∙ sym (finite.get-insert o (finite.from_entries m.entries) k v q))
 
-  -- one that has the same value at each key
-  pub alike : finite.IsAntisymmetric R → (m n : HashMap K X S) → ((q : K) → hash.get eq n q ≡ hash.get eq m q)
-      → finite.from_entries {R = R} n.entries ≡ finite.from_entries m.entries
-  alike same m n is = finite.same_map o same _ _ (λ q. get-from_hash_map n q ∙ is q ∙ sym (get-from_hash_map m q))
-
-abbrev first_of : {X : Type 0} → Option X → Option X → Option X
-first_of None o = o
-first_of (Some v) o = Some v
-
-first_of-cond : {X : Type 0} (b : Bool) (v : X) (f o : Option X) → (b ≡ true → f ≡ None) → first_of f (cond b (Some v) o) ≡ first_of (cond b (Some v) f) o
-first_of-cond true v f o none = ap (λ x. first_of x (Some v)) (none refl)
-first_of-cond false v f o none = refl
-
-first_of-None : {X : Type 0} (o : Option X) → first_of o None ≡ o
-first_of-None None = refl
-first_of-None (Some v) = refl
-
-none_of : {X : Type 0} (o : Option X) → is_some o ≡ false → o ≡ None
-none_of None e = refl
-none_of (Some v) e = absurd cc
-
--- a key is not found where the keys are apart from it
-none_behind : {X : Type 0} (e : ℕ × X) (es : List (ℕ × X)) (q : ℕ) → IsDistinct nat_eq (keys_of (e ∷ es)) → eq_by_cmp nat_cmp q e.0 ≡ true → finite.find nat_cmp q es ≡ None
-none_behind e es q apart ties =
-    let same : q ≡ e.0 = eqb-true q e.0 (unsigned_ties q e.0 ∙ ties) in
-    rw same (none_of (finite.find nat_cmp e.0 es)
-    (sym (ap is_some (finite.get-from_entries nat_cmp_total es e.0)) ∙ absent_head nat_cmp_total nat_eq unsigned_ties e es apart))
-
-get-insert_each : {X : Type 0} (m : finite.FinMap nat_cmp X) (es : List (ℕ × X)) → IsDistinct nat_eq (keys_of es) → (q : ℕ)
-    → finite.get (insert_each m es) q ≡ first_of (finite.find nat_cmp q es) (finite.get m q)
-unfolding insert_each
-get-insert_each m [] apart q = refl
-get-insert_each m (e ∷ es) apart q =
-    get-insert_each (finite.insert m e.0 e.1) es (IsDistinct-tail nat_eq e.0 (keys_of es) apart) q
-    ∙ ap (first_of (finite.find nat_cmp q es)) (finite.get-insert nat_cmp_total m e.0 e.1 q)
-    ∙ first_of-cond (eq_by_cmp nat_cmp q e.0) e.1 (finite.find nat_cmp q es) (finite.get m q) (none_behind e es q apart)
-
--- entries with distinct keys give one map, put one after another or all at once
-pub from_distinct : {X : Type 0} (es : List (ℕ × X)) → IsDistinct nat_eq (keys_of es) → insert_each finite.empty es ≡ finite.from_entries {R = nat_cmp} es
-from_distinct es apart = finite.same_map nat_cmp_total finite.nat_cmp-IsAntisymmetric _ _ (λ q.
-    get-insert_each finite.empty es apart q ∙ ap (first_of (finite.find nat_cmp q es)) (finite.get-empty nat_cmp q)
-    ∙ first_of-None _ ∙ sym (finite.get-from_entries nat_cmp_total es q))
-
 option_map-cond : {X Y : Type 0} (f : X → Y) (b : Bool) (v : X) (o : Option X) → cond b (Some (f v)) (option_map f o) ≡ option_map f (cond b (Some v) o)
 option_map-cond f true v o = refl
 option_map-cond f false v o = refl
@@ -109,40 +65,11 @@ find-changed f [] q = refl
 find-changed f (e ∷ es) q =
     ap (cond (eq_by_cmp nat_cmp q e.0) (Some (f e.1))) (find-changed f es q) ∙ option_map-cond f (eq_by_cmp nat_cmp q e.0) e.1 (finite.find nat_cmp q es)
 
-keys-changed : {X Y : Type 0} (f : X → Y) (es : List (ℕ × X)) → keys_of (changed_entries f es) ≡ keys_of es
-keys-changed f [] = refl
-keys-changed f (e ∷ es) = ap (◌∷◌ e.0) (keys-changed f es)
-
 -- the changed value is found at each index
 pub get-changed : {X Y : Type 0} (f : X → Y) (m : finite.FinMap nat_cmp X) (q : ℕ) → finite.get (changed f m) q ≡ option_map f (finite.get m q)
 get-changed f m q =
     finite.get-from_entries nat_cmp_total (changed_entries f (finite.entries m)) q ∙ find-changed f (finite.entries m) q
     ∙ ap (option_map f) (sym (finite.get-entries m q))
-
--- entries put with their values changed give the map with its values changed
-pub changed_from_distinct : {X Y : Type 0} (f : X → Y) (es : List (ℕ × X)) → IsDistinct nat_eq (keys_of es)
-    → insert_each finite.empty (changed_entries f es) ≡ changed f (finite.from_entries es)
-changed_from_distinct f es apart =
-    from_distinct (changed_entries f es) (rw (keys-changed f es) apart)
-    ∙ finite.same_map nat_cmp_total finite.nat_cmp-IsAntisymmetric _ _ (λ q.
-    finite.get-from_entries nat_cmp_total (changed_entries f es) q ∙ find-changed f es q
-    ∙ ap (option_map f) (sym (finite.get-from_entries nat_cmp_total es q) ∙ finite.get-entries (finite.from_entries {R = nat_cmp} es) q)
-    ∙ sym (find-changed f (finite.entries (finite.from_entries {R = nat_cmp} es)) q)
-    ∙ sym (finite.get-from_entries nat_cmp_total (changed_entries f (finite.entries (finite.from_entries {R = nat_cmp} es))) q))
-
--- the next of many values was put where it belongs
-pub puts_next : {X S : Type 0} (m n : HashMap ℕ X S) (entry : ℕ × X) (rest left : List (ℕ × X)) (all : finite.FinMap nat_cmp X)
-    → hash.Updates nat_eq m n entry.0 (Some entry.1) → left ≡ entry ∷ rest
-    → insert_each (finite.from_entries m.entries) left ≡ all → insert_each (finite.from_entries n.entries) rest ≡ all
-unfolding insert_each
-puts_next m n entry rest left all updates is so_far =
-    ap (λ x. insert_each x rest) (inserted nat_cmp_total nat_eq unsigned_ties finite.nat_cmp-IsAntisymmetric m n entry.0 entry.1 updates)
-    ∙ ap (insert_each (finite.from_entries m.entries)) (sym is) ∙ so_far
-
--- there is room for the rest
-pub room_after : {X : Type 0} (entry : ℕ × X) (rest left : List (ℕ × X)) (before now : ℕ)
-    → left ≡ entry ∷ rest → length left ≤ before → before ≤ now + 1 → length rest ≤ now
-room_after entry rest left before now is room spare = let e = ap length is in omega (arith, e)
 
 -- nothing is left to put
 pub puts_none : {X : Type 0} (m all : finite.FinMap nat_cmp X) (left : List (ℕ × X)) → length left ≡ 0 → insert_each m left ≡ all → m ≡ all
@@ -160,6 +87,17 @@ there : {X : Type 0} (r : Ordering) (v : X) (o : Option X) → (r ≡ Equal → 
 there Less v o is = refl
 there Equal v o is = is refl
 there Greater v o is = refl
+
+-- two tests that never both hold, in either order
+either_first : {A : Type 0} (a b : Bool) (x y z : A) → (a ≡ true → b ≡ true → ⊥) → cond a x (cond b y z) ≡ cond b y (cond a x z)
+either_first true true x y z apart = absurd (apart refl refl)
+either_first true false x y z apart = refl
+either_first false b x y z apart = refl
+
+-- a test is not both
+never_both : (b : Bool) → b ≡ false → b ≡ true → ⊥
+never_both true failed passed = cc
+never_both false failed passed = cc
 
 module _ {K X : Type 0} {R : K → K → Ordering} (o : IsTotalOrder R) where
   -- the value that was put at a key
@@ -180,3 +118,14 @@ module _ {K X : Type 0} {R : K → K → Ordering} (o : IsTotalOrder R) where
   insert_there same m k v is = finite.same_map o same _ _ (λ q.
       finite.get-insert o m k v q
       ∙ there (R q k) v (finite.get m q) (λ ties. sym is ∙ finite.get_tied o m q k ties))
+
+  -- values at two keys can be put in either order
+  pub insert_swapped : finite.IsAntisymmetric R → (m : finite.FinMap R X) (j k : K) (v w : X) → eq_by_cmp R j k ≡ false
+      → finite.insert (finite.insert m j v) k w ≡ finite.insert (finite.insert m k w) j v
+  insert_swapped same m j k v w apart = finite.same_map o same _ _ (λ q.
+      finite.get-insert o (finite.insert m j v) k w q
+      ∙ ap (cond (eq_by_cmp R q k) (Some w)) (finite.get-insert o m j v q)
+      ∙ either_first (eq_by_cmp R q k) (eq_by_cmp R q j) (Some w) (Some v) (finite.get m q)
+      (λ second first. never_both (eq_by_cmp R j k) apart (sym ((eq_by_cmp_equiv o).congr q j k first) ∙ second))
+      ∙ ap (cond (eq_by_cmp R q j) (Some v)) (sym (finite.get-insert o m k w q))
+      ∙ sym (finite.get-insert o (finite.insert m k w) j v q))

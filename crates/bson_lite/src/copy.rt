@@ -41,10 +41,10 @@ impl<T: TryClone + Drop> TryClone for List<T> {
 
 impl<T: TryClone + Drop> TryClone for ByIndex<T> {
     fn try_clone(&self, alloc: Global) -> Result<ByIndex<T>, AllocError> {
-        let entries = self.map();
+        let pairs = self.entries();
         let mut copies = ByIndex::new(alloc);
-        for (index, value) in entries.iter() {
-            copies.insert(*index, value.try_clone(alloc)?)?;
+        for pair in pairs {
+            copies.insert(pair.0, pair.1.try_clone(alloc)?)?;
         }
         Ok(copies)
     }

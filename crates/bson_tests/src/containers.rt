@@ -64,7 +64,7 @@ fn gathered(alloc: Global) -> Result<Bytes, AllocError> {
 fn indexed(alloc: Global) -> Result<ByIndex<Timestamp>, AllocError> {
     let mut by_index = ByIndex::new(alloc);
     by_index.insert(7, stamp(1))?;
-    by_index.extend(vec![in alloc; (8, stamp(2)), (7, stamp(3))]?)?;
+    by_index.extend(vec![in alloc; (9, stamp(2)), (7, stamp(3)), (8, stamp(4))]?)?;
     copied(alloc, &by_index)
 }
 
@@ -78,7 +78,9 @@ fn containers(rt: HostRuntime) -> Result<(), Fail> {
     assert_eq!(rt; listed(alloc)?.as_slice(), [stamp(1), stamp(2)].as_slice());
     assert_eq!(rt; gathered(alloc)?.as_slice(), [1, 2, 3].as_slice());
     let by_index = indexed(alloc)?;
-    assert_eq!(rt; by_index.len(), 2);
+    let entries = [(7, stamp(3)), (8, stamp(4)), (9, stamp(2))];
+    assert_eq!(rt; by_index.len(), 3);
+    assert_eq!(rt; by_index.entries(), entries.as_slice());
     assert_eq!(rt; by_index.get(7).copied(), Some(stamp(3)));
     assert_eq!(rt; *boxed(alloc)?.get(), stamp(5));
     Ok(())

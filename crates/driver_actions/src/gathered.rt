@@ -11,7 +11,7 @@ ghost use Rattle.driver_actions.specs.Batches.{tells_documents};
 ghost use Rattle.driver_actions.specs.ManyAnswers.{TellsGathered, failures_of, later_concern, moved_error, nothing_gathered, put_ids, told_errors, with_failures, with_kind};
 ghost use Rattle.driver_actions.specs.inside.Taking.{StopsWith, Takes};
 
-use bson_lite::{Bson, ByIndex, List, Text, TryClone};
+use bson_lite::{Boxed, Bson, ByIndex, List, Text, TryClone};
 use driver_error::{
     Error, ErrorKind, IndexedWriteError, InsertManyError, InsertManyResult, Labels, Result,
     WriteConcernError,
@@ -125,7 +125,7 @@ impl Gathered {
     {
         match kind {
             ErrorKind::InsertMany(failures) => {
-                self.take_failures(alloc, first, count, labels, failures)
+                self.take_failures(alloc, first, count, labels, failures.get())
             }
             _ => Ok(()),
         }
@@ -338,7 +338,10 @@ fn failure(alloc: Global, told: Gathered) -> Error
         write_concern_error: concern,
         inserted_ids,
     };
-    labelled(alloc, ErrorKind::InsertMany(failures), &labels)
+    match Boxed::new(alloc, failures) {
+        Ok(failures) => labelled(alloc, ErrorKind::InsertMany(failures), &labels),
+        Err(_refused) => Error::from_kind(ErrorKind::Memory),
+    }
 }
 
 /// The write errors, where there are some.

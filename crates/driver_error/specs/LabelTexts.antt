@@ -1,13 +1,9 @@
 -- Sets of labels.
-use Rattle.std.specs.Prelude.{ℕ, Bool, List, [], ◌∷◌, map, string_bytes, is_some, Option, None, Some}
+use Rattle.std.specs.Prelude.{ℕ, Bool, true, false, List, [], ◌∷◌, if◌then◌else◌, is_some, Option, None, Some}
 use Rattle.std.specs.Ordering.{nat_cmp}
 use Rattle.std.specs.Cmp.Lexicographic.{slice_cmp}
 use Rattle.std.specs.FinMap as finite
-use Rattle.std.specs.declared.string.String.{String}
-use Rattle.std.specs.declared.alloc.Global.{Global}
-use Rattle.std.specs.declared.hash.FoldHasher.{FoldHasher}
-use Rattle.std.specs.declared.hash.BuildHasherDefault.{BuildHasherDefault}
-use Rattle.std.specs.HashSet.{HashSet}
+use Rattle.std.specs.Str.{bytes_eq}
 
 -- a finite set of texts
 abbrev pub LabelSet : Type 0
@@ -39,11 +35,12 @@ unfoldable pub with_labels : LabelSet → List (List ℕ) → LabelSet
 with_labels labels [] = labels
 with_labels labels (label ∷ more) = with_labels (with_label labels label) more
 
--- names as a program keeps them
-abbrev pub Names : Type 0
-Names = HashSet (String Global) (BuildHasherDefault FoldHasher)
+-- a text is among these
+abbrev pub is_among : List ℕ → List (List ℕ) → Bool
+is_among label [] = false
+is_among label (text ∷ texts) = if bytes_eq text label then true else is_among label texts
 
--- the texts of the names
-abbrev pub texts : Option Names → List (List ℕ)
+-- the names that there are
+abbrev pub texts : Option (List (List ℕ)) → List (List ℕ)
 texts None = []
-texts (Some names) = map string_bytes names.keys
+texts (Some names) = names

@@ -11,7 +11,7 @@ use crate::error::{Error, concern_of};
 use crate::kind::{ErrorKind, IoKind};
 use crate::labels::Labels;
 use crate::write::{IndexedWriteError, InsertManyError, WriteConcernError, WriteFailure};
-use bson_lite::{EncodeFault, List, Text};
+use bson_lite::{Boxed, EncodeFault, List, Text};
 use std::alloc::{AllocError, Global};
 
 const NO_FAILURE: &str = "error missing write errors and write concern errors";
@@ -127,14 +127,14 @@ pub fn convert_insert_many_error(alloc: Global, error: Error) -> Error
 }
 
 /// The error of a single write.
-fn single_error(alloc: Global, failures: InsertManyError, labels: Labels) -> Error
+fn single_error(alloc: Global, failures: Boxed<InsertManyError>, labels: Labels) -> Error
     ensures { IsSingle (single_failure failures) labels result }
 {
     let InsertManyError {
         write_errors,
         write_concern_error,
         inserted_ids: _,
-    } = failures;
+    } = failures.into_inner();
     match first_failure(write_errors, write_concern_error) {
         Some(failure) => Error {
             kind: ErrorKind::Write(failure),

@@ -31,7 +31,7 @@ pub(crate) fn concern_of(kind: &ErrorKind) -> Option<&WriteConcernError>
     ensures { option_copied result ≡ concern_of kind.now }
 {
     match kind {
-        ErrorKind::InsertMany(failures) => failures.write_concern_error.as_ref(),
+        ErrorKind::InsertMany(failures) => failures.get().write_concern_error.as_ref(),
         ErrorKind::Write(WriteFailure::WriteConcernError(concern)) => Some(concern),
         _ => None,
     }

@@ -3,7 +3,7 @@ use crate::command::CommandError;
 use crate::error::Error;
 use crate::gridfs::GridFsErrorKind;
 use crate::write::{BulkWriteError, InsertManyError, WriteFailure};
-use bson_lite::{EncodeFault, Text, TryClone};
+use bson_lite::{Boxed, EncodeFault, Text, TryClone};
 use std::alloc::{AllocError, Global};
 use std::fmt::Debug;
 use thiserror::Error as DeriveError;
@@ -48,9 +48,9 @@ pub enum ErrorKind<E = Error> {
     #[error("{0:?}")]
     BsonSerialization(EncodeFault),
     #[error("An error occurred when trying to execute an insert_many operation: {0:?}")]
-    InsertMany(InsertManyError),
+    InsertMany(Boxed<InsertManyError>),
     #[error("An error occurred when executing Client::bulk_write: {0:?}")]
-    BulkWrite(BulkWriteError),
+    BulkWrite(Boxed<BulkWriteError>),
     /// The server refused the whole command.
     #[error("Command failed: {0}")]
     Command(CommandError),

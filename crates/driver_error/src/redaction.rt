@@ -85,8 +85,14 @@ fn redacted_kind(alloc: Global, kind: &ErrorKind) -> Result<ErrorKind, AllocErro
     ensures { IfOk result (λ copy. copy ≡ redacted_kind kind.now) }
 {
     match kind {
-        ErrorKind::InsertMany(error) => Ok(ErrorKind::InsertMany(redacted_many(alloc, error)?)),
-        ErrorKind::BulkWrite(error) => Ok(ErrorKind::BulkWrite(redacted_bulk(alloc, error)?)),
+        ErrorKind::InsertMany(error) => {
+            let copy = redacted_many(alloc, error.get())?;
+            Ok(ErrorKind::InsertMany(Boxed::new(alloc, copy)?))
+        }
+        ErrorKind::BulkWrite(error) => {
+            let copy = redacted_bulk(alloc, error.get())?;
+            Ok(ErrorKind::BulkWrite(Boxed::new(alloc, copy)?))
+        }
         ErrorKind::Command(error) => Ok(ErrorKind::Command(redacted_command(alloc, error)?)),
         ErrorKind::Write(failure) => Ok(ErrorKind::Write(redacted_failure(alloc, failure)?)),
         other => other.try_clone(alloc),
@@ -225,10 +231,10 @@ fn redacted_map(
 ) -> Result<ByIndex<WriteError>, AllocError>
     ensures { IfOk result (λ copies. copies ≡ changed redacted_write errors.now) }
 {
-    let entries = errors.map();
+    let pairs = errors.entries();
     let mut copies = ByIndex::new(alloc);
-    for (index, error) in entries.iter() {
-        copies.insert(*index, redacted_write(alloc, error)?)?;
+    for pair in pairs {
+        copies.insert(pair.0, redacted_write(alloc, &pair.1)?)?;
     }
     Ok(copies)
 }

@@ -1,12 +1,14 @@
 -- The ids of documents by their indexes, where they were inserted.
-use Rattle.std.proofs.Common.{◌≡◌, ℕ, zero, suc, ◌+◌, ◌-◌, ◌<◌, ◌≤◌, List, [], ◌∷◌, Bool, true, not, ◌&&◌, length, drop, take, get_or, nat_eq, arith, refl, sym, ap, ◌∙◌}
-use Rattle.std.proofs.Math.Seq.{drop-length}
+use Rattle.std.proofs.Common.{◌≡◌, ℕ, zero, suc, ◌+◌, ◌<◌, ◌≤◌, List, [], ◌∷◌, ◌++◌, Bool, true, false, not, ◌&&◌, length, drop, take, get_or, nat_eq, add-one, length-take-le, take-suc, take_all, arith, refl, sym, ap, ◌∙◌}
 use Rattle.std.proofs.lemmas.Bool.{le-ltb, lt-ltb}
 use Rattle.std.proofs.lemmas.List.{at_drop_all, drop_more}
 use Rattle.std.specs.Prelude.{if◌then◌else◌, nat_lt}
+use Rattle.std.specs.Cmp.{nat_cmp_total}
 use Rattle.std.specs.FinMap as finite
 use Rattle.std.specs.HashSet as bag
 use Rattle.std.specs.Ordering.{nat_cmp}
+use Rattle.bson_lite.proofs.FinMaps.{insert_swapped}
+use Rattle.bson_lite.proofs.Rising.{apart}
 use Rattle.bson_lite.specs.declared.bson.Bson.{Bson}
 use Rattle.driver_error.specs.declared.write.IndexedWriteError.{IndexedWriteError}
 use Rattle.driver_ops.specs.declared.own_document.OwnDocument.{OwnDocument}
@@ -26,26 +28,51 @@ ids_alike these those same (own ∷ rest) at =
 pub none_failed : (failed : Indexes) → bag.IsEmpty failed → (index : ℕ) → not (bag.contains nat_eq failed index) ≡ true
 none_failed failed none index = rw none refl
 
--- no document is left, and none has an id
-pub ids_none : (inserted : ℕ → Bool) (documents : List OwnDocument) → finite.empty ≡ ids_where inserted (length documents) (drop (length documents) documents)
+-- no document was passed, and none has an id
+pub ids_none : (inserted : ℕ → Bool) (documents : List OwnDocument) → finite.empty ≡ ids_where inserted 0 (take 0 documents)
 unfolding ids_where
-ids_none inserted documents = rw (drop-length documents) refl
+ids_none inserted documents = refl
 
--- the document before those whose ids were put
-pub ids_more : (inserted : ℕ → Bool) (documents : List OwnDocument) (at : ℕ) (own : OwnDocument) (ids now : finite.FinMap nat_cmp Bson) → 0 < at → at ≤ length documents
-    → own ≡ get_or documents (at - 1) own → ids ≡ ids_where inserted at (drop at documents)
-    → now ≡ (if inserted (at - 1) then finite.insert ids (at - 1) own.id else ids) → now ≡ ids_where inserted (at - 1) (drop (at - 1) documents)
+-- an id put behind others, where those before it were put after it or before
+ids_past : (here there : Bool) (ids : finite.FinMap nat_cmp Bson) (at last : ℕ) (first_id last_id : Bson) → at < last
+    → (if here then finite.insert (if there then finite.insert ids last last_id else ids) at first_id else (if there then finite.insert ids last last_id else ids))
+    ≡ (if there then finite.insert (if here then finite.insert ids at first_id else ids) last last_id else (if here then finite.insert ids at first_id else ids))
+ids_past false there ids at last first_id last_id before = refl
+ids_past true false ids at last first_id last_id before = refl
+ids_past true true ids at last first_id last_id before =
+    sym (insert_swapped nat_cmp_total finite.nat_cmp-IsAntisymmetric ids at last first_id last_id (apart at last before))
+
+-- the id of a document behind others
+ids_behind_others : (inserted : ℕ → Bool) (at last : ℕ) (documents : List OwnDocument) (own : OwnDocument) → last ≡ at + length documents
+    → ids_where inserted at (documents ++ own ∷ []) ≡ (if inserted last then finite.insert (ids_where inserted at documents) last own.id else ids_where inserted at documents)
 unfolding ids_where
-ids_more inserted documents at own ids now some within read so_far puts =
-    let next : at - 1 + 1 ≡ at = omega arith in
-    let left : drop (at - 1) documents ≡ own ∷ drop at documents =
-    drop_more documents (at - 1) own (omega arith)
-    ∙ ap (λ found. found ∷ drop (at - 1 + 1) documents) (sym read)
-    ∙ ap (λ n. own ∷ drop n documents) next in
+ids_behind_others inserted at last [] own is =
+    let same : at ≡ last = omega (arith, is) in
+    let none : finite.FinMap nat_cmp Bson = finite.empty in
+    ap (λ (place : ℕ). if inserted place then finite.insert none place own.id else none) same
+ids_behind_others inserted at last (first ∷ rest) own is =
+    ap (λ (ids : finite.FinMap nat_cmp Bson). if inserted at then finite.insert ids at first.id else ids)
+    (ids_behind_others inserted (at + 1) last rest own (omega (arith, is)))
+    ∙ ids_past (inserted at) (inserted last) (ids_where inserted (at + 1) rest) at last first.id own.id (omega (arith, is))
+
+-- the document behind those whose ids were put
+pub ids_more : (inserted : ℕ → Bool) (documents : List OwnDocument) (at : ℕ) (own : OwnDocument) (ids now : finite.FinMap nat_cmp Bson) → at < length documents
+    → own ≡ get_or documents at own → ids ≡ ids_where inserted 0 (take at documents)
+    → now ≡ (if inserted at then finite.insert ids at own.id else ids) → now ≡ ids_where inserted 0 (take (at + 1) documents)
+ids_more inserted documents at own ids now within read so_far puts =
+    let passed : take (at + 1) documents ≡ take at documents ++ own ∷ [] =
+    ap (λ (count : ℕ). take count documents) (add-one at) ∙ take-suc documents at own within
+    ∙ ap (λ (found : OwnDocument). take at documents ++ found ∷ []) (sym read) in
+    let last : at ≡ 0 + length (take at documents) = let count = length-take-le at documents (omega (arith, within)) in omega (arith, count) in
     puts
-    ∙ ap (λ (found : finite.FinMap nat_cmp Bson). if inserted (at - 1) then finite.insert found (at - 1) own.id else found)
-    (so_far ∙ ap (λ n. ids_where inserted n (drop at documents)) (sym next))
-    ∙ ap (λ documents_left. ids_where inserted (at - 1) documents_left) (sym left)
+    ∙ ap (λ (found : finite.FinMap nat_cmp Bson). if inserted at then finite.insert found at own.id else found) so_far
+    ∙ sym (ids_behind_others inserted 0 at (take at documents) own last)
+    ∙ ap (λ documents_passed. ids_where inserted 0 documents_passed) (sym passed)
+
+-- all documents were passed
+pub ids_passed : (inserted : ℕ → Bool) (documents : List OwnDocument) (at : ℕ) (ids : finite.FinMap nat_cmp Bson) → length documents ≤ at
+    → ids ≡ ids_where inserted 0 (take at documents) → ids ≡ ids_where inserted 0 documents
+ids_passed inserted documents at ids past so_far = so_far ∙ ap (λ passed. ids_where inserted 0 passed) (take_all at documents past)
 
 -- none of documents that stand behind an index
 ids_behind : (inserted : ℕ → Bool) (stop at : ℕ) (documents : List OwnDocument) → stop ≤ at

@@ -35,7 +35,7 @@ use crate::reply_fields::{Unread, int_at, labels_at};
 use crate::response::odd_reply;
 use crate::target::{Collection, OperationTarget};
 use crate::write_reply::{reply_concern_error, write_errors_in};
-use bson_lite::{Bson, ByIndex, Bytes, Document, List, Text, TryClone};
+use bson_lite::{Boxed, Bson, ByIndex, Bytes, Document, List, Text, TryClone};
 use driver_error::{
     Error, ErrorKind, IndexedWriteError, InsertManyError, InsertManyResult, Result,
     WriteConcernError,
@@ -462,7 +462,10 @@ fn failed_insert(alloc: Global, found: InsertReply, inserted_ids: ByIndex<Bson>)
         write_concern_error: concern,
         inserted_ids,
     };
-    Error::new(alloc, ErrorKind::InsertMany(failures), labels.as_slice())
+    match Boxed::new(alloc, failures) {
+        Ok(failures) => Error::new(alloc, ErrorKind::InsertMany(failures), labels.as_slice()),
+        Err(_refused) => Error::from_kind(ErrorKind::Memory),
+    }
 }
 
 /// The write errors, where there are some.

@@ -121,7 +121,8 @@ pub(crate) fn ids_of(alloc: Global, documents: &[OwnDocument]) -> Result<ByIndex
     ids_besides(alloc, documents, &failed)
 }
 
-/// The ids of the documents besides those that failed, by their indexes. The last one is put first.
+/// The ids of the documents besides those that failed, by their indexes. The first one is put first, so that each
+/// comes behind all others.
 fn ids_besides(
     alloc: Global,
     documents: &[OwnDocument],
@@ -131,10 +132,10 @@ fn ids_besides(
         (λ ids. ids ≡ ids_where (λ at. not (contains nat_eq failed.now at)) 0 documents.now) }
 {
     let mut ids = ByIndex::new(alloc);
-    let mut at = documents.len();
-    'documents: while at > 0 {
-        at -= 1;
+    let mut at = 0;
+    'documents: while at < documents.len() {
         put_id(alloc, &mut ids, at, &documents[at].id, failed)?;
+        at += 1;
     }
     Ok(ids)
 }

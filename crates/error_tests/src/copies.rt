@@ -42,11 +42,12 @@ fn many(
     let mut inserted_ids = ByIndex::new(alloc);
     inserted_ids.insert(0, Bson::Int32(1))?;
     let labels = text_list(alloc, &["outer"])?;
-    let kind = ErrorKind::InsertMany(InsertManyError {
+    let failures = InsertManyError {
         write_errors,
         write_concern_error,
         inserted_ids,
-    });
+    };
+    let kind = ErrorKind::InsertMany(Boxed::new(alloc, failures)?);
     Ok(Error::new(alloc, kind, labels.as_slice()))
 }
 

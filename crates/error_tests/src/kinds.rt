@@ -69,8 +69,8 @@ fn failures_of_writes_are_copied(rt: HostRuntime) -> Result<(), Fail> {
 
 fn failed_write(alloc: Global, at: usize) -> Result<ErrorKind, AllocError> {
     Ok(match at {
-        0 => ErrorKind::InsertMany(many(alloc)?),
-        1 => ErrorKind::BulkWrite(bulk(alloc)?),
+        0 => ErrorKind::InsertMany(Boxed::new(alloc, many(alloc)?)?),
+        1 => ErrorKind::BulkWrite(Boxed::new(alloc, bulk(alloc)?)?),
         2 => ErrorKind::Write(WriteFailure::WriteError(write_error(alloc)?)),
         _ => ErrorKind::Write(WriteFailure::WriteConcernError(concern(alloc)?)),
     })

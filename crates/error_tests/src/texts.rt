@@ -1,6 +1,6 @@
 //! The texts of errors.
 use crate::errors::{command, command_failed, held, printed, redact, reset};
-use bson_lite::{ByIndex, EncodeFault, List, Text};
+use bson_lite::{Boxed, ByIndex, EncodeFault, List, Text};
 use driver_error::{
     BulkWriteError, Error, ErrorKind, GridFsErrorKind, InsertManyError, IoKind, WriteError,
     WriteFailure,
@@ -121,20 +121,22 @@ fn a_redacted_command_error_prints_its_code_and_name(rt: HostRuntime) -> Result<
     Ok(())
 }
 
-fn many(alloc: Global) -> ErrorKind {
-    ErrorKind::InsertMany(InsertManyError {
+fn many(alloc: Global) -> Result<ErrorKind, AllocError> {
+    let failures = InsertManyError {
         write_errors: None,
         write_concern_error: None,
         inserted_ids: ByIndex::new(alloc),
-    })
+    };
+    Ok(ErrorKind::InsertMany(Boxed::new(alloc, failures)?))
 }
 
-fn bulk(alloc: Global) -> ErrorKind {
-    ErrorKind::BulkWrite(BulkWriteError {
+fn bulk(alloc: Global) -> Result<ErrorKind, AllocError> {
+    let failures = BulkWriteError {
         write_concern_errors: List::new(alloc),
         write_errors: ByIndex::new(alloc),
         partial_result: None,
-    })
+    };
+    Ok(ErrorKind::BulkWrite(Boxed::new(alloc, failures)?))
 }
 
 fn write(alloc: Global) -> ErrorKind {
@@ -150,9 +152,9 @@ fn write(alloc: Global) -> ErrorKind {
 fn failures_of_writes_begin_with_their_texts(rt: HostRuntime) -> Result<(), Fail> {
     let alloc = rt.alloc();
     let text = "An error occurred when trying to execute an insert_many operation: ";
-    assert!(rt; begins(alloc, many(alloc), text)?);
+    assert!(rt; begins(alloc, many(alloc)?, text)?);
     let text = "An error occurred when executing Client::bulk_write: ";
-    assert!(rt; begins(alloc, bulk(alloc), text)?);
+    assert!(rt; begins(alloc, bulk(alloc)?, text)?);
     let text = "An error occurred when trying to execute a write operation: ";
     assert!(rt; begins(alloc, write(alloc), text)?);
     Ok(())

@@ -315,7 +315,7 @@ fn lists(failures: &InsertManyError, told: Told) -> bool {
 /// Whether an error tells this.
 fn tells(error: &Error, told: Told) -> bool {
     match error.kind() {
-        ErrorKind::InsertMany(failures) => lists(failures, told),
+        ErrorKind::InsertMany(failures) => lists(failures.get(), told),
         ErrorKind::InvalidResponse { .. } => matches!(told, Told::Odd),
         _ => false,
     }

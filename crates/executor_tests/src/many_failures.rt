@@ -176,7 +176,7 @@ fn are_failures(failures: &InsertManyError, row: &Row) -> bool {
 /// Whether an error is of the kind of a row.
 fn is_kind(kind: &ErrorKind, row: &Row) -> bool {
     match kind {
-        ErrorKind::InsertMany(failures) => are_failures(failures, row),
+        ErrorKind::InsertMany(failures) => are_failures(failures.get(), row),
         _ => false,
     }
 }

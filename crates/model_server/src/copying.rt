@@ -92,10 +92,10 @@ pub fn copied_transaction(
 pub fn copied_kept(alloc: Global, kept: &ByIndex<Counted>) -> Result<ByIndex<Counted>, AllocError>
     ensures { IfOk result (λ copy. copy ≡ kept.now) }
 {
-    let entries = kept.map();
+    let pairs = kept.entries();
     let mut copies = ByIndex::new(alloc);
-    for (index, counts) in entries.iter() {
-        copies.insert(*index, copy_counts(alloc, counts)?)?;
+    for pair in pairs {
+        copies.insert(pair.0, copy_counts(alloc, &pair.1)?)?;
     }
     Ok(copies)
 }

@@ -34,7 +34,7 @@ pub(crate) fn push_detail(
         | ErrorKind::Custom(message) => out.push_str(message.as_str()),
         ErrorKind::BsonSerialization(fault) => out.push_str(name_of_fault(*fault)),
         ErrorKind::Io(failure) => out.push_str(name_of_io(*failure)),
-        ErrorKind::InsertMany(many) => push_many_failure(alloc, out, many),
+        ErrorKind::InsertMany(many) => push_many_failure(alloc, out, many.get()),
         ErrorKind::Command(error) => push_code(out, error.code),
         ErrorKind::Write(failure) => push_failure(out, failure),
         _ => out.push_str("-"),

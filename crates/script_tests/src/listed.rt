@@ -112,7 +112,7 @@ fn are_listed(log: &[Entry], ids: &ByIndex<Bson>, wanted: &[usize]) -> bool {
 /// Whether an error lists these.
 fn error_lists(log: &[Entry], error: &Error, wanted: &[usize]) -> bool {
     match error.kind() {
-        ErrorKind::InsertMany(failures) => are_listed(log, &failures.inserted_ids, wanted),
+        ErrorKind::InsertMany(failures) => are_listed(log, &failures.get().inserted_ids, wanted),
         _ => false,
     }
 }

@@ -2,7 +2,7 @@
 use crate::schedules::script_in;
 use crate::scripts::ran;
 use crate::writes::{Row, is_reported};
-use bson_lite::{ByIndex, Bytes, List, Text};
+use bson_lite::{Boxed, ByIndex, Bytes, List, Text};
 use driver_actions::Outcome;
 use driver_error::{Error, ErrorKind, IndexedWriteError, InsertManyError};
 use script_run::{Run, report_text};
@@ -256,17 +256,18 @@ fn errors_of(alloc: Global, pairs: &[(usize, i32)]) -> Result<List<IndexedWriteE
 }
 
 /// The outcome of an insert of many with these errors.
-fn outcome_of(alloc: Global, errors: List<IndexedWriteError>) -> Outcome {
+fn outcome_of(alloc: Global, errors: List<IndexedWriteError>) -> Result<Outcome, AllocError> {
     let failures = InsertManyError {
         write_errors: Some(errors),
         write_concern_error: None,
         inserted_ids: ByIndex::new(alloc),
     };
-    Outcome {
-        result: Err(Error::from_kind(ErrorKind::InsertMany(failures))),
+    let kind = ErrorKind::InsertMany(Boxed::new(alloc, failures)?);
+    Ok(Outcome {
+        result: Err(Error::from_kind(kind)),
         started_ms: 0,
         ended_ms: 0,
-    }
+    })
 }
 
 /// The report of a run of one insert of many that ended with these errors.
@@ -277,7 +278,7 @@ fn report_of(alloc: Global, pairs: &[(usize, i32)]) -> Result<Bytes, AllocError>
     )?;
     let errors = errors_of(alloc, pairs)?;
     let mut outcomes = List::new(alloc);
-    outcomes.push(outcome_of(alloc, errors))?;
+    outcomes.push(outcome_of(alloc, errors)?)?;
     let run = Run {
         script,
         outcomes: Some(outcomes),

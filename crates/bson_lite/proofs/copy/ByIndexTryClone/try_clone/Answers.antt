@@ -1,21 +1,22 @@
--- The keys of a map are distinct, so their order does not matter.
+-- The entries of a map, put one after another, give that map.
 use Rattle.std.proofs.Common.{sym, ap, ◌∙◌}
+use Rattle.std.proofs.lemmas.List.{at_drop_all}
 use Rattle.std.specs.FinMap as map
 use Rattle.bson_lite.specs.Indexed.{insert_each}
-use Rattle.bson_lite.proofs.FinMaps.{from_distinct}
+use Rattle.bson_lite.proofs.Rising.{each_entry, each_more}
 use Rattle.bson_lite.proofs.copy.ByIndexTryClone.try_clone.Goals as goal
 
-pub loop-index-init : goal.loop-index-init
-loop-index-init g c =
-    rw (c.into_iter-index-iterator.ensures.into_iter_gives, c.iter-index-items.ensures.rest, c.new-copies.ensures)
-    (from_distinct c.map-entries.result.now.entries c.iter-index-items.ensures.unique ∙ c.map-entries.ensures)
+pub loop-pair-init : goal.loop-pair-init
+loop-pair-init g c = rw (c.new-copies.ensures, c.entries-pairs.ensures) (each_entry c.args.self.now)
 
-pub loop-index-preserved : goal.loop-index-preserved
-unfolding insert_each
-loop-index-preserved g c =
-    ap (λ m. insert_each m c.next.new.self) (c.in_ok-insert.ensures.ok ∙ ap (map.insert c.loop-index.copies c.in-Some.index.now) c.in_ok-try_clone.ensures.same)
-    ∙ ap (insert_each c.loop-index.copies) (sym c.in-Some.ensures.steps) ∙ c.loop-index.invariant
+pub loop-pair-preserved : goal.loop-pair-preserved
+loop-pair-preserved g c =
+    each_more c.loop-pair.copies c.insert.new.self c.entries-pairs.result.now c.loop-pair.pair-index c.pair-item.result c.args.self.now
+    c.loop-pair-test.true c.pair-item.is
+    (c.in_ok-insert.ensures.ok ∙ ap (map.insert c.loop-pair.copies c.pair-item.result.0) c.in_ok-try_clone.ensures.same) c.loop-pair.invariant
 
 pub returns : goal.returns
 unfolding insert_each
-returns g c = record { same = ap (insert_each c.loop-index.copies) (sym c.in-None.ensures.steps.0) ∙ c.loop-index.invariant }
+returns g c = record {
+  same = sym (at_drop_all (insert_each c.loop-pair.copies) c.entries-pairs.result.now c.loop-pair.pair-index c.loop-pair-test.false) ∙ c.loop-pair.invariant;
+}
