@@ -1,5 +1,5 @@
 -- The failures that the batches of an insert tell are those that replies of the server spell.
-use Rattle.std.proofs.Common.{◌≡◌, ℕ, ◌+◌, ◌≤◌, List, [], ◌∷◌, ◌++◌, drop, length, sym, ap, subst, ◌∙◌, inl, inr, append_assoc}
+use Rattle.std.proofs.Common.{◌≡◌, ℕ, ◌+◌, ◌<◌, ◌≤◌, List, [], ◌∷◌, ◌++◌, drop, length, length-append, sym, ap, subst, ◌∙◌, inl, inr, append_assoc, arith}
 use Rattle.std.specs.Prelude.{Some, Err}
 use Rattle.std.specs.Option.{option_map}
 use Rattle.bson_lite.specs.declared.bson.Bson.{Bson}
@@ -49,9 +49,11 @@ spelled_longer call start run last end failures more gained same spelled = recor
   send = spelled.send;
   later = spelled.later ++ more;
   sent = gained ∙ ap (λ t. t ++ more) spelled.sent ∙ append_assoc spelled.server.trace (spelled.send ∷ spelled.later) more;
+  since = spelled.since;
   folds = λ begun. subst (λ s. spelled.server ≡ replayed s empty_server spelled.server.trace) (sym same) (spelled.folds begun);
   count = spelled.count;
   fixed = spelled.fixed;
+  some = spelled.some;
   placed = spelled.placed;
   done = spelled.done;
   told = subst (λ s. statements_in spelled.server spelled.send (next_step s spelled.server) ≡ Some spelled.done) (sym same) spelled.told;
@@ -65,14 +67,15 @@ module _ (target : OperationTarget) (options : InsertManyOptions) (call : ℕ) (
       (made : MakesBatch target options call index own before now end) (pool pool_now : Pool) (run run_now : ServerRun) (pool_is : before.store.pool ≡ Some pool) (pool_now_is : now.store.pool ≡ Some pool_now)
       (run_is : server_run before.link ≡ Some run) (run_now_is : server_run now.link ≡ Some run_now) (between : Between pool run.server.trace) (sound : Sound run.server) (new : IsNewFrom run.server.trace call index)
       (apart : AllApart pool_now.drawn) where
-    batch_spelled : (start : ServerRun) → (IsFolded start → IsFolded run) → (error : Error) (failures : InsertManyError) → end.result ≡ Err error → kind_of error ≡ kind.InsertMany failures
+    batch_spelled : (start : ServerRun) → (IsFolded start → IsFolded run) → length start.server.trace ≤ length run.server.trace → (error : Error) (failures : InsertManyError) → end.result ≡ Err error → kind_of error ≡ kind.InsertMany failures
         → IsSpelled call start run_now end failures
-    batch_spelled start folds error failures is kind_is =
+    batch_spelled start folds since error failures is kind_is =
         let count = fixed_or_one end.statements in
         let read = told_failures target options call G index documents own are each before now end made pool pool_now run run_now pool_is pool_now_is run_is run_now_is between sound new apart error is failures kind_is in
         let told = read.0 in
         let mid = told.among.mid in
         let send = send_of told.context (batch_body target options call index documents own are count) in
+        let before_it = sends_gain run send told.earlier mid told.among.sent in
         let gained = sends_gain (run_after mid send) send told.later run_now told.among.rest in
         let trace : (run_after mid send).server.trace ≡ mid.server.trace ++ send ∷ [] = exchanged_trace mid.server send (next_step mid.schedule mid.server) in
         let same : run_now.schedule ≡ mid.schedule = (keeps_making (run_after mid send) send told.later run_now told.among.rest).1 in
@@ -85,9 +88,11 @@ module _ (target : OperationTarget) (options : InsertManyOptions) (call : ℕ) (
           send = send;
           later = copies told.later send;
           sent = gained ∙ ap (λ t. t ++ copies told.later send) trace ∙ append_assoc mid.server.trace (send ∷ []) (copies told.later send);
+          since = omega (arith, since, ap (λ (t : List Send). length t) before_it, length-append run.server.trace (copies told.earlier send));
           folds = λ at_start. subst (λ s. mid.server ≡ replayed s empty_server mid.server.trace) (sym (same ∙ begun)) (keeps_fold run send told.earlier mid told.among.sent (folds at_start));
           count = count;
           fixed = built.is ∙ ap (λ n. Some n) counted;
+          some = subst (λ n. 0 < n) counted built.commanded.some;
           placed = batch_places target options call index documents own are count within ∙ ap (λ n. places_from call n count) (sym made.begins);
           done = told.done;
           told = subst (λ s. statements_in mid.server send (next_step s mid.server) ≡ Some told.done) (sym same) told.told;
@@ -99,10 +104,11 @@ module _ (target : OperationTarget) (options : InsertManyOptions) (call : ℕ) (
   -- the failures of each of the batches that follow one another from an index on are spelled so
   pub batches_spelled : (short : Type 0) (ends : List BatchEnd) (index : ℕ) (documents : List (List (Pair Bson))) (own : List OwnDocument) → AreOwn documents own → EachIs G index documents → (before now : Moment)
       → (pool pool_now : Pool) (start run run_now : ServerRun) → before.store.pool ≡ Some pool → now.store.pool ≡ Some pool_now → server_run before.link ≡ Some run → server_run now.link ≡ Some run_now
-      → Between pool run.server.trace → Sound run.server → IsNewFrom run.server.trace call index → DrawnApart now.store → (IsFolded start → IsFolded run) → MakesBatches short target options call index own ends before now
+      → Between pool run.server.trace → Sound run.server → IsNewFrom run.server.trace call index → DrawnApart now.store → (IsFolded start → IsFolded run)
+      → length start.server.trace ≤ length run.server.trace → MakesBatches short target options call index own ends before now
       → (end : BatchEnd) (error : Error) (failures : InsertManyError) → Has ends end → end.result ≡ Err error → kind_of error ≡ kind.InsertMany failures → IsSpelled call start run_now end failures
-  batches_spelled short [] index documents own are each before now pool pool_now start run run_now pool_is pool_now_is run_is run_now_is between sound new apart folds made found error failures has is kind_is = absurd has
-  batches_spelled short (end ∷ ends) index documents own are each before now pool pool_now start run run_now pool_is pool_now_is run_is run_now_is between sound new apart folds made found error failures has is kind_is =
+  batches_spelled short [] index documents own are each before now pool pool_now start run run_now pool_is pool_now_is run_is run_now_is between sound new apart folds since made found error failures has is kind_is = absurd has
+  batches_spelled short (end ∷ ends) index documents own are each before now pool pool_now start run run_now pool_is pool_now_is run_is run_now_is between sound new apart folds since made found error failures has is kind_is =
       let mid = made.0 in
       let batch = made.1.0 in
       elim made.1.1 [
@@ -117,19 +123,23 @@ module _ (target : OperationTarget) (options : InsertManyOptions) (call : ℕ) (
             (new_behind target options call G index documents own are each before mid end batch pool told.pool run told.run pool_is told.pool_is run_is told.run_is between sound new told.apart) in
             let folds_on : IsFolded run → IsFolded told.run
             = subst (λ r. IsFolded run → IsReplayedWhereTold r) told.run_is (subst (λ r. IsReplayedWhereTold r → IsReplayedWhereTold (server_run mid.link)) run_is moves.replayed) in
+            let first_gains : GainsOwn call (Some run) (Some told.run)
+            = subst (λ r. GainsOwn call r (Some told.run)) run_is (subst (λ r. GainsOwn call (server_run before.link) r) told.run_is moves.gains) in
+            let since_on : length start.server.trace ≤ length told.run.server.trace
+            = omega (arith, since, ap (λ (t : List Send). length t) first_gains.trace, length-append run.server.trace first_gains.sends) in
             elim has [
               | inl here ↦
                   let gains : GainsOwn call (Some told.run) (Some run_now)
                   = subst (λ r. GainsOwn call r (Some run_now)) told.run_is (subst (λ r. GainsOwn call (server_run mid.link) r) run_now_is later.gains) in
                   let making : KeepsMakingWhereTold (Some told.run) (Some run_now)
                   = subst (λ r. KeepsMakingWhereTold r (Some run_now)) told.run_is (subst (λ r. KeepsMakingWhereTold (server_run mid.link) r) run_now_is later.making) in
-                  let spelled = batch_spelled index documents own are each before mid end batch pool told.pool run told.run pool_is told.pool_is run_is told.run_is between sound new told.apart start folds error failures
+                  let spelled = batch_spelled index documents own are each before mid end batch pool told.pool run told.run pool_is told.pool_is run_is told.run_is between sound new told.apart start folds since error failures
                   (ap (λ (e : BatchEnd). e.result) here ∙ is) kind_is in
                   subst (λ (e : BatchEnd). IsSpelled call start run_now e failures) here
                   (spelled_longer call start told.run run_now end failures gains.sends gains.trace making.1 spelled)
               | inr rest ↦
                   batches_spelled short ends (index + on.statements) (drop on.statements documents) (drop on.statements own) own_on each_on mid now told.pool pool_now start told.run run_now told.pool_is pool_now_is
-                  told.run_is run_now_is one.between one.sound new_on apart (λ at_start. folds_on (folds at_start)) on.rest found error failures rest is kind_is
+                  told.run_is run_now_is one.between one.sound new_on apart (λ at_start. folds_on (folds at_start)) since_on on.rest found error failures rest is kind_is
             ]
         | inr stops ↦
             let pool_mid : mid.store.pool ≡ Some pool_now = ap (λ m. m.store.pool) (sym stops.same) ∙ pool_now_is in
@@ -137,7 +147,7 @@ module _ (target : OperationTarget) (options : InsertManyOptions) (call : ℕ) (
             elim has [
               | inl here ↦
                   let spelled = batch_spelled index documents own are each before mid end batch pool pool_now run run_now pool_is pool_mid run_is run_mid between sound new (subst DrawnApartIn pool_now_is apart) start
-                  folds error failures (ap (λ (e : BatchEnd). e.result) here ∙ is) kind_is in
+                  folds since error failures (ap (λ (e : BatchEnd). e.result) here ∙ is) kind_is in
                   subst (λ (e : BatchEnd). IsSpelled call start run_now e failures) here spelled
               | inr rest ↦ absurd (subst (λ (more : List BatchEnd). Has more found) stops.none rest)
             ]

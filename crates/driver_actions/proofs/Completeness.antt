@@ -78,7 +78,7 @@ use Rattle.driver_actions.specs.Singles.{BecomesSingle}
 use Rattle.driver_actions.specs.Standing.{AllBelow, LeavesWhereTold, RunInvariant, RunState}
 use Rattle.driver_actions.specs.SingleCalls.{Made, Makes, Runs, Tells, first_place}
 use Rattle.driver_actions.proofs.CallSends.{makes_alike, pool_kept}
-use Rattle.driver_actions.proofs.EachCall.{caused_own}
+use Rattle.driver_actions.proofs.EachCall.{caused_own, caused_replayed}
 use Rattle.driver_actions.proofs.InsertFit.{insert_unrefused, served_setup}
 use Rattle.driver_actions.proofs.FewestCuts.{many_fewest}
 use Rattle.driver_actions.proofs.ManyCompleteness.{many_complete}
@@ -443,6 +443,7 @@ call_ends run calls before now stands apart call outcome caused =
       complete = completes_read (take run.made calls) caused.first caused.clock before now call outcome.result
           (completes run calls read last stands.left (stands_count run calls before stands) apart call outcome.result caused.makes);
       sends_own = subst (λ n. SendsOwn n (server_run before.link) (server_run now.link)) count (caused_own run.made before now call outcome caused);
+      replayed = caused_replayed run.made before now call outcome caused;
       leaves = subst (λ n. LeavesByCall n before now call outcome.result) count (leaves_read run.made caused.first caused.clock before now call outcome.result
           (leaves run calls read last stands.left (stands_count run calls before stands) apart call outcome.result caused.makes));
     }

@@ -311,7 +311,7 @@ command_ids target options call index own statements before now (Ok other) outpu
     ∙ read_ids (insert_is_ordered options) (take statements own) reads.response.body other reads.reads
 command_ids target options call index own statements before now (Err error) output is sends = absurd (not_ok error output is)
 
-batch_ids : (target : OperationTarget) (options : InsertManyOptions) (call index : ℕ) (own : List OwnDocument) (before now : Moment) (end : BatchEnd)
+pub batch_ids : (target : OperationTarget) (options : InsertManyOptions) (call index : ℕ) (own : List OwnDocument) (before now : Moment) (end : BatchEnd)
     → MakesBatch target options call index own before now end → (statements : ℕ) → end.statements ≡ Some statements
     → (output : InsertManyResult) → end.result ≡ Ok output → output ≡ all_ids (take statements own)
 batch_ids target options call index own before now end made statements fixed output is =

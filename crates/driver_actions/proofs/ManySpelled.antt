@@ -1,5 +1,5 @@
 -- What the batches of an insert of many documents told is so: it stands in the log, or a reply spells it, and an error lists it.
-use Rattle.std.proofs.Common.{◌≡◌, ℕ, List, refl, sym, ap, subst, ◌∙◌}
+use Rattle.std.proofs.Common.{◌≡◌, ℕ, List, refl, sym, ap, subst, ◌∙◌, arith}
 use Rattle.std.specs.Prelude.{Option, None, Some, Result, Err}
 use Rattle.bson_lite.specs.declared.bson.Bson.{Bson}
 use Rattle.bson_lite.specs.declared.document.Pair.{Pair}
@@ -47,7 +47,7 @@ module _ (before now : Moment) (target : OperationTarget) (documents : List (Lis
         spelled = batches_spelled target options call (IsGiven documents) (RanShort result) made.ends 0 (sent before now target documents options call result made) made.own made.owns.are_own
             (sent_each before now target documents options call result made) made.mid now pool pool_now run run run_now (drew.pool ∙ pool_is) pool_now_is
             (ap (λ moment. server_run moment.link) made.rest ∙ run_is) run_now_is may.between may.sound (λ earlier at write has stands of_call. absurd (may.new earlier at write has stands of_call))
-            (subst DrawnApartIn (sym pool_now_is) may.apart) (λ folds. folds) made.batches;
+            (subst DrawnApartIn (sym pool_now_is) may.apart) (λ folds. folds) (omega arith) made.batches;
         listed = λ error failures is kind_is. errors_listed error failures made.ends kind_is (subst (AnswersMany made.ends) is made.answers);
       }
 

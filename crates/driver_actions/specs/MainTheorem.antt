@@ -122,12 +122,22 @@ SendsOwn call (Some told) None = ⊥
 SendsOwn call (Some told) (Some now) =
     (at : ℕ) (send : Send) → length told.server.trace ≤ at → slice_get now.server.trace at ≡ Some send → IsSendOf call send
 
+-- a told server is the fold of the exchange over its trace
+abbrev pub IsReplayedWhereTold : Option ServerRun → Type 0
+IsReplayedWhereTold None = Unit {0}
+IsReplayedWhereTold (Some run) = run.server ≡ replayed run.schedule empty_server run.server.trace
+
+-- a told server is the fold of the exchange over its trace
+abbrev pub IsReplayed : Moment → Type 0
+IsReplayed now = IsReplayedWhereTold (server_run now.link)
+
 -- a call between two moments: it was made and ended with its cause, and well where it is valid and its part is gentle; all
--- that was sent is its own, and what an insert of many documents told of them is so
+-- that was sent is its own, a told server stays the fold of its sends, and what an insert of many documents told of them is so
 pub record CallEnds (earlier : List Call) (before now : Moment) (call : Call) (outcome : Outcome) : Type 0 where
   pub caused : CallCaused (length earlier) before now call outcome
   pub complete : CallCompletes earlier before now call outcome.result
   pub sends_own : SendsOwn (length earlier) (server_run before.link) (server_run now.link)
+  pub replayed : IsReplayed before → IsReplayed now
   pub leaves : LeavesByCall (length earlier) before now call outcome.result
 
 -- each call of a list ended so
@@ -159,12 +169,3 @@ KeepsMakingWhereTold (Some run) (Some now) = (now.setup ≡ run.setup) × (now.s
 -- setup and schedule of a told server stay
 abbrev pub KeepsMaking : Moment → Moment → Type 0
 KeepsMaking before now = KeepsMakingWhereTold (server_run before.link) (server_run now.link)
-
--- a told server is the fold of the exchange over its trace
-abbrev pub IsReplayedWhereTold : Option ServerRun → Type 0
-IsReplayedWhereTold None = Unit {0}
-IsReplayedWhereTold (Some run) = run.server ≡ replayed run.schedule empty_server run.server.trace
-
--- a told server is the fold of the exchange over its trace
-abbrev pub IsReplayed : Moment → Type 0
-IsReplayed now = IsReplayedWhereTold (server_run now.link)

@@ -24,7 +24,8 @@ RanShort (Ok output) = ⊥
 RanShort (Err error) = kind_of error ≡ kind.Memory
 
 -- the caller's documents, whose input is accepted, got their ids; then their batches were made, one after another from the first
--- document on, and the answer is what their ends tell. Only where memory ran out may documents be left without a batch
+-- document on, and the answer is what their ends tell. Documents are left without a batch only behind an end that stops the call, or where
+-- memory ran out
 pub record MadeMany (before now : Moment) (target : OperationTarget) (documents : List (List (Pair Bson))) (options : InsertManyOptions) (call : ℕ) (result : Result InsertManyResult Error) : Type 0 where
   pub accepted : IsManyAccepted (namespace_of target) documents options
   pub mid : Moment

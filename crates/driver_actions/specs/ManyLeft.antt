@@ -21,7 +21,7 @@ use Rattle.driver_actions.specs.ManyEntries.{AnswerStands}
 use Rattle.driver_actions.specs.ManyTold.{IsToldTruly}
 
 -- where the link tells its server the documents that the answer lists stand in the log, which are all where it is Ok; what the
--- batches told is so, however the call ended and whichever of the clock's readings it was made between; and the sends of an Ok are a
+-- batches told is so, however the call ended and whichever two clocks it was made between; and the sends of an Ok are a
 -- cut into the fewest batches
 pub record LeavesMany (number : ℕ) (before now : Moment) (namespace : Namespace) (documents : List (List (Pair Bson))) (options : InsertManyOptions) (result : Result InsertManyResult Error) : Type 0 where
   pub stand : IfSome (server_run before.link) (λ run. IfSome (server_run now.link) (λ run_now. AnswerStands namespace documents number run_now.server.log result))

@@ -1,6 +1,6 @@
 -- What the batches of an insert of many documents told is so, however the call ended: the documents that they list stand in the
 -- log, the failures are those that replies of the server spell, and an error of the call lists all of them.
-use Rattle.std.specs.Prelude.{◌≡◌, ℕ, List, ◌∷◌, ◌++◌, Option, Some, Result, Err}
+use Rattle.std.specs.Prelude.{◌≡◌, ℕ, ◌<◌, ◌≤◌, List, ◌∷◌, ◌++◌, length, Option, Some, Result, Err}
 use Rattle.std.specs.Option.{option_map}
 use Rattle.bson_lite.specs.declared.bson.Bson.{Bson}
 use Rattle.bson_lite.specs.declared.document.Pair.{Pair}
@@ -32,7 +32,7 @@ use Rattle.driver_actions.specs.ManyAnswers.{gathered, nothing_gathered}
 use Rattle.driver_actions.specs.ManyCalls.{MadeMany}
 use Rattle.driver_actions.specs.ManyEntries.{HasListed, MayWriteCall}
 
--- a batch's failures are those that a reply of a told server spells: the reply to a send of its trace, whose writes have the places
+-- a batch's failures are those that a reply of a told server spells: the reply to a send of this call, whose writes have the places
 -- of the batch's documents, by the step of the schedule that the send met. The server is what the sends before made of it, where it
 -- was so before the call. Each write error is that of the statement at its position which failed, and none is left out
 pub record IsSpelled (call : ℕ) (run run_now : ServerRun) (end : BatchEnd) (failures : InsertManyError) : Type 0 where
@@ -40,9 +40,11 @@ pub record IsSpelled (call : ℕ) (run run_now : ServerRun) (end : BatchEnd) (fa
   pub send : Send
   pub later : List Send
   pub sent : run_now.server.trace ≡ server.trace ++ send ∷ later
+  pub since : length run.server.trace ≤ length server.trace
   pub folds : run.server ≡ replayed run.schedule empty_server run.server.trace → server ≡ replayed run_now.schedule empty_server server.trace
   pub count : ℕ
   pub fixed : end.statements ≡ Some count
+  pub some : 0 < count
   pub placed : places_of send ≡ places_from call end.first count
   pub done : List Statement
   pub told : statements_in server send (next_step run_now.schedule server) ≡ Some done

@@ -355,8 +355,8 @@ fn errors_there(errors: List<IndexedWriteError>) -> Option<List<IndexedWriteErro
     }
 }
 
-/// An error of a kind with exactly these labels: those of a write concern error inside are added by none but the
-/// error of its batch.
+/// An error of a kind with exactly these labels. `Error::new` would add those of the write concern error inside, which
+/// the errors of the batches have already.
 fn labelled(alloc: Global, kind: ErrorKind, labels: &Labels) -> Error
     ensures { IsMade kind labels.now result }
 {

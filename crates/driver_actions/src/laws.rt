@@ -1,6 +1,6 @@
 //! Laws: of one call and its times, of a run between two of its calls, of one exchange, and of what the batches of an
 //! insert tell together.
-ghost use Rattle.std.specs.Prelude.{◌≡◌, ◌++◌, ◌∷◌, ℕ, List, [], Ok, Result, Some};
+ghost use Rattle.std.specs.Prelude.{◌≡◌, ◌++◌, ◌∷◌, ℕ, List, [], take, Ok, Result, Some};
 ghost use Rattle.std.specs.FinMap as finite;
 ghost use Rattle.bson_lite.specs.declared.bson.Bson.{Bson};
 ghost use Rattle.bson_lite.specs.declared.document.Pair.{Pair};
@@ -18,7 +18,7 @@ ghost use Rattle.driver_ops.specs.declared.target.OperationTarget.{OperationTarg
 ghost use Rattle.driver_ops.specs.InsertAnswers.{all_ids};
 ghost use Rattle.driver_exec.specs.Moment.{Moment};
 ghost use Rattle.driver_actions.specs.BatchTells.{AllOk, AllWentIn, AreInOrder, TellsId, all_errors, last_concern, some_failed, some_labelled};
-ghost use Rattle.driver_actions.specs.Batches.{BatchEnd, MakesBatches};
+ghost use Rattle.driver_actions.specs.Batches.{BatchEnd, MakesBatch, MakesBatches};
 ghost use Rattle.driver_actions.specs.CallByCall.{CallCaused, IsTimed};
 ghost use Rattle.driver_actions.specs.ManyAnswers.{gathered, nothing_gathered};
 ghost use Rattle.driver_actions.specs.ManyCalls.{MadeMany, RanShort};
@@ -64,6 +64,15 @@ pub fn late_arrivals_keep_the_invariant()
 pub fn all_ids_are_gathered()
     ensures { (own : List OwnDocument) (ends : List BatchEnd) → AllWentIn 0 own ends →
         (gathered nothing_gathered ends).inserted_ids ≡ (all_ids own).inserted_ids }
+{}
+
+/// A batch of so many documents that is Ok, whatever comes behind it, is answered with the ids of its own documents.
+pub fn a_batch_that_is_ok_answers_its_ids()
+    ensures { (target : OperationTarget) (options : InsertManyOptions) (call index : ℕ)
+        (own : List OwnDocument) (before now : Moment) (end : BatchEnd) →
+        MakesBatch target options call index own before now end →
+        (statements : ℕ) → end.statements ≡ Some statements →
+        (output : InsertManyResult) → end.result ≡ Ok output → output ≡ all_ids (take statements own) }
 {}
 
 /// Batches as a call makes them, where memory did not run out between them and each is Ok, all went in, each with the
