@@ -1,4 +1,5 @@
 pub mod Again
+pub mod Breaking
 pub mod Found
 pub mod FinMaps
 pub mod Framing
@@ -6,7 +7,9 @@ pub mod Loops
 pub mod Named
 pub mod Nested
 pub mod Numbers
+pub mod Refusing
 pub mod Rising
 pub mod Sound
 pub mod Steps
 pub mod Takes
+pub mod Wholeness

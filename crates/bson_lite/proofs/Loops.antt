@@ -32,7 +32,7 @@ unfolding many_with
 step one turns place [] x after some enough e = absurd (omega arith)
 step one turns place (byte ∷ bytes) x after some enough e = rw e refl
 
-stops : {A : Type 0} (one : ℕ → List ℕ → Result (A × List ℕ) ℕ) (turns place : ℕ) (rest : List ℕ) (offset : ℕ) → 0 < length rest → one place rest ≡ Err offset
+pub stops : {A : Type 0} (one : ℕ → List ℕ → Result (A × List ℕ) ℕ) (turns place : ℕ) (rest : List ℕ) (offset : ℕ) → 0 < length rest → one place rest ≡ Err offset
     → many_with one (suc turns) place rest ≡ Err offset
 unfolding many_with
 stops one turns place [] offset some e = absurd (omega arith)

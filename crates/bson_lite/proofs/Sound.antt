@@ -107,7 +107,7 @@ shorter : (bytes key text rest : List ℕ) (kind : ℕ) → bytes ≡ kind ∷ (
 shorter bytes key text rest kind e = omega (arith, ap length e, length-element key text rest)
 
 -- what holds of no bytes, and of a first element where it holds of those after it, holds of all elements
-many_took : {A : Type 0} (Holds : ℕ → List ℕ → List A → Type 0) (one : ℕ → List ℕ → Result (A × List ℕ) ℕ) → ((place : ℕ) → Holds place [] [])
+pub many_took : {A : Type 0} (Holds : ℕ → List ℕ → List A → Type 0) (one : ℕ → List ℕ → Result (A × List ℕ) ℕ) → ((place : ℕ) → Holds place [] [])
     → ((place : ℕ) (bytes : List ℕ) (first : A × List ℕ) → one place bytes ≡ Ok first
     → (length first.1 < length bytes) × ((others : List A) → Holds (place + 1) first.1 others → Holds place bytes (first.0 ∷ others)))
     → (turns place : ℕ) (bytes : List ℕ) (all : List A) → length bytes ≤ turns → many_with one turns place bytes ≡ Ok all → Holds place bytes all
@@ -294,7 +294,7 @@ pub takes_at : (levels : ℕ) → Takes levels
 takes_at zero = takes_by 0 nested_zero
 takes_at (suc levels) = takes_by (suc levels) (nested_suc levels (takes_at levels))
 
-whole_took : (bytes : List ℕ) (frame : Frame) → whole_at bytes ≡ Some frame → (bytes ≡ four (length frame.elements + 5) ++ (frame.elements ++ frame.last ∷ [])) × (length frame.elements + 5 ≤ 2147483647)
+pub whole_took : (bytes : List ℕ) (frame : Frame) → whole_at bytes ≡ Some frame → (bytes ≡ four (length frame.elements + 5) ++ (frame.elements ++ frame.last ∷ [])) × (length frame.elements + 5 ≤ 2147483647)
 unfolding whole_at
 whole_took bytes frame e =
     by_some (frame_at bytes) (λ f. cond (eqb (length f.1) 0) (Some f.0) None) frame e (λ f ff rest.

@@ -1,4 +1,5 @@
 pub mod Fields
+pub mod FirstBroken
 pub mod Indexed
 pub mod Namespace
 pub mod PairCode

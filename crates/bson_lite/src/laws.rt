@@ -1,5 +1,6 @@
-//! The laws of the spelling, and of the order of timestamps.
-ghost use Rattle.std.specs.Prelude.{◌≡◌, ℕ, List, Ok};
+//! The laws of the spelling, of what spells no document, and of the order of timestamps.
+ghost use Rattle.std.specs.Prelude.{◌≡◌, ◌↔◌, ℕ, List, Ok, Err};
+ghost use Rattle.bson_lite.specs.FirstBroken.{IsFirstBroken};
 ghost use Rattle.bson_lite.specs.Reading.{read};
 ghost use Rattle.bson_lite.specs.Spelling.{HasSpelling, Spells, spelling};
 ghost use Rattle.bson_lite.specs.declared.bson.Bson.{Bson};
@@ -17,6 +18,11 @@ pub fn round_trip()
 /// What is read was spelled so.
 pub fn read_is_spelled()
     ensures { (bytes : List ℕ) (d : List (Pair Bson)) → read bytes ≡ Ok d → Spells d bytes }
+{}
+
+/// Reading breaks off exactly where the first broken item stands, by the rules of the layout.
+pub fn breaks_at_first_broken()
+    ensures { (bytes : List ℕ) (offset : ℕ) → (read bytes ≡ Err offset) ↔ IsFirstBroken bytes offset }
 {}
 
 /// Timestamps are ordered by time, and where that is the same by increment.

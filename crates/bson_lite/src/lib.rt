@@ -10,6 +10,7 @@ pub mod by_index;
 pub mod copy;
 mod counting;
 pub mod decoding;
+mod deeper;
 pub mod document;
 pub mod encoding;
 pub mod fault;
@@ -34,7 +35,7 @@ pub use fault::{DecodeFault, EncodeFault};
 pub use fields::{
     ID_KEY, get_int, get_or_prepend_id_field, replacement_document_check, update_document_check,
 };
-pub use laws::{order_of_timestamps, read_is_spelled, round_trip};
+pub use laws::{breaks_at_first_broken, order_of_timestamps, read_is_spelled, round_trip};
 pub use list::List;
 pub use namespace::Namespace;
 pub use raw::RawDocumentBuf;

@@ -1,47 +1,29 @@
-//! One walk over a document: how deep it nests, where zero bytes stand, how long its spelling is.
-ghost use Rattle.std.specs.Prelude.{◌≡◌, ◌+◌, ◌-◌, ◌^◌, ◌||◌, ◌∷◌, ◌++◌, [], ℕ, suc, min, true, false, nat_lt, length, map, decimal, None, Some, IfOk, IfErr};
+//! One walk over a document: where zero bytes stand, and how long its spelling is.
+ghost use Rattle.std.specs.Prelude.{◌≡◌, ◌+◌, ◌-◌, ◌^◌, ◌||◌, ◌∷◌, ◌++◌, [], min, true, nat_lt, length, map, decimal, None, Some, IfOk, IfErr};
 ghost use Rattle.std.specs.Str.{is_utf8};
 ghost use Rattle.bson_lite.specs.Ranges.{fits};
-ghost use Rattle.bson_lite.specs.Spelling.{HasSpelling, refusal, refusal_within, spelled, spelling, depth, deepest, deepest_pair, on_value, zero_within, zero_in, zero_in_values, holds_zero, valid, valid_pairs, valid_values, body_of, numbered, counted};
+ghost use Rattle.bson_lite.specs.Spelling.{HasSpelling, refusal, refusal_within, spelled, spelling, zero_within, zero_in, zero_in_values, holds_zero, valid, valid_pairs, valid_values, body_of, numbered, counted};
 
 use crate::bson::{Bson, ObjectId, Timestamp};
+use crate::deeper::nests_deeper;
 use crate::document::{Document, Pair};
 use crate::fault::EncodeFault;
 use crate::text::Text;
 use itoa::Buffer;
 
-/// The levels that may stand below a document.
-const LEVELS: u32 = 99;
+/// The levels that a document may nest, the document itself counting 1.
+const LEVELS: u32 = 100;
 
 /// The greatest length that the format can state.
 const LIMIT: u64 = 2_147_483_647;
 
-/// What a walk has met so far that `encode` refuses.
-#[derive(Clone, Copy)]
-struct Met {
-    /// Documents or arrays that nest too deep.
-    deep: bool,
-    /// A zero byte in a key or in a text of a regular expression.
-    zero: bool,
-}
-
-impl Met {
-    fn nothing() -> Met
-        ensures { result ≡ record { deep = false; zero = false } }
-    {
-        Met {
-            deep: false,
-            zero: false,
-        }
-    }
-}
-
 /// The length of a document's spelling, or the greatest number where it is larger. It takes no
-/// memory.
+/// memory. A document that nests too deep is walked too, since it has a length all the same.
 pub fn encoded_len(document: &Document) -> u64
     ensures { result ≡ min (length (spelling document.now)) (2 ^ 64 - 1) }
 {
-    survey_pairs(document.pairs(), LEVELS, &mut Met::nothing()).saturating_add(5)
+    let mut met = false;
+    survey_pairs(document.pairs(), &mut met).saturating_add(5)
 }
 
 /// The length of a document's spelling, or why it has none.
@@ -51,12 +33,12 @@ pub(crate) fn surveyed(document: &Document) -> Result<usize, EncodeFault>
     ensures none { IfOk result (λ _. refusal document.now ≡ None) }
     ensures why { IfErr result (λ fault. refusal document.now ≡ Some fault) }
 {
-    let mut met = Met::nothing();
-    let length = survey_pairs(document.pairs(), LEVELS, &mut met).saturating_add(5);
-    if met.deep {
+    if nests_deeper(document, LEVELS) {
         return Err(EncodeFault::TooDeep);
     }
-    if met.zero {
+    let mut met = false;
+    let length = survey_pairs(document.pairs(), &mut met).saturating_add(5);
+    if met {
         return Err(EncodeFault::ZeroByte);
     }
     if length > LIMIT {
@@ -66,16 +48,16 @@ pub(crate) fn surveyed(document: &Document) -> Result<usize, EncodeFault>
 }
 
 /// Why a document is refused where it may nest so many levels deep, the document itself counting 1: as
-/// `encode` would refuse it, but for the depth. It takes no memory.
+/// `encode` would refuse it, but for the depth. It takes no memory, and walks no deeper than these levels.
 pub fn refusal_within(document: &Document, levels: u32) -> Option<EncodeFault>
     ensures { result ≡ refusal_within levels document.now }
 {
-    let mut met = Met::nothing();
-    let below = levels_below(levels, &mut met);
-    let length = survey_pairs(document.pairs(), below, &mut met).saturating_add(5);
-    if met.deep {
-        Some(EncodeFault::TooDeep)
-    } else if met.zero {
+    if nests_deeper(document, levels) {
+        return Some(EncodeFault::TooDeep);
+    }
+    let mut met = false;
+    let length = survey_pairs(document.pairs(), &mut met).saturating_add(5);
+    if met {
         Some(EncodeFault::ZeroByte)
     } else if length > LIMIT {
         Some(EncodeFault::TooLong)
@@ -84,57 +66,47 @@ pub fn refusal_within(document: &Document, levels: u32) -> Option<EncodeFault>
     }
 }
 
-/// The length of a document's elements, where so many levels may stand below the document.
+/// The length of a document's elements. A zero byte where none may stand is noted as met.
 #[cycle(survey)]
-fn survey_pairs(pairs: &[Pair<Bson>], levels: u32, met: &mut Met) -> u64
-    ensures deep { met.new.deep ≡
-        (met.old.deep || nat_lt levels (deepest_pair (map (on_value depth) pairs.now))) }
-    ensures zero { met.new.zero ≡ (met.old.zero || zero_in pairs.now) }
+fn survey_pairs(pairs: &[Pair<Bson>], met: &mut bool) -> u64
+    ensures zero { met.new ≡ (met.old || zero_in pairs.now) }
     ensures length { result ≡ min (length (body_of pairs.now)) (2 ^ 64 - 1) }
     ensures well_formed { valid_pairs pairs.now ≡ true }
 {
     let mut length = 0u64;
     for pair in pairs {
         note_key(&pair.key, met);
-        let value = survey_value(&pair.value, levels, met);
+        let value = survey_value(&pair.value, met);
         length = with_element(length, head_len(&pair.key), value);
     }
     length
 }
 
-/// The length of an array's elements, where so many levels may stand below the array.
+/// The length of an array's elements.
 #[cycle(survey)]
-fn survey_values(values: &[Bson], levels: u32, met: &mut Met) -> u64
-    ensures deep { met.new.deep ≡ (met.old.deep || nat_lt levels (deepest (map depth values.now))) }
-    ensures zero { met.new.zero ≡ (met.old.zero || zero_in_values (map zero_within values.now)) }
+fn survey_values(values: &[Bson], met: &mut bool) -> u64
+    ensures zero { met.new ≡ (met.old || zero_in_values (map zero_within values.now)) }
     ensures length { result ≡ min (length (numbered 0 (map spelled values.now))) (2 ^ 64 - 1) }
     ensures well_formed { valid_values (map valid values.now) ≡ true }
 {
     let mut length = 0u64;
     for (place, item) in values.iter().enumerate() {
-        let value = survey_value(item, levels, met);
+        let value = survey_value(item, met);
         length = with_element(length, place_len(place), value);
     }
     length
 }
 
-/// The length of a value, where so many levels of documents and arrays may begin with it.
+/// The length of a value.
 #[cycle(survey)]
-fn survey_value(value: &Bson, levels: u32, met: &mut Met) -> u64
-    ensures deep { met.new.deep ≡ (met.old.deep || nat_lt levels (depth value.now)) }
-    ensures zero { met.new.zero ≡ (met.old.zero || zero_within value.now) }
+fn survey_value(value: &Bson, met: &mut bool) -> u64
+    ensures zero { met.new ≡ (met.old || zero_within value.now) }
     ensures length { result ≡ min (length (spelled value.now).1) (2 ^ 64 - 1) }
     ensures well_formed { valid value.now ≡ true }
 {
     match value {
-        Bson::Document(document) => {
-            let below = levels_below(levels, met);
-            survey_pairs(document.pairs(), below, met).saturating_add(5)
-        }
-        Bson::Array(values) => {
-            let below = levels_below(levels, met);
-            survey_values(values.as_slice(), below, met).saturating_add(5)
-        }
+        Bson::Document(document) => survey_pairs(document.pairs(), met).saturating_add(5),
+        Bson::Array(values) => survey_values(values.as_slice(), met).saturating_add(5),
         Bson::RegularExpression(regex) => {
             note_key(&regex.pattern, met);
             note_key(&regex.options, met);
@@ -153,28 +125,12 @@ fn survey_value(value: &Bson, levels: u32, met: &mut Met) -> u64
     }
 }
 
-/// The levels that may stand below a document or an array; where it must not stand itself, that is noted.
-fn levels_below(levels: u32, met: &mut Met) -> u32
-    ensures deep { (deepest : ℕ) →
-        (met.new.deep || nat_lt result deepest) ≡ (met.old.deep || nat_lt levels (suc deepest)) }
-    ensures zero { met.new.zero ≡ met.old.zero }
-{
-    match levels.checked_sub(1) {
-        Some(below) => below,
-        None => {
-            met.deep = true;
-            0
-        }
-    }
-}
-
 /// Notes whether a text that must not hold a zero byte holds one.
-fn note_key(text: &Text, met: &mut Met)
-    ensures deep { met.new.deep ≡ met.old.deep }
-    ensures zero { met.new.zero ≡ (met.old.zero || holds_zero text.now) }
+fn note_key(text: &Text, met: &mut bool)
+    ensures { met.new ≡ (met.old || holds_zero text.now) }
 {
     if has_zero(text) {
-        met.zero = true;
+        *met = true;
     }
 }
 

@@ -3,7 +3,7 @@
 use bson_lite::{
     Bson, Bytes, DecodeFault, Document, EncodeFault, ObjectId, RawDocumentBuf, Text, TryClone,
     decode, encode, encode_refusal, encode_with_id, encoded_len, get_int, get_or_prepend_id_field,
-    replacement_document_check, update_document_check,
+    refusal_within, replacement_document_check, update_document_check,
 };
 use std::alloc::{AllocError, Global};
 use std::test::Fail;
@@ -63,6 +63,10 @@ fn nested(alloc: Global, levels: u32) -> Result<Document, AllocError> {
         document = one(alloc, "d", Bson::Document(document))?;
     }
     Ok(document)
+}
+
+fn refused_within(document: &Document, levels: u32) -> Option<EncodeFault> {
+    refusal_within(document, levels)
 }
 
 #[test]
@@ -131,6 +135,21 @@ fn refusals(rt: HostRuntime) -> Result<(), Fail> {
     assert!(rt; read(alloc, spelled(alloc, &deep)?.as_slice())? == deep);
     let deeper = nested(alloc, 101)?;
     assert_eq!(rt; spelled(alloc, &deeper).err(), Some(EncodeFault::TooDeep));
+    Ok(())
+}
+
+#[test]
+fn refusals_by_levels(rt: HostRuntime) -> Result<(), Fail> {
+    let deep = nested(rt.alloc(), 3)?;
+    let table = [
+        (0, Some(EncodeFault::TooDeep)),
+        (2, Some(EncodeFault::TooDeep)),
+        (3, None),
+        (4, None),
+    ];
+    for (levels, refusal) in table {
+        assert_eq!(rt; refused_within(&deep, levels), refusal, "{levels}");
+    }
     Ok(())
 }
 
