@@ -1,4 +1,5 @@
 pub mod Chains
+pub mod Equality
 pub mod LabelSets
 pub mod Redacting
 pub mod SortedLabels

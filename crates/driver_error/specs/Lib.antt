@@ -8,4 +8,6 @@ pub mod Labelling
 pub mod Predicates
 pub mod Redaction
 pub mod Shown
+pub mod ShownLabels
 pub mod SortedLabels
+pub mod inside
