@@ -161,7 +161,7 @@ module _ (id : List ℕ) (number : ℤ) (server : Server) (send : Send) (above :
       same transaction.Aborted = refl
 
 -- a send that the rules on numbers and transactions do not decide is not too old
-open_above : (number : ℤ) (id : List ℕ) (server : Server) (send : Send) → is_decided (case_under id number server send) ≡ false
+pub open_above : (number : ℤ) (id : List ℕ) (server : Server) (send : Send) → is_decided (case_under id number server send) ≡ false
     → is_below number (finite.get server.sessions id) ≡ false
 unfolding case_under
 open_above number id server send undecided = by_test (is_below number (finite.get server.sessions id)) undecided

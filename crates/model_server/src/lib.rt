@@ -24,6 +24,7 @@ pub mod places;
 pub mod reading;
 pub mod refusing;
 pub mod replying;
+pub mod run_laws;
 pub mod server;
 pub mod serving;
 pub mod statements;
