@@ -1,13 +1,14 @@
 //! Sends written by hand, and the bytes of their replies by the layout of BSON.
-use bson_lite::{Bytes, Document, List, Namespace, Text};
+use bson_lite::{Bson, Bytes, Document, List, Namespace, Text};
 use driver_error::{NO_WRITES_PERFORMED, SYSTEM_OVERLOADED_ERROR, TRANSIENT_TRANSACTION_ERROR};
 use driver_link::{
     Failing, Item, Place, PlacedWrite, Planned, PlannedConcern, Send, SendBody, SendCommand,
     Server, WriteKind, Written,
 };
+use model_server::delivery::deliver;
 use model_server::meeting::take;
 use model_server::new_server;
-use rows::{CASES, HONESTY, ITEMS};
+use rows::{CASES, COUNTS, HONESTY, INTERRUPTIONS, ITEMS, LATE};
 use std::alloc::{AllocError, Global};
 use std::test::Fail;
 
@@ -73,12 +74,39 @@ const REFUSED_TRANSIENT: &[u8] =
 const AUTHENTICATE: &[u8] =
     b"?\0\0\0\x10ok\0\0\0\0\0\x10code\0\x87\x01\0\0\x02errmsg\0\x0a\0\0\0scheduled\0\x04errorLabels\0\x05\0\0\0\0\0";
 
+/// An update that inserted the document 7.
+const UPSERTED: &[u8] =
+    b"N\0\0\0\x10ok\0\x01\0\0\0\x10n\0\x01\0\0\0\x10nModified\0\0\0\0\0\x04upserted\0!\0\0\0\x030\0\x19\0\0\0\x10index\0\0\0\0\0\x10_id\0\x07\0\0\0\0\0\0";
+
+/// The document with `a` 1 was found.
+const FOUND: &[u8] = b" \0\0\0\x10ok\0\x01\0\0\0\x03value\0\x0c\0\0\0\x10a\0\x01\0\0\0\0\0";
+
+/// An insert, an update of two documents of which one changed, an update that inserted the document 7, and a
+/// delete of three.
+const COUNTED: &[u8] =
+    b"<\x01\0\0\x10ok\0\x01\0\0\0\x10nErrors\0\0\0\0\0\x10nInserted\0\x01\0\0\0\x10nMatched\0\x02\0\0\0\x10nModified\0\x01\0\0\0\x10nUpserted\0\x01\0\0\0\x10nDeleted\0\x03\0\0\0\x03cursor\0\xd1\0\0\0\x10id\0\0\0\0\0\x02ns\0\x15\0\0\0admin.$cmd.bulkWrite\0\x04firstBatch\0\x9b\0\0\0\x030\0\x15\0\0\0\x10idx\0\0\0\0\0\x10n\0\x01\0\0\0\0\x031\0$\0\0\0\x10idx\0\x01\0\0\0\x10n\0\x02\0\0\0\x10nModified\0\x01\0\0\0\0\x032\0<\0\0\0\x10idx\0\x02\0\0\0\x10n\0\x01\0\0\0\x10nModified\0\0\0\0\0\x03upserted\0\x0e\0\0\0\x10_id\0\x07\0\0\0\0\0\x033\0\x15\0\0\0\x10idx\0\x03\0\0\0\x10n\0\x03\0\0\0\0\0\0\0";
+
+/// Two inserts of a bulk write, of which the first failed.
+const ONE_FAILED: &[u8] =
+    b"\xef\0\0\0\x10ok\0\x01\0\0\0\x10nErrors\0\x01\0\0\0\x10nInserted\0\x01\0\0\0\x10nMatched\0\0\0\0\0\x10nModified\0\0\0\0\0\x10nUpserted\0\0\0\0\0\x10nDeleted\0\0\0\0\0\x03cursor\0\x84\0\0\0\x10id\0\0\0\0\0\x02ns\0\x15\0\0\0admin.$cmd.bulkWrite\0\x04firstBatch\0N\0\0\0\x030\0.\0\0\0\x10idx\0\0\0\0\0\x10code\0\xf8*\0\0\x02errmsg\0\x0a\0\0\0scheduled\0\0\x031\0\x15\0\0\0\x10idx\0\x01\0\0\0\x10n\0\x01\0\0\0\0\0\0\0";
+
+/// Two inserts, of which the first failed.
+const FIRST_FAILED: &[u8] =
+    b"Y\0\0\0\x10ok\0\x01\0\0\0\x10n\0\x01\0\0\0\x04writeErrors\08\0\0\0\x030\00\0\0\0\x10index\0\0\0\0\0\x10code\0\xf8*\0\0\x02errmsg\0\x0a\0\0\0scheduled\0\0\0\0";
+
 /// What a send asks for.
 #[derive(Clone, Copy)]
 enum Asks {
     Insert,
     InsertTwo,
+    /// They go on behind a failure.
+    TwoUnordered,
+    Update,
+    Find,
     Bulk,
+    BulkUnordered,
+    /// A bulk write of an insert, two updates and a delete.
+    Mixed,
     Commit,
     Abort,
     More,
@@ -98,6 +126,14 @@ enum Given {
 enum Meets {
     Serve,
     Planned,
+    /// The update inserts a document.
+    Upserts,
+    /// The document is found.
+    Finds,
+    /// Each statement counts as its plan says.
+    Counts,
+    /// The first statement fails.
+    FailsFirst,
     Lost,
     Late,
     ReplyLost,
@@ -107,8 +143,10 @@ enum Meets {
 }
 
 /// A send with its item, the bytes of its reply, and how many entries the log then has. No bytes stand for
-/// a connection that was reset.
+/// a connection that was reset. The waiting sends that are named come first.
 struct Row {
+    name: &'static str,
+    late: &'static [u64],
     number: Option<i64>,
     start: bool,
     inside: bool,
@@ -118,16 +156,22 @@ struct Row {
     entries: usize,
 }
 
-/// Inserts into one collection.
-fn inserts(alloc: Global, command: SendCommand, count: u64) -> Result<SendBody, AllocError> {
+/// Writes to one collection, each of a kind.
+fn writes_of(
+    alloc: Global,
+    command: SendCommand,
+    ordered: bool,
+    kinds: &[WriteKind],
+) -> Result<SendBody, AllocError> {
     let mut writes = List::new(alloc);
-    for index in 0..count {
+    for kind in kinds {
+        let index = writes.len() as u64;
         let db = Text::from_str(alloc, "a")?;
         let coll = Text::from_str(alloc, "c")?;
         writes.push(PlacedWrite {
             place: Place { call: 0, index },
             written: Written {
-                kind: WriteKind::Insert,
+                kind: *kind,
                 namespace: Namespace { db, coll },
                 document: Document::new(alloc),
             },
@@ -135,16 +179,37 @@ fn inserts(alloc: Global, command: SendCommand, count: u64) -> Result<SendBody, 
     }
     Ok(SendBody::Write {
         command,
-        ordered: true,
+        ordered,
         writes,
     })
 }
 
+/// Two inserts.
+const INSERTS: [WriteKind; 2] = [WriteKind::Insert, WriteKind::Insert];
+
+/// An insert, two updates and a delete.
+const MIXED: [WriteKind; 4] = [
+    WriteKind::Insert,
+    WriteKind::Update,
+    WriteKind::Update,
+    WriteKind::Delete,
+];
+
 fn body_of(alloc: Global, asks: Asks) -> Result<SendBody, AllocError> {
     match asks {
-        Asks::Insert => inserts(alloc, SendCommand::Insert, 1),
-        Asks::InsertTwo => inserts(alloc, SendCommand::Insert, 2),
-        Asks::Bulk => inserts(alloc, SendCommand::BulkWrite, 2),
+        Asks::Insert => writes_of(alloc, SendCommand::Insert, true, &[WriteKind::Insert]),
+        Asks::InsertTwo => writes_of(alloc, SendCommand::Insert, true, &INSERTS),
+        Asks::TwoUnordered => writes_of(alloc, SendCommand::Insert, false, &INSERTS),
+        Asks::Update => writes_of(alloc, SendCommand::Update, true, &[WriteKind::Update]),
+        Asks::Find => writes_of(
+            alloc,
+            SendCommand::FindAndModify,
+            true,
+            &[WriteKind::FindAndModify],
+        ),
+        Asks::Bulk => writes_of(alloc, SendCommand::BulkWrite, true, &INSERTS),
+        Asks::BulkUnordered => writes_of(alloc, SendCommand::BulkWrite, false, &INSERTS),
+        Asks::Mixed => writes_of(alloc, SendCommand::BulkWrite, true, &MIXED),
         Asks::Commit => Ok(SendBody::Commit),
         Asks::Abort => Ok(SendBody::Abort),
         Asks::More => Ok(SendBody::More { cursor: 1 }),
@@ -185,6 +250,79 @@ fn planned(alloc: Global) -> Result<Item, AllocError> {
     })
 }
 
+/// What a schedule says of a statement that counts so many documents.
+fn planned_counts(n: Option<i64>, modified: Option<i64>) -> Planned {
+    Planned {
+        n,
+        modified,
+        upserted: None,
+        value: None,
+    }
+}
+
+/// What it says of an update that inserts the document 7.
+fn planned_upsert() -> Planned {
+    Planned {
+        n: None,
+        modified: Some(0),
+        upserted: Some(Bson::Int32(7)),
+        value: None,
+    }
+}
+
+/// Served with these results.
+fn served_with(alloc: Global, results: List<Planned>) -> Item {
+    Item::Serve {
+        results,
+        fail: List::new(alloc),
+        write_concern_error: None,
+        page: None,
+    }
+}
+
+/// The update inserts a document.
+fn an_upsert(alloc: Global) -> Result<Item, AllocError> {
+    let mut results = List::new(alloc);
+    results.push(planned_upsert())?;
+    Ok(served_with(alloc, results))
+}
+
+/// The document with `a` 1 is found.
+fn a_found_document(alloc: Global) -> Result<Item, AllocError> {
+    let mut value = Document::new(alloc);
+    value.push("a", Bson::Int32(1))?;
+    let mut results = List::new(alloc);
+    results.push(Planned {
+        n: None,
+        modified: None,
+        upserted: None,
+        value: Some(value),
+    })?;
+    Ok(served_with(alloc, results))
+}
+
+/// The statements of a mixed bulk write count one, two, one and three documents.
+fn four_counts(alloc: Global) -> Result<Item, AllocError> {
+    let mut results = List::new(alloc);
+    results.push(planned_counts(None, None))?;
+    results.push(planned_counts(Some(2), Some(1)))?;
+    results.push(planned_upsert())?;
+    results.push(planned_counts(Some(3), None))?;
+    Ok(served_with(alloc, results))
+}
+
+/// The first statement fails.
+fn failing_first(alloc: Global) -> Result<Item, AllocError> {
+    let mut fail = List::new(alloc);
+    fail.push(Failing { at: 0, code: 11000 })?;
+    Ok(Item::Serve {
+        results: List::new(alloc),
+        fail,
+        write_concern_error: None,
+        page: None,
+    })
+}
+
 fn item_of(alloc: Global, meets: Meets) -> Result<Item, AllocError> {
     match meets {
         Meets::Serve => Ok(Item::Serve {
@@ -194,6 +332,10 @@ fn item_of(alloc: Global, meets: Meets) -> Result<Item, AllocError> {
             page: Some(1),
         }),
         Meets::Planned => planned(alloc),
+        Meets::Upserts => an_upsert(alloc),
+        Meets::Finds => a_found_document(alloc),
+        Meets::Counts => four_counts(alloc),
+        Meets::FailsFirst => failing_first(alloc),
         Meets::Lost => Ok(Item::Lost),
         Meets::Late => Ok(Item::Late),
         Meets::ReplyLost => Ok(Item::ReplyLost),
@@ -224,8 +366,17 @@ fn answered(
     }
 }
 
+/// Serves the waiting sends that a row names, in their order.
+fn deliver_named(server: &mut Server, alloc: Global, late: &[u64]) -> Result<(), AllocError> {
+    for at in late {
+        let _waited = deliver(server, alloc, *at)?;
+    }
+    Ok(())
+}
+
 /// Whether a row's send is answered as it says.
 fn holds(server: &mut Server, alloc: Global, row: &Row) -> Result<bool, AllocError> {
+    deliver_named(server, alloc, row.late)?;
     let send = Send {
         session: Some([7; 16]),
         number: row.number,
@@ -238,31 +389,56 @@ fn holds(server: &mut Server, alloc: Global, row: &Row) -> Result<bool, AllocErr
     Ok(bytes.as_slice() == row.expected && server.log.len() == row.entries)
 }
 
-/// Whether the rows of a table are answered as they say, one after another by one server.
-fn all_hold(alloc: Global, rows: &[Row]) -> Result<bool, AllocError> {
+/// The name of the first row of a table that is not answered as it says, one after another by one server; no
+/// name where all are.
+fn wrong_row(alloc: Global, rows: &[Row]) -> Result<&'static str, AllocError> {
     let mut server = new_server(alloc);
     for row in rows {
         if !holds(&mut server, alloc, row)? {
-            return Ok(false);
+            return Ok(row.name);
         }
     }
-    Ok(true)
+    Ok("")
 }
 
 #[test]
 fn each_case_is_served(rt: HostRuntime) -> Result<(), Fail> {
-    assert!(rt; all_hold(rt.alloc(), &CASES)?);
+    let wrong = wrong_row(rt.alloc(), &CASES)?;
+    assert!(rt; wrong.is_empty(), "{wrong}");
     Ok(())
 }
 
 #[test]
 fn each_item_is_met(rt: HostRuntime) -> Result<(), Fail> {
-    assert!(rt; all_hold(rt.alloc(), &ITEMS)?);
+    let wrong = wrong_row(rt.alloc(), &ITEMS)?;
+    assert!(rt; wrong.is_empty(), "{wrong}");
     Ok(())
 }
 
 #[test]
 fn no_label_tells_a_lie(rt: HostRuntime) -> Result<(), Fail> {
-    assert!(rt; all_hold(rt.alloc(), &HONESTY)?);
+    let wrong = wrong_row(rt.alloc(), &HONESTY)?;
+    assert!(rt; wrong.is_empty(), "{wrong}");
+    Ok(())
+}
+
+#[test]
+fn each_count_is_told(rt: HostRuntime) -> Result<(), Fail> {
+    let wrong = wrong_row(rt.alloc(), &COUNTS)?;
+    assert!(rt; wrong.is_empty(), "{wrong}");
+    Ok(())
+}
+
+#[test]
+fn an_interruption_runs_no_more_than_it_says(rt: HostRuntime) -> Result<(), Fail> {
+    let wrong = wrong_row(rt.alloc(), &INTERRUPTIONS)?;
+    assert!(rt; wrong.is_empty(), "{wrong}");
+    Ok(())
+}
+
+#[test]
+fn late_sends_are_served_where_they_come(rt: HostRuntime) -> Result<(), Fail> {
+    let wrong = wrong_row(rt.alloc(), &LATE)?;
+    assert!(rt; wrong.is_empty(), "{wrong}");
     Ok(())
 }
