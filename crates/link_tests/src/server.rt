@@ -90,6 +90,10 @@ const COUNTED: &[u8] =
 const ONE_FAILED: &[u8] =
     b"\xef\0\0\0\x10ok\0\x01\0\0\0\x10nErrors\0\x01\0\0\0\x10nInserted\0\x01\0\0\0\x10nMatched\0\0\0\0\0\x10nModified\0\0\0\0\0\x10nUpserted\0\0\0\0\0\x10nDeleted\0\0\0\0\0\x03cursor\0\x84\0\0\0\x10id\0\0\0\0\0\x02ns\0\x15\0\0\0admin.$cmd.bulkWrite\0\x04firstBatch\0N\0\0\0\x030\0.\0\0\0\x10idx\0\0\0\0\0\x10code\0\xf8*\0\0\x02errmsg\0\x0a\0\0\0scheduled\0\0\x031\0\x15\0\0\0\x10idx\0\x01\0\0\0\x10n\0\x01\0\0\0\0\0\0\0";
 
+/// The same, of which the second failed.
+const SECOND_FAILED: &[u8] =
+    b"\xef\0\0\0\x10ok\0\x01\0\0\0\x10nErrors\0\x01\0\0\0\x10nInserted\0\x01\0\0\0\x10nMatched\0\0\0\0\0\x10nModified\0\0\0\0\0\x10nUpserted\0\0\0\0\0\x10nDeleted\0\0\0\0\0\x03cursor\0\x84\0\0\0\x10id\0\0\0\0\0\x02ns\0\x15\0\0\0admin.$cmd.bulkWrite\0\x04firstBatch\0N\0\0\0\x030\0\x15\0\0\0\x10idx\0\0\0\0\0\x10n\0\x01\0\0\0\0\x031\0.\0\0\0\x10idx\0\x01\0\0\0\x10code\0\xf8*\0\0\x02errmsg\0\x0a\0\0\0scheduled\0\0\0\0\0";
+
 /// Two inserts, of which the first failed.
 const FIRST_FAILED: &[u8] =
     b"Y\0\0\0\x10ok\0\x01\0\0\0\x10n\0\x01\0\0\0\x04writeErrors\08\0\0\0\x030\00\0\0\0\x10index\0\0\0\0\0\x10code\0\xf8*\0\0\x02errmsg\0\x0a\0\0\0scheduled\0\0\0\0";
@@ -134,6 +138,8 @@ enum Meets {
     Counts,
     /// The first statement fails.
     FailsFirst,
+    /// The second one fails.
+    FailsSecond,
     Lost,
     Late,
     ReplyLost,
@@ -311,10 +317,10 @@ fn four_counts(alloc: Global) -> Result<Item, AllocError> {
     Ok(served_with(alloc, results))
 }
 
-/// The first statement fails.
-fn failing_first(alloc: Global) -> Result<Item, AllocError> {
+/// The statement at a position fails.
+fn failing_at(alloc: Global, at: u64) -> Result<Item, AllocError> {
     let mut fail = List::new(alloc);
-    fail.push(Failing { at: 0, code: 11000 })?;
+    fail.push(Failing { at, code: 11000 })?;
     Ok(Item::Serve {
         results: List::new(alloc),
         fail,
@@ -335,7 +341,8 @@ fn item_of(alloc: Global, meets: Meets) -> Result<Item, AllocError> {
         Meets::Upserts => an_upsert(alloc),
         Meets::Finds => a_found_document(alloc),
         Meets::Counts => four_counts(alloc),
-        Meets::FailsFirst => failing_first(alloc),
+        Meets::FailsFirst => failing_at(alloc, 0),
+        Meets::FailsSecond => failing_at(alloc, 1),
         Meets::Lost => Ok(Item::Lost),
         Meets::Late => Ok(Item::Late),
         Meets::ReplyLost => Ok(Item::ReplyLost),

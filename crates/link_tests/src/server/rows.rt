@@ -252,7 +252,7 @@ pub(super) const ITEMS: [Row; 7] = [
 ];
 
 /// Each rule of honesty.
-pub(super) const HONESTY: [Row; 8] = [
+pub(super) const HONESTY: [Row; 9] = [
     Row {
         name: "interrupted once it ran",
         late: &[],
@@ -341,10 +341,21 @@ pub(super) const HONESTY: [Row; 8] = [
         expected: REFUSED,
         entries: 3,
     },
+    Row {
+        name: "refused under a lower number, of which it is not known whether it ran",
+        late: &[],
+        number: Some(2),
+        start: false,
+        inside: false,
+        asks: Asks::Insert,
+        meets: Meets::Refused(Given::NoWritesAndOverload),
+        expected: REFUSED_OVERLOADED,
+        entries: 3,
+    },
 ];
 
 /// What statements count, and how replies tell of it.
-pub(super) const COUNTS: [Row; 4] = [
+pub(super) const COUNTS: [Row; 5] = [
     Row {
         name: "an update that inserts",
         late: &[],
@@ -388,6 +399,17 @@ pub(super) const COUNTS: [Row; 4] = [
         meets: Meets::FailsFirst,
         expected: ONE_FAILED,
         entries: 7,
+    },
+    Row {
+        name: "a failure behind a result",
+        late: &[],
+        number: Some(5),
+        start: false,
+        inside: false,
+        asks: Asks::Bulk,
+        meets: Meets::FailsSecond,
+        expected: SECOND_FAILED,
+        entries: 8,
     },
 ];
 
