@@ -3,11 +3,6 @@
 ghost use Rattle.std.specs.Prelude.{◌≡◌, ◌<◌};
 
 use crate::concerns::has_end;
-use crate::faking::{ALIKE, ANY_DONE, Given, fake_link};
-use crate::inserting::{Ended, how_ended};
-use crate::refusals::{Concern, write_concern};
-use crate::statements::{FIRST_NUMBER, LAST, joined};
-use crate::writes::{namespace, number};
 use bson_lite::{Document, TryClone};
 use driver_error::Result;
 use driver_exec::{Client, Outside, Steps, execute_operation};
@@ -23,6 +18,10 @@ use std::alloc::{AllocError, Global};
 use std::marker::Brand;
 use std::sync::ledger::{Blank, Ledger};
 use std::test::Fail;
+use test_parts::faking::{ALIKE, ANY_DONE, Given, fake_link};
+use test_parts::inserting::{Ended, how_ended};
+use test_parts::spelling::{FIRST_NUMBER, LAST, joined};
+use test_parts::writes::{Concern, namespace, number, write_concern};
 
 /// `writeConcern: {w: 1}`, and the same of 2 and of 3
 const BY_ONE: &[u8] = b"\x03writeConcern\0\x0c\0\0\0\x10w\0\x01\0\0\0\0";

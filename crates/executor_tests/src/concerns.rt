@@ -1,11 +1,11 @@
 //! Inserts of clients that have a write concern: what goes out with it, and which are refused before anything is sent.
-use crate::faking::{ALIKE, DONE, Given, fake_link};
-use crate::inserting::{Ended, Seen, insert_under};
 use bson_lite::{Text, encode};
 use driver_link::{Acknowledgment, FakeLink, WriteConcern};
 use driver_ops::concern_document;
 use std::alloc::{AllocError, Global};
 use std::test::Fail;
+use test_parts::faking::{ALIKE, DONE, Given, fake_link};
+use test_parts::inserting::{Ended, Seen, insert_under};
 
 /// What a row's concern says of the servers that acknowledge a write.
 #[derive(Clone, Copy)]

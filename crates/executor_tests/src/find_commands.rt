@@ -1,9 +1,6 @@
 //! The writes that answer a document, over a fake link, by the bytes that they send: which fields their command has,
 //! in which order, with every option and with none.
-use crate::statements::{
-    ENGLISH, FIRST_NUMBER, LAST, NOTE, ONE_NODE, SESSION, VARIABLES, by_one_node, noted, one, sends,
-};
-use crate::writes::{Kind, namespace, number, operators, text, two, usual, write_of};
+use crate::statements::{ENGLISH, VARIABLES, sends};
 use bson_lite::{Bson, Text};
 use driver_actions::SingleWrite;
 use driver_link::{
@@ -12,6 +9,8 @@ use driver_link::{
 };
 use std::alloc::{AllocError, Global};
 use std::test::Fail;
+use test_parts::spelling::{FIRST_NUMBER, LAST, NOTE, ONE_NODE, SESSION, by_one_node, noted, one};
+use test_parts::writes::{Kind, namespace, number, operators, text, two, usual, write_of};
 
 /// `findAndModify: "items", query: {x: 1}`
 const FIRST: &[u8] =

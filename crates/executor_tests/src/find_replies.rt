@@ -1,9 +1,9 @@
 //! Replies to findAndModify over a fake link: the document that they tell, or none, the failures, and the forms that
 //! are refused.
-use crate::inserting::Ended;
 use crate::write_replies::{BARE, FoundDocument, REFUSED, Told, told_of};
-use crate::writes::Kind;
 use std::test::Fail;
+use test_parts::inserting::Ended;
+use test_parts::writes::Kind;
 
 /// `{ok: 1, value: {a: 1}}`
 const FOUND: &[u8] = b"\x20\0\0\0\x10ok\0\x01\0\0\0\x03value\0\x0c\0\0\0\x10a\0\x01\0\0\0\0\0";

@@ -1,11 +1,11 @@
 //! One insert over a fake link: what it sends, and the replies that it does not take.
-use crate::faking::{
-    ALIKE, DONE, Given, LATER, NO_REPEATS, NO_SESSIONS, Servers, ends_at_once, inserted, seen,
-};
-use crate::inserting::{Ended, SERVER};
 use driver_error::IoKind;
 use driver_link::{FakeLink, Frame};
 use std::alloc::Global;
+use test_parts::faking::{
+    ALIKE, DONE, Given, LATER, NO_REPEATS, NO_SESSIONS, Servers, ends_at_once, inserted, seen,
+};
+use test_parts::inserting::{Ended, SERVER};
 
 /// `{ok: 0, code: 20, errmsg: "Transaction numbers .."}`
 const NO_NUMBERS: &[u8] =

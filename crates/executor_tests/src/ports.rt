@@ -1,11 +1,11 @@
 //! One insert over a link whose selections answer one server after the other: the connection of each attempt is
 //! asked for the server that its selection answered.
-use crate::faking::{ALIKE, DONE, Given, fake_link};
-use crate::inserting::{Ended, insert};
 use bson_lite::{Bytes, List, Text};
 use driver_error::Error;
 use driver_link::{Address, Conn, FakeLink, Frame, Link, LinkError, Place, SelectionCriteria};
 use std::alloc::Global;
+use test_parts::faking::{ALIKE, DONE, Given, fake_link};
+use test_parts::inserting::{Ended, insert};
 
 /// A fake link whose k-th selection answers port k, from 1, and which keeps the ports that were asked for.
 #[derive(Drop)]

@@ -1,8 +1,8 @@
 //! One insert over a fake link: which servers its selections are asked to avoid.
-use crate::faking::{ALIKE, DONE, Given, ROUTER, Servers, inserted};
-use crate::inserting::Ended;
 use driver_link::{Address, Asked, FakeLink};
 use std::alloc::Global;
+use test_parts::faking::{ALIKE, DONE, Given, ROUTER, Servers, inserted};
+use test_parts::inserting::Ended;
 
 /// Routers of shards behind each connection.
 const ROUTERS: Servers = Servers {

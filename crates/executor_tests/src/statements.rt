@@ -1,29 +1,23 @@
 //! Updates and deletes over a fake link, by the bytes that they send: which fields their commands and statements
 //! have, in which order, with every option and with none.
-use crate::faking::{ALIKE, ANY_DONE, Given, fake_link};
-use crate::inserting::{Ended, answered_under, seen_end};
-use crate::writes::{Kind, namespace, number, operators, text, two, usual, write_of};
-use bson_lite::{Bson, Bytes, Document, List, Text};
+use bson_lite::{Bson, Text};
 use driver_actions::SingleWrite;
 use driver_link::{
-    Acknowledgment, DeleteOptions, FakeLink, Frame, Hint, InsertManyOptions, UpdateModifications,
-    UpdateOptions, WriteConcern,
+    Acknowledgment, DeleteOptions, Hint, InsertManyOptions, UpdateModifications, UpdateOptions,
+    WriteConcern,
 };
 use std::alloc::{AllocError, Global};
 use std::test::Fail;
+use test_parts::faking::{ALIKE, ANY_DONE, Given, fake_link};
+use test_parts::inserting::{Ended, answered_under, seen_end};
+use test_parts::spelling::{
+    FIRST_NUMBER, INSERTED, LAST, NOTE, ONE_NODE, SESSION, by_one_node, has_one_frame, joined,
+    noted, one,
+};
+use test_parts::writes::{Kind, namespace, number, operators, text, two, usual, write_of};
 
 /// `ordered: true`
 const ORDERED: &[u8] = b"\x08ordered\0\x01";
-
-/// `lsid: {id: UUID(..01)}`
-pub(crate) const SESSION: &[u8] =
-    b"\x03lsid\0\x1e\0\0\0\x05id\0\x10\0\0\0\x04\0\0\0\0\0\0\0\0\0\0\0\0\0\0\0\x01\0";
-
-/// `txnNumber: 1`, of 64 bits
-pub(crate) const FIRST_NUMBER: &[u8] = b"\x12txnNumber\0\x01\0\0\0\0\0\0\0";
-
-/// `$db: "shop"`, and the end of the body
-pub(crate) const LAST: &[u8] = b"\x02$db\0\x05\0\0\0shop\0\0";
 
 /// `q: {x: 1}`
 const FILTER: &[u8] = b"\x03q\0\x0c\0\0\0\x10x\0\x01\0\0\0\0";
@@ -31,14 +25,8 @@ const FILTER: &[u8] = b"\x03q\0\x0c\0\0\0\x10x\0\x01\0\0\0\0";
 /// `let: {v: 5}`
 pub(crate) const VARIABLES: &[u8] = b"\x03let\0\x0c\0\0\0\x10v\0\x05\0\0\0\0";
 
-/// `comment: "note"`
-pub(crate) const NOTE: &[u8] = b"\x02comment\0\x05\0\0\0note\0";
-
 /// `collation: {locale: "en"}`
 pub(crate) const ENGLISH: &[u8] = b"\x03collation\0\x14\0\0\0\x02locale\0\x03\0\0\0en\0\0";
-
-/// `writeConcern: {w: 1}`
-pub(crate) const ONE_NODE: &[u8] = b"\x03writeConcern\0\x0c\0\0\0\x10w\0\x01\0\0\0\0";
 
 /// An `updateMany` with every option:
 /// `{update: "items", bypassDocumentValidation: true, let: {v: 5}, comment: "note",
@@ -137,21 +125,6 @@ const ALL_DELETED: &[&[u8]] = &[
     LAST,
 ];
 
-/// An `insertOne` with every option, whose document goes out beside the body:
-/// `{insert: "items", bypassDocumentValidation: true, ordered: false, comment: "note", lsid: {id: UUID(..01)},
-/// txnNumber: 1, writeConcern: {w: 1}, $db: "shop"}`
-pub(crate) const INSERTED: &[&[u8]] = &[
-    b"\xad\0\0\0",
-    b"\x02insert\0\x06\0\0\0items\0",
-    b"\x08bypassDocumentValidation\0\x01",
-    b"\x08ordered\0\0",
-    NOTE,
-    SESSION,
-    FIRST_NUMBER,
-    ONE_NODE,
-    LAST,
-];
-
 /// A write whose bytes a row spells.
 #[derive(Clone, Copy, Debug)]
 enum Spelled {
@@ -172,27 +145,6 @@ const ROWS: &[(Spelled, &[&[u8]], usize)] = &[
     (Spelled::DeleteMany, ALL_DELETED, 0),
     (Spelled::Insert, INSERTED, 1),
 ];
-
-/// `{w: 1}`
-pub(crate) fn by_one_node() -> WriteConcern {
-    WriteConcern {
-        w: Some(Acknowledgment::Nodes(1)),
-        w_timeout: None,
-        journal: None,
-    }
-}
-
-/// `"note"`
-pub(crate) fn noted(alloc: Global) -> Result<Bson, AllocError> {
-    Ok(Bson::String(Text::from_str(alloc, "note")?))
-}
-
-/// One document as a list.
-pub(crate) fn one(alloc: Global, document: Document) -> Result<List<Document>, AllocError> {
-    let mut list = List::with_capacity(alloc, 1)?;
-    list.push(document)?;
-    Ok(list)
-}
 
 /// Every option of an update.
 fn all_of_update(alloc: Global) -> Result<UpdateOptions, AllocError> {
@@ -279,28 +231,6 @@ fn write(alloc: Global, spelled: Spelled) -> Result<SingleWrite, AllocError> {
         Spelled::Replacement => write_of(alloc, usual(Kind::ReplaceOne), None),
         Spelled::DeleteMany => write_of(alloc, usual(Kind::DeleteMany), None),
         Spelled::Insert => insert_of_one(alloc),
-    }
-}
-
-/// The parts of a body, joined.
-pub(crate) fn joined(alloc: Global, parts: &[&[u8]]) -> Result<Bytes, AllocError> {
-    let mut bytes = Bytes::new(alloc);
-    for part in parts {
-        bytes.extend_from_slice(part)?;
-    }
-    Ok(bytes)
-}
-
-/// Whether a frame goes to the database of the rows, with this body and so many sequences.
-fn is_spelled(frame: &Frame, body: &[u8], sequences: usize) -> bool {
-    frame.database() == "shop" && frame.body() == body && frame.sequence_count() == sequences
-}
-
-/// Whether a link was given one such frame.
-pub(crate) fn has_one_frame(link: &FakeLink, body: &[u8], sequences: usize) -> bool {
-    match link.frames() {
-        [frame] => is_spelled(frame, body, sequences),
-        _ => false,
     }
 }
 

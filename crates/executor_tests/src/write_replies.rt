@@ -1,14 +1,14 @@
 //! Replies to updates, deletes and an unordered insert over a fake link: the counts and the failures that they
 //! tell, and the forms that are refused.
-use crate::faking::{ALIKE, CHANGED, DONE, Given, fake_link};
-use crate::inserting::{Ended, answered_under, how_ended};
-use crate::writes::{Kind, namespace, number, usual, write_of};
 use bson_lite::{Bson, Document};
 use driver_actions::{SingleAnswer, SingleWrite};
 use driver_error::{Error, Result, UpdateResult};
 use driver_link::{FakeLink, InsertManyOptions};
 use std::alloc::{AllocError, Global};
 use std::test::Fail;
+use test_parts::faking::{ALIKE, CHANGED, DONE, Given, fake_link};
+use test_parts::inserting::{Ended, answered_under, how_ended};
+use test_parts::writes::{Kind, namespace, number, usual, write_of};
 
 /// `{ok: 1, n: 3, nModified: 2}`
 const THREE_FOUND: &[u8] =

@@ -1,23 +1,30 @@
-//! A fake link, whose servers and answers a row names, and one insert over it.
+//! A fake link, whose servers and answers a row names, and one insert or calls over it.
 use crate::inserting::{Ended, SERVER, Seen, insert};
 use bson_lite::{Bytes, List};
+use driver_actions::{Call, Outcome, run_calls};
 use driver_error::IoKind;
-use driver_link::{Description, FakeLink, FakeStep, LinkFault};
+use driver_exec::{Client, Outside};
+use driver_link::{
+    ClientOptions, CountingIds, Description, FakeLink, FakeStep, LinkFault, MemClock,
+};
+use driver_session::PlainStore;
+use rand_core::SeedableRng;
+use rand_pcg::Pcg32;
 use std::alloc::{AllocError, Global};
 
 /// `{ok: 1, n: 1}`
-pub(crate) const DONE: &[u8] = b"\x14\0\0\0\x10ok\0\x01\0\0\0\x10n\0\x01\0\0\0\0";
+pub const DONE: &[u8] = b"\x14\0\0\0\x10ok\0\x01\0\0\0\x10n\0\x01\0\0\0\0";
 
 /// `{ok: 1, n: 1, nModified: 1}`
-pub(crate) const CHANGED: &[u8] =
+pub const CHANGED: &[u8] =
     b"\x23\0\0\0\x10ok\0\x01\0\0\0\x10n\0\x01\0\0\0\x10nModified\0\x01\0\0\0\0";
 
 /// `{ok: 1, n: 1, nModified: 1, value: null}`, which says of a write of any kind that it was done
-pub(crate) const ANY_DONE: &[u8] =
+pub const ANY_DONE: &[u8] =
     b"\x2a\0\0\0\x10ok\0\x01\0\0\0\x10n\0\x01\0\0\0\x10nModified\0\x01\0\0\0\x0avalue\0\0";
 
 /// A connection's server that takes sessions, and no retryable writes.
-pub(crate) const NO_REPEATS: Description = Description {
+pub const NO_REPEATS: Description = Description {
     max_wire_version: Some(25),
     max_bson_object_size: 16_777_216,
     max_message_size_bytes: 48_000_000,
@@ -28,7 +35,7 @@ pub(crate) const NO_REPEATS: Description = Description {
 };
 
 /// One that takes retryable writes, and no sessions.
-pub(crate) const NO_SESSIONS: Description = Description {
+pub const NO_SESSIONS: Description = Description {
     max_wire_version: Some(25),
     max_bson_object_size: 16_777_216,
     max_message_size_bytes: 48_000_000,
@@ -39,7 +46,7 @@ pub(crate) const NO_SESSIONS: Description = Description {
 };
 
 /// A router of shards that takes both.
-pub(crate) const ROUTER: Description = Description {
+pub const ROUTER: Description = Description {
     max_wire_version: Some(25),
     max_bson_object_size: 16_777_216,
     max_message_size_bytes: 48_000_000,
@@ -50,7 +57,7 @@ pub(crate) const ROUTER: Description = Description {
 };
 
 /// A server like [`SERVER`] of a later version.
-pub(crate) const LATER: Description = Description {
+pub const LATER: Description = Description {
     max_wire_version: Some(26),
     max_bson_object_size: 16_777_216,
     max_message_size_bytes: 48_000_000,
@@ -62,20 +69,20 @@ pub(crate) const LATER: Description = Description {
 
 /// What an exchange answers.
 #[derive(Clone, Copy)]
-pub(crate) enum Given {
+pub enum Given {
     Reply(&'static [u8]),
     Reset,
 }
 
 /// The servers behind the first connection and behind each further one.
 #[derive(Clone, Copy)]
-pub(crate) struct Servers {
-    pub(crate) first: Description,
-    pub(crate) further: Description,
+pub struct Servers {
+    pub first: Description,
+    pub further: Description,
 }
 
 /// The same server behind each connection.
-pub(crate) const ALIKE: Servers = Servers {
+pub const ALIKE: Servers = Servers {
     first: SERVER,
     further: SERVER,
 };
@@ -88,11 +95,7 @@ fn step(alloc: Global, given: Given) -> Result<FakeStep, AllocError> {
 }
 
 /// A fake link with these servers, whose exchanges answer so.
-pub(crate) fn fake_link(
-    alloc: Global,
-    servers: Servers,
-    given: &[Given],
-) -> Result<FakeLink, AllocError> {
+pub fn fake_link(alloc: Global, servers: Servers, given: &[Given]) -> Result<FakeLink, AllocError> {
     let mut descriptions = List::new(alloc);
     descriptions.push(servers.first)?;
     descriptions.push(servers.further)?;
@@ -104,7 +107,7 @@ pub(crate) fn fake_link(
 }
 
 /// The end of an insert whose exchanges answer so, and the link afterwards, or none where there is no memory.
-pub(crate) fn seen(alloc: Global, servers: Servers, given: &[Given]) -> Option<(Seen, FakeLink)> {
+pub fn seen(alloc: Global, servers: Servers, given: &[Given]) -> Option<(Seen, FakeLink)> {
     let Ok(link) = fake_link(alloc, servers, given) else {
         return None;
     };
@@ -112,19 +115,36 @@ pub(crate) fn seen(alloc: Global, servers: Servers, given: &[Given]) -> Option<(
 }
 
 /// How it ends, and the link.
-pub(crate) fn inserted(
-    alloc: Global,
-    servers: Servers,
-    given: &[Given],
-) -> Option<(Ended, FakeLink)> {
+pub fn inserted(alloc: Global, servers: Servers, given: &[Given]) -> Option<(Ended, FakeLink)> {
     let (seen, link) = seen(alloc, servers, given)?;
     Some((seen.ended, link))
 }
 
 /// Whether an insert ends so after one send.
-pub(crate) fn ends_at_once(alloc: Global, servers: Servers, given: &[Given], ended: Ended) -> bool {
+pub fn ends_at_once(alloc: Global, servers: Servers, given: &[Given], ended: Ended) -> bool {
     match inserted(alloc, servers, given) {
         Some((found, link)) => found == ended && link.frames().len() == 1,
         None => false,
     }
+}
+
+/// The outcomes of calls by a new client over a link, and how many frames were sent.
+pub fn outcomes_over(
+    alloc: Global,
+    link: FakeLink,
+    calls: &[Call],
+) -> Result<(List<Outcome>, usize), AllocError> {
+    let options = ClientOptions {
+        client_number: 1,
+        ..ClientOptions::default()
+    };
+    let mut client = Client::new(options, PlainStore::new(alloc, CountingIds::new()));
+    let mut outside = Outside {
+        link,
+        clock: MemClock::new(0, 0),
+        words: Pcg32::seed_from_u64(1),
+        call: 0,
+    };
+    let outcomes = run_calls(alloc, &mut client, &mut outside, calls)?;
+    Ok((outcomes, outside.link.frames().len()))
 }

@@ -1,14 +1,13 @@
 //! An insert of four documents in two batches, over a fake link that answers each batch with failures of its own: what
 //! the insert's error has of each, under the indexes of its list.
-use crate::faking::{Given, Servers, fake_link};
-use crate::refusals::outcomes_over;
-use crate::writes::{namespace, number};
 use bson_lite::{Bson, ByIndex, Document, List, Text};
 use driver_actions::{Call, Outcome};
 use driver_error::{Error, ErrorKind, IndexedWriteError, InsertManyError, WriteConcernError};
 use driver_link::{Description, InsertManyOptions};
 use std::alloc::{AllocError, Global};
 use std::test::Fail;
+use test_parts::faking::{Given, Servers, fake_link, outcomes_over};
+use test_parts::writes::{namespace, number};
 
 /// A connection's server that takes sessions, retryable writes, and two documents a batch.
 const TWO_A_BATCH: Description = Description {

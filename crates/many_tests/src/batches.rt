@@ -1,7 +1,5 @@
 //! An insert of three documents: under limits of the connection how many go out, or why none does, and what a reply
 //! tells of them; and one insert whose resend the next connection does not take.
-use crate::faking::{DONE, Given, Servers, inserted};
-use crate::inserting::{Ended, SERVER};
 use bson_lite::{Bson, Document, List, Namespace, ObjectId, Text};
 use driver_error::{Error, ErrorKind, InsertManyError, IoKind};
 use driver_link::{Description, InsertManyOptions};
@@ -10,6 +8,8 @@ use driver_ops::{
 };
 use std::alloc::{AllocError, Global};
 use std::test::Fail;
+use test_parts::faking::{DONE, Given, Servers, inserted};
+use test_parts::inserting::{Ended, SERVER};
 
 /// The three limits of a connection.
 #[derive(Clone, Copy)]

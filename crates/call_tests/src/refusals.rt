@@ -1,18 +1,15 @@
 //! Single writes over a link that would answer each one: what is refused for its input or for its concern, before
 //! anything is sent and without labels, and what is sent beside it.
 use crate::calling::id_of;
-use crate::faking::{ALIKE, ANY_DONE, DONE, Given, fake_link};
-use crate::inserting::{Ended, answered_under, how_ended, label_count, seen_end};
-use crate::writes::{Asked, Change, Flaw, KINDS, Kind, Odd, Part, usual, write_of};
 use bson_lite::List;
-use driver_actions::{Call, Outcome, run_calls};
-use driver_exec::{Client, Outside};
-use driver_link::{Acknowledgment, ClientOptions, CountingIds, FakeLink, MemClock, WriteConcern};
-use driver_session::PlainStore;
-use rand_core::SeedableRng;
-use rand_pcg::Pcg32;
+use driver_actions::{Call, Outcome};
 use std::alloc::{AllocError, Global};
 use std::test::Fail;
+use test_parts::faking::{ALIKE, ANY_DONE, DONE, Given, fake_link, outcomes_over};
+use test_parts::inserting::{Ended, answered_under, how_ended, label_count, seen_end};
+use test_parts::writes::{
+    Asked, Change, Concern, Flaw, KINDS, Kind, Odd, Part, usual, write_concern, write_of,
+};
 
 /// What updates and replacements do, and how they end: an update begins with an operator and a replacement does
 /// not, by its first key alone, and the stages of a pipeline are not judged.
@@ -241,15 +238,6 @@ const FIRST: &[(Asked, Ended)] = &[
     ),
 ];
 
-/// A concern of a write or of its client.
-#[derive(Clone, Copy)]
-pub(crate) enum Concern {
-    Unset,
-    /// One without a field.
-    Bare,
-    Nodes(u32),
-}
-
 /// A write's own concern, its client's, and how it ends: the own one alone counts where there is one.
 const CONCERNS: &[(Concern, Concern, Ended)] = &[
     (Concern::Nodes(0), Concern::Nodes(1), Ended::Unacknowledged),
@@ -268,20 +256,6 @@ const CONCERNS: &[(Concern, Concern, Ended)] = &[
         Ended::Done,
     ),
 ];
-
-/// A concern as a write or a client has it.
-pub(crate) fn write_concern(concern: Concern) -> Option<WriteConcern> {
-    let w = match concern {
-        Concern::Unset => return None,
-        Concern::Bare => None,
-        Concern::Nodes(nodes) => Some(Acknowledgment::Nodes(nodes)),
-    };
-    Some(WriteConcern {
-        w,
-        w_timeout: None,
-        journal: None,
-    })
-}
 
 /// Whether a write under its own concern and its client's ends so, without labels: it is sent once where it is
 /// done, and else not at all.
@@ -404,27 +378,6 @@ fn skips_one_id(alloc: Global, outcomes: &[Outcome]) -> bool {
         [first, second] => is_unacknowledged(alloc, first) && id_of(second) == Some(2),
         _ => false,
     }
-}
-
-/// The outcomes of calls by a new client over a link, and how many frames were sent.
-pub(crate) fn outcomes_over(
-    alloc: Global,
-    link: FakeLink,
-    calls: &[Call],
-) -> Result<(List<Outcome>, usize), AllocError> {
-    let options = ClientOptions {
-        client_number: 1,
-        ..ClientOptions::default()
-    };
-    let mut client = Client::new(options, PlainStore::new(alloc, CountingIds::new()));
-    let mut outside = Outside {
-        link,
-        clock: MemClock::new(0, 0),
-        words: Pcg32::seed_from_u64(1),
-        call: 0,
-    };
-    let outcomes = run_calls(alloc, &mut client, &mut outside, calls)?;
-    Ok((outcomes, outside.link.frames().len()))
 }
 
 /// Whether the object id of an insert that is refused for its concern stays drawn, and the next insert alone is

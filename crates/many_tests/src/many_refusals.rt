@@ -1,15 +1,14 @@
 //! Inserts of many documents over a link that would answer each one: what is refused for its input before an id is
 //! drawn or anything sent, which fault is told first, and which ids are drawn.
-use crate::faking::{ALIKE, Given, fake_link};
-use crate::inserting::{Ended, how_ended, label_count};
-use crate::refusals::outcomes_over;
-use crate::writes::{Flaw, flawed, namespace, number};
 use bson_lite::{Bson, Document, List};
 use driver_actions::{Answer, Call, Outcome};
 use driver_error::InsertManyResult;
 use driver_link::InsertManyOptions;
 use std::alloc::{AllocError, Global};
 use std::test::Fail;
+use test_parts::faking::{ALIKE, Given, fake_link, outcomes_over};
+use test_parts::inserting::{Ended, how_ended, label_count};
+use test_parts::writes::{Flaw, flawed, namespace, number};
 
 /// `{ok: 1, n: 2}`
 const TWO_DONE: &[u8] = b"\x14\0\0\0\x10ok\0\x01\0\0\0\x10n\0\x02\0\0\0\0";

@@ -1,6 +1,5 @@
 //! A run of one insert with a clock that goes on by a step at each reading: when the call starts and ends, and
 //! when its session is lent and comes back.
-use crate::faking::{ALIKE, DONE, Given, fake_link};
 use crate::schedules::calls;
 use bson_lite::List;
 use driver_actions::{Call, Outcome, run_calls};
@@ -10,6 +9,7 @@ use driver_session::{PlainStore, StoreEvent};
 use rand_core::SeedableRng;
 use rand_pcg::Pcg32;
 use std::alloc::{AllocError, Global};
+use test_parts::faking::{ALIKE, DONE, Given, fake_link};
 
 /// When the one call started and ended.
 fn times(outcomes: List<Outcome>) -> Option<(u64, u64)> {

@@ -2,13 +2,7 @@
 //! with ample memory, over a model server and over a fake link, and which options go out by its setters.
 ghost use Rattle.driver_link.specs.WellFormed.{IsWellFormed};
 
-use crate::faking::{ALIKE, DONE, Given, fake_link};
 use crate::many_failures::id_at;
-use crate::statements::{
-    FIRST_NUMBER, INSERTED, LAST, NOTE, ONE_NODE, SESSION, by_one_node, has_one_frame, joined,
-    noted, one,
-};
-use crate::writes::{namespace, number};
 use bson_lite::{Bson, ByIndex, Document, List};
 use driver_actions::{InsertMany, ManyInserts, ToDocument};
 use driver_error::{InsertManyResult, Result};
@@ -24,6 +18,12 @@ use rand_core::SeedableRng;
 use rand_pcg::Pcg32;
 use std::alloc::{AllocError, Global};
 use std::test::Fail;
+use test_parts::faking::{ALIKE, DONE, Given, fake_link};
+use test_parts::spelling::{
+    FIRST_NUMBER, INSERTED, LAST, NOTE, ONE_NODE, SESSION, by_one_node, has_one_frame, joined,
+    noted, one,
+};
+use test_parts::writes::{namespace, number};
 
 /// `insert: "items"`
 const INSERT: &[u8] = b"\x02insert\0\x06\0\0\0items\0";

@@ -13,7 +13,7 @@ use rand_pcg::Pcg32;
 use std::alloc::{AllocError, Global};
 
 /// A connection's server that takes sessions and retryable writes.
-pub(crate) const SERVER: Description = Description {
+pub const SERVER: Description = Description {
     max_wire_version: Some(25),
     max_bson_object_size: 16_777_216,
     max_message_size_bytes: 48_000_000,
@@ -29,7 +29,7 @@ const NO_NUMBERS: &str =
 
 /// How a write ended.
 #[derive(Clone, Copy, Debug, PartialEq, Eq)]
-pub(crate) enum Ended {
+pub enum Ended {
     Done,
     Io(IoKind),
     Command(i32),
@@ -62,15 +62,15 @@ pub(crate) enum Ended {
 /// A write's end: how it ended, how many labels its error has, whether that of a retryable write is among
 /// them, and the wire version of its connection, where it has one.
 #[derive(Clone, Copy)]
-pub(crate) struct Seen {
-    pub(crate) ended: Ended,
-    pub(crate) labels: usize,
-    pub(crate) retryable: bool,
-    pub(crate) version: Option<i32>,
+pub struct Seen {
+    pub ended: Ended,
+    pub labels: usize,
+    pub retryable: bool,
+    pub version: Option<i32>,
 }
 
 /// What the kind of an error tells.
-pub(crate) fn how_ended(error: &Error) -> Ended {
+pub fn how_ended(error: &Error) -> Ended {
     match error.kind() {
         ErrorKind::Io(found) => Ended::Io(*found),
         ErrorKind::Command(found) if found.message.as_str() == NO_NUMBERS => Ended::NoNumbers,
@@ -112,7 +112,7 @@ fn how_refused(message: &str) -> Ended {
 }
 
 /// How many labels an error has, or none where there is no memory.
-pub(crate) fn label_count(alloc: Global, error: &Error) -> Option<usize> {
+pub fn label_count(alloc: Global, error: &Error) -> Option<usize> {
     match error.labels().sorted(alloc) {
         Ok(labels) => Some(labels.len()),
         Err(_refused) => None,
@@ -135,7 +135,7 @@ fn seen_error(alloc: Global, error: Error) -> Option<Seen> {
 }
 
 /// A write's end as a row sees it, or none where there is no memory.
-pub(crate) fn seen_end(alloc: Global, end: Result<SingleAnswer>) -> Option<Seen> {
+pub fn seen_end(alloc: Global, end: Result<SingleAnswer>) -> Option<Seen> {
     match end {
         Ok(answer) => {
             drop(answer);
@@ -166,12 +166,12 @@ fn write(alloc: Global) -> std::result::Result<SingleWrite, AllocError> {
 }
 
 /// The insert's end and the link afterwards, or none where there is no memory.
-pub(crate) fn insert<L: Link + Drop>(alloc: Global, link: L) -> Option<(Seen, L)> {
+pub fn insert<L: Link + Drop>(alloc: Global, link: L) -> Option<(Seen, L)> {
     insert_under(alloc, link, None)
 }
 
 /// The same by a client with this write concern.
-pub(crate) fn insert_under<L: Link + Drop>(
+pub fn insert_under<L: Link + Drop>(
     alloc: Global,
     link: L,
     concern: Option<WriteConcern>,
@@ -186,7 +186,7 @@ pub(crate) fn insert_under<L: Link + Drop>(
 }
 
 /// What a write by a new client with this concern answers, and the link afterwards.
-pub(crate) fn answered_under<L: Link + Drop>(
+pub fn answered_under<L: Link + Drop>(
     alloc: Global,
     link: L,
     write: &SingleWrite,

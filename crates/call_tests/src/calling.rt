@@ -1,5 +1,4 @@
 //! What no clause shows: that a call succeeds with ample memory, over a link whose replies a test chooses.
-use crate::inserting::SERVER;
 use bson_lite::{Bson, Bytes, Document, EncodeFault, List, Namespace, Text, TryClone};
 use driver_actions::{Answer, Call, CallRun, Outcome, SingleAnswer, SingleWrite, run_calls};
 use driver_error::{Error, ErrorKind, IoKind};
@@ -13,6 +12,7 @@ use rand_core::SeedableRng;
 use rand_pcg::Pcg32;
 use std::alloc::{AllocError, Global};
 use std::test::Fail;
+use test_parts::inserting::SERVER;
 
 /// A link that gives one reply to each exchange, whatever is sent.
 #[derive(Drop)]

@@ -4,13 +4,14 @@ use crate::finds::{find_and_delete, find_and_replace, find_and_update};
 use bson_lite::{Bson, Document, List, Namespace, Text};
 use driver_actions::SingleWrite;
 use driver_link::{
-    DeleteOptions, Hint, InsertManyOptions, UpdateModifications, UpdateOptions, WriteConcern,
+    Acknowledgment, DeleteOptions, Hint, InsertManyOptions, UpdateModifications, UpdateOptions,
+    WriteConcern,
 };
 use std::alloc::{AllocError, Global};
 
 /// The nine kinds of single writes.
 #[derive(Clone, Copy, Debug, PartialEq, Eq)]
-pub(crate) enum Kind {
+pub enum Kind {
     InsertOne,
     UpdateOne,
     UpdateMany,
@@ -23,7 +24,7 @@ pub(crate) enum Kind {
 }
 
 /// All of them.
-pub(crate) const KINDS: &[Kind] = &[
+pub const KINDS: &[Kind] = &[
     Kind::InsertOne,
     Kind::UpdateOne,
     Kind::UpdateMany,
@@ -37,7 +38,7 @@ pub(crate) const KINDS: &[Kind] = &[
 
 /// A part of a write that is a document of the caller's, or an option that is one.
 #[derive(Clone, Copy, PartialEq, Eq)]
-pub(crate) enum Part {
+pub enum Part {
     Filter,
     /// The update, the replacement, or the inserted document.
     Change,
@@ -55,7 +56,7 @@ pub(crate) enum Part {
 
 /// What is odd about a document.
 #[derive(Clone, Copy)]
-pub(crate) enum Flaw {
+pub enum Flaw {
     /// It nests so many levels, itself counting one.
     Levels(usize),
     /// A key in a document in it holds a zero byte.
@@ -64,7 +65,7 @@ pub(crate) enum Flaw {
 
 /// What an update does, or what is put in the place of a document.
 #[derive(Clone, Copy)]
-pub(crate) enum Change {
+pub enum Change {
     /// `{$set: {y: 2}}`
     Operators,
     /// `{y: 2}`
@@ -79,23 +80,46 @@ pub(crate) enum Change {
 
 /// A part that is odd.
 #[derive(Clone, Copy)]
-pub(crate) struct Odd {
-    pub(crate) part: Part,
-    pub(crate) flaw: Flaw,
+pub struct Odd {
+    pub part: Part,
+    pub flaw: Flaw,
+}
+
+/// A concern of a write or of its client.
+#[derive(Clone, Copy)]
+pub enum Concern {
+    Unset,
+    /// One without a field.
+    Bare,
+    Nodes(u32),
 }
 
 /// A write that a row asks for: whether its database is `a.b` and not `shop`, and which parts of it are odd.
 #[derive(Clone, Copy)]
-pub(crate) struct Asked {
-    pub(crate) kind: Kind,
-    pub(crate) dotted: bool,
-    pub(crate) change: Change,
-    pub(crate) odd: Option<Odd>,
-    pub(crate) also: Option<Odd>,
+pub struct Asked {
+    pub kind: Kind,
+    pub dotted: bool,
+    pub change: Change,
+    pub odd: Option<Odd>,
+    pub also: Option<Odd>,
+}
+
+/// A concern as a write or a client has it.
+pub fn write_concern(concern: Concern) -> Option<WriteConcern> {
+    let w = match concern {
+        Concern::Unset => return None,
+        Concern::Bare => None,
+        Concern::Nodes(nodes) => Some(Acknowledgment::Nodes(nodes)),
+    };
+    Some(WriteConcern {
+        w,
+        w_timeout: None,
+        journal: None,
+    })
 }
 
 /// The usual write of a kind.
-pub(crate) fn usual(kind: Kind) -> Asked {
+pub fn usual(kind: Kind) -> Asked {
     let change = match kind {
         Kind::UpdateOne | Kind::UpdateMany | Kind::FindOneAndUpdate => Change::Operators,
         _ => Change::Plain,
@@ -110,14 +134,14 @@ pub(crate) fn usual(kind: Kind) -> Asked {
 }
 
 /// A document of one number.
-pub(crate) fn number(alloc: Global, key: &str, number: i32) -> Result<Document, AllocError> {
+pub fn number(alloc: Global, key: &str, number: i32) -> Result<Document, AllocError> {
     let mut document = Document::new(alloc);
     document.push(key, Bson::Int32(number))?;
     Ok(document)
 }
 
 /// A document of one text.
-pub(crate) fn text(alloc: Global, key: &str, text: &str) -> Result<Document, AllocError> {
+pub fn text(alloc: Global, key: &str, text: &str) -> Result<Document, AllocError> {
     let text = Text::from_str(alloc, text)?;
     let mut document = Document::new(alloc);
     document.push(key, Bson::String(text))?;
@@ -132,16 +156,12 @@ fn around(alloc: Global, key: &str, inner: Document) -> Result<Document, AllocEr
 }
 
 /// The operator `$set`.
-pub(crate) fn operators(alloc: Global, set: Document) -> Result<Document, AllocError> {
+pub fn operators(alloc: Global, set: Document) -> Result<Document, AllocError> {
     around(alloc, "$set", set)
 }
 
 /// Two documents as a list.
-pub(crate) fn two(
-    alloc: Global,
-    first: Document,
-    second: Document,
-) -> Result<List<Document>, AllocError> {
+pub fn two(alloc: Global, first: Document, second: Document) -> Result<List<Document>, AllocError> {
     let mut list = List::with_capacity(alloc, 2)?;
     list.push(first)?;
     list.push(second)?;
@@ -158,7 +178,7 @@ fn nested(alloc: Global, levels: usize) -> Result<Document, AllocError> {
 }
 
 /// A document with this flaw.
-pub(crate) fn flawed(alloc: Global, flaw: Flaw) -> Result<Document, AllocError> {
+pub fn flawed(alloc: Global, flaw: Flaw) -> Result<Document, AllocError> {
     match flaw {
         Flaw::Levels(levels) => nested(alloc, levels),
         Flaw::ZeroByte => around(alloc, "x", number(alloc, "a\0b", 1)?),
@@ -235,7 +255,7 @@ pub(crate) fn comment(alloc: Global, asked: Asked) -> Result<Option<Bson>, Alloc
 }
 
 /// The collection in a database.
-pub(crate) fn namespace(alloc: Global, db: &str) -> Result<Namespace, AllocError> {
+pub fn namespace(alloc: Global, db: &str) -> Result<Namespace, AllocError> {
     Ok(Namespace {
         db: Text::from_str(alloc, db)?,
         coll: Text::from_str(alloc, "items")?,
@@ -402,7 +422,7 @@ fn delete(
 }
 
 /// The write that a row asks for, with a concern of its own, or none.
-pub(crate) fn write_of(
+pub fn write_of(
     alloc: Global,
     asked: Asked,
     own: Option<WriteConcern>,

@@ -1,0 +1,15 @@
+//! Tests of calls of a list: every short schedule over a few inserts and over one write of each kind, which writes are
+//! refused, when a call is timed and its session lent, and that calls succeed with ample memory. They stand apart since
+//! a row crosses executor and server.
+#![tactic(auto)]
+
+#[cfg(test)]
+mod calling;
+#[cfg(test)]
+mod kinds;
+#[cfg(test)]
+mod refusals;
+#[cfg(test)]
+mod schedules;
+#[cfg(test)]
+mod timing;
