@@ -21,7 +21,7 @@ use rand_core::SeedableRng;
 use rand_pcg::Pcg32;
 use std::alloc::{AllocError, Global};
 use test_parts::meeting::{Meets, items};
-use test_parts::writes::{KINDS, Kind, number, operators, usual, write_of};
+use test_parts::writes::{Concern, KINDS, Kind, number, operators, usual, write_of};
 
 /// So many schedules of three items there are, each with a code of three digits.
 const SCHEDULES: u64 = 1000;
@@ -82,7 +82,7 @@ fn options(tried: Tried) -> ClientOptions {
 /// The one call of the kind.
 fn calls(alloc: Global, kind: Kind) -> Result<List<Call>, AllocError> {
     let mut calls = List::with_capacity(alloc, 1)?;
-    let write = write_of(alloc, usual(kind), None)?;
+    let write = write_of(alloc, usual(kind), Concern::Unset)?;
     calls.push(Call::Single { write })?;
     Ok(calls)
 }
@@ -98,14 +98,22 @@ fn run(alloc: Global, tried: Tried) -> Result<(List<Outcome>, ModelServer), Allo
         words: Pcg32::seed_from_u64(1),
         call: 0,
     };
-    let outcomes = run_calls(alloc, &mut client, &mut outside, calls.as_slice())?;
+    let ran = run_calls(alloc, &mut client, &mut outside, calls.as_slice());
+    drop(calls);
+    drop(client);
     let Outside {
         link,
         clock: _,
         words: _,
         call: _,
     } = outside;
-    Ok((outcomes, link))
+    match ran {
+        Ok(outcomes) => Ok((outcomes, link)),
+        Err(AllocError) => {
+            drop(link);
+            Err(AllocError)
+        }
+    }
 }
 
 /// The statement of an update: `{q: {x: 1}, u: CHANGE}`, and `multi: true` where it changes all.
@@ -361,6 +369,7 @@ fn first_sends(alloc: Global, tried: Tried) -> Option<Sends> {
         waiting: server.server().waiting.len() as u64,
     };
     drop(outcomes);
+    drop(server);
     if well { Some(sends) } else { None }
 }
 
@@ -372,6 +381,7 @@ fn order_holds(alloc: Global, tried: Tried, picks: &[u64]) -> bool {
     let well = deliver(&mut server, alloc, picks)
         && is_well(alloc, server.server(), tried, outcomes.as_slice());
     drop(outcomes);
+    drop(server);
     well
 }
 

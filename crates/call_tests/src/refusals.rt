@@ -267,7 +267,7 @@ fn ends(
     ended: Ended,
 ) -> Result<bool, AllocError> {
     let link = fake_link(alloc, ALIKE, &[Given::Reply(ANY_DONE)])?;
-    let write = write_of(alloc, asked, write_concern(own))?;
+    let write = write_of(alloc, asked, own)?;
     let (result, link) = answered_under(alloc, link, &write, write_concern(client));
     drop(write);
     let sent = link.frames().len();
@@ -351,13 +351,9 @@ fn kinds_end(
 /// An insert that nobody acknowledges, and one that asks for nothing.
 fn two_inserts(alloc: Global) -> Result<List<Call>, AllocError> {
     let mut calls = List::with_capacity(alloc, 2)?;
-    let write = write_of(
-        alloc,
-        usual(Kind::InsertOne),
-        write_concern(Concern::Nodes(0)),
-    )?;
+    let write = write_of(alloc, usual(Kind::InsertOne), Concern::Nodes(0))?;
     calls.push(Call::Single { write })?;
-    let write = write_of(alloc, usual(Kind::InsertOne), None)?;
+    let write = write_of(alloc, usual(Kind::InsertOne), Concern::Unset)?;
     calls.push(Call::Single { write })?;
     Ok(calls)
 }

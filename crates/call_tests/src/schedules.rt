@@ -111,14 +111,22 @@ fn run(
         words: Pcg32::seed_from_u64(1),
         call: 0,
     };
-    let outcomes = run_calls(alloc, &mut client, &mut outside, calls.as_slice())?;
+    let ran = run_calls(alloc, &mut client, &mut outside, calls.as_slice());
+    drop(calls);
+    drop(client);
     let Outside {
         link,
         clock: _,
         words: _,
         call: _,
     } = outside;
-    Ok((outcomes, link))
+    match ran {
+        Ok(outcomes) => Ok((outcomes, link)),
+        Err(AllocError) => {
+            drop(link);
+            Err(AllocError)
+        }
+    }
 }
 
 /// Whether two entries have one place.
@@ -308,6 +316,7 @@ fn waiting(alloc: Global, count: i32, code: u64, length: u64) -> Option<u64> {
     let well = holds(server.server(), outcomes.as_slice(), count);
     let waiting = server.server().waiting.len() as u64;
     drop(outcomes);
+    drop(server);
     if well { Some(waiting) } else { None }
 }
 
@@ -319,6 +328,7 @@ fn order_holds(alloc: Global, count: i32, code: u64, length: u64, picks: &[u64])
     let well = deliver(&mut server, alloc, picks)
         && holds(server.server(), outcomes.as_slice(), count);
     drop(outcomes);
+    drop(server);
     well
 }
 

@@ -1,16 +1,16 @@
 //! The writes that answer a document, over a fake link, by the bytes that they send: which fields their command has,
 //! in which order, with every option and with none.
-use crate::statements::{ENGLISH, VARIABLES, sends};
-use bson_lite::{Bson, Text};
+use crate::statements::{ENGLISH, Hinted, Said, Shared, VARIABLES, filters, sends, shared_options};
+use bson_lite::Document;
 use driver_actions::SingleWrite;
 use driver_link::{
     Acknowledgment, FindOneAndDeleteOptions, FindOneAndReplaceOptions, FindOneAndUpdateOptions,
-    Hint, ReturnDocument, UpdateModifications, WriteConcern,
+    ReturnDocument, UpdateModifications, WriteConcern,
 };
 use std::alloc::{AllocError, Global};
 use std::test::Fail;
-use test_parts::spelling::{FIRST_NUMBER, LAST, NOTE, ONE_NODE, SESSION, by_one_node, noted, one};
-use test_parts::writes::{Kind, namespace, number, operators, text, two, usual, write_of};
+use test_parts::spelling::{FIRST_NUMBER, LAST, NOTE, ONE_NODE, SESSION, by_one_node};
+use test_parts::writes::{Concern, Kind, namespace, number, operators, text, two, usual, write_of};
 
 /// `findAndModify: "items", query: {x: 1}`
 const FIRST: &[u8] =
@@ -139,20 +139,43 @@ const ROWS: &[(Spelled, &[&[u8]])] = &[
     (Spelled::Plain, DELETED),
 ];
 
+/// Which document is found, and what is told of it.
+#[derive(Drop)]
+struct Sought {
+    sort: Document,
+    projection: Document,
+}
+
+/// `{x: -1}` and `{y: 1}`
+fn sought_by(alloc: Global) -> Result<Sought, AllocError> {
+    Ok(Sought {
+        sort: number(alloc, "x", -1)?,
+        projection: number(alloc, "y", 1)?,
+    })
+}
+
 /// Every option of an update that answers a document.
 fn all_of_update(alloc: Global) -> Result<FindOneAndUpdateOptions, AllocError> {
+    let array_filters = filters(alloc)?;
+    let Sought { sort, projection } = sought_by(alloc)?;
+    let Shared {
+        collation,
+        let_vars,
+        hint,
+        comment,
+    } = shared_options(alloc, Hinted::ByName, Said::Note)?;
     Ok(FindOneAndUpdateOptions {
-        sort: Some(number(alloc, "x", -1)?),
+        sort: Some(sort),
         return_document: Some(ReturnDocument::After),
         upsert: Some(false),
         bypass_document_validation: Some(true),
-        array_filters: Some(one(alloc, number(alloc, "e", 3)?)?),
+        array_filters: Some(array_filters),
         max_time: Some(250),
-        projection: Some(number(alloc, "y", 1)?),
-        collation: Some(text(alloc, "locale", "en")?),
-        hint: Some(Hint::Name(Text::from_str(alloc, "x_1")?)),
-        let_vars: Some(number(alloc, "v", 5)?),
-        comment: Some(noted(alloc)?),
+        projection: Some(projection),
+        collation: Some(collation),
+        hint: Some(hint),
+        let_vars: Some(let_vars),
+        comment: Some(comment),
         write_concern: Some(by_one_node()),
     })
 }
@@ -169,14 +192,21 @@ fn update(alloc: Global) -> Result<SingleWrite, AllocError> {
 
 /// Every option of a delete that answers a document.
 fn all_of_delete(alloc: Global) -> Result<FindOneAndDeleteOptions, AllocError> {
+    let Sought { sort, projection } = sought_by(alloc)?;
+    let Shared {
+        collation,
+        let_vars,
+        hint,
+        comment,
+    } = shared_options(alloc, Hinted::ByKeys, Said::Null)?;
     Ok(FindOneAndDeleteOptions {
-        sort: Some(number(alloc, "x", -1)?),
+        sort: Some(sort),
         max_time: Some(2_147_483_648),
-        projection: Some(number(alloc, "y", 1)?),
-        collation: Some(text(alloc, "locale", "en")?),
-        hint: Some(Hint::Keys(number(alloc, "x", 1)?)),
-        let_vars: Some(number(alloc, "v", 5)?),
-        comment: Some(Bson::Null),
+        projection: Some(projection),
+        collation: Some(collation),
+        hint: Some(hint),
+        let_vars: Some(let_vars),
+        comment: Some(comment),
         write_concern: Some(WriteConcern {
             w: Some(Acknowledgment::Majority),
             w_timeout: None,
@@ -196,17 +226,24 @@ fn delete(alloc: Global) -> Result<SingleWrite, AllocError> {
 
 /// Every option of a replacement that answers a document.
 fn all_of_replace(alloc: Global) -> Result<FindOneAndReplaceOptions, AllocError> {
+    let Sought { sort, projection } = sought_by(alloc)?;
+    let Shared {
+        collation,
+        let_vars,
+        hint,
+        comment,
+    } = shared_options(alloc, Hinted::ByKeys, Said::Note)?;
     Ok(FindOneAndReplaceOptions {
-        sort: Some(number(alloc, "x", -1)?),
+        sort: Some(sort),
         return_document: Some(ReturnDocument::Before),
         upsert: Some(true),
         bypass_document_validation: Some(false),
         max_time: Some(2_147_483_647),
-        projection: Some(number(alloc, "y", 1)?),
-        collation: Some(text(alloc, "locale", "en")?),
-        hint: Some(Hint::Keys(number(alloc, "x", 1)?)),
-        let_vars: Some(number(alloc, "v", 5)?),
-        comment: Some(noted(alloc)?),
+        projection: Some(projection),
+        collation: Some(collation),
+        hint: Some(hint),
+        let_vars: Some(let_vars),
+        comment: Some(comment),
         write_concern: Some(by_one_node()),
     })
 }
@@ -241,7 +278,7 @@ fn write(alloc: Global, spelled: Spelled) -> Result<SingleWrite, AllocError> {
         Spelled::Delete => delete(alloc),
         Spelled::Replacement => replacement(alloc),
         Spelled::Pipeline => piped_update(alloc),
-        Spelled::Plain => write_of(alloc, usual(Kind::FindOneAndDelete), None),
+        Spelled::Plain => write_of(alloc, usual(Kind::FindOneAndDelete), Concern::Unset),
     }
 }
 

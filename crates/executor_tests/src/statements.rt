@@ -1,6 +1,6 @@
 //! Updates and deletes over a fake link, by the bytes that they send: which fields their commands and statements
 //! have, in which order, with every option and with none.
-use bson_lite::{Bson, Text};
+use bson_lite::{Bson, Document, List, Text};
 use driver_actions::SingleWrite;
 use driver_link::{
     Acknowledgment, DeleteOptions, Hint, InsertManyOptions, UpdateModifications, UpdateOptions,
@@ -14,7 +14,7 @@ use test_parts::spelling::{
     FIRST_NUMBER, INSERTED, LAST, NOTE, ONE_NODE, SESSION, by_one_node, has_one_frame, joined,
     noted, one,
 };
-use test_parts::writes::{Kind, namespace, number, operators, text, two, usual, write_of};
+use test_parts::writes::{Concern, Kind, namespace, number, operators, text, two, usual, write_of};
 
 /// `ordered: true`
 const ORDERED: &[u8] = b"\x08ordered\0\x01";
@@ -146,17 +146,83 @@ const ROWS: &[(Spelled, &[&[u8]], usize)] = &[
     (Spelled::Insert, INSERTED, 1),
 ];
 
+/// How a row spells a hint.
+#[derive(Clone, Copy)]
+pub(crate) enum Hinted {
+    /// `"x_1"`
+    ByName,
+    /// `{x: 1}`
+    ByKeys,
+}
+
+/// A comment of a row.
+#[derive(Clone, Copy)]
+pub(crate) enum Said {
+    Note,
+    Null,
+}
+
+/// The options that all commands but an insert have.
+#[derive(Drop)]
+pub(crate) struct Shared {
+    pub(crate) collation: Document,
+    pub(crate) let_vars: Document,
+    pub(crate) hint: Hint,
+    pub(crate) comment: Bson,
+}
+
+fn hint_of(alloc: Global, hinted: Hinted) -> Result<Hint, AllocError> {
+    match hinted {
+        Hinted::ByName => Ok(Hint::Name(Text::from_str(alloc, "x_1")?)),
+        Hinted::ByKeys => Ok(Hint::Keys(number(alloc, "x", 1)?)),
+    }
+}
+
+fn comment_of(alloc: Global, said: Said) -> Result<Bson, AllocError> {
+    match said {
+        Said::Note => noted(alloc),
+        Said::Null => Ok(Bson::Null),
+    }
+}
+
+/// Those of a row. They are made apart, since each option that is there lengthens the proof of what may still fail.
+pub(crate) fn shared_options(
+    alloc: Global,
+    hinted: Hinted,
+    said: Said,
+) -> Result<Shared, AllocError> {
+    Ok(Shared {
+        collation: text(alloc, "locale", "en")?,
+        let_vars: number(alloc, "v", 5)?,
+        hint: hint_of(alloc, hinted)?,
+        comment: comment_of(alloc, said)?,
+    })
+}
+
+/// `[{e: 3}]`
+pub(crate) fn filters(alloc: Global) -> Result<List<Document>, AllocError> {
+    one(alloc, number(alloc, "e", 3)?)
+}
+
 /// Every option of an update.
 fn all_of_update(alloc: Global) -> Result<UpdateOptions, AllocError> {
+    let array_filters = filters(alloc)?;
+    let sort = number(alloc, "x", -1)?;
+    let Shared {
+        collation,
+        let_vars,
+        hint,
+        comment,
+    } = shared_options(alloc, Hinted::ByKeys, Said::Note)?;
     Ok(UpdateOptions {
         upsert: Some(false),
-        array_filters: Some(one(alloc, number(alloc, "e", 3)?)?),
-        hint: Some(Hint::Keys(number(alloc, "x", 1)?)),
-        collation: Some(text(alloc, "locale", "en")?),
+        array_filters: Some(array_filters),
+        hint: Some(hint),
+        collation: Some(collation),
         bypass_document_validation: Some(true),
-        let_vars: Some(number(alloc, "v", 5)?),
-        comment: Some(noted(alloc)?),
-        sort: Some(number(alloc, "x", -1)?),
+        let_vars: Some(let_vars),
+        comment: Some(comment),
+        sort: Some(sort),
         write_concern: Some(by_one_node()),
     })
 }
@@ -173,11 +239,17 @@ fn update_of_all(alloc: Global) -> Result<SingleWrite, AllocError> {
 
 /// Every option of a delete.
 fn all_of_delete(alloc: Global) -> Result<DeleteOptions, AllocError> {
+    let Shared {
+        collation,
+        let_vars,
+        hint,
+        comment,
+    } = shared_options(alloc, Hinted::ByName, Said::Null)?;
     Ok(DeleteOptions {
-        collation: Some(text(alloc, "locale", "en")?),
-        hint: Some(Hint::Name(Text::from_str(alloc, "x_1")?)),
-        let_vars: Some(number(alloc, "v", 5)?),
-        comment: Some(Bson::Null),
+        collation: Some(collation),
+        hint: Some(hint),
+        let_vars: Some(let_vars),
+        comment: Some(comment),
         write_concern: Some(WriteConcern {
             w: Some(Acknowledgment::Majority),
             w_timeout: None,
@@ -228,8 +300,8 @@ fn write(alloc: Global, spelled: Spelled) -> Result<SingleWrite, AllocError> {
         Spelled::UpdateMany => update_of_all(alloc),
         Spelled::DeleteOne => delete_of_one(alloc),
         Spelled::Pipeline => piped_update(alloc),
-        Spelled::Replacement => write_of(alloc, usual(Kind::ReplaceOne), None),
-        Spelled::DeleteMany => write_of(alloc, usual(Kind::DeleteMany), None),
+        Spelled::Replacement => write_of(alloc, usual(Kind::ReplaceOne), Concern::Unset),
+        Spelled::DeleteMany => write_of(alloc, usual(Kind::DeleteMany), Concern::Unset),
         Spelled::Insert => insert_of_one(alloc),
     }
 }

@@ -8,7 +8,7 @@ use std::alloc::{AllocError, Global};
 use std::test::Fail;
 use test_parts::faking::{ALIKE, CHANGED, DONE, Given, fake_link};
 use test_parts::inserting::{Ended, answered_under, how_ended};
-use test_parts::writes::{Kind, namespace, number, usual, write_of};
+use test_parts::writes::{Concern, Kind, namespace, number, usual, write_of};
 
 /// `{ok: 1, n: 3, nModified: 2}`
 const THREE_FOUND: &[u8] =
@@ -365,7 +365,7 @@ pub(crate) fn told_of(
     reply: &'static [u8],
 ) -> std::result::Result<Option<Told>, AllocError> {
     let link = fake_link(alloc, ALIKE, &[Given::Reply(reply)])?;
-    let write = write_of(alloc, usual(kind), None)?;
+    let write = write_of(alloc, usual(kind), Concern::Unset)?;
     Ok(told_over(alloc, link, write))
 }
 

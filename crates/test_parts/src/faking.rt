@@ -145,6 +145,9 @@ pub fn outcomes_over(
         words: Pcg32::seed_from_u64(1),
         call: 0,
     };
-    let outcomes = run_calls(alloc, &mut client, &mut outside, calls)?;
-    Ok((outcomes, outside.link.frames().len()))
+    let ran = run_calls(alloc, &mut client, &mut outside, calls);
+    let sent = outside.link.frames().len();
+    drop(client);
+    drop(outside);
+    Ok((ran?, sent))
 }

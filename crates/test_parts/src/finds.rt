@@ -1,29 +1,35 @@
 //! The writes that answer a document, as rows spell them.
 use crate::writes::{
-    Asked, Part, array_filters, change_document, comment, database, document_at, hint_keys,
-    modifications, namespace, option_at,
+    Asked, Concern, Part, Shared, array_filters, change_document, database, document_at,
+    modifications, namespace, option_at, shared_options, write_concern,
 };
 use driver_actions::SingleWrite;
-use driver_link::{
-    FindOneAndDeleteOptions, FindOneAndReplaceOptions, FindOneAndUpdateOptions, WriteConcern,
-};
+use driver_link::{FindOneAndDeleteOptions, FindOneAndReplaceOptions, FindOneAndUpdateOptions};
 use std::alloc::{AllocError, Global};
 
 /// The options of a delete that answers a document.
 fn delete_options(
     alloc: Global,
     asked: Asked,
-    own: Option<WriteConcern>,
+    own: Concern,
 ) -> Result<FindOneAndDeleteOptions, AllocError> {
+    let sort = option_at(alloc, asked, Part::Sort)?;
+    let projection = option_at(alloc, asked, Part::Projection)?;
+    let Shared {
+        collation,
+        let_vars,
+        hint,
+        comment,
+    } = shared_options(alloc, asked)?;
     Ok(FindOneAndDeleteOptions {
-        sort: option_at(alloc, asked, Part::Sort)?,
+        sort,
         max_time: None,
-        projection: option_at(alloc, asked, Part::Projection)?,
-        collation: option_at(alloc, asked, Part::Collation)?,
-        hint: hint_keys(alloc, asked)?,
-        let_vars: option_at(alloc, asked, Part::Let)?,
-        comment: comment(alloc, asked)?,
-        write_concern: own,
+        projection,
+        collation,
+        hint,
+        let_vars,
+        comment,
+        write_concern: write_concern(own),
     })
 }
 
@@ -31,21 +37,30 @@ fn delete_options(
 fn update_options(
     alloc: Global,
     asked: Asked,
-    own: Option<WriteConcern>,
+    own: Concern,
 ) -> Result<FindOneAndUpdateOptions, AllocError> {
+    let array_filters = array_filters(alloc, asked)?;
+    let sort = option_at(alloc, asked, Part::Sort)?;
+    let projection = option_at(alloc, asked, Part::Projection)?;
+    let Shared {
+        collation,
+        let_vars,
+        hint,
+        comment,
+    } = shared_options(alloc, asked)?;
     Ok(FindOneAndUpdateOptions {
-        sort: option_at(alloc, asked, Part::Sort)?,
+        sort,
         return_document: None,
         upsert: None,
         bypass_document_validation: None,
-        array_filters: array_filters(alloc, asked)?,
+        array_filters,
         max_time: None,
-        projection: option_at(alloc, asked, Part::Projection)?,
-        collation: option_at(alloc, asked, Part::Collation)?,
-        hint: hint_keys(alloc, asked)?,
-        let_vars: option_at(alloc, asked, Part::Let)?,
-        comment: comment(alloc, asked)?,
-        write_concern: own,
+        projection,
+        collation,
+        hint,
+        let_vars,
+        comment,
+        write_concern: write_concern(own),
     })
 }
 
@@ -53,28 +68,36 @@ fn update_options(
 fn replace_options(
     alloc: Global,
     asked: Asked,
-    own: Option<WriteConcern>,
+    own: Concern,
 ) -> Result<FindOneAndReplaceOptions, AllocError> {
+    let sort = option_at(alloc, asked, Part::Sort)?;
+    let projection = option_at(alloc, asked, Part::Projection)?;
+    let Shared {
+        collation,
+        let_vars,
+        hint,
+        comment,
+    } = shared_options(alloc, asked)?;
     Ok(FindOneAndReplaceOptions {
-        sort: option_at(alloc, asked, Part::Sort)?,
+        sort,
         return_document: None,
         upsert: None,
         bypass_document_validation: None,
         max_time: None,
-        projection: option_at(alloc, asked, Part::Projection)?,
-        collation: option_at(alloc, asked, Part::Collation)?,
-        hint: hint_keys(alloc, asked)?,
-        let_vars: option_at(alloc, asked, Part::Let)?,
-        comment: comment(alloc, asked)?,
-        write_concern: own,
+        projection,
+        collation,
+        hint,
+        let_vars,
+        comment,
+        write_concern: write_concern(own),
     })
 }
 
-/// A delete that answers a document, with a concern of its own, or none.
+/// A delete that answers a document, with a concern of its own.
 pub(crate) fn find_and_delete(
     alloc: Global,
     asked: Asked,
-    own: Option<WriteConcern>,
+    own: Concern,
 ) -> Result<SingleWrite, AllocError> {
     Ok(SingleWrite::FindOneAndDelete {
         namespace: namespace(alloc, database(asked))?,
@@ -87,7 +110,7 @@ pub(crate) fn find_and_delete(
 pub(crate) fn find_and_update(
     alloc: Global,
     asked: Asked,
-    own: Option<WriteConcern>,
+    own: Concern,
 ) -> Result<SingleWrite, AllocError> {
     Ok(SingleWrite::FindOneAndUpdate {
         namespace: namespace(alloc, database(asked))?,
@@ -101,7 +124,7 @@ pub(crate) fn find_and_update(
 pub(crate) fn find_and_replace(
     alloc: Global,
     asked: Asked,
-    own: Option<WriteConcern>,
+    own: Concern,
 ) -> Result<SingleWrite, AllocError> {
     Ok(SingleWrite::FindOneAndReplace {
         namespace: namespace(alloc, database(asked))?,

@@ -239,7 +239,7 @@ pub(crate) fn array_filters(
 }
 
 /// The hint by keys, which is not set where they are not odd.
-pub(crate) fn hint_keys(alloc: Global, asked: Asked) -> Result<Option<Hint>, AllocError> {
+fn hint_keys(alloc: Global, asked: Asked) -> Result<Option<Hint>, AllocError> {
     match option_at(alloc, asked, Part::HintKeys)? {
         Some(keys) => Ok(Some(Hint::Keys(keys))),
         None => Ok(None),
@@ -247,7 +247,7 @@ pub(crate) fn hint_keys(alloc: Global, asked: Asked) -> Result<Option<Hint>, All
 }
 
 /// The comment, which is not set where it is not odd.
-pub(crate) fn comment(alloc: Global, asked: Asked) -> Result<Option<Bson>, AllocError> {
+fn comment(alloc: Global, asked: Asked) -> Result<Option<Bson>, AllocError> {
     match option_at(alloc, asked, Part::Comment)? {
         Some(document) => Ok(Some(Bson::Document(document))),
         None => Ok(None),
@@ -306,31 +306,51 @@ pub(crate) fn modifications(
     }
 }
 
-/// The options of an update.
-fn update_options(
-    alloc: Global,
-    asked: Asked,
-    own: Option<WriteConcern>,
-) -> Result<UpdateOptions, AllocError> {
-    Ok(UpdateOptions {
-        upsert: None,
-        array_filters: array_filters(alloc, asked)?,
-        hint: hint_keys(alloc, asked)?,
+/// The options that updates, deletes and the writes that answer a document share.
+#[derive(Drop)]
+pub(crate) struct Shared {
+    pub(crate) collation: Option<Document>,
+    pub(crate) let_vars: Option<Document>,
+    pub(crate) hint: Option<Hint>,
+    pub(crate) comment: Option<Bson>,
+}
+
+/// Those that a row asks for. They are made apart, since each option that is there lengthens the proof of what may
+/// still fail.
+pub(crate) fn shared_options(alloc: Global, asked: Asked) -> Result<Shared, AllocError> {
+    Ok(Shared {
         collation: option_at(alloc, asked, Part::Collation)?,
-        bypass_document_validation: None,
         let_vars: option_at(alloc, asked, Part::Let)?,
+        hint: hint_keys(alloc, asked)?,
         comment: comment(alloc, asked)?,
-        sort: option_at(alloc, asked, Part::Sort)?,
-        write_concern: own,
     })
 }
 
-/// An insert with a concern of its own, or none.
-fn insert(
-    alloc: Global,
-    asked: Asked,
-    own: Option<WriteConcern>,
-) -> Result<SingleWrite, AllocError> {
+/// The options of an update.
+fn update_options(alloc: Global, asked: Asked, own: Concern) -> Result<UpdateOptions, AllocError> {
+    let array_filters = array_filters(alloc, asked)?;
+    let sort = option_at(alloc, asked, Part::Sort)?;
+    let Shared {
+        collation,
+        let_vars,
+        hint,
+        comment,
+    } = shared_options(alloc, asked)?;
+    Ok(UpdateOptions {
+        upsert: None,
+        array_filters,
+        hint,
+        collation,
+        bypass_document_validation: None,
+        let_vars,
+        comment,
+        sort,
+        write_concern: write_concern(own),
+    })
+}
+
+/// An insert with a concern of its own.
+fn insert(alloc: Global, asked: Asked, own: Concern) -> Result<SingleWrite, AllocError> {
     Ok(SingleWrite::InsertOne {
         namespace: namespace(alloc, database(asked))?,
         document: change_document(alloc, asked)?,
@@ -338,17 +358,13 @@ fn insert(
             ordered: None,
             bypass_document_validation: None,
             comment: comment(alloc, asked)?,
-            write_concern: own,
+            write_concern: write_concern(own),
         },
     })
 }
 
 /// An update of one or of all.
-fn update(
-    alloc: Global,
-    asked: Asked,
-    own: Option<WriteConcern>,
-) -> Result<SingleWrite, AllocError> {
+fn update(alloc: Global, asked: Asked, own: Concern) -> Result<SingleWrite, AllocError> {
     let namespace = namespace(alloc, database(asked))?;
     let filter = document_at(alloc, asked, Part::Filter, "x", 1)?;
     let update = modifications(alloc, asked)?;
@@ -370,11 +386,7 @@ fn update(
 }
 
 /// A replacement.
-fn replace(
-    alloc: Global,
-    asked: Asked,
-    own: Option<WriteConcern>,
-) -> Result<SingleWrite, AllocError> {
+fn replace(alloc: Global, asked: Asked, own: Concern) -> Result<SingleWrite, AllocError> {
     Ok(SingleWrite::ReplaceOne {
         namespace: namespace(alloc, database(asked))?,
         filter: document_at(alloc, asked, Part::Filter, "x", 1)?,
@@ -384,26 +396,24 @@ fn replace(
 }
 
 /// The options of a delete.
-fn delete_options(
-    alloc: Global,
-    asked: Asked,
-    own: Option<WriteConcern>,
-) -> Result<DeleteOptions, AllocError> {
+fn delete_options(alloc: Global, asked: Asked, own: Concern) -> Result<DeleteOptions, AllocError> {
+    let Shared {
+        collation,
+        let_vars,
+        hint,
+        comment,
+    } = shared_options(alloc, asked)?;
     Ok(DeleteOptions {
-        collation: option_at(alloc, asked, Part::Collation)?,
-        hint: hint_keys(alloc, asked)?,
-        let_vars: option_at(alloc, asked, Part::Let)?,
-        comment: comment(alloc, asked)?,
-        write_concern: own,
+        collation,
+        hint,
+        let_vars,
+        comment,
+        write_concern: write_concern(own),
     })
 }
 
 /// A delete of one or of all.
-fn delete(
-    alloc: Global,
-    asked: Asked,
-    own: Option<WriteConcern>,
-) -> Result<SingleWrite, AllocError> {
+fn delete(alloc: Global, asked: Asked, own: Concern) -> Result<SingleWrite, AllocError> {
     let namespace = namespace(alloc, database(asked))?;
     let filter = document_at(alloc, asked, Part::Filter, "x", 1)?;
     let options = delete_options(alloc, asked, own)?;
@@ -421,12 +431,8 @@ fn delete(
     })
 }
 
-/// The write that a row asks for, with a concern of its own, or none.
-pub fn write_of(
-    alloc: Global,
-    asked: Asked,
-    own: Option<WriteConcern>,
-) -> Result<SingleWrite, AllocError> {
+/// The write that a row asks for, with a concern of its own.
+pub fn write_of(alloc: Global, asked: Asked, own: Concern) -> Result<SingleWrite, AllocError> {
     match asked.kind {
         Kind::InsertOne => insert(alloc, asked, own),
         Kind::UpdateOne | Kind::UpdateMany => update(alloc, asked, own),
