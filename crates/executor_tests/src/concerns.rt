@@ -185,8 +185,8 @@ fn is_spelled(alloc: Global, concern: Concern, bytes: &[u8]) -> Result<bool, All
 
 /// The end of an insert of a client with this concern, and the link afterwards.
 fn seen_under(alloc: Global, concern: Concern) -> Result<Option<(Seen, FakeLink)>, AllocError> {
-    let link = fake_link(alloc, ALIKE, &[Given::Reply(DONE)])?;
     let concern = write_concern(alloc, concern)?;
+    let link = fake_link(alloc, ALIKE, &[Given::Reply(DONE)])?;
     Ok(insert_under(alloc, link, Some(concern)))
 }
 

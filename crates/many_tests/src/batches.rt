@@ -4,7 +4,8 @@ use bson_lite::{Bson, Document, List, Namespace, ObjectId, Text};
 use driver_error::{Error, ErrorKind, InsertManyError, IoKind};
 use driver_link::{Description, InsertManyOptions};
 use driver_ops::{
-    Collection, CommandResponse, Insert, Operation, OwnDocument, encode_document, read_response,
+    Collection, Command, CommandResponse, Insert, Operation, OwnDocument, encode_document,
+    read_response,
 };
 use std::alloc::{AllocError, Global};
 use std::test::Fail;
@@ -154,35 +155,42 @@ fn items(alloc: Global) -> Result<Collection, AllocError> {
     })
 }
 
-/// Whether an error refuses an argument with this text.
-fn refuses(error: Error, text: &str) -> bool {
-    let same = match error.kind() {
-        ErrorKind::InvalidArgument { message } => message.as_str() == text,
+/// Whether an error refuses an argument with the text of a row.
+fn refuses(error: &Error, built: Built) -> bool {
+    match (error.kind(), built) {
+        (ErrorKind::InvalidArgument { message }, Built::Refused(text)) => message.as_str() == text,
         _ => false,
-    };
-    drop(error);
-    same
+    }
+}
+
+/// How many documents go out with a command.
+fn sent_with(command: &Command) -> usize {
+    match command.sequences.as_slice() {
+        [documents] => documents.documents.len(),
+        _ => 0,
+    }
+}
+
+/// Whether so many documents that go out, and so many statements, are those of a row.
+fn takes(sent: usize, statements: usize, built: Built) -> bool {
+    match built {
+        Built::Takes(count) => sent == count && statements == count,
+        Built::Refused(_) => false,
+    }
 }
 
 /// Whether a build for such a connection comes to this.
 fn builds(alloc: Global, insert: &mut Insert<'_>, sizes: Sizes, built: Built) -> bool {
-    match (insert.build(alloc, &described(sizes)), built) {
-        (Ok(command), Built::Takes(count)) => {
-            let sent = match command.sequences.as_slice() {
-                [documents] => documents.documents.len(),
-                _ => 0,
-            };
+    match insert.build(alloc, &described(sizes)) {
+        Ok(command) => {
+            let sent = sent_with(&command);
             drop(command);
-            sent == count && insert.statements() == count
+            takes(sent, insert.statements(), built)
         }
-        (Err(error), Built::Refused(text)) => refuses(error, text),
-        (Ok(command), Built::Refused(_)) => {
-            drop(command);
-            false
-        }
-        (Err(error), Built::Takes(_)) => {
+        Err(error) => {
+            let refused = refuses(&error, built);
             drop(error);
-            false
+            refused
         }
     }
 }

@@ -127,7 +127,9 @@ fn insert_of(
     concern: Option<WriteConcern>,
 ) -> std::result::Result<InsertMany, AllocError> {
     let collection = items(alloc, concern)?;
-    match collection.insert_many(alloc, documents) {
+    let made = collection.insert_many(alloc, documents);
+    drop(collection);
+    match made {
         Ok(insert) => Ok(insert),
         Err(error) => {
             drop(error);
@@ -165,15 +167,15 @@ fn by_setters(alloc: Global) -> std::result::Result<InsertMany, AllocError> {
 
 /// The same with all options at once, which are not those that were set before.
 fn by_options(alloc: Global) -> std::result::Result<InsertMany, AllocError> {
-    let options = InsertManyOptions {
-        ordered: Some(false),
-        bypass_document_validation: Some(true),
-        comment: Some(noted(alloc)?),
-        write_concern: Some(by_one_node()),
-    };
+    let comment = noted(alloc)?;
     let insert = unset(alloc)?;
     let insert = insert.ordered(true);
-    Ok(insert.with_options(options))
+    Ok(insert.with_options(InsertManyOptions {
+        ordered: Some(false),
+        bypass_document_validation: Some(true),
+        comment: Some(comment),
+        write_concern: Some(by_one_node()),
+    }))
 }
 
 /// The insert of a row.
