@@ -6,6 +6,7 @@
 ghost use Rattle.std.specs.Prelude.{IfOk};
 ghost use Rattle.driver_link.specs.WellFormed.{IsWellFormed};
 
+use crate::meeting::{Meets, items};
 use crate::schedules::{deliver, order, orders, times};
 use bson_lite::{Bson, Document, List, Text};
 use driver_actions::{Answer, Call, Outcome, SingleAnswer, run_calls};
@@ -20,7 +21,6 @@ use model_server::{ModelServer, USUAL_SETUP};
 use rand_core::SeedableRng;
 use rand_pcg::Pcg32;
 use std::alloc::{AllocError, Global};
-use test_parts::meeting::{Meets, items};
 use test_parts::writes::{Concern, KINDS, Kind, number, operators, usual, write_of};
 
 /// So many schedules of three items there are, each with a code of three digits.

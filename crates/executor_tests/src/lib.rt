@@ -1,7 +1,6 @@
 //! Tests of one operation through the executor: what it sends, byte by byte, what its replies tell, which write concern
-//! goes out with it, what one insert comes to over a model server with a schedule and over a fake link, which servers
-//! are selected and asked for a connection, and the store with ample memory. They stand apart since a row crosses
-//! executor and server.
+//! goes out with it, what one insert comes to over a fake link, which servers are selected and asked for a connection,
+//! and the store with ample memory. They stand apart since a row crosses all that a call goes through.
 #![tactic(auto)]
 
 #[cfg(test)]
@@ -18,8 +17,6 @@ mod frames;
 mod ports;
 #[cfg(test)]
 mod replies;
-#[cfg(test)]
-mod rows;
 #[cfg(test)]
 mod selections;
 #[cfg(test)]

@@ -1,11 +1,9 @@
-//! What the crates of tests of calls share: the writes of rows, a fake link with the answers that a row names, the
-//! schedule of what exchanges meet, the parts of bodies that rows spell, and what a row sees of an end. It has no tests,
-//! so that it is proved once.
+//! What the crates of tests of calls share: the writes of rows, a fake link with the answers that a row names, the parts
+//! of bodies that rows spell, and what a row sees of an end. It has no tests, so that it is proved once.
 #![tactic(auto)]
 
 pub mod faking;
 mod finds;
 pub mod inserting;
-pub mod meeting;
 pub mod spelling;
 pub mod writes;

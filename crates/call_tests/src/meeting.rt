@@ -9,7 +9,7 @@ use std::alloc::{AllocError, Global};
 
 /// An item of a schedule.
 #[derive(Clone, Copy)]
-pub enum Meets {
+pub(crate) enum Meets {
     Served,
     Lost,
     Late,
@@ -108,7 +108,7 @@ fn item(alloc: Global, meets: Meets) -> Result<Item, AllocError>
 }
 
 /// The items of what exchanges meet, one after the other.
-pub fn items(alloc: Global, meets: &[Meets]) -> Result<List<Scheduled>, AllocError>
+pub(crate) fn items(alloc: Global, meets: &[Meets]) -> Result<List<Scheduled>, AllocError>
     ensures { IfOk result (λ steps. All (λ step. IsItem step.item) steps) }
 {
     let mut steps = List::new(alloc);

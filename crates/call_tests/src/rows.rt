@@ -2,13 +2,13 @@
 ghost use Rattle.std.specs.Prelude.{IfOk};
 ghost use Rattle.driver_link.specs.WellFormed.{IsWellFormed};
 
+use crate::meeting::{Meets, items};
 use bson_lite::List;
 use driver_error::IoKind;
 use driver_link::{Schedule, Server};
 use model_server::{ModelServer, USUAL_SETUP};
 use std::alloc::{AllocError, Global};
 use test_parts::inserting::{Ended, Seen, insert};
-use test_parts::meeting::{Meets, items};
 
 /// A schedule, with how the insert ends, whether its error has the label of a retryable write alone or none,
 /// and how many sends and entries there are.
