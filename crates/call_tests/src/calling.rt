@@ -145,7 +145,9 @@ fn small_insert(alloc: Global) -> Result<Call, AllocError> {
 fn new_client(alloc: Global) -> Client<PlainStore<CountingIds>> {
     let options = ClientOptions {
         client_number: 1,
-        ..ClientOptions::default()
+        retry_writes: None,
+        read_concern: None,
+        write_concern: None,
     };
     Client::new(options, PlainStore::new(alloc, CountingIds::new()))
 }

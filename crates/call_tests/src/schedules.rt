@@ -102,7 +102,9 @@ fn run(
     let schedule = schedule(alloc, code, length)?;
     let options = ClientOptions {
         client_number: 1,
-        ..ClientOptions::default()
+        retry_writes: None,
+        read_concern: None,
+        write_concern: None,
     };
     let mut client = Client::new(options, PlainStore::new(alloc, CountingIds::new()));
     let mut outside = Outside {

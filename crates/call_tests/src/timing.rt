@@ -1,7 +1,6 @@
 //! A run of one insert with a clock that goes on by a step at each reading: when the call starts and ends, and
 //! when its session is lent and comes back.
 use crate::schedules::calls;
-use bson_lite::List;
 use driver_actions::{Call, Outcome, run_calls};
 use driver_exec::{Client, Outside};
 use driver_link::{ClientOptions, CountingIds, FakeLink, MemClock};
@@ -12,8 +11,8 @@ use std::alloc::{AllocError, Global};
 use test_parts::faking::{ALIKE, DONE, Given, fake_link};
 
 /// When the one call started and ended.
-fn times(outcomes: List<Outcome>) -> Option<(u64, u64)> {
-    match outcomes.as_slice() {
+fn times(outcomes: &[Outcome]) -> Option<(u64, u64)> {
+    match outcomes {
         [outcome] => Some((outcome.started_ms, outcome.ended_ms)),
         _ => None,
     }
@@ -42,7 +41,9 @@ fn both(one: Option<(u64, u64)>, other: Option<(u64, u64)>) -> Option<((u64, u64
 fn timed(alloc: Global, link: FakeLink, calls: &[Call]) -> Option<((u64, u64), (u64, u64))> {
     let options = ClientOptions {
         client_number: 1,
-        ..ClientOptions::default()
+        retry_writes: None,
+        read_concern: None,
+        write_concern: None,
     };
     let mut client = Client::new(options, PlainStore::new(alloc, CountingIds::new()));
     let mut outside = Outside {
@@ -51,8 +52,16 @@ fn timed(alloc: Global, link: FakeLink, calls: &[Call]) -> Option<((u64, u64), (
         words: Pcg32::seed_from_u64(1),
         call: 0,
     };
-    match run_calls(alloc, &mut client, &mut outside, calls) {
-        Ok(outcomes) => both(times(outcomes), lending(client.store().history())),
+    let ran = run_calls(alloc, &mut client, &mut outside, calls);
+    let lent = lending(client.store().history());
+    drop(client);
+    drop(outside);
+    match ran {
+        Ok(outcomes) => {
+            let times = times(outcomes.as_slice());
+            drop(outcomes);
+            both(times, lent)
+        }
         Err(AllocError) => None,
     }
 }
