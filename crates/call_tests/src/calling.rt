@@ -182,13 +182,6 @@ fn outcomes_over(
 }
 
 /// Two inserts of `{x: 1}`.
-fn pair_of_inserts(alloc: Global) -> Result<(Call, Call), AllocError> {
-    let first = small_insert(alloc)?;
-    let second = small_insert(alloc)?;
-    Ok((first, second))
-}
-
-/// The same as a list.
 fn two_inserts(alloc: Global) -> Result<List<Call>, AllocError> {
     let mut calls = List::with_capacity(alloc, 2)?;
     calls.push(small_insert(alloc)?)?;
@@ -208,12 +201,12 @@ fn outcomes_at_once(alloc: Global) -> Result<List<Outcome>, AllocError> {
 
 /// The outcomes of the same inserts, the second of which comes into the list once the first was made.
 fn outcomes_one_by_one(alloc: Global) -> Result<List<Outcome>, AllocError> {
-    let mut outside = new_outside(alloc, DONE)?;
     let mut calls = Vec::with_capacity(alloc, 2)?;
-    let pair = pair_of_inserts(alloc)?;
-    let mut run = CallRun::begin(alloc, 2)?;
+    let first = small_insert(alloc)?;
+    let second = small_insert(alloc)?;
+    let mut outside = new_outside(alloc, DONE)?;
     let mut client = new_client(alloc);
-    let (first, second) = pair;
+    let mut run = CallRun::begin(alloc, 2)?;
     calls.push_reserved(first);
     run.make(alloc, &mut client, &mut outside, calls.as_slice());
     calls.push_reserved(second);
