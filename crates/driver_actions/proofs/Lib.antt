@@ -8,6 +8,9 @@ pub mod BatchesListed
 pub mod BatchesMade
 pub mod BatchesSpelled
 pub mod BatchesWell
+pub mod BulkBodies
+pub mod BulkJudged
+pub mod BulkRefusals
 pub mod CallMoves
 pub mod CallSends
 pub mod CallTimes
@@ -35,11 +38,16 @@ pub mod ManyMade
 pub mod ManyParts
 pub mod ManyRefusals
 pub mod ManySpelled
+pub mod ModelFaults
+pub mod ModelSizes
+pub mod OpsSpelled
 pub mod OwnDocuments
 pub mod OwnIds
+pub mod OwnOps
 pub mod Parts
 pub mod Refusals
 pub mod RunSteps
+pub mod SentOps
 pub mod ServerMaking
 pub mod SpelledAnswers
 pub mod StandingRuns

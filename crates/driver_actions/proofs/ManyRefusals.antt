@@ -110,7 +110,7 @@ length_told (Some TooDeep) is = let e : ◌≡◌ {A = Option EncodeFault} (Some
 length_told (Some ZeroByte) is = let e : ◌≡◌ {A = Option EncodeFault} (Some ZeroByte) None = is in cc
 length_told (Some TooLong) is = let e : ◌≡◌ {A = Option EncodeFault} (Some TooLong) None = is in cc
 
-both_none : (deep holed long : Bool) (other : Option EncodeFault) → first_of (by_tests deep holed long) other ≡ None
+pub both_none : (deep holed long : Bool) (other : Option EncodeFault) → first_of (by_tests deep holed long) other ≡ None
     → (by_tests deep holed long ≡ None) × (other ≡ None)
 both_none true holed long other is = absurd (let e : ◌≡◌ {A = Option EncodeFault} (Some TooDeep) None = is in cc)
 both_none false true long other is = absurd (zero_told other is)

@@ -13,7 +13,7 @@ use Rattle.bson_lite.specs.declared.fault.EncodeFault.{EncodeFault}
 use Rattle.bson_lite.specs.declared.fault.EncodeFault.TheVariants.{TooDeep, ZeroByte, TooLong}
 use Rattle.bson_lite.specs.Fields.{begins_with_operator, value_of, id_key, with_id}
 use Rattle.bson_lite.specs.Spelling.{refusal, refusal_within, nesting, zero_in, spelling, spelled, depth, zero_within, deepest_pair, on_value, body_of, framed, element}
-use Rattle.bson_lite.proofs.Named.{by_tests, id_pair, refusal_named, refused_named, with_none}
+use Rattle.bson_lite.proofs.Named.{by_tests, id_pair, length_named, refusal_named, refused_named, with_none}
 use Rattle.driver_error.specs.declared.kind.ErrorKind.TheVariants as kind
 use Rattle.driver_error.specs.declared.error.Error.{Error}
 use Rattle.driver_error.specs.Conversions.{IsMade}
@@ -85,6 +85,25 @@ refused_alike document one other twelve twelve_other = by_own (is_some (value_of
     by_own false none =
         ap (refusal_within 96) (with_none one document none) ∙ refusal_named 96 one document twelve
         ∙ sym (ap (refusal_within 96) (with_none other document none) ∙ refusal_named 96 other document twelve_other)
+
+-- and it is as long with each
+with_own : (id : ObjectId) (document : List (Pair Bson)) → is_some (value_of id_key document) ≡ true → with_id id document ≡ document
+with_own id document there = cond-true (is_some (value_of id_key document)) document (id_pair id ∷ document) there
+
+pub length_own : (id : ObjectId) (document : List (Pair Bson)) → is_some (value_of id_key document) ≡ true → length (spelling (with_id id document)) ≡ length (spelling document)
+length_own id document there = ap (λ (d : List (Pair Bson)). length (spelling d)) (with_own id document there)
+
+pub length_drawn : (id : ObjectId) (document : List (Pair Bson)) → length id.bytes ≡ 12 → is_some (value_of id_key document) ≡ false
+    → length (spelling (with_id id document)) ≡ length (spelling document) + 17
+length_drawn id document twelve none = ap (λ (d : List (Pair Bson)). length (spelling d)) (with_none id document none) ∙ length_named id document twelve
+
+pub length_alike : (document : List (Pair Bson)) (one other : ObjectId) → length one.bytes ≡ 12 → length other.bytes ≡ 12
+    → length (spelling (with_id one document)) ≡ length (spelling (with_id other document))
+length_alike document one other twelve twelve_other = by_own (is_some (value_of id_key document)) refl
+  where
+    by_own : (own : Bool) → is_some (value_of id_key document) ≡ own → length (spelling (with_id one document)) ≡ length (spelling (with_id other document))
+    by_own true there = length_own one document there ∙ sym (length_own other document there)
+    by_own false none = length_drawn one document twelve none ∙ sym (length_drawn other document twelve_other none)
 
 -- a document that may nest 96 levels deep has a spelling
 none_of_less : (deep : ℕ) (zero long b : Bool) → nat_lt 96 deep ≡ b → (if b then Some TooDeep else (if zero then Some ZeroByte else by_length long)) ≡ None

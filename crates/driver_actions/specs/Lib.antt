@@ -1,5 +1,7 @@
 pub mod BatchTells
 pub mod Batches
+pub mod BulkIds
+pub mod BulkInputs
 pub mod CallByCall
 pub mod CallMaking
 pub mod Calls

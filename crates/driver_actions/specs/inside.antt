@@ -2,5 +2,7 @@
 pub mod Batches
 pub mod Faults
 pub mod ManyFaults
+pub mod ModelFaults
 pub mod OwnDocuments
+pub mod OwnOps
 pub mod Taking

@@ -65,7 +65,7 @@ pub(crate) fn length_fault(document: &Document) -> Option<EncodeFault>
 
 /// The fault of a document by itself, but for its length.
 #[tactic(auto, using(crate::proofs::InputFaults::without_length))]
-fn document_fault(document: &Document) -> Option<EncodeFault>
+pub(crate) fn document_fault(document: &Document) -> Option<EncodeFault>
     ensures { result ≡ value_fault (bson.Document document.now) }
 {
     match refusal_within(document, LEVELS) {
@@ -76,7 +76,7 @@ fn document_fault(document: &Document) -> Option<EncodeFault>
 
 /// The first fault of documents.
 #[tactic(auto, using(crate::proofs::InputFaults::first_twice))]
-fn documents_fault(documents: &[Document]) -> Option<EncodeFault>
+pub(crate) fn documents_fault(documents: &[Document]) -> Option<EncodeFault>
     ensures { result ≡ values_fault (document_values documents.now) }
 {
     let mut fault = None;
@@ -97,7 +97,7 @@ fn option_documents_fault(documents: &Option<List<Document>>) -> Option<EncodeFa
 }
 
 /// The fault of a document that is an option.
-fn option_document_fault(document: &Option<Document>) -> Option<EncodeFault>
+pub(crate) fn option_document_fault(document: &Option<Document>) -> Option<EncodeFault>
     ensures { result ≡ values_fault (value_list (document_in document.now)) }
 {
     match document {
@@ -133,7 +133,7 @@ pub(crate) fn comment_fault(
 
 /// The fault of a value by itself.
 #[tactic(auto, using(crate::proofs::InputFaults::within_around))]
-fn value_fault(alloc: Global, value: &Bson) -> Result<Option<EncodeFault>, AllocError>
+pub(crate) fn value_fault(alloc: Global, value: &Bson) -> Result<Option<EncodeFault>, AllocError>
     ensures { IfOk result (λ fault. fault ≡ value_fault value.now) }
 {
     let mut around = Document::new(alloc);

@@ -83,7 +83,7 @@ fn own_faults(documents: &[Document]) -> Option<EncodeFault>
 }
 
 /// The fault of a document once it has an id.
-fn own_fault(document: &Document) -> Option<EncodeFault>
+pub(crate) fn own_fault(document: &Document) -> Option<EncodeFault>
     ensures { result ≡ own_fault document.now }
 {
     document_refusal(document)

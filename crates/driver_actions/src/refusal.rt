@@ -23,7 +23,7 @@ use driver_ops::{delete_body, find_and_modify_body, insert_body, update_body};
 use std::alloc::{AllocError, Global};
 
 /// The length in bytes that an object id adds to a document.
-const ID_LENGTH: u64 = 17;
+pub(crate) const ID_LENGTH: u64 = 17;
 
 /// What is wrong with the input of an insert: the name of its database, else its document and its comment.
 #[tactic(auto, using(crate::proofs::Refusals::named_input, crate::proofs::Refusals::judged_values))]
@@ -186,7 +186,7 @@ fn modification_refusal(alloc: Global, modification: &Modification) -> Option<Er
 
 /// The error of an update that does not begin with an operator.
 #[tactic(auto, unfolding(crate::specs::Inputs::update_text))]
-fn plain_update(alloc: Global) -> Error
+pub(crate) fn plain_update(alloc: Global) -> Error
     ensures { IsMade (InvalidArgument update_text) no_labels result }
 {
     refused(alloc, "update document must begin with an update operator")
@@ -194,7 +194,7 @@ fn plain_update(alloc: Global) -> Error
 
 /// The error of a replacement that begins with one.
 #[tactic(auto, unfolding(crate::specs::Inputs::replacement_text))]
-fn operator_replacement(alloc: Global) -> Error
+pub(crate) fn operator_replacement(alloc: Global) -> Error
     ensures { IsMade (InvalidArgument replacement_text) no_labels result }
 {
     refused(

@@ -22,6 +22,7 @@ pub mod LinkCalls
 pub mod LinkState
 pub mod MemClock
 pub mod MemStreams
+pub mod Models
 pub mod Numbers
 pub mod Once
 pub mod Reads

@@ -19,6 +19,8 @@ pub mod link;
 pub mod machine;
 pub mod mem_clock;
 pub mod mem_stream;
+mod model_copies;
+mod models;
 pub mod options;
 mod shared_options;
 pub mod stream;
@@ -46,9 +48,13 @@ pub use machine::{
 };
 pub use mem_clock::MemClock;
 pub use mem_stream::{MemSink, MemSource};
+pub use models::{
+    DeleteManyModel, DeleteOneModel, InsertOneModel, OperationType, ReplaceOneModel,
+    UpdateManyModel, UpdateOneModel, WriteModel,
+};
 pub use options::{
     Address, Asked, ClientOptions, Conn, Description, ReadPreference, SelectionCriteria,
 };
 pub use stream::{Failed, Sink, Source};
 pub use updates::{Hint, Modification, UpdateModifications, UpdateOrReplace};
-pub use write_options::{DeleteOptions, InsertManyOptions, UpdateOptions};
+pub use write_options::{BulkWriteOptions, DeleteOptions, InsertManyOptions, UpdateOptions};

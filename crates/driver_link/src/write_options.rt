@@ -29,6 +29,38 @@ impl TryClone for InsertManyOptions {
     }
 }
 
+/// The options of a bulk write.
+#[derive(Debug, Default, Drop)]
+pub struct BulkWriteOptions {
+    /// Whether it stops at the first write that fails, which it does where this is not set.
+    pub ordered: Option<bool>,
+    /// Whether documents that the collections' rules forbid are taken.
+    pub bypass_document_validation: Option<bool>,
+    /// What a server's log says of the command.
+    pub comment: Option<Bson>,
+    pub write_concern: Option<WriteConcern>,
+    /// Values that filters and updates may name.
+    pub let_vars: Option<Document>,
+}
+
+impl TryClone for BulkWriteOptions {
+    fn try_clone(&self, alloc: Global) -> Result<BulkWriteOptions, AllocError> {
+        let beside = copy_beside(alloc, &self.let_vars, &self.comment, &self.write_concern)?;
+        let Beside {
+            let_vars,
+            comment,
+            write_concern,
+        } = beside;
+        Ok(BulkWriteOptions {
+            ordered: self.ordered,
+            bypass_document_validation: self.bypass_document_validation,
+            comment,
+            write_concern,
+            let_vars,
+        })
+    }
+}
+
 /// The options of an update or a replacement.
 #[derive(Debug, Default, Drop)]
 pub struct UpdateOptions {

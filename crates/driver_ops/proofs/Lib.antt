@@ -1,8 +1,19 @@
+pub mod BulkCommand
+pub mod BulkFronts
+pub mod BulkNumbers
+pub mod BulkReading
+pub mod BulkSizes
+pub mod BulkSpelled
+pub mod BulkSteps
+pub mod BulkTaken
+pub mod Distinct
+pub mod DistinctSums
 pub mod Entries
 pub mod FailedStatements
 pub mod FailureReading
 pub mod FindCommand
 pub mod FindLaw
+pub mod FirstUses
 pub mod Frames
 pub mod InsertCommand
 pub mod InsertCounts
@@ -10,6 +21,7 @@ pub mod InsertFronts
 pub mod InsertIds
 pub mod InsertLaw
 pub mod InsertReading
+pub mod OpsMade
 pub mod PlainReading
 pub mod ResponseReading
 pub mod StatementCommand

@@ -62,7 +62,7 @@ pub plain_bypass : (value : Option Bson) → IsPlain (option_field BYPASS_DOCUME
 plain_bypass None = (refl, (refl, (refl, (refl, (refl, (refl, (refl, (refl, (refl, tt)))))))))
 plain_bypass (Some value) = (refl, (refl, (refl, (refl, (refl, (refl, (refl, (refl, (refl, tt)))))))))
 
-plain_let : (value : Option Bson) → IsPlain (option_field LET.now value)
+pub plain_let : (value : Option Bson) → IsPlain (option_field LET.now value)
 plain_let None = (refl, (refl, (refl, (refl, (refl, (refl, (refl, (refl, (refl, tt)))))))))
 plain_let (Some value) = (refl, (refl, (refl, (refl, (refl, (refl, (refl, (refl, (refl, tt)))))))))
 

@@ -1,8 +1,15 @@
+pub mod BulkAnswers
+pub mod BulkFronts
+pub mod BulkLawful
+pub mod BulkOps
+pub mod BulkSpec
+pub mod BulkWrites
 pub mod ConcernFields
 pub mod CountAnswers
 pub mod Defaults
 pub mod DeleteLawful
 pub mod Deleting
+pub mod Distinct
 pub mod Encoding
 pub mod Features
 pub mod Fields

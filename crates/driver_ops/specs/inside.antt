@@ -1,4 +1,6 @@
 -- What the functions that no other crate calls say of themselves.
+pub mod BulkFronts
+pub mod BulkOps
 pub mod InsertAnswers
 pub mod InsertFronts
 pub mod Readings

@@ -1,4 +1,5 @@
 -- Lemmas that the law of operations needs.
+pub mod BulkReplies
 pub mod CountReplies
 pub mod FindReplies
 pub mod InsertFields

@@ -17,8 +17,14 @@ pub const COMMENT: &str = "comment";
 /// What a server adds to an error, as a document.
 pub const ERROR_INFO: &str = "errInfo";
 
+/// That a bulk write is answered with the results of those ops alone that failed.
+pub const ERRORS_ONLY: &str = "errorsOnly";
+
 /// Which fields of the document are answered.
 pub const FIELDS: &str = "fields";
+
+/// The filter of an op.
+pub const FILTER: &str = "filter";
 
 /// The filter of a findAndModify.
 pub const FIND_QUERY: &str = "query";
@@ -55,6 +61,9 @@ pub const SORT: &str = "sort";
 
 /// What an update does.
 pub const CHANGE: &str = "u";
+
+/// What the op of an update does.
+pub const UPDATE_MODIFICATIONS: &str = "updateMods";
 
 pub const UPSERT: &str = "upsert";
 

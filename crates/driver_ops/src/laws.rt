@@ -1,13 +1,18 @@
 //! Laws of operations over the model server, and of the constants that definitions name.
-ghost use Rattle.std.specs.Prelude.{ℕ, Bool, List};
+ghost use Rattle.std.specs.Prelude.{ℕ, ◌<◌, Bool, List};
 ghost use Rattle.bson_lite.specs.declared.bson.Bson.{Bson};
 ghost use Rattle.bson_lite.specs.declared.document.Pair.{Pair};
+ghost use Rattle.bson_lite.specs.Spelling.{Spells};
+ghost use Rattle.driver_batches.specs.Batches.{LongestFrontsAreFewest};
+ghost use Rattle.driver_batches.specs.Fronts.{KeepsFitting};
+ghost use Rattle.driver_batches.specs.declared.sizes.Limits.{Limits};
 ghost use Rattle.driver_link.specs.declared.find_options.FindAndModifyOptions.{FindAndModifyOptions};
 ghost use Rattle.driver_link.specs.declared.machine.Scheduled.{Scheduled};
 ghost use Rattle.driver_link.specs.declared.machine.Send.{Send};
 ghost use Rattle.driver_link.specs.declared.machine.SendCommand.TheVariants as command;
 ghost use Rattle.driver_link.specs.declared.machine.Server.{Server};
 ghost use Rattle.driver_link.specs.declared.machine.WriteKind.TheVariants as kind;
+ghost use Rattle.driver_link.specs.declared.models.WriteModel.{WriteModel};
 ghost use Rattle.driver_link.specs.declared.updates.Modification.{Modification};
 ghost use Rattle.driver_link.specs.declared.updates.UpdateOrReplace.{UpdateOrReplace};
 ghost use Rattle.driver_link.specs.declared.write_options.DeleteOptions.{DeleteOptions};
@@ -15,8 +20,11 @@ ghost use Rattle.driver_link.specs.declared.write_options.InsertManyOptions.{Ins
 ghost use Rattle.driver_link.specs.declared.write_options.UpdateOptions.{UpdateOptions};
 ghost use Rattle.driver_ops.specs.declared.own_document.OwnDocument.{OwnDocument};
 ghost use Rattle.driver_ops.specs.declared.target.OperationTarget.{OperationTarget};
+ghost use Rattle.driver_ops.specs.BulkFronts.{FitsOps};
+ghost use Rattle.driver_ops.specs.BulkOps.{numbered, op_document};
 ghost use Rattle.driver_ops.specs.CountAnswers.{deleted_by, updated_by};
 ghost use Rattle.driver_ops.specs.Deleting.{delete_statement};
+ghost use Rattle.driver_ops.specs.Distinct.{KeepsFirstUses};
 ghost use Rattle.driver_ops.specs.FindingAndModifying.{find_command};
 ghost use Rattle.driver_ops.specs.FoundAnswers.{found_by};
 ghost use Rattle.driver_ops.specs.InsertLaw.{ExchangesInsert, IsReadExactly};
@@ -25,6 +33,47 @@ ghost use Rattle.driver_ops.specs.StatementLaw.{ExchangesStatement, IsReadAsCoun
 ghost use Rattle.driver_ops.specs.StatementSpec.{delete_spec, find_spec, update_spec};
 ghost use Rattle.driver_ops.specs.Targets.{namespace_of};
 ghost use Rattle.driver_ops.specs.Updating.{update_statement};
+
+use crate::own_op::SizedOp;
+use driver_batches::laws::longest_fronts_are_fewest;
+use driver_batches::{Limits, Rule};
+
+/// Limits as a rule on runs of ops.
+pub struct OpLimits {
+    pub limits: Limits,
+}
+
+impl Rule for OpLimits {
+    type Write = SizedOp;
+
+    ghost fits = { λ rule run. FitsOps rule.limits run };
+}
+
+/// What is left of a run of ops within limits is within them too when ops go from its front.
+pub fn ops_keep_fitting()
+    ensures { (limits : Limits) → KeepsFitting (FitsOps limits) }
+{}
+
+/// So cutting longest fronts of ops, as a bulk write builds them, gives the fewest batches within limits.
+pub fn op_fronts_are_fewest()
+    ensures { (limits : Limits) → LongestFrontsAreFewest (FitsOps limits) }
+{
+    ops_keep_fitting();
+    longest_fronts_are_fewest::<OpLimits>();
+}
+
+/// Namespaces in the order of their first use, as a bulk write describes them: none stands twice, they are those that
+/// were used and no others, and whatever is used later comes behind them, so that their numbers stay.
+pub fn each_namespace_is_described_once()
+    ensures { (front rest : List (List ℕ)) → KeepsFirstUses front rest }
+{}
+
+/// An op in bytes with a number of 31 bits in its place, as a bulk write sends it, spells the op of the same model on
+/// the namespace of that number.
+pub fn an_op_is_sent_on_its_namespace()
+    ensures { (number : ℕ) (model : WriteModel) (bytes : List ℕ) → number < 2147483648
+        → Spells (op_document 0 model) bytes → Spells (op_document number model) (numbered number bytes) }
+{}
 
 /// Over the model server's own reply to its send, the insert of the front of some documents is read as done exactly
 /// where each of its statements ran now or had its kept result, these count one document each together, and there is

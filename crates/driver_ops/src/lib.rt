@@ -3,6 +3,8 @@
 
 mod answer;
 mod built_front;
+mod bulk_front;
+mod bulk_write;
 mod command;
 mod concern;
 mod defaults;
@@ -18,6 +20,7 @@ pub mod laws;
 mod operation;
 mod option_fields;
 mod own_document;
+mod own_op;
 mod reply_fields;
 mod response;
 mod spelling;
@@ -26,6 +29,7 @@ mod update;
 mod write_reply;
 
 pub use answer::read_answer;
+pub use bulk_write::{BulkWriteOp, bulk_body};
 pub use command::Command;
 pub use concern::concern_document;
 pub use defaults::{
@@ -39,6 +43,7 @@ pub use insert::{Insert, insert_body};
 pub use keys::{BASE_BACKOFF, CODE_NAME, ERROR_INFO};
 pub use operation::{Operation, Reading};
 pub use own_document::OwnDocument;
+pub use own_op::{OwnOp, SizedOp, insert_op, insert_op_with_id, model_op, op_document};
 pub use response::{CommandResponse, read_response};
 pub use spelling::{encode_document, encode_document_with_id};
 pub use target::{Collection, Database, OperationTarget};

@@ -129,6 +129,9 @@ pub const VALUE: &str = "value";
 /// Which servers acknowledge a write.
 pub const W: &str = "w";
 
+/// The greatest version of the wire protocol that a server speaks.
+pub const WIRE: &str = "wire";
+
 pub const WRITE_CONCERN: &str = "writeConcern";
 
 pub const WRITE_CONCERN_ERROR: &str = "writeConcernError";

@@ -3,17 +3,19 @@ ghost use Rattle.std.specs.Prelude.{◌≡◌};
 ghost use Rattle.driver_script.specs.Limits.{limits_of, no_limits, setup_with};
 
 use crate::json::{FromJson, Unread, is_object_of, read_optional};
-use crate::keys::{BATCH, BSON, MESSAGE};
+use crate::keys::{BATCH, BSON, MESSAGE, WIRE};
 use driver_link::{Description, Setup};
 use serde_json::Value;
 use std::alloc::Global;
 
-/// The limits of a server that are set: the bytes of a document and of a message, and the writes of a batch.
+/// The limits of a server that are set: the bytes of a document and of a message, the writes of a batch, and the wire
+/// version.
 #[derive(Clone, Copy)]
 pub(crate) struct Limits {
     pub bson: Option<i64>,
     pub message: Option<i64>,
     pub batch: Option<i64>,
+    pub wire: Option<i32>,
 }
 
 impl FromJson for Limits {
@@ -21,16 +23,18 @@ impl FromJson for Limits {
 
     #[tactic(auto, unfolding(crate::specs::Limits::limits_of))]
     fn read(alloc: Global, value: &Value) -> Result<Limits, Unread> {
-        if !is_object_of(value, &[BSON, MESSAGE, BATCH]) {
+        if !is_object_of(value, &[BSON, MESSAGE, BATCH, WIRE]) {
             return Err(Unread::Wrong);
         }
         let bson = read_optional(alloc, value, BSON)?;
         let message = read_optional(alloc, value, MESSAGE)?;
         let batch = read_optional(alloc, value, BATCH)?;
+        let wire = read_optional(alloc, value, WIRE)?;
         Ok(Limits {
             bson,
             message,
             batch,
+            wire,
         })
     }
 }
@@ -43,6 +47,7 @@ pub(crate) fn no_limits() -> Limits
         bson: None,
         message: None,
         batch: None,
+        wire: None,
     }
 }
 
@@ -52,7 +57,7 @@ pub(crate) fn setup_with(limits: Limits) -> Setup
 {
     Setup {
         description: Description {
-            max_wire_version: Some(25),
+            max_wire_version: Some(limits.wire.unwrap_or(25)),
             max_bson_object_size: limits.bson.unwrap_or(16_777_216),
             max_message_size_bytes: limits.message.unwrap_or(48_000_000),
             max_write_batch_size: limits.batch.unwrap_or(100_000),

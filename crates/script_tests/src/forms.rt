@@ -164,8 +164,10 @@ const NO_OPTIONS: [&str; 12] = [
     "{\"clientNumber\":1}",
 ];
 
-const LIMITS: [&str; 6] = [
+const LIMITS: [&str; 8] = [
     "{}",
+    "{\"wire\":24}",
+    "{\"wire\":2147483647,\"bson\":28}",
     "{\"bson\":28}",
     "{\"message\":0}",
     "{\"batch\":-1}",
@@ -173,7 +175,7 @@ const LIMITS: [&str; 6] = [
     "{\"bson\":-9223372036854775808}",
 ];
 
-const NO_LIMITS: [&str; 14] = [
+const NO_LIMITS: [&str; 17] = [
     "null",
     "[]",
     "28",
@@ -188,6 +190,9 @@ const NO_LIMITS: [&str; 14] = [
     "{\"batch\":-9223372036854775809}",
     "{\"bson\":28.0}",
     "{\"message\":1e3}",
+    "{\"wire\":null}",
+    "{\"wire\":2147483648}",
+    "{\"wire\":-2147483649}",
 ];
 
 const SERVED: [&str; 14] = [

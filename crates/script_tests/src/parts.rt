@@ -53,44 +53,65 @@ struct Limited {
     bson: i64,
     message: i64,
     batch: i64,
+    wire: i32,
 }
 
-const LIMITS: [Limited; 6] = [
+const LIMITS: [Limited; 8] = [
     Limited {
         script: "{\"calls\":[]}",
         bson: 16_777_216,
         message: 48_000_000,
         batch: 100_000,
+        wire: 25,
     },
     Limited {
         script: "{\"calls\":[],\"limits\":{}}",
         bson: 16_777_216,
         message: 48_000_000,
         batch: 100_000,
+        wire: 25,
     },
     Limited {
         script: "{\"limits\":{\"bson\":28},\"calls\":[]}",
         bson: 28,
         message: 48_000_000,
         batch: 100_000,
+        wire: 25,
     },
     Limited {
         script: "{\"calls\":[],\"limits\":{\"message\":-1}}",
         bson: 16_777_216,
         message: -1,
         batch: 100_000,
+        wire: 25,
     },
     Limited {
         script: "{\"calls\":[],\"limits\":{\"batch\":0}}",
         bson: 16_777_216,
         message: 48_000_000,
         batch: 0,
+        wire: 25,
     },
     Limited {
         script: "{\"calls\":[],\"limits\":{\"batch\":3,\"bson\":9223372036854775807,\"message\":-9223372036854775808}}",
         bson: 9_223_372_036_854_775_807,
         message: -9_223_372_036_854_775_808,
         batch: 3,
+        wire: 25,
+    },
+    Limited {
+        script: "{\"calls\":[],\"limits\":{\"wire\":24}}",
+        bson: 16_777_216,
+        message: 48_000_000,
+        batch: 100_000,
+        wire: 24,
+    },
+    Limited {
+        script: "{\"limits\":{\"wire\":-2147483648,\"batch\":1},\"calls\":[]}",
+        bson: 16_777_216,
+        message: 48_000_000,
+        batch: 1,
+        wire: -2_147_483_648,
     },
 ];
 
@@ -390,7 +411,7 @@ fn is_setup(setup: &Setup, row: &Limited) -> bool {
     description.max_bson_object_size == row.bson
         && description.max_message_size_bytes == row.message
         && description.max_write_batch_size == row.batch
-        && description.max_wire_version == Some(25)
+        && description.max_wire_version == Some(row.wire)
         && description.supports_sessions
         && description.supports_retryable_writes
         && !description.sharded

@@ -44,6 +44,10 @@ pub enum Ended {
     InvalidConcern,
     /// There are no documents.
     NoneGiven,
+    /// There are no models.
+    NoModels,
+    /// The server is too old for bulk writes.
+    TooOld,
     /// The name of the database `a.b` has a dot.
     Dotted,
     /// The update begins with no operator.
@@ -80,6 +84,7 @@ pub fn how_ended(error: &Error) -> Ended {
         ErrorKind::SessionsNotSupported => Ended::NoSessions,
         ErrorKind::InvalidResponse { .. } => Ended::InvalidResponse,
         ErrorKind::InvalidArgument { message } => how_refused(message.as_str()),
+        ErrorKind::IncompatibleServer { .. } => Ended::TooOld,
         ErrorKind::BsonSerialization(EncodeFault::TooDeep) => Ended::TooDeep,
         ErrorKind::BsonSerialization(EncodeFault::ZeroByte) => Ended::ZeroByte,
         ErrorKind::Write(WriteFailure::WriteError(found)) => Ended::WriteError(found.code),
@@ -98,6 +103,9 @@ fn how_refused(message: &str) -> Ended {
     }
     if message == "No documents provided to insert_many" {
         return Ended::NoneGiven;
+    }
+    if message == "bulk_write must be provided at least one write operation" {
+        return Ended::NoModels;
     }
     if message == "invalid database name a.b: name cannot contain period" {
         return Ended::Dotted;

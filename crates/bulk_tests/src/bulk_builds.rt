@@ -1,0 +1,363 @@
+//! Bulk writes as they are built: under limits of the connection how many ops go out, or why none does; and the bytes
+//! of a command with all six models.
+use crate::bulk_models::{insert, let_go, named, number, ops_of, six};
+use bson_lite::{Bson, Document, List, ObjectId, Text, TryClone};
+use driver_actions::bulk_ops;
+use driver_error::{Error, ErrorKind};
+use driver_exec::Client;
+use driver_link::{
+    BulkWriteOptions, ClientOptions, CountingIds, Description, Sequence, WriteModel,
+};
+use driver_ops::{BulkWriteOp, Command, Operation, encode_document};
+use driver_session::PlainStore;
+use std::alloc::{AllocError, Global};
+use std::test::Fail;
+use test_parts::inserting::SERVER;
+
+/// `{bulkWrite: 1, ordered: true, errorsOnly: true}`
+const BODY: &[u8] = b"+\0\0\0\x10bulkWrite\0\x01\0\0\0\x08ordered\0\x01\x08errorsOnly\0\x01\0";
+
+/// The same with each option set, for the results of all ops.
+const WHOLE_BODY: &[u8] =
+    b"f\0\0\0\x10bulkWrite\0\x01\0\0\0\x08ordered\0\0\x08bypassDocumentValidation\0\x01\x02comment\0\x02\0\0\0c\0\x03let\0\x0c\0\0\0\x10v\0\x01\0\0\0\0\x08errorsOnly\0\0\0";
+
+/// `{ns: "a.x"}`, `{ns: "b.y"}` and `{ns: "a.z"}`
+const NAMESPACES: &[&[u8]] = &[
+    b"\x11\0\0\0\x02ns\0\x04\0\0\0a.x\0\0",
+    b"\x11\0\0\0\x02ns\0\x04\0\0\0b.y\0\0",
+    b"\x11\0\0\0\x02ns\0\x04\0\0\0a.z\0\0",
+];
+
+/// The ops of the six models, each on the number of its namespace.
+const OPS: &[&[u8]] = &[
+    // `{insert: 0, document: {_id: 1}}`
+    b")\0\0\0\x10insert\0\0\0\0\0\x03document\0\x0e\0\0\0\x10_id\0\x01\0\0\0\0\0",
+    // `{update: 1, multi: false, filter: {n: 1}, updateMods: {$inc: {n: 1}}, arrayFilters: [7], collation: {}, hint: "h", ..}`
+    b"\xa1\0\0\0\x10update\0\x01\0\0\0\x08multi\0\0\x03filter\0\x0c\0\0\0\x10n\0\x01\0\0\0\0\x03updateMods\0\x17\0\0\0\x03$inc\0\x0c\0\0\0\x10n\0\x01\0\0\0\0\0\x04arrayFilters\0\x0c\0\0\0\x100\0\x07\0\0\0\0\x03collation\0\x05\0\0\0\0\x02hint\0\x02\0\0\0h\0\x08upsert\0\x01\x03sort\0\x0c\0\0\0\x10n\0\xff\xff\xff\xff\0\0",
+    // `{update: 0, multi: true, filter: {}, updateMods: [{n: 1}], upsert: false}`
+    b"O\0\0\0\x10update\0\0\0\0\0\x08multi\0\x01\x03filter\0\x05\0\0\0\0\x04updateMods\0\x14\0\0\0\x030\0\x0c\0\0\0\x10n\0\x01\0\0\0\0\0\x08upsert\0\0\0",
+    // `{update: 2, multi: false, filter: {}, updateMods: {n: 2}, hint: {n: 1}, sort: {}}`
+    b"[\0\0\0\x10update\0\x02\0\0\0\x08multi\0\0\x03filter\0\x05\0\0\0\0\x03updateMods\0\x0c\0\0\0\x10n\0\x02\0\0\0\0\x03hint\0\x0c\0\0\0\x10n\0\x01\0\0\0\0\x03sort\0\x05\0\0\0\0\0",
+    // `{delete: 1, multi: false, filter: {n: 3}}`
+    b"-\0\0\0\x10delete\0\x01\0\0\0\x08multi\0\0\x03filter\0\x0c\0\0\0\x10n\0\x03\0\0\0\0\0",
+    // `{delete: 2, multi: true, filter: {}, collation: {}, hint: "h"}`
+    b"B\0\0\0\x10delete\0\x02\0\0\0\x08multi\0\x01\x03filter\0\x05\0\0\0\0\x03collation\0\x05\0\0\0\0\x02hint\0\x02\0\0\0h\0\0",
+];
+
+/// Which server a build is for: its wire version, and its limits on a document, on a message and on a batch.
+#[derive(Clone, Copy)]
+struct Row(Option<i32>, i64, i64, i64);
+
+/// What a build comes to.
+#[derive(Clone, Copy)]
+enum Built {
+    Takes(usize),
+    /// An InvalidArgument with this text.
+    TooLarge(&'static str),
+    /// An IncompatibleServer with the text on bulk writes.
+    TooOld,
+}
+
+const TOO_LARGE: &str = "operation at index 5 exceeds the maximum size";
+
+/// Three inserts of `{_id: ObjectId, x: 1}` into `gen.a`, of which the first is the caller's fifth from 0: the body has
+/// 43 bytes, each op 56, and the document of the namespace 19, which is sent once.
+const BUILDS: &[(Row, Built)] = &[
+    (
+        Row(Some(25), 1, 1000 + 43 + 56 + 19, 100_000),
+        Built::Takes(1),
+    ),
+    (
+        Row(Some(25), 1, 1000 + 43 + 56 + 18, 100_000),
+        Built::TooLarge(TOO_LARGE),
+    ),
+    (
+        Row(Some(25), 1, 1000 + 43 + 112 + 19, 100_000),
+        Built::Takes(2),
+    ),
+    (
+        Row(Some(25), 1, 1000 + 43 + 112 + 18, 100_000),
+        Built::Takes(1),
+    ),
+    (Row(Some(25), 1, 1000 + 43 + 168 + 19, 3), Built::Takes(3)),
+    (Row(Some(25), 1, 1000 + 43 + 168 + 19, 2), Built::Takes(2)),
+    (Row(Some(25), 1, 48_000_000, 1), Built::Takes(1)),
+    (Row(Some(25), 1, 48_000_000, 0), Built::TooLarge(TOO_LARGE)),
+    (Row(Some(25), 1, 48_000_000, -1), Built::TooLarge(TOO_LARGE)),
+    (Row(Some(25), 0, 48_000_000, 3), Built::TooLarge(TOO_LARGE)),
+    (Row(Some(25), -1, 48_000_000, 3), Built::TooLarge(TOO_LARGE)),
+    (Row(Some(25), 1, 0, 3), Built::TooLarge(TOO_LARGE)),
+    (Row(Some(25), 1, -1, 3), Built::TooLarge(TOO_LARGE)),
+    (
+        Row(Some(25), 16_777_216, 48_000_000, 100_000),
+        Built::Takes(3),
+    ),
+    (
+        Row(Some(26), 16_777_216, 48_000_000, 100_000),
+        Built::Takes(3),
+    ),
+    (
+        Row(Some(24), 16_777_216, 48_000_000, 100_000),
+        Built::TooOld,
+    ),
+    (
+        Row(Some(-1), 16_777_216, 48_000_000, 100_000),
+        Built::TooOld,
+    ),
+    (Row(None, 16_777_216, 48_000_000, 100_000), Built::TooOld),
+    (Row(Some(24), 0, 0, 0), Built::TooOld),
+];
+
+/// Later builds take as many ops as the first that was taken; where those do not fit they are refused.
+const LATER: &[(Row, Built)] = &[
+    (Row(Some(25), 1, 48_000_000, 0), Built::TooLarge(TOO_LARGE)),
+    (
+        Row(Some(24), 16_777_216, 48_000_000, 100_000),
+        Built::TooOld,
+    ),
+    (Row(Some(25), 1, 48_000_000, 2), Built::Takes(2)),
+    (Row(Some(25), 1, 48_000_000, 3), Built::Takes(2)),
+    (
+        Row(Some(24), 16_777_216, 48_000_000, 100_000),
+        Built::TooOld,
+    ),
+    (
+        Row(Some(25), 1, 48_000_000, 1),
+        Built::TooLarge("operation at index 6 exceeds the maximum size"),
+    ),
+    (
+        Row(Some(25), 1, 1000 + 43 + 112 + 18, 3),
+        Built::TooLarge("operation at index 6 exceeds the maximum size"),
+    ),
+    (Row(Some(25), 1, 1000 + 43 + 112 + 19, 3), Built::Takes(2)),
+];
+
+/// A server by a row.
+fn described(row: Row) -> Description {
+    let Row(version, bson, message, batch) = row;
+    Description {
+        max_wire_version: version,
+        max_bson_object_size: bson,
+        max_message_size_bytes: message,
+        max_write_batch_size: batch,
+        ..SERVER
+    }
+}
+
+/// `{_id: ObjectId, x: 1}`, of 29 bytes.
+fn document(alloc: Global) -> Result<Document, AllocError> {
+    let mut document = Document::new(alloc);
+    document.push("_id", Bson::ObjectId(ObjectId { bytes: [7; 12] }))?;
+    document.push("x", Bson::Int32(1))?;
+    Ok(document)
+}
+
+/// Three inserts of it into `gen.a`.
+fn three(alloc: Global) -> Result<List<WriteModel>, AllocError> {
+    let mut models = List::new(alloc);
+    for _ in 0..3 {
+        let to = named(alloc, "gen", "a")?;
+        models.push(insert(alloc, to, document(alloc)?))?;
+    }
+    Ok(models)
+}
+
+/// How many ops a command has in its second sequence.
+fn ops_in(command: &Command) -> usize {
+    match command.sequences.as_slice() {
+        [_, ops] => ops.documents.len(),
+        _ => 0,
+    }
+}
+
+/// Whether an error is what a row says.
+fn is_refused(error: Error, built: Built) -> bool {
+    let same = match (error.kind(), built) {
+        (ErrorKind::InvalidArgument { message }, Built::TooLarge(text)) => message.as_str() == text,
+        (ErrorKind::IncompatibleServer { message }, Built::TooOld) => {
+            message.as_str() == "the bulk write feature is only supported on MongoDB 8.0+"
+        }
+        _ => false,
+    };
+    let_go(error);
+    same
+}
+
+/// Whether a build for such a connection comes to this.
+fn builds(alloc: Global, op: &mut BulkWriteOp<'_>, row: Row, built: Built) -> bool {
+    match op.build(alloc, &described(row)) {
+        Ok(command) => {
+            let sent = ops_in(&command);
+            drop(command);
+            match built {
+                Built::Takes(count) => sent == count && op.statements() == count,
+                _ => false,
+            }
+        }
+        Err(error) => is_refused(error, built),
+    }
+}
+
+/// Whether builds of one bulk write, one after the other, come to these.
+fn all_build(alloc: Global, rows: &[(Row, Built)]) -> Option<bool> {
+    let models = three(alloc).ok()?;
+    let ops = ops_of(alloc, &models)?;
+    let options = BulkWriteOptions::default();
+    let mut op = BulkWriteOp::new(alloc, 5, ops.as_slice(), &options, false).ok()?;
+    let mut all = true;
+    for (row, built) in rows {
+        all = builds(alloc, &mut op, *row, *built) && all;
+    }
+    drop(op);
+    drop(options);
+    drop(ops);
+    drop(models);
+    Some(all)
+}
+
+/// Whether the insert of `{x: 1}` into `gen.a` alone, with the id that is drawn for it, comes to this.
+fn one_builds(alloc: Global, message: i64, built: Built) -> Option<bool> {
+    let to = named(alloc, "gen", "a").ok()?;
+    let document = number(alloc, "x", 1).ok()?;
+    let mut models = List::new(alloc);
+    models.push(insert(alloc, to, document)).ok()?;
+    let options = BulkWriteOptions::default();
+    let store = PlainStore::new(alloc, CountingIds::new());
+    let mut client = Client::new(ClientOptions::default(), store);
+    let same = match bulk_ops(alloc, &mut client, models.as_slice(), &options) {
+        Ok(ops) => {
+            let mut op = BulkWriteOp::new(alloc, 0, ops.as_slice(), &options, false).ok()?;
+            let same = builds(alloc, &mut op, Row(Some(25), 1, message, 1), built);
+            drop(op);
+            drop(ops);
+            same
+        }
+        Err(error) => {
+            let_go(error);
+            false
+        }
+    };
+    drop(options);
+    drop(models);
+    Some(same)
+}
+
+/// Whether a sequence has this name and these documents.
+fn has_documents(sequence: &Sequence, name: &str, documents: &[&[u8]]) -> bool {
+    if sequence.name.as_str() != name || sequence.documents.len() != documents.len() {
+        return false;
+    }
+    for (at, document) in documents.iter().enumerate() {
+        let same = match sequence.documents.get(at) {
+            Some(bytes) => bytes.as_slice() == *document,
+            None => false,
+        };
+        if !same {
+            return false;
+        }
+    }
+    true
+}
+
+/// Whether the sequences are the namespaces, and then the ops.
+fn has_sequences(command: &Command) -> bool {
+    match command.sequences.as_slice() {
+        [namespaces, ops] => {
+            has_documents(namespaces, "nsInfo", NAMESPACES) && has_documents(ops, "ops", OPS)
+        }
+        _ => false,
+    }
+}
+
+/// Whether a body has these bytes.
+fn has_body(alloc: Global, command: &Command, body: &[u8]) -> bool {
+    match encode_document(alloc, &command.body) {
+        Ok(bytes) => bytes.as_slice() == body,
+        Err(error) => {
+            let_go(error);
+            false
+        }
+    }
+}
+
+/// All options set that a body has, as a copy, which is the same.
+fn all_options(alloc: Global) -> Result<BulkWriteOptions, AllocError> {
+    let comment = Text::from_str(alloc, "c")?;
+    let given = BulkWriteOptions {
+        ordered: Some(false),
+        bypass_document_validation: Some(true),
+        comment: Some(Bson::String(comment)),
+        write_concern: None,
+        let_vars: Some(number(alloc, "v", 1)?),
+    };
+    let copy = given.try_clone(alloc);
+    drop(given);
+    copy
+}
+
+/// Whether copies of the six models are built with this body, on `admin`.
+fn six_are_built(
+    alloc: Global,
+    options: &BulkWriteOptions,
+    verbose: bool,
+    body: &[u8],
+) -> Option<bool> {
+    let given = six(alloc).ok()?;
+    let models = given.try_clone(alloc).ok()?;
+    drop(given);
+    let ops = ops_of(alloc, &models)?;
+    let mut op = BulkWriteOp::new(alloc, 0, ops.as_slice(), options, verbose).ok()?;
+    let same = match op.build(alloc, &SERVER) {
+        Ok(command) => {
+            let same = command.database.as_str() == "admin"
+                && has_body(alloc, &command, body)
+                && has_sequences(&command);
+            drop(command);
+            same
+        }
+        Err(error) => {
+            let_go(error);
+            false
+        }
+    };
+    drop(op);
+    drop(ops);
+    drop(models);
+    Some(same)
+}
+
+#[test]
+fn a_first_build_takes_the_longest_front(rt: HostRuntime) -> Result<(), Fail> {
+    for (at, row) in BUILDS.iter().enumerate() {
+        let same = all_build(rt.alloc(), &[*row]) == Some(true);
+        assert!(rt; same, "row {at}");
+    }
+    Ok(())
+}
+
+#[test]
+fn one_insert_goes_out_where_a_message_has_room(rt: HostRuntime) -> Result<(), Fail> {
+    let refused = Built::TooLarge("operation at index 0 exceeds the maximum size");
+    assert!(rt; one_builds(rt.alloc(), 1118, Built::Takes(1)) == Some(true));
+    assert!(rt; one_builds(rt.alloc(), 1117, refused) == Some(true));
+    Ok(())
+}
+
+#[test]
+fn later_builds_take_as_many_ops(rt: HostRuntime) -> Result<(), Fail> {
+    assert!(rt; all_build(rt.alloc(), LATER) == Some(true));
+    Ok(())
+}
+
+#[test]
+fn all_six_models_over_three_namespaces_are_spelled(rt: HostRuntime) -> Result<(), Fail> {
+    let plain = BulkWriteOptions::default();
+    let summary = six_are_built(rt.alloc(), &plain, false, BODY) == Some(true);
+    assert!(rt; summary);
+    drop(plain);
+    let options = all_options(rt.alloc())?;
+    let verbose = six_are_built(rt.alloc(), &options, true, WHOLE_BODY) == Some(true);
+    drop(options);
+    assert!(rt; verbose);
+    Ok(())
+}

@@ -1,0 +1,59 @@
+-- What a bulk write tells as an operation.
+use Rattle.std.specs.Prelude.{◌≡◌, ℕ, Bool, true, List, length, take}
+use Rattle.std.specs.List.{AllByRecursion}
+use Rattle.driver_error.specs.declared.results.SummaryBulkWriteResult.{SummaryBulkWriteResult}
+use Rattle.driver_link.specs.declared.command.CommandName.TheVariants as name
+use Rattle.driver_link.specs.declared.keys.TheConstants.{ADMIN}
+use Rattle.driver_link.specs.declared.machine.Place.{Place}
+use Rattle.driver_link.specs.declared.machine.SendBody.{SendBody}
+use Rattle.driver_link.specs.declared.machine.SendBody.TheVariants.{Write}
+use Rattle.driver_link.specs.declared.machine.SendCommand.TheVariants as command
+use Rattle.driver_link.specs.declared.models.WriteModel.{WriteModel}
+use Rattle.driver_link.specs.declared.write_options.BulkWriteOptions.{BulkWriteOptions}
+use Rattle.driver_ops.specs.declared.feature.Feature.TheVariants.{Inherit, NotSupported}
+use Rattle.driver_ops.specs.declared.own_op.OwnOp.{OwnOp}
+use Rattle.driver_ops.specs.declared.target.OperationTarget.{OperationTarget}
+use Rattle.driver_ops.specs.declared.target.OperationTarget.TheVariants.{Database}
+use Rattle.driver_ops.specs.BulkAnswers.{ReadsBulk, TellsCounts}
+use Rattle.driver_ops.specs.BulkFronts.{RefusesBulk, TakesBulk}
+use Rattle.driver_ops.specs.BulkOps.{AreOps, IsUndotted, has_multi, model_writes}
+use Rattle.driver_ops.specs.BulkWrites.{IsBulkCommand, bulk_is_ordered}
+use Rattle.driver_ops.specs.Features.{feature_of}
+use Rattle.driver_ops.specs.InsertSpec.{ReadsAlone}
+use Rattle.driver_ops.specs.Operations.{OperationSpec}
+use Rattle.driver_ops.specs.StatementSpec.{own_of_statement, under_backpressure}
+
+-- the database of commands that name none of their own
+abbrev pub admin_target : OperationTarget
+admin_target = Database (record { name = ADMIN.now })
+
+-- the writes of the front of the models whose ops these are, under the places at the front, where there is a place for each model
+-- and no database has a dot in its name
+pub record AsksBulk (own : List OwnOp) (options : BulkWriteOptions) (statements : ℕ) (places : List Place) (body : SendBody) : Type 0 where
+  pub models : List WriteModel
+  pub are_ops : AreOps models own
+  pub undotted : AllByRecursion IsUndotted models
+  pub each_placed : length places ≡ length own
+  pub is : body ≡ Write command.BulkWrite (bulk_is_ordered options) (model_writes (take statements models) (take statements places))
+
+-- a build takes the longest front of the ops that the connection takes, each send has the same command, and the reply is the whole
+-- answer. The ops are those of the caller's models from an index on; nothing of them may be repeated where one of them, in this
+-- batch or later, is of all documents found
+abbrev pub bulk_spec : OperationTarget → ℕ → List OwnOp → BulkWriteOptions → Bool → OperationSpec SummaryBulkWriteResult
+bulk_spec target first own options verbose = record {
+  name = name.BulkWrite;
+  target = target;
+  commands = λ which. IsBulkCommand own options verbose;
+  bodies = AsksBulk own options;
+  takes = TakesBulk options verbose own;
+  refused = RefusesBulk options verbose first own;
+  write_concern = λ which. feature_of options.write_concern;
+  read_concern = NotSupported;
+  selection_criteria = λ which. Inherit;
+  sessions = true;
+  retryability = own_of_statement (has_multi own);
+  backpressure = under_backpressure;
+  after_cluster_time = true;
+  reads = λ statements. ReadsAlone ReadsBulk;
+  output = TellsCounts;
+}
