@@ -1,5 +1,5 @@
 -- A bulk write asks for the writes of the models that were accepted, under as many places.
-use Rattle.std.proofs.Common.{ap, sym, ◌∙◌, length}
+use Rattle.std.proofs.Common.{ap, ◌∙◌, length}
 use Rattle.driver_actions.proofs.BulkBodies.{bulk_bodies}
 use Rattle.bulk_tests.proofs.bulk_runs.executed_by.Goals as goal
 
