@@ -1,6 +1,6 @@
-//! Bulk writes as they are built: under limits of the connection how many ops go out, or why none does; and the bytes
-//! of a command with all six models.
-use crate::bulk_models::{insert, let_go, named, number, ops_of, six};
+//! Bulk writes as they are built: under limits of the connection how many ops go out, or why none does; the bytes of a
+//! command with all six models; and how a batch of these numbers its namespaces.
+use crate::bulk_models::{A_X, A_Z, B_Y, OPS, insert, is_op, let_go, named, number, ops_of, six};
 use bson_lite::{Bson, Document, List, ObjectId, Text, TryClone};
 use driver_actions::bulk_ops;
 use driver_error::{Error, ErrorKind};
@@ -21,27 +21,50 @@ const BODY: &[u8] = b"+\0\0\0\x10bulkWrite\0\x01\0\0\0\x08ordered\0\x01\x08error
 const WHOLE_BODY: &[u8] =
     b"f\0\0\0\x10bulkWrite\0\x01\0\0\0\x08ordered\0\0\x08bypassDocumentValidation\0\x01\x02comment\0\x02\0\0\0c\0\x03let\0\x0c\0\0\0\x10v\0\x01\0\0\0\0\x08errorsOnly\0\0\0";
 
-/// `{ns: "a.x"}`, `{ns: "b.y"}` and `{ns: "a.z"}`
-const NAMESPACES: &[&[u8]] = &[
-    b"\x11\0\0\0\x02ns\0\x04\0\0\0a.x\0\0",
-    b"\x11\0\0\0\x02ns\0\x04\0\0\0b.y\0\0",
-    b"\x11\0\0\0\x02ns\0\x04\0\0\0a.z\0\0",
-];
+/// A batch of the six models: the index of its first, how many its connection takes, the documents of its namespaces,
+/// and the number that each of its ops has.
+#[derive(Clone, Copy)]
+struct Batch {
+    first: usize,
+    most: i64,
+    namespaces: &'static [&'static [u8]],
+    numbers: &'static [u8],
+}
 
-/// The ops of the six models, each on the number of its namespace.
-const OPS: &[&[u8]] = &[
-    // `{insert: 0, document: {_id: 1}}`
-    b")\0\0\0\x10insert\0\0\0\0\0\x03document\0\x0e\0\0\0\x10_id\0\x01\0\0\0\0\0",
-    // `{update: 1, multi: false, filter: {n: 1}, updateMods: {$inc: {n: 1}}, arrayFilters: [7], collation: {}, hint: "h", ..}`
-    b"\xa1\0\0\0\x10update\0\x01\0\0\0\x08multi\0\0\x03filter\0\x0c\0\0\0\x10n\0\x01\0\0\0\0\x03updateMods\0\x17\0\0\0\x03$inc\0\x0c\0\0\0\x10n\0\x01\0\0\0\0\0\x04arrayFilters\0\x0c\0\0\0\x100\0\x07\0\0\0\0\x03collation\0\x05\0\0\0\0\x02hint\0\x02\0\0\0h\0\x08upsert\0\x01\x03sort\0\x0c\0\0\0\x10n\0\xff\xff\xff\xff\0\0",
-    // `{update: 0, multi: true, filter: {}, updateMods: [{n: 1}], upsert: false}`
-    b"O\0\0\0\x10update\0\0\0\0\0\x08multi\0\x01\x03filter\0\x05\0\0\0\0\x04updateMods\0\x14\0\0\0\x030\0\x0c\0\0\0\x10n\0\x01\0\0\0\0\0\x08upsert\0\0\0",
-    // `{update: 2, multi: false, filter: {}, updateMods: {n: 2}, hint: {n: 1}, sort: {}}`
-    b"[\0\0\0\x10update\0\x02\0\0\0\x08multi\0\0\x03filter\0\x05\0\0\0\0\x03updateMods\0\x0c\0\0\0\x10n\0\x02\0\0\0\0\x03hint\0\x0c\0\0\0\x10n\0\x01\0\0\0\0\x03sort\0\x05\0\0\0\0\0",
-    // `{delete: 1, multi: false, filter: {n: 3}}`
-    b"-\0\0\0\x10delete\0\x01\0\0\0\x08multi\0\0\x03filter\0\x0c\0\0\0\x10n\0\x03\0\0\0\0\0",
-    // `{delete: 2, multi: true, filter: {}, collation: {}, hint: "h"}`
-    b"B\0\0\0\x10delete\0\x02\0\0\0\x08multi\0\x01\x03filter\0\x05\0\0\0\0\x03collation\0\x05\0\0\0\0\x02hint\0\x02\0\0\0h\0\0",
+/// The six are on `a.x`, `b.y`, `a.x`, `a.z`, `b.y` and `a.z`.
+const BATCHES: &[Batch] = &[
+    Batch {
+        first: 0,
+        most: 6,
+        namespaces: &[A_X, B_Y, A_Z],
+        numbers: &[0, 1, 0, 2, 1, 2],
+    },
+    // The namespace of the first model comes second in a later batch.
+    Batch {
+        first: 1,
+        most: 6,
+        namespaces: &[B_Y, A_X, A_Z],
+        numbers: &[0, 1, 2, 0, 2],
+    },
+    // That of the fourth is not in the batch.
+    Batch {
+        first: 0,
+        most: 2,
+        namespaces: &[A_X, B_Y],
+        numbers: &[0, 1],
+    },
+    Batch {
+        first: 2,
+        most: 2,
+        namespaces: &[A_X, A_Z],
+        numbers: &[0, 1],
+    },
+    Batch {
+        first: 4,
+        most: 1,
+        namespaces: &[B_Y],
+        numbers: &[0],
+    },
 ];
 
 /// Which server a build is for: its wire version, and its limits on a document, on a message and on a batch.
@@ -263,7 +286,7 @@ fn has_documents(sequence: &Sequence, name: &str, documents: &[&[u8]]) -> bool {
 fn has_sequences(command: &Command) -> bool {
     match command.sequences.as_slice() {
         [namespaces, ops] => {
-            has_documents(namespaces, "nsInfo", NAMESPACES) && has_documents(ops, "ops", OPS)
+            has_documents(namespaces, "nsInfo", &[A_X, B_Y, A_Z]) && has_documents(ops, "ops", OPS)
         }
         _ => false,
     }
@@ -326,6 +349,63 @@ fn six_are_built(
     Some(same)
 }
 
+/// Whether a sequence has the ops of the six models from a batch's first on, on the numbers of the batch.
+fn has_ops(sequence: &Sequence, batch: Batch) -> bool {
+    if sequence.name.as_str() != "ops" || sequence.documents.len() != batch.numbers.len() {
+        return false;
+    }
+    for (at, number) in batch.numbers.iter().enumerate() {
+        let op = sequence.documents.get(at);
+        let same = match (op, OPS.get(batch.first.saturating_add(at))) {
+            (Some(op), Some(spelled)) => is_op(op.as_slice(), spelled, *number),
+            _ => false,
+        };
+        if !same {
+            return false;
+        }
+    }
+    true
+}
+
+/// Whether a build takes the ops of a batch and numbers their namespaces as it says.
+fn is_numbered(alloc: Global, op: &mut BulkWriteOp<'_>, batch: Batch) -> bool {
+    let description = Description {
+        max_write_batch_size: batch.most,
+        ..SERVER
+    };
+    match op.build(alloc, &description) {
+        Ok(command) => {
+            let same = match command.sequences.as_slice() {
+                [namespaces, ops] => {
+                    has_documents(namespaces, "nsInfo", batch.namespaces) && has_ops(ops, batch)
+                }
+                _ => false,
+            };
+            drop(command);
+            same
+        }
+        Err(error) => {
+            let_go(error);
+            false
+        }
+    }
+}
+
+/// Whether the ops of the six models from a batch's first on are built so.
+fn batch_is_numbered(alloc: Global, batch: Batch) -> Option<bool> {
+    let models = six(alloc).ok()?;
+    let ops = ops_of(alloc, &models)?;
+    let options = BulkWriteOptions::default();
+    let left = ops.as_slice().get(batch.first..)?;
+    let mut op = BulkWriteOp::new(alloc, batch.first, left, &options, false).ok()?;
+    let same = is_numbered(alloc, &mut op, batch);
+    drop(op);
+    drop(options);
+    drop(ops);
+    drop(models);
+    Some(same)
+}
+
 #[test]
 fn a_first_build_takes_the_longest_front(rt: HostRuntime) -> Result<(), Fail> {
     for (at, row) in BUILDS.iter().enumerate() {
@@ -359,5 +439,15 @@ fn all_six_models_over_three_namespaces_are_spelled(rt: HostRuntime) -> Result<(
     let verbose = six_are_built(rt.alloc(), &options, true, WHOLE_BODY) == Some(true);
     drop(options);
     assert!(rt; verbose);
+    Ok(())
+}
+
+#[test]
+fn each_batch_numbers_the_namespaces_of_its_own_ops(rt: HostRuntime) -> Result<(), Fail> {
+    for batch in BATCHES {
+        let same = batch_is_numbered(rt.alloc(), *batch) == Some(true);
+        let (first, most) = (batch.first, batch.most);
+        assert!(rt; same, "at most {most} from model {first} on");
+    }
     Ok(())
 }

@@ -1,8 +1,12 @@
-//! Lists of models with random namespaces and lengths, cut batch by batch under limits that let few ops in: no other
-//! cut into runs that fit has fewer batches.
-use crate::bulk_models::{insert, let_go, named, ops_of};
-use bson_lite::{Bson, Document, List, Text};
-use driver_link::{BulkWriteOptions, Description, WriteModel};
+//! Lists of models of random kinds, namespaces and lengths, cut batch by batch under limits that let few ops in: no
+//! other cut into runs that fit has fewer batches. What a run takes is counted from the layout of the op documents,
+//! by lengths written by hand.
+use crate::bulk_models::{around, insert, let_go, named, number, ops_of};
+use bson_lite::{Bson, Document, List, Namespace, Text};
+use driver_link::{
+    BulkWriteOptions, DeleteManyModel, DeleteOneModel, Description, ReplaceOneModel,
+    UpdateManyModel, UpdateModifications, UpdateOneModel, WriteModel,
+};
 use driver_ops::{BulkWriteOp, Operation, OwnOp};
 use rand_core::{Rng, SeedableRng};
 use rand_pcg::Pcg32;
@@ -13,8 +17,35 @@ use test_parts::inserting::SERVER;
 /// How many lists are cut.
 const LISTS: u64 = 12;
 
+/// How many models a list has.
+const MODELS: usize = 8;
+
 /// The body of the command, and what stands around it and the ops.
 const AROUND: usize = 1043;
+
+/// The bytes of `{_id: text}` beside those of the text: 5 around the fields, 5 of type and key, and 5 around the text.
+const AROUND_TEXT: usize = 15;
+
+/// The bytes of `{ns: "gen.coll"}` beside those of the collection's name: 5, then 4 of type and key, 5, and `gen.`.
+const AROUND_COLLECTION: usize = 18;
+
+/// The bytes of an insert's op beside those of the document: 5 around the fields, 12 of the number under a key of six
+/// letters, and 10 of a type and the key `document`.
+const INSERT: usize = 27;
+
+/// The bytes of a delete's op beside those of the filter: 5 and 12 as above, 8 of `multi`, and 8 of a type and the key
+/// `filter`.
+const DELETE: usize = 33;
+
+/// The bytes of an update's op beside those of the filter and of what it does: as a delete's, and 12 of a type and the
+/// key `updateMods`.
+const UPDATE: usize = 45;
+
+/// The bytes of `{n: 1}`: 5 around the fields, and 7 of the number.
+const NUMBER: usize = 12;
+
+/// The bytes of `{$set: {n: 1}}`: 5 around the fields, 6 of type and key, and 12.
+const OPERATORS: usize = 23;
 
 /// What may go out together.
 #[derive(Clone, Copy)]
@@ -23,49 +54,168 @@ struct Room {
     bytes: usize,
 }
 
-/// The names of a collection.
-fn collection(word: u32) -> &'static str {
+/// What a model does. All but the insert find documents by `{_id: text}`.
+#[derive(Clone, Copy)]
+enum Kind {
+    /// The insert of `{_id: text}`.
+    Insert,
+    /// Updates by `{$set: {n: 1}}`.
+    UpdateOne,
+    UpdateMany,
+    /// A replacement by `{n: 1}`.
+    ReplaceOne,
+    DeleteOne,
+    DeleteMany,
+}
+
+/// A text, and how many bytes it has.
+#[derive(Clone, Copy)]
+struct Measured {
+    text: &'static str,
+    bytes: usize,
+}
+
+/// A model of a list: what it does, the name of its collection, and its text.
+#[derive(Clone, Copy)]
+struct Drawn {
+    kind: Kind,
+    collection: Measured,
+    text: Measured,
+}
+
+/// A kind of models.
+fn kind(word: u32) -> Kind {
+    match word % 6 {
+        0 => Kind::Insert,
+        1 => Kind::UpdateOne,
+        2 => Kind::UpdateMany,
+        3 => Kind::ReplaceOne,
+        4 => Kind::DeleteOne,
+        _ => Kind::DeleteMany,
+    }
+}
+
+/// A text of so many bytes.
+fn measured(text: &'static str, bytes: usize) -> Measured {
+    Measured { text, bytes }
+}
+
+/// The name of a collection.
+fn collection(word: u32) -> Measured {
     match word % 3 {
-        0 => "a",
-        1 => "items",
-        _ => "a_collection_with_a_long_name",
+        0 => measured("a", 1),
+        1 => measured("items", 5),
+        _ => measured("a_collection_with_a_long_name", 29),
     }
 }
 
 /// A text of some length.
-fn padding(word: u32) -> &'static str {
+fn padding(word: u32) -> Measured {
     match word % 4 {
-        0 => "",
-        1 => "ten bytes.",
-        2 => "a text of thirty bytes, of them",
-        _ => "a longer text, which has more bytes than the namespaces have",
+        0 => measured("", 0),
+        1 => measured("ten bytes.", 10),
+        2 => measured("thirty bytes are in this text.", 30),
+        _ => measured(
+            "sixty bytes are in this text, more than in any namespace ...",
+            60,
+        ),
     }
 }
 
-/// The insert of `{_id: text}`.
-fn model(alloc: Global, words: &mut Pcg32) -> Result<WriteModel, AllocError> {
-    let to = named(alloc, "gen", collection(words.next_u32()))?;
-    let text = Text::from_str(alloc, padding(words.next_u32()))?;
-    let mut document = Document::new(alloc);
-    document.push("_id", Bson::String(text))?;
-    Ok(insert(alloc, to, document))
+/// A random model.
+fn drawn_model(words: &mut Pcg32) -> Drawn {
+    let kind = kind(words.next_u32());
+    let collection = collection(words.next_u32());
+    let text = padding(words.next_u32());
+    Drawn {
+        kind,
+        collection,
+        text,
+    }
 }
 
-/// Eight of them.
-fn models(alloc: Global, seed: u64) -> Result<List<WriteModel>, AllocError> {
+/// A list of random models.
+fn drawn_list(alloc: Global, seed: u64) -> Result<Vec<Drawn>, AllocError> {
     let mut words = Pcg32::seed_from_u64(seed);
-    let mut models = List::new(alloc);
-    for _ in 0..8 {
-        models.push(model(alloc, &mut words)?)?;
+    let mut list = Vec::new(alloc);
+    for _ in 0..MODELS {
+        list.push(drawn_model(&mut words))?;
+    }
+    Ok(list)
+}
+
+/// `{_id: text}`
+fn identified(alloc: Global, text: &str) -> Result<Document, AllocError> {
+    let text = Text::from_str(alloc, text)?;
+    let mut document = Document::new(alloc);
+    document.push("_id", Bson::String(text))?;
+    Ok(document)
+}
+
+/// `{$set: {n: 1}}`
+fn operators(alloc: Global) -> Result<UpdateModifications, AllocError> {
+    let set = around(alloc, "$set", number(alloc, "n", 1)?)?;
+    Ok(UpdateModifications::from(set))
+}
+
+/// An update of one document by operators.
+fn update_one(alloc: Global, to: Namespace, filter: Document) -> Result<WriteModel, AllocError> {
+    let update = operators(alloc)?;
+    Ok(WriteModel::from(UpdateOneModel::new(to, filter, update)))
+}
+
+/// The same of all documents found.
+fn update_many(alloc: Global, to: Namespace, filter: Document) -> Result<WriteModel, AllocError> {
+    let update = operators(alloc)?;
+    Ok(WriteModel::from(UpdateManyModel::new(to, filter, update)))
+}
+
+/// A replacement by `{n: 1}`.
+fn replace_one(alloc: Global, to: Namespace, filter: Document) -> Result<WriteModel, AllocError> {
+    let replacement = number(alloc, "n", 1)?;
+    Ok(WriteModel::from(ReplaceOneModel::new(to, filter, replacement)))
+}
+
+/// The model that was drawn.
+fn model(alloc: Global, drawn: Drawn) -> Result<WriteModel, AllocError> {
+    let to = named(alloc, "gen", drawn.collection.text)?;
+    let document = identified(alloc, drawn.text.text)?;
+    match drawn.kind {
+        Kind::Insert => Ok(insert(alloc, to, document)),
+        Kind::UpdateOne => update_one(alloc, to, document),
+        Kind::UpdateMany => update_many(alloc, to, document),
+        Kind::ReplaceOne => replace_one(alloc, to, document),
+        Kind::DeleteOne => Ok(WriteModel::from(DeleteOneModel::new(to, document))),
+        Kind::DeleteMany => Ok(WriteModel::from(DeleteManyModel::new(to, document))),
+    }
+}
+
+/// The models of a list.
+fn models(alloc: Global, list: &[Drawn]) -> Result<List<WriteModel>, AllocError> {
+    let mut models = List::with_capacity(alloc, list.len())?;
+    for drawn in list {
+        models.push(model(alloc, *drawn)?)?;
     }
     Ok(models)
 }
 
-/// Whether an op from a place on, before another place, is on this namespace.
-fn stands_before(ops: &[OwnOp], from: usize, to: usize, namespace: &str) -> bool {
+/// The bytes of a model's op beside those of its text, by the layout.
+fn around_text(kind: Kind) -> usize {
+    match kind {
+        Kind::Insert => INSERT + AROUND_TEXT,
+        Kind::UpdateOne => UPDATE + AROUND_TEXT + OPERATORS,
+        Kind::UpdateMany => UPDATE + AROUND_TEXT + OPERATORS,
+        Kind::ReplaceOne => UPDATE + AROUND_TEXT + NUMBER,
+        Kind::DeleteOne => DELETE + AROUND_TEXT,
+        Kind::DeleteMany => DELETE + AROUND_TEXT,
+    }
+}
+
+/// Whether a model from a place on, before another place, is of this collection.
+fn stands_before(list: &[Drawn], from: usize, to: usize, collection: &str) -> bool {
     for at in from..to {
-        match ops.get(at) {
-            Some(op) if op.namespace.as_str() == namespace => return true,
+        match list.get(at) {
+            Some(drawn) if drawn.collection.text == collection => return true,
             _ => {}
         }
     }
@@ -73,35 +223,36 @@ fn stands_before(ops: &[OwnOp], from: usize, to: usize, namespace: &str) -> bool
 }
 
 /// The bytes of the ops from a place to before another, and of one document for each of their namespaces.
-fn cost(ops: &[OwnOp], from: usize, to: usize) -> usize {
+fn cost(list: &[Drawn], from: usize, to: usize) -> usize {
     let mut bytes: usize = 0;
     for at in from..to {
-        let Some(op) = ops.get(at) else {
+        let Some(drawn) = list.get(at) else {
             return bytes;
         };
-        bytes = bytes.saturating_add(op.bytes.len());
-        let namespace = op.namespace.as_str();
-        if !stands_before(ops, from, at, namespace) {
-            bytes = bytes.saturating_add(namespace.len()).saturating_add(14);
+        let op = around_text(drawn.kind).saturating_add(drawn.text.bytes);
+        bytes = bytes.saturating_add(op);
+        if !stands_before(list, from, at, drawn.collection.text) {
+            let namespace = drawn.collection.bytes.saturating_add(AROUND_COLLECTION);
+            bytes = bytes.saturating_add(namespace);
         }
     }
     bytes
 }
 
 /// Whether the ops from a place to before another may go out together.
-fn fits(ops: &[OwnOp], from: usize, to: usize, room: Room) -> bool {
-    to.saturating_sub(from) <= room.ops && cost(ops, from, to) <= room.bytes
+fn fits(list: &[Drawn], from: usize, to: usize, room: Room) -> bool {
+    to.saturating_sub(from) <= room.ops && cost(list, from, to) <= room.bytes
 }
 
 /// The fewest runs that fit, over all cuts of the list, by the fewest of each front.
-fn fewest(alloc: Global, ops: &[OwnOp], room: Room) -> Result<usize, AllocError> {
+fn fewest(alloc: Global, list: &[Drawn], room: Room) -> Result<usize, AllocError> {
     let mut best: Vec<usize> = Vec::new(alloc);
     best.push(0)?;
     let mut last = 0;
-    for to in 1..ops.len().saturating_add(1) {
+    for to in 1..list.len().saturating_add(1) {
         last = usize::MAX;
         for from in 0..to {
-            if fits(ops, from, to, room) {
+            if fits(list, from, to, room) {
                 let before = best.get(from).copied().unwrap_or(usize::MAX);
                 last = last.min(before.saturating_add(1));
             }
@@ -153,31 +304,78 @@ fn batches(alloc: Global, ops: &[OwnOp], room: Room) -> Option<usize> {
 }
 
 /// The most bytes that an op of the list goes out with by itself.
-fn widest(ops: &[OwnOp]) -> usize {
+fn widest(list: &[Drawn]) -> usize {
     let mut widest: usize = 0;
-    for at in 0..ops.len() {
-        widest = widest.max(cost(ops, at, at.saturating_add(1)));
+    for at in 0..list.len() {
+        widest = widest.max(cost(list, at, at.saturating_add(1)));
     }
     widest
 }
 
-/// Whether a list is cut into the fewest batches, under batch limits of 1 to 5 and message limits that let the first
-/// one to five ops in.
-fn is_cut(alloc: Global, seed: u64) -> Option<bool> {
-    let models = models(alloc, seed).ok()?;
-    let list = ops_of(alloc, &models)?;
-    let ops = list.as_slice();
+/// Whether the ops of a list are cut into the fewest batches where so much goes out together.
+fn is_cut_in(alloc: Global, list: &[Drawn], ops: &[OwnOp], room: Room) -> Option<bool> {
+    let fewest = fewest(alloc, list, room).ok()?;
+    Some(batches(alloc, ops, room) == Some(fewest))
+}
+
+/// The same under a batch limit and under message limits that let the first one to five ops just in, or one of them
+/// just not.
+fn fronts_are_cut(alloc: Global, list: &[Drawn], ops: &[OwnOp], most: usize) -> Option<bool> {
     let mut all = true;
-    for most in 1..6 {
-        for front in 1..6 {
-            let bytes = widest(ops).max(cost(ops, 0, front));
-            let room = Room { ops: most, bytes };
-            let fewest = fewest(alloc, ops, room).ok()?;
-            all = batches(alloc, ops, room) == Some(fewest) && all;
-        }
+    for front in 1..6 {
+        let bytes = cost(list, 0, front);
+        let just = Room {
+            ops: most,
+            bytes: widest(list).max(bytes),
+        };
+        let just_not = Room {
+            ops: most,
+            bytes: widest(list).max(bytes.saturating_sub(1)),
+        };
+        all = is_cut_in(alloc, list, ops, just)? && all;
+        all = is_cut_in(alloc, list, ops, just_not)? && all;
     }
-    drop(list);
+    Some(all)
+}
+
+/// Whether a list is cut into the fewest batches, under batch limits of 1 to 5.
+fn is_cut(alloc: Global, seed: u64) -> Option<bool> {
+    let list = drawn_list(alloc, seed).ok()?;
+    let models = models(alloc, list.as_slice()).ok()?;
+    let ops = ops_of(alloc, &models)?;
+    let mut all = ops.len() == MODELS;
+    for most in 1..6 {
+        all = fronts_are_cut(alloc, list.as_slice(), ops.as_slice(), most)? && all;
+    }
+    drop(ops);
     drop(models);
+    drop(list);
+    Some(all)
+}
+
+/// Whether the op at a place goes out where there is just room for it and its namespace, and not in a byte less.
+fn is_measured(alloc: Global, list: &[Drawn], ops: &[OwnOp], at: usize) -> bool {
+    let bytes = cost(list, at, at.saturating_add(1));
+    let just = Room { ops: 1, bytes };
+    let just_not = Room {
+        ops: 1,
+        bytes: bytes.saturating_sub(1),
+    };
+    taken(alloc, ops, at, just) == Some(1) && taken(alloc, ops, at, just_not).is_none()
+}
+
+/// Whether each op of a list does.
+fn are_measured(alloc: Global, seed: u64) -> Option<bool> {
+    let list = drawn_list(alloc, seed).ok()?;
+    let models = models(alloc, list.as_slice()).ok()?;
+    let ops = ops_of(alloc, &models)?;
+    let mut all = true;
+    for at in 0..MODELS {
+        all = is_measured(alloc, list.as_slice(), ops.as_slice(), at) && all;
+    }
+    drop(ops);
+    drop(models);
+    drop(list);
     Some(all)
 }
 
@@ -185,6 +383,15 @@ fn is_cut(alloc: Global, seed: u64) -> Option<bool> {
 fn no_cut_of_random_models_has_fewer_batches(rt: HostRuntime) -> Result<(), Fail> {
     for seed in 0..LISTS {
         let same = is_cut(rt.alloc(), seed) == Some(true);
+        assert!(rt; same, "list {seed}");
+    }
+    Ok(())
+}
+
+#[test]
+fn an_op_goes_out_alone_where_just_it_has_room(rt: HostRuntime) -> Result<(), Fail> {
+    for seed in 0..LISTS {
+        let same = are_measured(rt.alloc(), seed) == Some(true);
         assert!(rt; same, "list {seed}");
     }
     Ok(())

@@ -1,11 +1,14 @@
-//! What bulk writes are refused for by their input, test by test over all models, and which ids are drawn.
-use crate::bulk_models::{insert, let_go, named, number};
+//! What bulk writes are refused for by their input, test by test over all models, and which ids are drawn; what models
+//! tell, and those that a collection makes.
+use crate::bulk_models::{around, insert, let_go, named, number, six};
 use bson_lite::{Bson, Document, List};
 use driver_actions::{CollectionModels, bulk_ops};
+use driver_error::{Error, ErrorKind};
 use driver_exec::Client;
 use driver_link::{
-    BulkWriteOptions, ClientOptions, CountingIds, DeleteManyModel, DeleteOneModel, ReplaceOneModel,
-    UpdateManyModel, UpdateModifications, UpdateOneModel, WriteModel,
+    BulkWriteOptions, ClientOptions, CountingIds, DeleteManyModel, DeleteOneModel, InsertOneModel,
+    OperationType, ReplaceOneModel, UpdateManyModel, UpdateModifications, UpdateOneModel,
+    WriteModel,
 };
 use driver_ops::{Collection, OwnOp};
 use driver_session::PlainStore;
@@ -21,8 +24,10 @@ enum Given {
     Plain,
     /// The insert of `{_id: 7}`.
     Named,
-    /// The insert of `{x: 1}` into a database with a dot in its name.
+    /// The insert of `{x: 1}` into the database `a.b`.
     Dotted,
+    /// A delete in the database `c.d`.
+    AlsoDotted,
     /// An update by `{y: 2}`.
     PlainUpdate,
     /// The same of all documents found.
@@ -43,6 +48,23 @@ enum Given {
     Collation(Flaw),
     /// A replacement with a sort that has a flaw.
     Sort(Flaw),
+    /// A replacement by a document with a flaw.
+    Replacement(Flaw),
+    /// An update by a pipeline whose second stage has a flaw.
+    LaterStage(Flaw),
+    /// An update of all documents that a filter with a flaw finds.
+    FilterOfAll(Flaw),
+    /// An update of all with a flaw in what `$set` sets.
+    SetInAll(Flaw),
+    /// An update of all with a hint that has a flaw.
+    HintOfAll(Flaw),
+}
+
+/// An option of a bulk write that has a flaw.
+#[derive(Clone, Copy)]
+enum Set {
+    LetVars,
+    Comment,
 }
 
 /// The models of a bulk write, and how it ends: with its ops, or refused.
@@ -82,6 +104,73 @@ const ROWS: &[(&[Given], Ended)] = &[
     (&[Given::ArrayFilter(Flaw::Levels(97))], Ended::TooDeep),
     (&[Given::Collation(Flaw::ZeroByte)], Ended::ZeroByte),
     (&[Given::Sort(Flaw::Levels(97))], Ended::TooDeep),
+    (&[Given::Replacement(Flaw::Levels(96))], Ended::Done),
+    (&[Given::Replacement(Flaw::Levels(97))], Ended::TooDeep),
+    (&[Given::LaterStage(Flaw::Levels(96))], Ended::Done),
+    (&[Given::LaterStage(Flaw::Levels(97))], Ended::TooDeep),
+    (&[Given::LaterStage(Flaw::ZeroByte)], Ended::ZeroByte),
+    (&[Given::FilterOfAll(Flaw::Levels(96))], Ended::Done),
+    (&[Given::FilterOfAll(Flaw::Levels(97))], Ended::TooDeep),
+    // What is set stands one level deep in the update.
+    (&[Given::SetInAll(Flaw::Levels(95))], Ended::Done),
+    (&[Given::SetInAll(Flaw::Levels(96))], Ended::TooDeep),
+    (&[Given::HintOfAll(Flaw::ZeroByte)], Ended::ZeroByte),
+];
+
+/// Models of which some name a database with a dot, and the message about the first of these.
+const DOTTED: &[(&[Given], &str)] = &[
+    (
+        &[Given::Plain, Given::Dotted, Given::AlsoDotted],
+        "invalid database name a.b: name cannot contain period",
+    ),
+    (
+        &[Given::Plain, Given::AlsoDotted, Given::Dotted],
+        "invalid database name c.d: name cannot contain period",
+    ),
+];
+
+/// The option of a bulk write that has this flaw, its model, and how it ends.
+const OPTIONS: &[(Set, Flaw, Given, Ended)] = &[
+    (Set::LetVars, Flaw::Levels(96), Given::Plain, Ended::Done),
+    (Set::LetVars, Flaw::Levels(97), Given::Plain, Ended::TooDeep),
+    (Set::LetVars, Flaw::ZeroByte, Given::Plain, Ended::ZeroByte),
+    (Set::Comment, Flaw::Levels(96), Given::Plain, Ended::Done),
+    (Set::Comment, Flaw::Levels(97), Given::Plain, Ended::TooDeep),
+    (Set::Comment, Flaw::ZeroByte, Given::Plain, Ended::ZeroByte),
+    // A wrong replacement comes first.
+    (
+        Set::LetVars,
+        Flaw::Levels(97),
+        Given::Operators,
+        Ended::OperatorReplacement,
+    ),
+    // Depth comes before a zero byte, of whichever it is.
+    (
+        Set::LetVars,
+        Flaw::Levels(97),
+        Given::Document(Flaw::ZeroByte),
+        Ended::TooDeep,
+    ),
+    (
+        Set::Comment,
+        Flaw::ZeroByte,
+        Given::Filter(Flaw::Levels(97)),
+        Ended::TooDeep,
+    ),
+];
+
+/// What a model tells: whether it is of all documents found, what it does, and its database and collection.
+#[derive(Clone, Copy)]
+struct Told(Option<bool>, OperationType, &'static str, &'static str);
+
+/// What the six models tell. An insert finds none, and a replacement is an update.
+const TOLD: &[Told] = &[
+    Told(None, OperationType::Insert, "a", "x"),
+    Told(Some(false), OperationType::Update, "b", "y"),
+    Told(Some(true), OperationType::Update, "a", "x"),
+    Told(Some(false), OperationType::Update, "a", "z"),
+    Told(Some(false), OperationType::Delete, "b", "y"),
+    Told(Some(true), OperationType::Delete, "a", "z"),
 ];
 
 /// Inserts of which the second alone has an id, and a delete between the others.
@@ -97,10 +186,48 @@ fn change(alloc: Global, operator: bool) -> Result<Document, AllocError> {
     number(alloc, if operator { "$set" } else { "y" }, 2)
 }
 
+/// The insert of a document into `items`.
+fn into(alloc: Global, db: &str, document: Document) -> Result<WriteModel, AllocError> {
+    let to = named(alloc, db, "items")?;
+    Ok(insert(alloc, to, document))
+}
+
 /// An update of one document by this.
 fn update(alloc: Global, modifications: UpdateModifications) -> Result<UpdateOneModel, AllocError> {
     let to = named(alloc, "shop", "items")?;
     Ok(UpdateOneModel::new(to, Document::new(alloc), modifications))
+}
+
+/// An update of one document by a document.
+fn updated(alloc: Global, change: Document) -> Result<WriteModel, AllocError> {
+    Ok(WriteModel::from(update(alloc, UpdateModifications::from(change))?))
+}
+
+/// An update of all documents that a filter finds, by a document.
+fn update_all(
+    alloc: Global,
+    filter: Document,
+    change: Document,
+) -> Result<UpdateManyModel, AllocError> {
+    let to = named(alloc, "shop", "items")?;
+    Ok(UpdateManyModel::new(to, filter, UpdateModifications::from(change)))
+}
+
+/// An update of all documents by a document.
+fn updated_all(alloc: Global, change: Document) -> Result<WriteModel, AllocError> {
+    Ok(WriteModel::from(update_all(alloc, Document::new(alloc), change)?))
+}
+
+/// An update of all documents that a filter finds.
+fn found_and_updated(alloc: Global, filter: Document) -> Result<WriteModel, AllocError> {
+    Ok(WriteModel::from(update_all(alloc, filter, change(alloc, true)?)?))
+}
+
+/// An update of all documents with a hint.
+fn hinted_in_all(alloc: Global, hint: Document) -> Result<WriteModel, AllocError> {
+    let change = change(alloc, true)?;
+    let model = update_all(alloc, Document::new(alloc), change)?;
+    Ok(WriteModel::from(model.hint(Bson::Document(hint))))
 }
 
 /// An update by a pipeline of one stage.
@@ -110,62 +237,100 @@ fn staged(alloc: Global) -> Result<WriteModel, AllocError> {
     Ok(WriteModel::from(update(alloc, UpdateModifications::from(stages))?))
 }
 
+/// An update by a pipeline with a second stage.
+fn staged_twice(alloc: Global, second: Document) -> Result<WriteModel, AllocError> {
+    let mut stages = List::new(alloc);
+    stages.push(change(alloc, false)?)?;
+    stages.push(second)?;
+    Ok(WriteModel::from(update(alloc, UpdateModifications::from(stages))?))
+}
+
 /// An update with a value in its array filters.
-fn filtered(alloc: Global, flaw: Flaw) -> Result<WriteModel, AllocError> {
+fn filtered(alloc: Global, value: Document) -> Result<WriteModel, AllocError> {
     let mut values = List::new(alloc);
-    values.push(Bson::Document(flawed(alloc, flaw)?))?;
+    values.push(Bson::Document(value))?;
     let modifications = UpdateModifications::from(change(alloc, true)?);
     Ok(WriteModel::from(update(alloc, modifications)?.array_filters(values)))
 }
 
-/// A replacement with a sort.
-fn sorted(alloc: Global, flaw: Flaw) -> Result<WriteModel, AllocError> {
+/// A replacement by a document.
+fn replacement(alloc: Global, document: Document) -> Result<ReplaceOneModel, AllocError> {
     let to = named(alloc, "shop", "items")?;
-    let sort = flawed(alloc, flaw)?;
-    let replacement = change(alloc, false)?;
-    Ok(WriteModel::from(ReplaceOneModel::new(to, Document::new(alloc), replacement).sort(sort)))
+    Ok(ReplaceOneModel::new(to, Document::new(alloc), document))
+}
+
+/// A replacement with a sort.
+fn sorted(alloc: Global, sort: Document) -> Result<WriteModel, AllocError> {
+    let document = change(alloc, false)?;
+    Ok(WriteModel::from(replacement(alloc, document)?.sort(sort)))
+}
+
+/// A delete of one document that a filter finds in a database.
+fn delete(alloc: Global, db: &str, filter: Document) -> Result<DeleteOneModel, AllocError> {
+    let to = named(alloc, db, "items")?;
+    Ok(DeleteOneModel::new(to, filter))
+}
+
+/// A delete with a hint.
+fn hinted(alloc: Global, hint: Document) -> Result<WriteModel, AllocError> {
+    let model = delete(alloc, "shop", Document::new(alloc))?;
+    Ok(WriteModel::from(model.hint(Bson::Document(hint))))
+}
+
+/// A delete of all documents with a collation.
+fn collated(alloc: Global, collation: Document) -> Result<WriteModel, AllocError> {
+    let to = named(alloc, "shop", "items")?;
+    let model = DeleteManyModel::new(to, Document::new(alloc));
+    Ok(WriteModel::from(model.collation(collation)))
 }
 
 /// A model of a row.
 fn model_of(alloc: Global, given: Given) -> Result<WriteModel, AllocError> {
-    let to = named(alloc, "shop", "items")?;
     match given {
-        Given::Plain => Ok(insert(alloc, to, number(alloc, "x", 1)?)),
-        Given::Named => Ok(insert(alloc, to, number(alloc, "_id", 7)?)),
-        Given::Dotted => {
-            drop(to);
-            let dotted = named(alloc, "a.b", "items")?;
-            Ok(insert(alloc, dotted, number(alloc, "x", 1)?))
-        }
-        Given::PlainUpdate => {
-            let modifications = UpdateModifications::from(change(alloc, false)?);
-            Ok(WriteModel::from(update(alloc, modifications)?))
-        }
-        Given::PlainUpdates => {
-            let modifications = UpdateModifications::from(change(alloc, false)?);
-            Ok(WriteModel::from(UpdateManyModel::new(to, Document::new(alloc), modifications)))
-        }
+        Given::Plain => into(alloc, "shop", number(alloc, "x", 1)?),
+        Given::Named => into(alloc, "shop", number(alloc, "_id", 7)?),
+        Given::Dotted => into(alloc, "a.b", number(alloc, "x", 1)?),
+        Given::AlsoDotted => Ok(WriteModel::from(delete(alloc, "c.d", Document::new(alloc))?)),
+        Given::PlainUpdate => updated(alloc, change(alloc, false)?),
+        Given::PlainUpdates => updated_all(alloc, change(alloc, false)?),
         Given::Stage => staged(alloc),
-        Given::Operators => Ok(WriteModel::from(ReplaceOneModel::new(
-            to,
-            Document::new(alloc),
-            change(alloc, true)?,
-        ))),
-        Given::Document(flaw) => Ok(insert(alloc, to, flawed(alloc, flaw)?)),
-        Given::Filter(flaw) => Ok(WriteModel::from(DeleteOneModel::new(to, flawed(alloc, flaw)?))),
-        Given::Hint(flaw) => {
-            let hint = Bson::Document(flawed(alloc, flaw)?);
-            Ok(WriteModel::from(DeleteOneModel::new(to, Document::new(alloc)).hint(hint)))
+        Given::Operators => { Ok(WriteModel::from(replacement(alloc, change(alloc, true)?)?)) }
+        Given::Document(flaw) => into(alloc, "shop", flawed(alloc, flaw)?),
+        Given::Filter(flaw) => {
+            Ok(WriteModel::from(delete(alloc, "shop", flawed(alloc, flaw)?)?))
         }
-        Given::ArrayFilter(flaw) => filtered(alloc, flaw),
-        Given::Collation(flaw) => {
-            let collation = flawed(alloc, flaw)?;
-            Ok(WriteModel::from(DeleteManyModel::new(to, Document::new(alloc)).collation(
-                collation,
-            )))
+        Given::Hint(flaw) => hinted(alloc, flawed(alloc, flaw)?),
+        Given::ArrayFilter(flaw) => filtered(alloc, flawed(alloc, flaw)?),
+        Given::Collation(flaw) => collated(alloc, flawed(alloc, flaw)?),
+        Given::Sort(flaw) => sorted(alloc, flawed(alloc, flaw)?),
+        Given::Replacement(flaw) => {
+            Ok(WriteModel::from(replacement(alloc, flawed(alloc, flaw)?)?))
         }
-        Given::Sort(flaw) => sorted(alloc, flaw),
+        Given::LaterStage(flaw) => staged_twice(alloc, flawed(alloc, flaw)?),
+        Given::FilterOfAll(flaw) => found_and_updated(alloc, flawed(alloc, flaw)?),
+        Given::SetInAll(flaw) => updated_all(alloc, around(alloc, "$set", flawed(alloc, flaw)?)?),
+        Given::HintOfAll(flaw) => hinted_in_all(alloc, flawed(alloc, flaw)?),
     }
+}
+
+/// Options of a bulk write, with these of them alone.
+fn options_of(let_vars: Option<Document>, comment: Option<Bson>) -> BulkWriteOptions {
+    BulkWriteOptions {
+        ordered: None,
+        bypass_document_validation: None,
+        comment,
+        write_concern: None,
+        let_vars,
+    }
+}
+
+/// The options of a bulk write of which one has a flaw.
+fn options_with(alloc: Global, set: Set, flaw: Flaw) -> Result<BulkWriteOptions, AllocError> {
+    let document = flawed(alloc, flaw)?;
+    Ok(match set {
+        Set::LetVars => options_of(Some(document), None),
+        Set::Comment => options_of(None, Some(Bson::Document(document))),
+    })
 }
 
 /// The models of a row.
@@ -191,11 +356,15 @@ fn draws(client: &mut Client<PlainStore<CountingIds>>, id: u8) -> bool {
 }
 
 /// Whether a bulk write ends so, and nothing was drawn where it was refused.
-fn ends(alloc: Global, row: &[Given], ended: Ended) -> Result<bool, AllocError> {
+fn ends(
+    alloc: Global,
+    row: &[Given],
+    options: &BulkWriteOptions,
+    ended: Ended,
+) -> Result<bool, AllocError> {
     let models = models_of(alloc, row)?;
-    let options = BulkWriteOptions::default();
     let mut client = client(alloc);
-    let same = match bulk_ops(alloc, &mut client, models.as_slice(), &options) {
+    let same = match bulk_ops(alloc, &mut client, models.as_slice(), options) {
         Ok(ops) => {
             let all = ops.len() == row.len();
             drop(ops);
@@ -205,6 +374,56 @@ fn ends(alloc: Global, row: &[Given], ended: Ended) -> Result<bool, AllocError> 
             let found = how_ended(&error);
             let_go(error);
             found == ended && draws(&mut client, 1)
+        }
+    };
+    drop(models);
+    Ok(same)
+}
+
+/// The same with no option set.
+fn ends_plain(alloc: Global, row: &[Given], ended: Ended) -> Result<bool, AllocError> {
+    let options = BulkWriteOptions::default();
+    let same = ends(alloc, row, &options, ended);
+    drop(options);
+    same
+}
+
+/// Whether a bulk write of one model ends so, where one of its options has a flaw.
+fn ends_with(
+    alloc: Global,
+    set: Set,
+    flaw: Flaw,
+    given: Given,
+    ended: Ended,
+) -> Result<bool, AllocError> {
+    let options = options_with(alloc, set, flaw)?;
+    let same = ends(alloc, &[given], &options, ended);
+    drop(options);
+    same
+}
+
+/// Whether an argument is refused with this message.
+fn has_message(error: &Error, text: &str) -> bool {
+    match error.kind() {
+        ErrorKind::InvalidArgument { message } => message.as_str() == text,
+        _ => false,
+    }
+}
+
+/// Whether a bulk write is refused with this message.
+fn is_refused(alloc: Global, row: &[Given], text: &str) -> Result<bool, AllocError> {
+    let models = models_of(alloc, row)?;
+    let options = BulkWriteOptions::default();
+    let mut client = client(alloc);
+    let same = match bulk_ops(alloc, &mut client, models.as_slice(), &options) {
+        Ok(ops) => {
+            drop(ops);
+            false
+        }
+        Err(error) => {
+            let same = has_message(&error, text);
+            let_go(error);
+            same
         }
     };
     drop(models);
@@ -238,42 +457,119 @@ fn draws_in_order(alloc: Global) -> Result<bool, AllocError> {
     Ok(same)
 }
 
-/// Whether the models of the collection `shop.items` have its namespace.
-fn models_are_named(alloc: Global) -> Option<bool> {
-    let collection = Collection {
-        namespace: named(alloc, "shop", "items").ok()?,
+/// Whether a model tells this.
+fn tells(model: &WriteModel, told: Told) -> bool {
+    let Told(multi, operation, db, coll) = told;
+    let namespace = model.namespace();
+    model.multi() == multi
+        && model.operation_type() == operation
+        && namespace.db.as_str() == db
+        && namespace.coll.as_str() == coll
+}
+
+/// Whether the model at a place among the six tells this.
+fn tells_at(alloc: Global, at: usize, told: Told) -> Result<bool, AllocError> {
+    let models = six(alloc)?;
+    let same = match models.get(at) {
+        Some(model) => tells(model, told),
+        None => false,
+    };
+    drop(models);
+    Ok(same)
+}
+
+/// The collection `shop.items`.
+fn items(alloc: Global) -> Result<Collection, AllocError> {
+    Ok(Collection {
+        namespace: named(alloc, "shop", "items")?,
         write_concern: None,
-    };
-    let document = number(alloc, "x", 1).ok()?;
-    let filter = number(alloc, "y", 2).ok()?;
-    let insert = match collection.insert_one_model(alloc, &document) {
-        Ok(insert) => insert,
+    })
+}
+
+/// Whether an insert into `shop.items` is of this document.
+fn inserts(model: &InsertOneModel, document: &Document) -> bool {
+    model.namespace.db.as_str() == "shop"
+        && model.namespace.coll.as_str() == "items"
+        && model.document == *document
+}
+
+/// Whether a replacement in `shop.items` is of what this filter finds by this document, with no option set.
+fn replaces(model: &ReplaceOneModel, filter: &Document, document: &Document) -> bool {
+    model.namespace.db.as_str() == "shop"
+        && model.namespace.coll.as_str() == "items"
+        && model.filter == *filter
+        && model.replacement == *document
+        && has_no_option(model)
+}
+
+/// Whether no option of a replacement is set.
+fn has_no_option(model: &ReplaceOneModel) -> bool {
+    model.collation.is_none()
+        && model.hint.is_none()
+        && model.upsert.is_none()
+        && model.sort.is_none()
+}
+
+/// Whether the collection's insert of `{x: 1}` is that.
+fn insert_is_made(alloc: Global) -> Result<bool, AllocError> {
+    let collection = items(alloc)?;
+    let document = number(alloc, "x", 1)?;
+    match collection.insert_one_model(alloc, &document) {
+        Ok(model) => {
+            let same = inserts(&model, &document);
+            drop(model);
+            Ok(same)
+        }
         Err(error) => {
             let_go(error);
-            return None;
+            Ok(false)
         }
-    };
-    let replacement = match collection.replace_one_model(alloc, filter, &document) {
-        Ok(replacement) => replacement,
+    }
+}
+
+/// Whether the collection's replacement by `{x: 1}` of what `{y: 2}` finds is that.
+fn replacement_is_made(alloc: Global) -> Result<bool, AllocError> {
+    let collection = items(alloc)?;
+    let document = number(alloc, "x", 1)?;
+    let filter = number(alloc, "y", 2)?;
+    let given = number(alloc, "y", 2)?;
+    match collection.replace_one_model(alloc, given, &document) {
+        Ok(model) => {
+            let same = replaces(&model, &filter, &document);
+            drop(model);
+            Ok(same)
+        }
         Err(error) => {
             let_go(error);
-            return None;
+            Ok(false)
         }
-    };
-    let same = insert.namespace == collection.namespace
-        && replacement.namespace == collection.namespace
-        && insert.document.get("x").is_some()
-        && replacement.filter.get("y").is_some()
-        && replacement.replacement.get("x").is_some();
-    drop(insert);
-    drop(replacement);
-    Some(same)
+    }
 }
 
 #[test]
 fn bulk_writes_are_refused_for_their_input_test_by_test(rt: HostRuntime) -> Result<(), Fail> {
     for (at, (row, ended)) in ROWS.iter().enumerate() {
-        let same = ends(rt.alloc(), row, *ended)?;
+        let same = ends_plain(rt.alloc(), row, *ended)?;
+        assert!(rt; same, "row {at}");
+    }
+    Ok(())
+}
+
+#[test]
+fn the_first_database_with_a_dot_is_named(rt: HostRuntime) -> Result<(), Fail> {
+    for (row, text) in DOTTED {
+        let same = is_refused(rt.alloc(), row, text)?;
+        assert!(rt; same, "{text}");
+    }
+    Ok(())
+}
+
+#[test]
+fn options_of_a_bulk_write_are_judged_like_values_of_its_models(
+    rt: HostRuntime,
+) -> Result<(), Fail> {
+    for (at, (set, flaw, given, ended)) in OPTIONS.iter().enumerate() {
+        let same = ends_with(rt.alloc(), *set, *flaw, *given, *ended)?;
         assert!(rt; same, "row {at}");
     }
     Ok(())
@@ -287,7 +583,24 @@ fn ids_are_drawn_in_order_for_inserts_without_one(rt: HostRuntime) -> Result<(),
 }
 
 #[test]
-fn models_of_a_collection_have_its_namespace(rt: HostRuntime) -> Result<(), Fail> {
-    assert!(rt; models_are_named(rt.alloc()) == Some(true));
+fn each_model_tells_what_it_does_and_where(rt: HostRuntime) -> Result<(), Fail> {
+    for (at, told) in TOLD.iter().enumerate() {
+        let same = tells_at(rt.alloc(), at, *told)?;
+        assert!(rt; same, "model {at}");
+    }
+    Ok(())
+}
+
+#[test]
+fn an_insert_of_a_collection_is_in_it_and_whole(rt: HostRuntime) -> Result<(), Fail> {
+    let same = insert_is_made(rt.alloc())?;
+    assert!(rt; same);
+    Ok(())
+}
+
+#[test]
+fn a_replacement_of_a_collection_is_in_it_and_has_no_option(rt: HostRuntime) -> Result<(), Fail> {
+    let same = replacement_is_made(rt.alloc())?;
+    assert!(rt; same);
     Ok(())
 }

@@ -1,4 +1,4 @@
-//! Models of bulk writes and their ops, for the rows.
+//! Models of bulk writes and their ops, for the rows, and the bytes of the ops of six, by hand.
 use bson_lite::{Bson, Document, List, Namespace, Text};
 use driver_error::Error;
 use driver_link::{
@@ -8,6 +8,33 @@ use driver_link::{
 use driver_ops::{OwnOp, model_op};
 use std::alloc::{AllocError, Global};
 
+/// `{ns: "a.x"}`, `{ns: "b.y"}` and `{ns: "a.z"}`
+pub(crate) const A_X: &[u8] = b"\x11\0\0\0\x02ns\0\x04\0\0\0a.x\0\0";
+
+pub(crate) const B_Y: &[u8] = b"\x11\0\0\0\x02ns\0\x04\0\0\0b.y\0\0";
+
+pub(crate) const A_Z: &[u8] = b"\x11\0\0\0\x02ns\0\x04\0\0\0a.z\0\0";
+
+/// The ops of the six models, each on the number of its namespace among `a.x`, `b.y` and `a.z`.
+pub(crate) const OPS: &[&[u8]] = &[
+    // `{insert: 0, document: {_id: 1}}`
+    b")\0\0\0\x10insert\0\0\0\0\0\x03document\0\x0e\0\0\0\x10_id\0\x01\0\0\0\0\0",
+    // `{update: 1, multi: false, filter: {n: 1}, updateMods: {$inc: {n: 1}}, arrayFilters: [7], collation: {}, hint: "h", ..}`
+    b"\xa1\0\0\0\x10update\0\x01\0\0\0\x08multi\0\0\x03filter\0\x0c\0\0\0\x10n\0\x01\0\0\0\0\x03updateMods\0\x17\0\0\0\x03$inc\0\x0c\0\0\0\x10n\0\x01\0\0\0\0\0\x04arrayFilters\0\x0c\0\0\0\x100\0\x07\0\0\0\0\x03collation\0\x05\0\0\0\0\x02hint\0\x02\0\0\0h\0\x08upsert\0\x01\x03sort\0\x0c\0\0\0\x10n\0\xff\xff\xff\xff\0\0",
+    // `{update: 0, multi: true, filter: {}, updateMods: [{n: 1}], upsert: false}`
+    b"O\0\0\0\x10update\0\0\0\0\0\x08multi\0\x01\x03filter\0\x05\0\0\0\0\x04updateMods\0\x14\0\0\0\x030\0\x0c\0\0\0\x10n\0\x01\0\0\0\0\0\x08upsert\0\0\0",
+    // `{update: 2, multi: false, filter: {}, updateMods: {n: 2}, hint: {n: 1}, sort: {}}`
+    b"[\0\0\0\x10update\0\x02\0\0\0\x08multi\0\0\x03filter\0\x05\0\0\0\0\x03updateMods\0\x0c\0\0\0\x10n\0\x02\0\0\0\0\x03hint\0\x0c\0\0\0\x10n\0\x01\0\0\0\0\x03sort\0\x05\0\0\0\0\0",
+    // `{delete: 1, multi: false, filter: {n: 3}}`
+    b"-\0\0\0\x10delete\0\x01\0\0\0\x08multi\0\0\x03filter\0\x0c\0\0\0\x10n\0\x03\0\0\0\0\0",
+    // `{delete: 2, multi: true, filter: {}, collation: {}, hint: "h"}`
+    b"B\0\0\0\x10delete\0\x02\0\0\0\x08multi\0\x01\x03filter\0\x05\0\0\0\0\x03collation\0\x05\0\0\0\0\x02hint\0\x02\0\0\0h\0\0",
+];
+
+/// The byte of an op that has the number of its namespace, where that is below 256: behind the length, a type, and a
+/// key of six letters with its end.
+const NUMBER: usize = 12;
+
 /// `{key: number}`
 pub(crate) fn number(alloc: Global, key: &str, number: i32) -> Result<Document, AllocError> {
     let mut document = Document::new(alloc);
@@ -15,8 +42,8 @@ pub(crate) fn number(alloc: Global, key: &str, number: i32) -> Result<Document, 
     Ok(document)
 }
 
-/// `{key: {inner: number}}`
-fn around(alloc: Global, key: &str, inner: Document) -> Result<Document, AllocError> {
+/// `{key: inner}`
+pub(crate) fn around(alloc: Global, key: &str, inner: Document) -> Result<Document, AllocError> {
     let mut document = Document::new(alloc);
     document.push(key, Bson::Document(inner))?;
     Ok(document)
@@ -115,6 +142,20 @@ pub(crate) fn six(alloc: Global) -> Result<List<WriteModel>, AllocError> {
     models.push(fifth(alloc)?)?;
     models.push(sixth(alloc)?)?;
     Ok(models)
+}
+
+/// Whether an op has these bytes, but for the number of its namespace, which is this one.
+pub(crate) fn is_op(op: &[u8], spelled: &[u8], number: u8) -> bool {
+    if op.len() != spelled.len() {
+        return false;
+    }
+    for (at, byte) in spelled.iter().enumerate() {
+        let wanted = if at == NUMBER { number } else { *byte };
+        if op.get(at).copied() != Some(wanted) {
+            return false;
+        }
+    }
+    true
 }
 
 /// The ops of models whose inserts have their ids, or none where there is no memory.

@@ -1,8 +1,9 @@
-//! Bulk writes by the executor: which are sent again after a lost exchange, in the same bytes, and which entries stand.
-ghost use Rattle.std.specs.Prelude.{◌≡◌, ◌<◌, IfOk, length};
+//! Bulk writes by the executor: which are sent again after a lost exchange, in the same bytes; whole frames, byte by
+//! byte; and which entries stand.
+ghost use Rattle.std.specs.Prelude.{◌≡◌, ◌<◌, drop, IfOk, length};
 ghost use Rattle.driver_link.specs.WellFormed.{IsWellFormed};
 
-use crate::bulk_models::{insert, let_go, named, number};
+use crate::bulk_models::{A_X, A_Z, B_Y, OPS, insert, is_op, let_go, named, number, six};
 use bson_lite::{Bson, Document, List};
 use driver_actions::bulk_ops;
 use driver_error::{IoKind, Result, SummaryBulkWriteResult};
@@ -12,7 +13,7 @@ use driver_link::{
     Link, MemClock, Place, Schedule, Server, UpdateManyModel, UpdateModifications, UpdateOneModel,
     WriteKind, WriteModel,
 };
-use driver_ops::BulkWriteOp;
+use driver_ops::{BulkWriteOp, OwnOp};
 use driver_session::PlainStore;
 use model_server::{ModelServer, USUAL_SETUP};
 use rand_core::SeedableRng;
@@ -23,6 +24,7 @@ use std::sync::ledger::{Blank, Ledger};
 use std::test::Fail;
 use test_parts::faking::{Given, Servers, fake_link};
 use test_parts::inserting::{Ended, SERVER, how_ended};
+use test_parts::spelling::{FIRST_NUMBER, SESSION, joined};
 
 /// `{ok: 1, nErrors: 0, nInserted: 2, .., cursor: {id: 0, ns: "admin.$cmd.bulkWrite", firstBatch: []}}`
 const TWO_INSERTED: &[u8] =
@@ -31,6 +33,67 @@ const TWO_INSERTED: &[u8] =
 /// The same with `nErrors: 1` and `nInserted: 1`
 const ONE_FAILED: &[u8] =
     b"\xa6\0\0\0\x10ok\0\x01\0\0\0\x10nErrors\0\x01\0\0\0\x10nInserted\0\x01\0\0\0\x10nMatched\0\0\0\0\0\x10nModified\0\0\0\0\0\x10nUpserted\0\0\0\0\0\x10nDeleted\0\0\0\0\0\x03cursor\0;\0\0\0\x10id\0\0\0\0\0\x02ns\0\x15\0\0\0admin.$cmd.bulkWrite\0\x04firstBatch\0\x05\0\0\0\0\0\0";
+
+/// `bulkWrite: 1, ordered: true, errorsOnly: true`
+const COMMAND: &[u8] = b"\x10bulkWrite\0\x01\0\0\0\x08ordered\0\x01\x08errorsOnly\0\x01";
+
+/// `$db: "admin"`, and the end of the body
+const ON_ADMIN: &[u8] = b"\x02$db\0\x06\0\0\0admin\0\0";
+
+/// `{bulkWrite: 1, ordered: true, errorsOnly: true, lsid: {id: UUID(..01)}, $db: "admin"}`, of 94 bytes
+const UNNUMBERED: &[&[u8]] = &[b"\x5e\0\0\0", COMMAND, SESSION, ON_ADMIN];
+
+/// The same with `txnNumber: 1`, of 113 bytes
+const NUMBERED: &[&[u8]] = &[b"\x71\0\0\0", COMMAND, SESSION, FIRST_NUMBER, ON_ADMIN];
+
+/// A batch of so many of the six models, from one on, by a server with a batch limit; and its frame: the parts of the
+/// body, the documents of its namespaces, and the number that each of its ops has.
+#[derive(Clone, Copy)]
+struct Framed {
+    models: usize,
+    first: usize,
+    batch: i64,
+    body: &'static [&'static [u8]],
+    namespaces: &'static [&'static [u8]],
+    numbers: &'static [u8],
+}
+
+/// The third and the sixth model are of all documents found, so that a batch before them has no number.
+const FRAMES: &[Framed] = &[
+    Framed {
+        models: 6,
+        first: 0,
+        batch: 6,
+        body: UNNUMBERED,
+        namespaces: &[A_X, B_Y, A_Z],
+        numbers: &[0, 1, 0, 2, 1, 2],
+    },
+    Framed {
+        models: 2,
+        first: 0,
+        batch: 6,
+        body: NUMBERED,
+        namespaces: &[A_X, B_Y],
+        numbers: &[0, 1],
+    },
+    Framed {
+        models: 6,
+        first: 0,
+        batch: 2,
+        body: UNNUMBERED,
+        namespaces: &[A_X, B_Y],
+        numbers: &[0, 1],
+    },
+    // The third model is behind this later batch.
+    Framed {
+        models: 5,
+        first: 3,
+        batch: 6,
+        body: NUMBERED,
+        namespaces: &[A_Z, B_Y],
+        numbers: &[0, 1],
+    },
+];
 
 /// A model of a row, in `shop.items`.
 #[derive(Clone, Copy)]
@@ -41,11 +104,12 @@ enum Kind {
     DeleteOne,
 }
 
-/// A bulk write: its models, whether the client's options forbid repeats, the server's batch limit and wire version,
-/// what the exchanges answer, how it ends, and how many frames went out.
+/// A batch of a bulk write: its models, the index of the batch's first, whether the client's options forbid repeats,
+/// the server's batch limit and wire version, what the exchanges answer, how it ends, and how many frames went out.
 #[derive(Clone, Copy)]
 struct Row {
     models: &'static [Kind],
+    first: usize,
     forbidden: bool,
     batch: i64,
     version: i32,
@@ -60,6 +124,7 @@ const LOST_ONCE: &[Given] = &[Given::Reset, Given::Reply(TWO_INSERTED)];
 const ROWS: &[Row] = &[
     Row {
         models: &[Kind::Insert, Kind::Insert],
+        first: 0,
         forbidden: false,
         batch: 2,
         version: 25,
@@ -69,6 +134,7 @@ const ROWS: &[Row] = &[
     },
     Row {
         models: &[Kind::Insert, Kind::UpdateOne, Kind::DeleteOne],
+        first: 0,
         forbidden: false,
         batch: 3,
         version: 25,
@@ -78,6 +144,7 @@ const ROWS: &[Row] = &[
     },
     Row {
         models: &[Kind::Insert, Kind::UpdateMany],
+        first: 0,
         forbidden: false,
         batch: 2,
         version: 25,
@@ -88,6 +155,7 @@ const ROWS: &[Row] = &[
     // The model of all documents found stands behind the batch of one.
     Row {
         models: &[Kind::Insert, Kind::UpdateMany],
+        first: 0,
         forbidden: false,
         batch: 1,
         version: 25,
@@ -97,6 +165,7 @@ const ROWS: &[Row] = &[
     },
     Row {
         models: &[Kind::Insert, Kind::Insert],
+        first: 0,
         forbidden: true,
         batch: 2,
         version: 25,
@@ -106,6 +175,7 @@ const ROWS: &[Row] = &[
     },
     Row {
         models: &[Kind::Insert],
+        first: 0,
         forbidden: false,
         batch: 2,
         version: 24,
@@ -115,12 +185,34 @@ const ROWS: &[Row] = &[
     },
     Row {
         models: &[Kind::Insert, Kind::Insert],
+        first: 0,
         forbidden: false,
         batch: 2,
         version: 25,
         given: &[Given::Reply(ONE_FAILED), Given::Reply(TWO_INSERTED)],
         ended: Ended::InvalidResponse,
         frames: 1,
+    },
+    // A model of all documents found forbids repeats of its own batch, and not of a later one.
+    Row {
+        models: &[Kind::UpdateMany, Kind::Insert],
+        first: 0,
+        forbidden: false,
+        batch: 1,
+        version: 25,
+        given: LOST_ONCE,
+        ended: Ended::Io(IoKind::ConnectionReset),
+        frames: 1,
+    },
+    Row {
+        models: &[Kind::UpdateMany, Kind::Insert],
+        first: 1,
+        forbidden: false,
+        batch: 1,
+        version: 25,
+        given: LOST_ONCE,
+        ended: Ended::Done,
+        frames: 2,
     },
 ];
 
@@ -166,11 +258,31 @@ fn places(alloc: Global, count: usize) -> std::result::Result<List<Place>, Alloc
     Ok(places)
 }
 
-/// What the first batch of a bulk write comes to over a link, and the link afterwards.
+/// The places of so many writes as there are ops.
+fn places_of(alloc: Global, ops: &[OwnOp]) -> std::result::Result<List<Place>, AllocError>
+    ensures { IfOk result (λ places. length places ≡ length ops.now) }
+{
+    places(alloc, ops.len())
+}
+
+/// The ops from an index on, or none where there are no more.
+#[tactic(auto, using(crate::proofs::LaterOps::left_whole))]
+fn later_ops(ops: &[OwnOp], first: usize) -> &[OwnOp]
+    ensures { result.now ≡ drop first ops.now }
+{
+    if first < ops.len() {
+        &ops[first..]
+    } else {
+        &ops[..0]
+    }
+}
+
+/// What a batch of a bulk write, from a model on, comes to over a link, and the link afterwards.
 fn executed<L: Link + Drop, Q: Ledger>(
     alloc: Global,
     link: L,
     models: &[WriteModel],
+    first: usize,
     forbidden: bool,
     blank: Blank,
 ) -> (Result<SummaryBulkWriteResult>, L)
@@ -190,7 +302,7 @@ fn executed<L: Link + Drop, Q: Ledger>(
         words: Pcg32::seed_from_u64(1),
         call: 0,
     };
-    let result = executed_by::<L, Q>(alloc, &mut client, &mut outside, models, blank);
+    let result = executed_by::<L, Q>(alloc, &mut client, &mut outside, models, first, blank);
     let Outside {
         link,
         clock: _,
@@ -206,6 +318,7 @@ fn executed_by<L: Link, Q: Ledger>(
     client: &mut Client<PlainStore<CountingIds>>,
     outside: &mut Outside<L, MemClock, Pcg32>,
     models: &[WriteModel],
+    first: usize,
     blank: Blank,
 ) -> Result<SummaryBulkWriteResult>
     requires name { blank.name ≡ Q.name }
@@ -214,8 +327,9 @@ fn executed_by<L: Link, Q: Ledger>(
 {
     let options = BulkWriteOptions::default();
     let ops = bulk_ops(alloc, client, models, &options)?;
-    let places = places(alloc, ops.len())?;
-    let mut op = BulkWriteOp::new(alloc, 0, ops.as_slice(), &options, false)?;
+    let own = later_ops(ops.as_slice(), first);
+    let places = places_of(alloc, own)?;
+    let mut op = BulkWriteOp::new(alloc, first, own, &options, false)?;
     let mut sends: Steps<Q> = Steps::new(blank);
     execute_operation(
         alloc,
@@ -227,15 +341,16 @@ fn executed_by<L: Link, Q: Ledger>(
     )
 }
 
-/// The first batch of models over a link, and the link afterwards.
+/// A batch of models over a link, from one on, and the link afterwards.
 fn over<L: Link + Drop>(
     alloc: Global,
     link: L,
     models: &[WriteModel],
+    first: usize,
     forbidden: bool,
 ) -> (Result<SummaryBulkWriteResult>, L) {
     let blank = Blank::new(1);
-    executed::<L, Brand>(alloc, link, models, forbidden, blank)
+    executed::<L, Brand>(alloc, link, models, first, forbidden, blank)
 }
 
 /// How it ended.
@@ -284,6 +399,19 @@ fn has_frames(link: &FakeLink, count: usize) -> bool {
     }
 }
 
+/// A link to a server, whose exchanges answer so.
+fn linked(
+    alloc: Global,
+    server: Description,
+    given: &[Given],
+) -> std::result::Result<FakeLink, AllocError> {
+    let servers = Servers {
+        first: server,
+        further: server,
+    };
+    fake_link(alloc, servers, given)
+}
+
 /// Whether a row ends as it says.
 fn ends(alloc: Global, row: Row) -> std::result::Result<bool, AllocError> {
     let server = Description {
@@ -291,17 +419,87 @@ fn ends(alloc: Global, row: Row) -> std::result::Result<bool, AllocError> {
         max_write_batch_size: row.batch,
         ..SERVER
     };
-    let servers = Servers {
-        first: server,
-        further: server,
-    };
-    let link = fake_link(alloc, servers, row.given)?;
+    let link = linked(alloc, server, row.given)?;
     let models = models_of(alloc, row.models)?;
-    let (result, link) = over(alloc, link, models.as_slice(), row.forbidden);
+    let (result, link) = over(alloc, link, models.as_slice(), row.first, row.forbidden);
     let sent = has_frames(&link, row.frames);
     drop(link);
     drop(models);
     Ok(ended(result) == row.ended && sent)
+}
+
+/// Whether a sequence of a frame has this name, and so many documents.
+fn is_sequence(frame: &Frame, at: usize, name: &str, count: usize) -> bool {
+    if frame.sequence_count() <= at {
+        return false;
+    }
+    frame.sequence_name(at) == name && frame.document_count(at) == count
+}
+
+/// Whether a sequence of a frame has no other documents than these, in their order.
+fn has_documents(frame: &Frame, at: usize, documents: &[&[u8]]) -> bool {
+    if frame.sequence_count() <= at {
+        return false;
+    }
+    let count = frame.document_count(at);
+    for index in 0..count {
+        let found = frame.document(at, index);
+        match documents.get(index) {
+            Some(document) if found == *document => {}
+            _ => return false,
+        }
+    }
+    true
+}
+
+/// Whether it has no others than the ops of the six models from one on, in their order, on these numbers.
+fn has_ops(frame: &Frame, at: usize, first: usize, numbers: &[u8]) -> bool {
+    if frame.sequence_count() <= at {
+        return false;
+    }
+    let count = frame.document_count(at);
+    for index in 0..count {
+        let found = frame.document(at, index);
+        let same = match (OPS.get(first.saturating_add(index)), numbers.get(index)) {
+            (Some(spelled), Some(number)) => is_op(found, spelled, *number),
+            _ => false,
+        };
+        if !same {
+            return false;
+        }
+    }
+    true
+}
+
+/// Whether a frame is the one of a batch.
+fn is_framed(frame: &Frame, body: &[u8], framed: Framed) -> bool {
+    frame.database() == "admin"
+        && frame.body() == body
+        && frame.sequence_count() == 2
+        && is_sequence(frame, 0, "nsInfo", framed.namespaces.len())
+        && is_sequence(frame, 1, "ops", framed.numbers.len())
+        && has_documents(frame, 0, framed.namespaces)
+        && has_ops(frame, 1, framed.first, framed.numbers)
+}
+
+/// Whether a batch of the six models is done after one frame, which is this one.
+fn sends(alloc: Global, framed: Framed) -> std::result::Result<bool, AllocError> {
+    let server = Description {
+        max_write_batch_size: framed.batch,
+        ..SERVER
+    };
+    let body = joined(alloc, framed.body)?;
+    let link = linked(alloc, server, &[Given::Reply(TWO_INSERTED)])?;
+    let mut models = six(alloc)?;
+    models.truncate(framed.models);
+    let (result, link) = over(alloc, link, models.as_slice(), framed.first, false);
+    let sent = match link.frames() {
+        [frame] => is_framed(frame, body.as_slice(), framed),
+        _ => false,
+    };
+    drop(link);
+    drop(models);
+    Ok(ended(result) == Ended::Done && sent)
 }
 
 /// A schedule by which each exchange is served and no call fails.
@@ -330,7 +528,7 @@ fn has_entry(server: &Server, at: usize, kind: WriteKind) -> bool {
 fn stands(alloc: Global) -> std::result::Result<bool, AllocError> {
     let models = models_of(alloc, &[Kind::Insert, Kind::UpdateMany, Kind::DeleteOne])?;
     let link = ModelServer::new(alloc, USUAL_SETUP, all_served(alloc));
-    let (result, link) = over(alloc, link, models.as_slice(), false);
+    let (result, link) = over(alloc, link, models.as_slice(), 0, false);
     let stand = link.server().log.len() == 3
         && has_entry(link.server(), 0, WriteKind::Insert)
         && has_entry(link.server(), 1, WriteKind::Update)
@@ -358,6 +556,18 @@ fn a_bulk_write_is_sent_again_where_it_may_be(rt: HostRuntime) -> std::result::R
     for (at, row) in ROWS.iter().enumerate() {
         let same = ends(rt.alloc(), *row)?;
         assert!(rt; same, "row {at}");
+    }
+    Ok(())
+}
+
+#[test]
+fn a_batch_goes_out_as_one_frame_of_namespaces_and_ops(
+    rt: HostRuntime,
+) -> std::result::Result<(), Fail> {
+    for framed in FRAMES {
+        let same = sends(rt.alloc(), *framed)?;
+        let (models, first) = (framed.models, framed.first);
+        assert!(rt; same, "from {first} on of {models}");
     }
     Ok(())
 }
