@@ -84,7 +84,7 @@ struct Drawn {
 }
 
 /// A kind of models.
-fn kind(word: u32) -> Kind {
+fn drawn_kind(word: u32) -> Kind {
     match word % 6 {
         0 => Kind::Insert,
         1 => Kind::UpdateOne,
@@ -96,26 +96,26 @@ fn kind(word: u32) -> Kind {
 }
 
 /// A text of so many bytes.
-fn measured(text: &'static str, bytes: usize) -> Measured {
+fn known_text(text: &'static str, bytes: usize) -> Measured {
     Measured { text, bytes }
 }
 
 /// The name of a collection.
 fn collection(word: u32) -> Measured {
     match word % 3 {
-        0 => measured("a", 1),
-        1 => measured("items", 5),
-        _ => measured("a_collection_with_a_long_name", 29),
+        0 => known_text("a", 1),
+        1 => known_text("items", 5),
+        _ => known_text("a_collection_with_a_long_name", 29),
     }
 }
 
 /// A text of some length.
 fn padding(word: u32) -> Measured {
     match word % 4 {
-        0 => measured("", 0),
-        1 => measured("ten bytes.", 10),
-        2 => measured("thirty bytes are in this text.", 30),
-        _ => measured(
+        0 => known_text("", 0),
+        1 => known_text("ten bytes.", 10),
+        2 => known_text("thirty bytes are in this text.", 30),
+        _ => known_text(
             "sixty bytes are in this text, more than in any namespace ...",
             60,
         ),
@@ -124,7 +124,7 @@ fn padding(word: u32) -> Measured {
 
 /// A random model.
 fn drawn_model(words: &mut Pcg32) -> Drawn {
-    let kind = kind(words.next_u32());
+    let kind = drawn_kind(words.next_u32());
     let collection = collection(words.next_u32());
     let text = padding(words.next_u32());
     Drawn {
