@@ -62,7 +62,8 @@ find_is page concern cursors write (Failed code) result counts = absurd (none_is
 -- says that its command was done
 found_said : (concern : Option PlannedConcern) (result : Counted) → said (reply_found concern result) ≡ done
 unfolding said reply_number bson.out-Bson out
-found_said concern result = refl
+found_said None result = refl
+found_said (Some concern) result = refl
 
 -- without a write concern error it tells of no failure
 found_unfails : (value : Bson) → failed_write_in (done_field ∷ ((field VALUE.now value ∷ errors_field []) ++ concern_field None)) ≡ Some unfailed

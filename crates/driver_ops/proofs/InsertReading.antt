@@ -1,5 +1,5 @@
 -- The insert's reading of a reply which says that its command was done, by the fields of the reply.
-use Rattle.std.proofs.Common.{◌≡◌, ℕ, Bool, true, List, [], ◌++◌, length, take, refl, sym, subst, ◌∙◌, inl, inr}
+use Rattle.std.proofs.Common.{◌≡◌, ℕ, Bool, true, List, [], ◌∷◌, ◌++◌, length, take, refl, sym, subst, ◌∙◌, inl, inr}
 use Rattle.std.specs.Prelude.{pos, Option, None, Some, ◌⊎◌, Ok, Err}
 use denote.Hole.Carrier.{out}
 use Rattle.bson_lite.specs.declared.bson.Bson.{Bson}
@@ -36,7 +36,10 @@ use Rattle.driver_ops.proofs.PlainReading.{error_read, may_be_done, only_memory}
 -- the machine's reply to an insert says that its command was done
 pub reply_said : (n : Bson) (errors : List Bson) (concern : Option PlannedConcern) → said (reply_told n errors concern) ≡ done
 unfolding said bson.out-Bson out
-reply_said n errors concern = refl
+reply_said n [] None = refl
+reply_said n [] (Some concern) = refl
+reply_said n (error ∷ errors) None = refl
+reply_said n (error ∷ errors) (Some concern) = refl
 
 -- the kind of an error that tells of these failures
 abbrev pub many : InsertManyError → ErrorKind

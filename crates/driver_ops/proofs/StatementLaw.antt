@@ -117,13 +117,21 @@ delete_is page concern cursors write (Ran found) result counts = ap (reply_taken
 delete_is page concern cursors write (Failed code) result counts = absurd (none_is_some result counts)
 
 -- such replies say that their command was done
+fields_said : (n modified : Bson) (upserts : List Bson) (concern : Option PlannedConcern)
+    → said (done_field ∷ ((field N.now n ∷ field N_MODIFIED.now modified ∷ (upserted_field upserts ++ errors_field [])) ++ concern_field concern)) ≡ done
+unfolding said bson.out-Bson out
+fields_said n modified [] None = refl
+fields_said n modified [] (Some concern) = refl
+fields_said n modified (upsert ∷ upserts) None = refl
+fields_said n modified (upsert ∷ upserts) (Some concern) = refl
+
 counted_said : (concern : Option PlannedConcern) (result : Counted) → said (reply_counted concern result) ≡ done
-unfolding said reply_number bson.out-Bson out
-counted_said concern result = refl
+counted_said concern result = fields_said _ _ (upserted_at 0 result.upserted []) concern
 
 taken_said : (concern : Option PlannedConcern) (result : Counted) → said (reply_taken concern result) ≡ done
 unfolding said reply_number bson.out-Bson out
-taken_said concern result = refl
+taken_said None result = refl
+taken_said (Some concern) result = refl
 
 -- without a write concern error they tell of no failure
 counted_unfails : (n modified : Bson) (upserted : Option Bson)

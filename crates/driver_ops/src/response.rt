@@ -1,15 +1,16 @@
 //! The common fields of a reply: whether its command was done, or the error that it spells.
-ghost use Rattle.std.specs.Prelude.{None, Some};
+ghost use Rattle.std.specs.Prelude.{◌≡◌, None, Some};
+ghost use Rattle.std.specs.Option.{option_copied};
 ghost use Rattle.bson_lite.specs.Spelling.{Spells};
 ghost use Rattle.driver_error.specs.declared.kind.ErrorKind.TheVariants.{InvalidResponse};
 ghost use Rattle.driver_error.specs.Conversions.{IsMade};
 ghost use Rattle.driver_error.specs.LabelTexts.{no_labels};
-ghost use Rattle.driver_ops.specs.Responses.{ReadsResponse, failed_with, said, said_by};
+ghost use Rattle.driver_ops.specs.Responses.{ReadsResponse, failed_with, has_time_form, is_document, is_time_in, is_timestamp, said, said_by, said_in_form};
 ghost use Rattle.driver_ops.specs.Readings.{command_error_in};
 ghost use Rattle.driver_ops.specs.inside.Responses.{IsSaid, KeepsReply, ReadsDocument};
 
 use crate::reply_fields::{Unread, command_error};
-use bson_lite::{Bytes, DecodeFault, Document, RawDocumentBuf, Text, decode, get_int};
+use bson_lite::{Bson, Bytes, DecodeFault, Document, RawDocumentBuf, Text, decode, get_int};
 use driver_error::{Error, ErrorKind, Result};
 use driver_link::keys;
 use std::alloc::Global;
@@ -22,6 +23,15 @@ const MISSING_OK: &str = "missing 'ok' value in response";
 
 /// What a reply says of its command is no number.
 const ODD_OK: &str = "expected ok value to be a number";
+
+/// A reply's cluster time is no document of a timestamp and a signature.
+const ODD_TIME: &str = "the reply has a $clusterTime of another form";
+
+/// The time in a cluster time.
+const TIME: &str = "clusterTime";
+
+/// The signature in a cluster time.
+const SIGNATURE: &str = "signature";
 
 /// A command failed, and the reply spells no error.
 const ODD_ERROR: &str = "the reply to a failed command has no error of the right form";
@@ -70,14 +80,65 @@ fn said_error(alloc: Global, reply: &Document) -> Option<Error>
 }
 
 /// The same by the number of `ok`.
-#[tactic(auto, unfolding(crate::specs::Responses::odd_ok_text))]
+#[tactic(auto, unfolding(crate::specs::Responses::odd_ok_text, crate::specs::Responses::odd_time_text))]
 fn said_by(alloc: Global, ok: Option<i64>, reply: &Document) -> Option<Error>
     ensures { IsSaid (said_by ok reply.now) result }
 {
     match ok {
         None => Some(odd_reply(alloc, ODD_OK)),
-        Some(1) => None,
-        Some(_) => Some(failed_error(alloc, reply)),
+        Some(number) => {
+            if !has_time_form(reply.get(keys::CLUSTER_TIME)) {
+                return Some(odd_reply(alloc, ODD_TIME));
+            }
+            said_in_form(alloc, number, reply)
+        }
+    }
+}
+
+/// The same of a reply whose form stands.
+fn said_in_form(alloc: Global, number: i64, reply: &Document) -> Option<Error>
+    ensures { IsSaid (said_in_form number reply.now) result }
+{
+    if number == 1 {
+        None
+    } else {
+        Some(failed_error(alloc, reply))
+    }
+}
+
+/// Whether a reply has a cluster time of its form, or none.
+fn has_time_form(time: Option<&Bson>) -> bool
+    ensures { result ≡ has_time_form (option_copied time.entry) }
+{
+    match time {
+        None => true,
+        Some(Bson::Document(time)) => is_time_in(time),
+        Some(_) => false,
+    }
+}
+
+/// Whether a document is a cluster time: a timestamp and a signature, which is a document.
+fn is_time_in(time: &Document) -> bool
+    ensures { result ≡ is_time_in time.now }
+{
+    is_timestamp(time.get(TIME)) && is_document(time.get(SIGNATURE))
+}
+
+fn is_timestamp(value: Option<&Bson>) -> bool
+    ensures { result ≡ is_timestamp (option_copied value.entry) }
+{
+    match value {
+        Some(Bson::Timestamp(_)) => true,
+        _ => false,
+    }
+}
+
+fn is_document(value: Option<&Bson>) -> bool
+    ensures { result ≡ is_document (option_copied value.entry) }
+{
+    match value {
+        Some(Bson::Document(_)) => true,
+        _ => false,
     }
 }
 

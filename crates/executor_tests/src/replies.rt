@@ -18,6 +18,32 @@ const FAILED: &[u8] = b"\x25\0\0\0\x10ok\0\0\0\0\0\x10code\0\x0d\0\0\0\x02errmsg
 /// `{ok: 0}`
 const BARE: &[u8] = b"\x0d\0\0\0\x10ok\0\0\0\0\0\0";
 
+/// `{ok: 1, $clusterTime: {clusterTime: Timestamp(1, 1), signature: {}}}`
+const TIMED: &[u8] =
+    b"E\0\0\0\x10ok\0\x01\0\0\0\x03$clusterTime\0*\0\0\0\x11clusterTime\0\x01\0\0\0\x01\0\0\0\x03signature\0\x05\0\0\0\0\0\0";
+
+/// `{ok: 1, $clusterTime: 1}`
+const NUMBER_FOR_TIME: &[u8] = b"\x1f\0\0\0\x10ok\0\x01\0\0\0\x10$clusterTime\0\x01\0\0\0\0";
+
+/// `{ok: 1, $clusterTime: {clusterTime: 1, signature: {}}}`
+const TIME_OF_A_NUMBER: &[u8] =
+    b"A\0\0\0\x10ok\0\x01\0\0\0\x03$clusterTime\0&\0\0\0\x10clusterTime\0\x01\0\0\0\x03signature\0\x05\0\0\0\0\0\0";
+
+/// `{ok: 1, $clusterTime: {clusterTime: Timestamp(1, 1)}}`
+const UNSIGNED_TIME: &[u8] =
+    b"5\0\0\0\x10ok\0\x01\0\0\0\x03$clusterTime\0\x1a\0\0\0\x11clusterTime\0\x01\0\0\0\x01\0\0\0\0\0";
+
+/// `{ok: 1, $clusterTime: {clusterTime: Timestamp(1, 1), signature: 1}}`
+const SIGNED_BY_A_NUMBER: &[u8] =
+    b"D\0\0\0\x10ok\0\x01\0\0\0\x03$clusterTime\0)\0\0\0\x11clusterTime\0\x01\0\0\0\x01\0\0\0\x10signature\0\x01\0\0\0\0\0";
+
+/// `{ok: 0, code: 13, errmsg: "x", $clusterTime: 1}`
+const FAILED_AT_ODD_TIME: &[u8] =
+    b"7\0\0\0\x10ok\0\0\0\0\0\x10code\0\x0d\0\0\0\x02errmsg\0\x02\0\0\0x\0\x10$clusterTime\0\x01\0\0\0\0";
+
+/// `{ok: "x", $clusterTime: 1}`
+const ODD_AT_ODD_TIME: &[u8] = b"!\0\0\0\x02ok\0\x02\0\0\0x\0\x10$clusterTime\0\x01\0\0\0\0";
+
 /// A reader that promises nothing, since a test's proof reads each clause of what it calls.
 fn read(alloc: Global, bytes: &[u8]) -> Result<CommandResponse> {
     read_response(alloc, bytes)
@@ -118,4 +144,32 @@ fn a_failed_command_needs_a_code(rt: HostRuntime) {
 #[test]
 fn a_failed_command_spells_its_error(rt: HostRuntime) {
     assert!(rt; fails(rt.alloc(), FAILED, 13, "x"));
+}
+
+/// The message about a cluster time of another form.
+const ODD_TIME: &str = "the reply has a $clusterTime of another form";
+
+#[test]
+fn a_cluster_time_of_its_form_is_taken(rt: HostRuntime) {
+    assert!(rt; is_done(rt.alloc(), TIMED));
+}
+
+#[test]
+fn a_cluster_time_of_another_form_is_refused(rt: HostRuntime) {
+    assert!(rt; breaks(rt.alloc(), NUMBER_FOR_TIME, ODD_TIME));
+    assert!(rt; breaks(rt.alloc(), TIME_OF_A_NUMBER, ODD_TIME));
+    assert!(rt; breaks(rt.alloc(), UNSIGNED_TIME, ODD_TIME));
+    assert!(rt; breaks(rt.alloc(), SIGNED_BY_A_NUMBER, ODD_TIME));
+}
+
+#[test]
+fn a_cluster_time_is_judged_behind_the_form_of_ok_and_before_its_number(rt: HostRuntime) {
+    assert!(rt; breaks(rt.alloc(), FAILED_AT_ODD_TIME, ODD_TIME));
+    assert!(rt;
+        breaks(
+            rt.alloc(),
+            ODD_AT_ODD_TIME,
+            "expected ok value to be a number"
+        )
+    );
 }

@@ -10,10 +10,10 @@ use Rattle.bson_lite.specs.Reading.{read}
 use Rattle.bson_lite.specs.Spelling.{Spells}
 use Rattle.bson_lite.proofs.Nested.{read_again}
 use Rattle.driver_error.specs.declared.command.CommandErrorBody.{CommandErrorBody}
-use Rattle.driver_link.specs.declared.keys.TheConstants.{OK}
+use Rattle.driver_link.specs.declared.keys.TheConstants.{CLUSTER_TIME, OK}
 use Rattle.driver_ops.specs.Inserts.{int_at, is_one}
 use Rattle.driver_ops.specs.Readings.{command_error_in}
-use Rattle.driver_ops.specs.Responses.{breaks, done, failed_with, missing_ok_text, odd_ok_text, said, said_by, said_with}
+use Rattle.driver_ops.specs.Responses.{breaks, done, failed_with, has_time_form, missing_ok_text, odd_ok_text, odd_time_text, said, said_by, said_with}
 
 -- bytes spell one document alone
 pub spells_one : (a b : List (Pair Bson)) (bytes : List ℕ) → Spells a bytes → Spells b bytes → a ≡ b
@@ -33,10 +33,15 @@ one_by : (one : Bool) (body : Option CommandErrorBody) → (if one then done els
 one_by true body is = refl
 one_by false body is = absurd (no_failure body is)
 
+-- and whose form stands
+one_in_form : (formed one : Bool) (body : Option CommandErrorBody) → (if formed then (if one then done else failed_with body) else breaks odd_time_text) ≡ done → one ≡ true
+one_in_form true one body is = one_by one body is
+one_in_form false one body is = absurd (let e : breaks odd_time_text ≡ done = is in cc)
+
 -- the same by the number of `ok`
 done_by : (ok : Option ℤ) (reply : List (Pair Bson)) → said_by ok reply ≡ done → is_one ok ≡ true
 done_by None reply is = absurd (let e : breaks odd_ok_text ≡ done = is in cc)
-done_by (Some number) reply is = one_by (int_eq number (pos 1)) (command_error_in reply) is
+done_by (Some number) reply is = one_in_form (has_time_form (value_of CLUSTER_TIME.now reply)) (int_eq number (pos 1)) (command_error_in reply) is
 
 -- by its value
 done_with : (value : Option Bson) (reply : List (Pair Bson)) → said_with value reply ≡ done → is_one (option_and_then int_of value) ≡ true
