@@ -1,6 +1,8 @@
 //! Each container once with memory enough, and the text of a namespace.
 use crate::documents::{b_text, copied, spelled};
-use bson_lite::{Boxed, Bson, ByIndex, Bytes, Document, List, Namespace, Pair, Text, Timestamp};
+use bson_lite::{
+    Boxed, Bson, ByIndex, Bytes, Document, List, Namespace, ObjectId, Pair, Text, Timestamp,
+};
 use std::alloc::{AllocError, Global};
 use std::fmt::Write;
 use std::test::Fail;
@@ -70,6 +72,35 @@ fn indexed(alloc: Global) -> Result<ByIndex<Timestamp>, AllocError> {
 
 fn boxed(alloc: Global) -> Result<Boxed<Timestamp>, AllocError> {
     copied(alloc, &Boxed::new(alloc, stamp(5))?)
+}
+
+/// The pair of `b` and 2, as a copy.
+fn pair(alloc: Global) -> Result<Pair<Bson>, AllocError> {
+    let pair = Pair {
+        key: b_text(alloc)?,
+        value: Bson::Int32(2),
+    };
+    copied(alloc, &pair)
+}
+
+/// Whether it is that pair.
+fn is_b_and_two(pair: &Pair<Bson>) -> bool {
+    pair.key.as_str() == "b" && matches!(pair.value, Bson::Int32(2))
+}
+
+/// An object id with this last byte, as a copy.
+fn id(alloc: Global, last: u8) -> Result<ObjectId, AllocError> {
+    let bytes = [0, 0, 0, 0, 0, 0, 0, 0, 0, 0, 0, last];
+    copied(alloc, &ObjectId { bytes })
+}
+
+#[test]
+fn a_pair_and_an_id_are_copied(rt: HostRuntime) -> Result<(), Fail> {
+    let pair = pair(rt.alloc())?;
+    assert!(rt; is_b_and_two(&pair));
+    let id = id(rt.alloc(), 7)?;
+    assert_eq!(rt; id.bytes, [0, 0, 0, 0, 0, 0, 0, 0, 0, 0, 0, 7]);
+    Ok(())
 }
 
 #[test]

@@ -68,11 +68,16 @@ const BATCHES: &[Batch] = &[
 ];
 
 /// Which server a build is for: its wire version, and its limits on a document, on a message and on a batch.
-#[derive(Clone, Copy)]
-struct Row(Option<i32>, i64, i64, i64);
+#[derive(Clone, Copy, Debug)]
+struct Row {
+    version: Option<i32>,
+    bson: i64,
+    message: i64,
+    batch: i64,
+}
 
 /// What a build comes to.
-#[derive(Clone, Copy)]
+#[derive(Clone, Copy, Debug)]
 enum Built {
     Takes(usize),
     /// An InvalidArgument with this text.
@@ -87,82 +92,261 @@ const TOO_LARGE: &str = "operation at index 5 exceeds the maximum size";
 /// 43 bytes, each op 56, and the document of the namespace 19, which is sent once.
 const BUILDS: &[(Row, Built)] = &[
     (
-        Row(Some(25), 1, 1000 + 43 + 56 + 19, 100_000),
+        Row {
+            version: Some(25),
+            bson: 1,
+            message: 1000 + 43 + 56 + 19,
+            batch: 100_000,
+        },
         Built::Takes(1),
     ),
     (
-        Row(Some(25), 1, 1000 + 43 + 56 + 18, 100_000),
+        Row {
+            version: Some(25),
+            bson: 1,
+            message: 1000 + 43 + 56 + 18,
+            batch: 100_000,
+        },
         Built::TooLarge(TOO_LARGE),
     ),
     (
-        Row(Some(25), 1, 1000 + 43 + 112 + 19, 100_000),
+        Row {
+            version: Some(25),
+            bson: 1,
+            message: 1000 + 43 + 112 + 19,
+            batch: 100_000,
+        },
         Built::Takes(2),
     ),
     (
-        Row(Some(25), 1, 1000 + 43 + 112 + 18, 100_000),
+        Row {
+            version: Some(25),
+            bson: 1,
+            message: 1000 + 43 + 112 + 18,
+            batch: 100_000,
+        },
         Built::Takes(1),
     ),
-    (Row(Some(25), 1, 1000 + 43 + 168 + 19, 3), Built::Takes(3)),
-    (Row(Some(25), 1, 1000 + 43 + 168 + 19, 2), Built::Takes(2)),
-    (Row(Some(25), 1, 48_000_000, 1), Built::Takes(1)),
-    (Row(Some(25), 1, 48_000_000, 0), Built::TooLarge(TOO_LARGE)),
-    (Row(Some(25), 1, 48_000_000, -1), Built::TooLarge(TOO_LARGE)),
-    (Row(Some(25), 0, 48_000_000, 3), Built::TooLarge(TOO_LARGE)),
-    (Row(Some(25), -1, 48_000_000, 3), Built::TooLarge(TOO_LARGE)),
-    (Row(Some(25), 1, 0, 3), Built::TooLarge(TOO_LARGE)),
-    (Row(Some(25), 1, -1, 3), Built::TooLarge(TOO_LARGE)),
     (
-        Row(Some(25), 16_777_216, 48_000_000, 100_000),
+        Row {
+            version: Some(25),
+            bson: 1,
+            message: 1000 + 43 + 168 + 19,
+            batch: 3,
+        },
         Built::Takes(3),
     ),
     (
-        Row(Some(26), 16_777_216, 48_000_000, 100_000),
+        Row {
+            version: Some(25),
+            bson: 1,
+            message: 1000 + 43 + 168 + 19,
+            batch: 2,
+        },
+        Built::Takes(2),
+    ),
+    (
+        Row {
+            version: Some(25),
+            bson: 1,
+            message: 48_000_000,
+            batch: 1,
+        },
+        Built::Takes(1),
+    ),
+    (
+        Row {
+            version: Some(25),
+            bson: 1,
+            message: 48_000_000,
+            batch: 0,
+        },
+        Built::TooLarge(TOO_LARGE),
+    ),
+    (
+        Row {
+            version: Some(25),
+            bson: 1,
+            message: 48_000_000,
+            batch: -1,
+        },
+        Built::TooLarge(TOO_LARGE),
+    ),
+    (
+        Row {
+            version: Some(25),
+            bson: 0,
+            message: 48_000_000,
+            batch: 3,
+        },
+        Built::TooLarge(TOO_LARGE),
+    ),
+    (
+        Row {
+            version: Some(25),
+            bson: -1,
+            message: 48_000_000,
+            batch: 3,
+        },
+        Built::TooLarge(TOO_LARGE),
+    ),
+    (
+        Row {
+            version: Some(25),
+            bson: 1,
+            message: 0,
+            batch: 3,
+        },
+        Built::TooLarge(TOO_LARGE),
+    ),
+    (
+        Row {
+            version: Some(25),
+            bson: 1,
+            message: -1,
+            batch: 3,
+        },
+        Built::TooLarge(TOO_LARGE),
+    ),
+    (
+        Row {
+            version: Some(25),
+            bson: 16_777_216,
+            message: 48_000_000,
+            batch: 100_000,
+        },
         Built::Takes(3),
     ),
     (
-        Row(Some(24), 16_777_216, 48_000_000, 100_000),
+        Row {
+            version: Some(26),
+            bson: 16_777_216,
+            message: 48_000_000,
+            batch: 100_000,
+        },
+        Built::Takes(3),
+    ),
+    (
+        Row {
+            version: Some(24),
+            bson: 16_777_216,
+            message: 48_000_000,
+            batch: 100_000,
+        },
         Built::TooOld,
     ),
     (
-        Row(Some(-1), 16_777_216, 48_000_000, 100_000),
+        Row {
+            version: Some(-1),
+            bson: 16_777_216,
+            message: 48_000_000,
+            batch: 100_000,
+        },
         Built::TooOld,
     ),
-    (Row(None, 16_777_216, 48_000_000, 100_000), Built::TooOld),
-    (Row(Some(24), 0, 0, 0), Built::TooOld),
+    (
+        Row {
+            version: None,
+            bson: 16_777_216,
+            message: 48_000_000,
+            batch: 100_000,
+        },
+        Built::TooOld,
+    ),
+    (
+        Row {
+            version: Some(24),
+            bson: 0,
+            message: 0,
+            batch: 0,
+        },
+        Built::TooOld,
+    ),
 ];
 
 /// Later builds take as many ops as the first that was taken; where those do not fit they are refused.
 const LATER: &[(Row, Built)] = &[
-    (Row(Some(25), 1, 48_000_000, 0), Built::TooLarge(TOO_LARGE)),
     (
-        Row(Some(24), 16_777_216, 48_000_000, 100_000),
-        Built::TooOld,
-    ),
-    (Row(Some(25), 1, 48_000_000, 2), Built::Takes(2)),
-    (Row(Some(25), 1, 48_000_000, 3), Built::Takes(2)),
-    (
-        Row(Some(24), 16_777_216, 48_000_000, 100_000),
-        Built::TooOld,
+        Row {
+            version: Some(25),
+            bson: 1,
+            message: 48_000_000,
+            batch: 0,
+        },
+        Built::TooLarge(TOO_LARGE),
     ),
     (
-        Row(Some(25), 1, 48_000_000, 1),
+        Row {
+            version: Some(24),
+            bson: 16_777_216,
+            message: 48_000_000,
+            batch: 100_000,
+        },
+        Built::TooOld,
+    ),
+    (
+        Row {
+            version: Some(25),
+            bson: 1,
+            message: 48_000_000,
+            batch: 2,
+        },
+        Built::Takes(2),
+    ),
+    (
+        Row {
+            version: Some(25),
+            bson: 1,
+            message: 48_000_000,
+            batch: 3,
+        },
+        Built::Takes(2),
+    ),
+    (
+        Row {
+            version: Some(24),
+            bson: 16_777_216,
+            message: 48_000_000,
+            batch: 100_000,
+        },
+        Built::TooOld,
+    ),
+    (
+        Row {
+            version: Some(25),
+            bson: 1,
+            message: 48_000_000,
+            batch: 1,
+        },
         Built::TooLarge("operation at index 6 exceeds the maximum size"),
     ),
     (
-        Row(Some(25), 1, 1000 + 43 + 112 + 18, 3),
+        Row {
+            version: Some(25),
+            bson: 1,
+            message: 1000 + 43 + 112 + 18,
+            batch: 3,
+        },
         Built::TooLarge("operation at index 6 exceeds the maximum size"),
     ),
-    (Row(Some(25), 1, 1000 + 43 + 112 + 19, 3), Built::Takes(2)),
+    (
+        Row {
+            version: Some(25),
+            bson: 1,
+            message: 1000 + 43 + 112 + 19,
+            batch: 3,
+        },
+        Built::Takes(2),
+    ),
 ];
 
 /// A server by a row.
 fn described(row: Row) -> Description {
-    let Row(version, bson, message, batch) = row;
     Description {
-        max_wire_version: version,
-        max_bson_object_size: bson,
-        max_message_size_bytes: message,
-        max_write_batch_size: batch,
+        max_wire_version: row.version,
+        max_bson_object_size: row.bson,
+        max_message_size_bytes: row.message,
+        max_write_batch_size: row.batch,
         ..SERVER
     }
 }
@@ -221,21 +405,24 @@ fn builds(alloc: Global, op: &mut BulkWriteOp<'_>, row: Row, built: Built) -> bo
     }
 }
 
-/// Whether builds of one bulk write, one after the other, come to these.
-fn all_build(alloc: Global, rows: &[(Row, Built)]) -> Option<bool> {
+/// The first of these that a build of one bulk write does not come to, one after the other; no answer where there is
+/// no memory.
+fn wrong_build(alloc: Global, rows: &[(Row, Built)]) -> Option<Option<(Row, Built)>> {
     let models = three(alloc).ok()?;
     let ops = ops_of(alloc, &models)?;
     let options = BulkWriteOptions::default();
     let mut op = BulkWriteOp::new(alloc, 5, ops.as_slice(), &options, false).ok()?;
-    let mut all = true;
+    let mut wrong = None;
     for (row, built) in rows {
-        all = builds(alloc, &mut op, *row, *built) && all;
+        if !builds(alloc, &mut op, *row, *built) && wrong.is_none() {
+            wrong = Some((*row, *built));
+        }
     }
     drop(op);
     drop(options);
     drop(ops);
     drop(models);
-    Some(all)
+    Some(wrong)
 }
 
 /// Whether the insert of `{x: 1}` into `gen.a` alone, with the id that is drawn for it, comes to this.
@@ -250,7 +437,13 @@ fn one_builds(alloc: Global, message: i64, built: Built) -> Option<bool> {
     let same = match bulk_ops(alloc, &mut client, models.as_slice(), &options) {
         Ok(ops) => {
             let mut op = BulkWriteOp::new(alloc, 0, ops.as_slice(), &options, false).ok()?;
-            let same = builds(alloc, &mut op, Row(Some(25), 1, message, 1), built);
+            let row = Row {
+                version: Some(25),
+                bson: 1,
+                message,
+                batch: 1,
+            };
+            let same = builds(alloc, &mut op, row, built);
             drop(op);
             drop(ops);
             same
@@ -408,9 +601,9 @@ fn batch_is_numbered(alloc: Global, batch: Batch) -> Option<bool> {
 
 #[test]
 fn a_first_build_takes_the_longest_front(rt: HostRuntime) -> Result<(), Fail> {
-    for (at, row) in BUILDS.iter().enumerate() {
-        let same = all_build(rt.alloc(), &[*row]) == Some(true);
-        assert!(rt; same, "row {at}");
+    for row in BUILDS {
+        let same = matches!(wrong_build(rt.alloc(), &[*row]), Some(None));
+        assert!(rt; same, "{row:?}");
     }
     Ok(())
 }
@@ -425,7 +618,8 @@ fn one_insert_goes_out_where_a_message_has_room(rt: HostRuntime) -> Result<(), F
 
 #[test]
 fn later_builds_take_as_many_ops(rt: HostRuntime) -> Result<(), Fail> {
-    assert!(rt; all_build(rt.alloc(), LATER) == Some(true));
+    let wrong = wrong_build(rt.alloc(), LATER);
+    assert!(rt; matches!(wrong, Some(None)), "{wrong:?}");
     Ok(())
 }
 

@@ -18,7 +18,7 @@ use test_parts::inserting::{Ended, how_ended};
 use test_parts::writes::{Flaw, flawed};
 
 /// A model of a row.
-#[derive(Clone, Copy)]
+#[derive(Clone, Copy, Debug)]
 enum Given {
     /// The insert of `{x: 1}`.
     Plain,
@@ -548,9 +548,9 @@ fn replacement_is_made(alloc: Global) -> Result<bool, AllocError> {
 
 #[test]
 fn bulk_writes_are_refused_for_their_input_test_by_test(rt: HostRuntime) -> Result<(), Fail> {
-    for (at, (row, ended)) in ROWS.iter().enumerate() {
+    for (row, ended) in ROWS {
         let same = ends_plain(rt.alloc(), row, *ended)?;
-        assert!(rt; same, "row {at}");
+        assert!(rt; same, "{row:?} to end {ended:?}");
     }
     Ok(())
 }

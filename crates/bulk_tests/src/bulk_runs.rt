@@ -104,10 +104,11 @@ enum Kind {
     DeleteOne,
 }
 
-/// A batch of a bulk write: its models, the index of the batch's first, whether the client's options forbid repeats,
-/// the server's batch limit and wire version, what the exchanges answer, how it ends, and how many frames went out.
+/// A batch of a bulk write: what it shows, its models, the index of the first of them, whether the client's options forbid
+/// repeats, the server's batch limit and wire version, what the exchanges answer, how it ends, and how many frames went out.
 #[derive(Clone, Copy)]
 struct Row {
+    shows: &'static str,
     models: &'static [Kind],
     first: usize,
     forbidden: bool,
@@ -123,6 +124,7 @@ const LOST_ONCE: &[Given] = &[Given::Reset, Given::Reply(TWO_INSERTED)];
 
 const ROWS: &[Row] = &[
     Row {
+        shows: "two inserts are done at once",
         models: &[Kind::Insert, Kind::Insert],
         first: 0,
         forbidden: false,
@@ -133,6 +135,7 @@ const ROWS: &[Row] = &[
         frames: 1,
     },
     Row {
+        shows: "a batch without such models is sent again",
         models: &[Kind::Insert, Kind::UpdateOne, Kind::DeleteOne],
         first: 0,
         forbidden: false,
@@ -143,6 +146,7 @@ const ROWS: &[Row] = &[
         frames: 2,
     },
     Row {
+        shows: "a model of all documents found forbids it",
         models: &[Kind::Insert, Kind::UpdateMany],
         first: 0,
         forbidden: false,
@@ -154,6 +158,7 @@ const ROWS: &[Row] = &[
     },
     // The model of all documents found stands behind the batch of one.
     Row {
+        shows: "so does one behind the batch",
         models: &[Kind::Insert, Kind::UpdateMany],
         first: 0,
         forbidden: false,
@@ -164,6 +169,7 @@ const ROWS: &[Row] = &[
         frames: 1,
     },
     Row {
+        shows: "so do the options of the client",
         models: &[Kind::Insert, Kind::Insert],
         first: 0,
         forbidden: true,
@@ -174,6 +180,7 @@ const ROWS: &[Row] = &[
         frames: 1,
     },
     Row {
+        shows: "an older server is refused",
         models: &[Kind::Insert],
         first: 0,
         forbidden: false,
@@ -184,6 +191,7 @@ const ROWS: &[Row] = &[
         frames: 0,
     },
     Row {
+        shows: "a reply that tells of a failure is no success",
         models: &[Kind::Insert, Kind::Insert],
         first: 0,
         forbidden: false,
@@ -195,6 +203,7 @@ const ROWS: &[Row] = &[
     },
     // A model of all documents found forbids repeats of its own batch, and not of a later one.
     Row {
+        shows: "a model of all documents found forbids it of its own batch",
         models: &[Kind::UpdateMany, Kind::Insert],
         first: 0,
         forbidden: false,
@@ -205,6 +214,7 @@ const ROWS: &[Row] = &[
         frames: 1,
     },
     Row {
+        shows: "and not of a later one",
         models: &[Kind::UpdateMany, Kind::Insert],
         first: 1,
         forbidden: false,
@@ -553,9 +563,10 @@ fn stands(alloc: Global) -> std::result::Result<bool, AllocError> {
 
 #[test]
 fn a_bulk_write_is_sent_again_where_it_may_be(rt: HostRuntime) -> std::result::Result<(), Fail> {
-    for (at, row) in ROWS.iter().enumerate() {
+    for row in ROWS {
+        let shows = row.shows;
         let same = ends(rt.alloc(), *row)?;
-        assert!(rt; same, "row {at}");
+        assert!(rt; same, "{shows}");
     }
     Ok(())
 }

@@ -296,30 +296,35 @@ fn too_deep_at(alloc: Global, levels: usize) -> Result<Option<bool>, AllocError>
 #[test]
 fn an_insert_is_ok_only_after_a_reply_that_says_so(rt: HostRuntime) -> Result<(), Fail> {
     let alloc = rt.alloc();
-    let table: [(&[u8], bool); 8] = [
-        (DONE, true),
-        // the same as int64s, and as doubles
+    let table: [(&str, &[u8], bool); 8] = [
+        ("{ok: 1, n: 1}", DONE, true),
         (
+            "the same as int64s",
             b"\x1c\0\0\0\x12ok\0\x01\0\0\0\0\0\0\0\x12n\0\x01\0\0\0\0\0\0\0\0",
             true,
         ),
         (
+            "the same as doubles",
             b"\x1c\0\0\0\x01ok\0\0\0\0\0\0\0\xf0\x3f\x01n\0\0\0\0\0\0\0\xf0\x3f\0",
             true,
         ),
-        // {ok: 1, n: 0}
-        (b"\x14\0\0\0\x10ok\0\x01\0\0\0\x10n\0\0\0\0\0\0", false),
-        // {ok: 0, n: 1}
-        (b"\x14\0\0\0\x10ok\0\0\0\0\0\x10n\0\x01\0\0\0\0", false),
-        // {ok: 1}
-        (b"\x0d\0\0\0\x10ok\0\x01\0\0\0\0", false),
-        // no document at all
-        (b"", false),
-        (b"nonsense", false),
+        (
+            "{ok: 1, n: 0}",
+            b"\x14\0\0\0\x10ok\0\x01\0\0\0\x10n\0\0\0\0\0\0",
+            false,
+        ),
+        (
+            "{ok: 0, n: 1}",
+            b"\x14\0\0\0\x10ok\0\0\0\0\0\x10n\0\x01\0\0\0\0",
+            false,
+        ),
+        ("{ok: 1}", b"\x0d\0\0\0\x10ok\0\x01\0\0\0\0", false),
+        ("no bytes", b"", false),
+        ("no document", b"nonsense", false),
     ];
-    for (reply, taken) in table {
+    for (text, reply, taken) in table {
         let found = taken_over(alloc, reply)?;
-        assert_eq!(rt; found, Some(taken));
+        assert_eq!(rt; found, Some(taken), "of {text}");
     }
     Ok(())
 }

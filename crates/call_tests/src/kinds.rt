@@ -420,8 +420,9 @@ fn alike(sends: u64) -> u64 {
     }
 }
 
-/// Whether each schedule holds. After a run the next code is the first whose items differ where that run met them.
-fn all_hold(alloc: Global, kind: Kind, retries: bool) -> bool {
+/// The number of the first schedule that does not hold. After a run the next one is the first whose items differ
+/// where that run met them.
+fn first_wrong(alloc: Global, kind: Kind, retries: bool) -> Option<u64> {
     let mut next = 0;
     for code in 0..SCHEDULES {
         if code < next {
@@ -433,25 +434,23 @@ fn all_hold(alloc: Global, kind: Kind, retries: bool) -> bool {
             code,
         };
         let Some(sends) = sends_held(alloc, tried) else {
-            return false;
+            return Some(code);
         };
         next = code.saturating_add(alike(sends));
     }
-    true
+    None
 }
 
 #[test]
 fn a_write_of_each_kind_stands_once(rt: HostRuntime) {
     for kind in KINDS {
-        let well = all_hold(rt.alloc(), *kind, true);
-        assert!(rt; well, "{kind:?}");
+        assert_eq!(rt; first_wrong(rt.alloc(), *kind, true), None, "{kind:?}");
     }
 }
 
 #[test]
 fn a_write_that_may_not_be_sent_again_goes_out_once(rt: HostRuntime) {
     for kind in KINDS {
-        let well = all_hold(rt.alloc(), *kind, false);
-        assert!(rt; well, "{kind:?}");
+        assert_eq!(rt; first_wrong(rt.alloc(), *kind, false), None, "{kind:?}");
     }
 }

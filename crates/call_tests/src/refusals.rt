@@ -323,29 +323,33 @@ fn flaw_ends(
     ends_without(alloc, asked, ended)
 }
 
-/// Whether each part of the table ends so with a flaw.
-fn parts_end(alloc: Global, flaw: Flaw, ended: Ended) -> Result<bool, AllocError> {
+/// The first part of the table that does not end so with a flaw.
+fn wrong_part(
+    alloc: Global,
+    flaw: Flaw,
+    ended: Ended,
+) -> Result<Option<(Kind, Change, Part)>, AllocError> {
     for row in PARTS {
         if !flaw_ends(alloc, *row, flaw, ended)? {
-            return Ok(false);
+            return Ok(Some(*row));
         }
     }
-    Ok(true)
+    Ok(None)
 }
 
-/// Whether each kind ends so under these concerns.
-fn kinds_end(
+/// The first kind that does not end so under these concerns.
+fn wrong_kind(
     alloc: Global,
     own: Concern,
     client: Concern,
     ended: Ended,
-) -> Result<bool, AllocError> {
+) -> Result<Option<Kind>, AllocError> {
     for kind in KINDS {
         if !ends(alloc, usual(*kind), own, client, ended)? {
-            return Ok(false);
+            return Ok(Some(*kind));
         }
     }
-    Ok(true)
+    Ok(None)
 }
 
 /// An insert that nobody acknowledges, and one that asks for nothing.
@@ -403,7 +407,7 @@ fn an_update_begins_with_an_operator_and_a_replacement_does_not(
 ) -> Result<(), Fail> {
     for (kind, change, ended) in CHANGES {
         let ends = change_ends(rt.alloc(), *kind, *change, *ended)?;
-        assert!(rt; ends, "{kind:?} to end {ended:?}");
+        assert!(rt; ends, "{kind:?} by {change:?} to end {ended:?}");
     }
     Ok(())
 }
@@ -411,8 +415,8 @@ fn an_update_begins_with_an_operator_and_a_replacement_does_not(
 #[test]
 fn each_part_nests_at_most_96_levels_and_holds_no_zero_byte(rt: HostRuntime) -> Result<(), Fail> {
     for (flaw, ended) in FLAWS {
-        let end = parts_end(rt.alloc(), *flaw, *ended)?;
-        assert!(rt; end, "to end {ended:?}");
+        let wrong = wrong_part(rt.alloc(), *flaw, *ended)?;
+        assert!(rt; wrong.is_none(), "{wrong:?} with {flaw:?} to end {ended:?}");
     }
     Ok(())
 }
@@ -427,7 +431,7 @@ fn faults_are_found_in_their_order(rt: HostRuntime) -> Result<(), Fail> {
             Concern::Unset,
             *ended,
         )?;
-        assert!(rt; ends, "to end {ended:?}");
+        assert!(rt; ends, "{asked:?} to end {ended:?}");
     }
     Ok(())
 }
@@ -435,8 +439,11 @@ fn faults_are_found_in_their_order(rt: HostRuntime) -> Result<(), Fail> {
 #[test]
 fn a_writes_own_concern_counts_before_its_clients(rt: HostRuntime) -> Result<(), Fail> {
     for (own, client, ended) in CONCERNS {
-        let end = kinds_end(rt.alloc(), *own, *client, *ended)?;
-        assert!(rt; end, "to end {ended:?}");
+        let wrong = wrong_kind(rt.alloc(), *own, *client, *ended)?;
+        assert!(rt;
+            wrong.is_none(),
+            "{wrong:?} under {own:?} and {client:?} to end {ended:?}"
+        );
     }
     Ok(())
 }

@@ -10,9 +10,10 @@ use model_server::{ModelServer, USUAL_SETUP};
 use std::alloc::{AllocError, Global};
 use test_parts::inserting::{Ended, Seen, insert};
 
-/// A schedule, with how the insert ends, whether its error has the label of a retryable write alone or none,
-/// and how many sends and entries there are.
+/// What a row shows, its schedule, how the insert ends, whether its error has the label of a retryable write alone
+/// or none, and how many sends and entries there are.
 struct Row {
+    shows: &'static str,
     meets: &'static [Meets],
     selects: &'static [u64],
     check_outs: &'static [u64],
@@ -22,85 +23,88 @@ struct Row {
     entries: usize,
 }
 
-const LOST_REPLY: Row = Row {
-    meets: &[Meets::ReplyLost],
-    selects: &[],
-    check_outs: &[],
-    ended: Ended::Done,
-    labelled: false,
-    sends: 2,
-    entries: 1,
-};
-
-const LOST_TWICE: Row = Row {
-    meets: &[Meets::Lost, Meets::Lost],
-    selects: &[],
-    check_outs: &[],
-    ended: Ended::Io(IoKind::ConnectionReset),
-    labelled: true,
-    sends: 2,
-    entries: 0,
-};
-
-const INTERRUPTED: Row = Row {
-    meets: &[Meets::InterruptedAfterOne],
-    selects: &[],
-    check_outs: &[],
-    ended: Ended::Done,
-    labelled: false,
-    sends: 2,
-    entries: 1,
-};
-
-const REFUSED: Row = Row {
-    meets: &[Meets::Refused],
-    selects: &[],
-    check_outs: &[],
-    ended: Ended::Command(13),
-    labelled: false,
-    sends: 1,
-    entries: 0,
-};
-
-const FIRST_FAILURE_KEPT: Row = Row {
-    meets: &[Meets::InterruptedAtOnce, Meets::RefusedUnwritten],
-    selects: &[],
-    check_outs: &[],
-    ended: Ended::Command(91),
-    labelled: true,
-    sends: 2,
-    entries: 0,
-};
-
-const ONE_CHECK_OUT_FAILS: Row = Row {
-    meets: &[],
-    selects: &[],
-    check_outs: &[0],
-    ended: Ended::Done,
-    labelled: false,
-    sends: 1,
-    entries: 1,
-};
-
-const TWO_CHECK_OUTS_FAIL: Row = Row {
-    meets: &[],
-    selects: &[],
-    check_outs: &[0, 1],
-    ended: Ended::Io(IoKind::ConnectionRefused),
-    labelled: true,
-    sends: 0,
-    entries: 0,
-};
-
-const NO_SERVER: Row = Row {
-    meets: &[],
-    selects: &[0],
-    check_outs: &[],
-    ended: Ended::Selection,
-    labelled: false,
-    sends: 0,
-    entries: 0,
-};
+const ROWS: [Row; 8] = [
+    Row {
+        shows: "a lost reply is sent again",
+        meets: &[Meets::ReplyLost],
+        selects: &[],
+        check_outs: &[],
+        ended: Ended::Done,
+        labelled: false,
+        sends: 2,
+        entries: 1,
+    },
+    Row {
+        shows: "two lost sends are no third",
+        meets: &[Meets::Lost, Meets::Lost],
+        selects: &[],
+        check_outs: &[],
+        ended: Ended::Io(IoKind::ConnectionReset),
+        labelled: true,
+        sends: 2,
+        entries: 0,
+    },
+    Row {
+        shows: "an interruption after the write is sent again",
+        meets: &[Meets::InterruptedAfterOne],
+        selects: &[],
+        check_outs: &[],
+        ended: Ended::Done,
+        labelled: false,
+        sends: 2,
+        entries: 1,
+    },
+    Row {
+        shows: "a refusal without the label is answered",
+        meets: &[Meets::Refused],
+        selects: &[],
+        check_outs: &[],
+        ended: Ended::Command(13),
+        labelled: false,
+        sends: 1,
+        entries: 0,
+    },
+    Row {
+        shows: "the failure that tells of writes is kept",
+        meets: &[Meets::InterruptedAtOnce, Meets::RefusedUnwritten],
+        selects: &[],
+        check_outs: &[],
+        ended: Ended::Command(91),
+        labelled: true,
+        sends: 2,
+        entries: 0,
+    },
+    Row {
+        shows: "a failed check-out is tried again",
+        meets: &[],
+        selects: &[],
+        check_outs: &[0],
+        ended: Ended::Done,
+        labelled: false,
+        sends: 1,
+        entries: 1,
+    },
+    Row {
+        shows: "two failed check-outs send nothing",
+        meets: &[],
+        selects: &[],
+        check_outs: &[0, 1],
+        ended: Ended::Io(IoKind::ConnectionRefused),
+        labelled: true,
+        sends: 0,
+        entries: 0,
+    },
+    Row {
+        shows: "a failed selection is answered",
+        meets: &[],
+        selects: &[0],
+        check_outs: &[],
+        ended: Ended::Selection,
+        labelled: false,
+        sends: 0,
+        entries: 0,
+    },
+];
 
 fn numbers(alloc: Global, numbers: &[u64]) -> Result<List<u64>, AllocError> {
     let mut list = List::new(alloc);
@@ -167,42 +171,17 @@ fn shows(alloc: Global, row: &Row) -> bool {
     }
 }
 
-#[test]
-fn a_lost_reply_is_sent_again(rt: HostRuntime) {
-    assert!(rt; shows(rt.alloc(), &LOST_REPLY));
+/// What the first row shows that is not as it says.
+fn first_wrong(alloc: Global, rows: &[Row]) -> Option<&'static str> {
+    for row in rows {
+        if !shows(alloc, row) {
+            return Some(row.shows);
+        }
+    }
+    None
 }
 
 #[test]
-fn two_lost_sends_are_no_third(rt: HostRuntime) {
-    assert!(rt; shows(rt.alloc(), &LOST_TWICE));
-}
-
-#[test]
-fn an_interruption_after_the_write_is_sent_again(rt: HostRuntime) {
-    assert!(rt; shows(rt.alloc(), &INTERRUPTED));
-}
-
-#[test]
-fn a_refusal_without_the_label_is_answered(rt: HostRuntime) {
-    assert!(rt; shows(rt.alloc(), &REFUSED));
-}
-
-#[test]
-fn the_failure_that_tells_of_writes_is_kept(rt: HostRuntime) {
-    assert!(rt; shows(rt.alloc(), &FIRST_FAILURE_KEPT));
-}
-
-#[test]
-fn a_failed_check_out_is_tried_again(rt: HostRuntime) {
-    assert!(rt; shows(rt.alloc(), &ONE_CHECK_OUT_FAILS));
-}
-
-#[test]
-fn two_failed_check_outs_send_nothing(rt: HostRuntime) {
-    assert!(rt; shows(rt.alloc(), &TWO_CHECK_OUTS_FAIL));
-}
-
-#[test]
-fn a_failed_selection_is_answered(rt: HostRuntime) {
-    assert!(rt; shows(rt.alloc(), &NO_SERVER));
+fn an_insert_ends_as_its_schedule_says(rt: HostRuntime) {
+    assert_eq!(rt; first_wrong(rt.alloc(), &ROWS), None);
 }

@@ -353,37 +353,37 @@ fn schedule_holds(alloc: Global, count: i32, code: u64, length: u64) -> bool {
     true
 }
 
-/// Whether each schedule of a length holds.
-fn length_holds(alloc: Global, count: i32, length: u64, schedules: u64) -> bool {
+/// The number of the first schedule of a length that does not hold.
+fn wrong_of_length(alloc: Global, count: i32, length: u64, schedules: u64) -> Option<u64> {
     for code in 0..schedules {
         if !schedule_holds(alloc, count, code, length) {
-            return false;
+            return Some(code);
         }
     }
-    true
+    None
 }
 
-/// Whether each schedule of up to four items holds.
-fn all_hold(alloc: Global, count: i32) -> bool {
+/// The length and the number of the first schedule of up to four items that does not hold.
+fn first_wrong(alloc: Global, count: i32) -> Option<(u64, u64)> {
     for (length, schedules) in LENGTHS {
-        if !length_holds(alloc, count, length, schedules) {
-            return false;
+        if let Some(code) = wrong_of_length(alloc, count, length, schedules) {
+            return Some((length, code));
         }
     }
-    true
+    None
 }
 
 #[test]
 fn one_insert_stands_once(rt: HostRuntime) {
-    assert!(rt; all_hold(rt.alloc(), 1));
+    assert_eq!(rt; first_wrong(rt.alloc(), 1), None);
 }
 
 #[test]
 fn two_inserts_stand_once(rt: HostRuntime) {
-    assert!(rt; all_hold(rt.alloc(), 2));
+    assert_eq!(rt; first_wrong(rt.alloc(), 2), None);
 }
 
 #[test]
 fn three_inserts_stand_once(rt: HostRuntime) {
-    assert!(rt; all_hold(rt.alloc(), 3));
+    assert_eq!(rt; first_wrong(rt.alloc(), 3), None);
 }

@@ -3,42 +3,285 @@ use crate::errors::{command_failed, held};
 use driver_error::{Error, ErrorKind, IoKind};
 use std::test::Fail;
 
-/// What a code says: a read may be tried again, the server recovers, takes no writes, changes its state,
-/// shuts down, the time is over, it asks for authentication, a commit's result is unknown, the cursor is
-/// not known, the namespace is not there.
-type Says = [bool; 10];
-
-const T: bool = true;
-
-const F: bool = false;
-
-fn rows() -> &'static [(i32, Says)] {
-    &CODES
+/// What an error says by its code.
+#[derive(Clone, Copy, Debug, PartialEq, Eq)]
+struct Says {
+    may_read_again: bool,
+    recovers: bool,
+    takes_no_writes: bool,
+    changes_its_state: bool,
+    shuts_down: bool,
+    is_out_of_time: bool,
+    asks_who: bool,
+    leaves_commit_unknown: bool,
+    may_resume: bool,
+    has_no_namespace: bool,
 }
 
-const CODES: [(i32, Says); 21] = [
-    (11600, [T, T, F, T, T, F, F, F, F, F]),
-    (11602, [T, T, F, T, F, F, F, F, F, F]),
-    (13436, [T, T, F, T, F, F, F, F, F, F]),
-    (189, [T, T, F, T, F, F, F, F, F, F]),
-    (91, [T, T, F, T, T, F, F, T, F, F]),
-    (10107, [T, F, T, T, F, F, F, F, F, F]),
-    (13435, [T, F, T, T, F, F, F, F, F, F]),
-    (10058, [F, F, T, T, F, F, F, F, F, F]),
-    (7, [T, F, F, F, F, F, F, F, F, F]),
-    (6, [T, F, F, F, F, F, F, F, F, F]),
-    (89, [T, F, F, F, F, F, F, F, F, F]),
-    (9001, [T, F, F, F, F, F, F, F, F, F]),
-    (134, [T, F, F, F, F, F, F, F, F, F]),
-    (262, [T, F, F, F, F, F, F, F, F, F]),
-    (50, [F, F, F, F, F, T, F, T, F, F]),
-    (64, [F, F, F, F, F, F, F, T, F, F]),
-    (391, [F, F, F, F, F, F, T, F, F, F]),
-    (43, [F, F, F, F, F, F, F, F, T, F]),
-    (26, [F, F, F, F, F, F, F, F, F, T]),
-    (0, [F, F, F, F, F, F, F, F, F, F]),
-    (-50, [F, F, F, F, F, F, F, F, F, F]),
+/// A code, and what it says.
+struct Row {
+    code: i32,
+    says: Says,
+}
+
+/// A server that shuts down.
+const SHUTS_DOWN: Says = Says {
+    may_read_again: true,
+    recovers: true,
+    takes_no_writes: false,
+    changes_its_state: true,
+    shuts_down: true,
+    is_out_of_time: false,
+    asks_who: false,
+    leaves_commit_unknown: false,
+    may_resume: false,
+    has_no_namespace: false,
+};
+
+/// A server that recovers.
+const RECOVERS: Says = Says {
+    may_read_again: true,
+    recovers: true,
+    takes_no_writes: false,
+    changes_its_state: true,
+    shuts_down: false,
+    is_out_of_time: false,
+    asks_who: false,
+    leaves_commit_unknown: false,
+    may_resume: false,
+    has_no_namespace: false,
+};
+
+/// The same, where it is unknown whether a commit was made.
+const SHUTS_DOWN_AMID_A_COMMIT: Says = Says {
+    may_read_again: true,
+    recovers: true,
+    takes_no_writes: false,
+    changes_its_state: true,
+    shuts_down: true,
+    is_out_of_time: false,
+    asks_who: false,
+    leaves_commit_unknown: true,
+    may_resume: false,
+    has_no_namespace: false,
+};
+
+/// A server that takes no writes.
+const TAKES_NO_WRITES: Says = Says {
+    may_read_again: true,
+    recovers: false,
+    takes_no_writes: true,
+    changes_its_state: true,
+    shuts_down: false,
+    is_out_of_time: false,
+    asks_who: false,
+    leaves_commit_unknown: false,
+    may_resume: false,
+    has_no_namespace: false,
+};
+
+/// The same in the code of old servers, after which no read is tried again.
+const TOOK_NO_WRITES: Says = Says {
+    may_read_again: false,
+    recovers: false,
+    takes_no_writes: true,
+    changes_its_state: true,
+    shuts_down: false,
+    is_out_of_time: false,
+    asks_who: false,
+    leaves_commit_unknown: false,
+    may_resume: false,
+    has_no_namespace: false,
+};
+
+/// A failure after which a read may be tried again.
+const READ_AGAIN: Says = Says {
+    may_read_again: true,
+    recovers: false,
+    takes_no_writes: false,
+    changes_its_state: false,
+    shuts_down: false,
+    is_out_of_time: false,
+    asks_who: false,
+    leaves_commit_unknown: false,
+    may_resume: false,
+    has_no_namespace: false,
+};
+
+/// A command that took too long.
+const OUT_OF_TIME: Says = Says {
+    may_read_again: false,
+    recovers: false,
+    takes_no_writes: false,
+    changes_its_state: false,
+    shuts_down: false,
+    is_out_of_time: true,
+    asks_who: false,
+    leaves_commit_unknown: true,
+    may_resume: false,
+    has_no_namespace: false,
+};
+
+/// A write concern that was not met.
+const UNMET: Says = Says {
+    may_read_again: false,
+    recovers: false,
+    takes_no_writes: false,
+    changes_its_state: false,
+    shuts_down: false,
+    is_out_of_time: false,
+    asks_who: false,
+    leaves_commit_unknown: true,
+    may_resume: false,
+    has_no_namespace: false,
+};
+
+/// A server that asks for another authentication.
+const ASKS_WHO: Says = Says {
+    may_read_again: false,
+    recovers: false,
+    takes_no_writes: false,
+    changes_its_state: false,
+    shuts_down: false,
+    is_out_of_time: false,
+    asks_who: true,
+    leaves_commit_unknown: false,
+    may_resume: false,
+    has_no_namespace: false,
+};
+
+/// A cursor that is not known.
+const NO_CURSOR: Says = Says {
+    may_read_again: false,
+    recovers: false,
+    takes_no_writes: false,
+    changes_its_state: false,
+    shuts_down: false,
+    is_out_of_time: false,
+    asks_who: false,
+    leaves_commit_unknown: false,
+    may_resume: true,
+    has_no_namespace: false,
+};
+
+/// A namespace that is not there.
+const NO_NAMESPACE: Says = Says {
+    may_read_again: false,
+    recovers: false,
+    takes_no_writes: false,
+    changes_its_state: false,
+    shuts_down: false,
+    is_out_of_time: false,
+    asks_who: false,
+    leaves_commit_unknown: false,
+    may_resume: false,
+    has_no_namespace: true,
+};
+
+/// Another code.
+const NOTHING: Says = Says {
+    may_read_again: false,
+    recovers: false,
+    takes_no_writes: false,
+    changes_its_state: false,
+    shuts_down: false,
+    is_out_of_time: false,
+    asks_who: false,
+    leaves_commit_unknown: false,
+    may_resume: false,
+    has_no_namespace: false,
+};
+
+const CODES: [Row; 21] = [
+    Row {
+        code: 11600,
+        says: SHUTS_DOWN,
+    },
+    Row {
+        code: 11602,
+        says: RECOVERS,
+    },
+    Row {
+        code: 13436,
+        says: RECOVERS,
+    },
+    Row {
+        code: 189,
+        says: RECOVERS,
+    },
+    Row {
+        code: 91,
+        says: SHUTS_DOWN_AMID_A_COMMIT,
+    },
+    Row {
+        code: 10107,
+        says: TAKES_NO_WRITES,
+    },
+    Row {
+        code: 13435,
+        says: TAKES_NO_WRITES,
+    },
+    Row {
+        code: 10058,
+        says: TOOK_NO_WRITES,
+    },
+    Row {
+        code: 7,
+        says: READ_AGAIN,
+    },
+    Row {
+        code: 6,
+        says: READ_AGAIN,
+    },
+    Row {
+        code: 89,
+        says: READ_AGAIN,
+    },
+    Row {
+        code: 9001,
+        says: READ_AGAIN,
+    },
+    Row {
+        code: 134,
+        says: READ_AGAIN,
+    },
+    Row {
+        code: 262,
+        says: READ_AGAIN,
+    },
+    Row {
+        code: 50,
+        says: OUT_OF_TIME,
+    },
+    Row {
+        code: 64,
+        says: UNMET,
+    },
+    Row {
+        code: 391,
+        says: ASKS_WHO,
+    },
+    Row {
+        code: 43,
+        says: NO_CURSOR,
+    },
+    Row {
+        code: 26,
+        says: NO_NAMESPACE,
+    },
+    Row {
+        code: 0,
+        says: NOTHING,
+    },
+    Row {
+        code: -50,
+        says: NOTHING,
+    },
 ];
+
+fn rows() -> &'static [Row] {
+    &CODES
+}
 
 fn may_read_again(error: &Error) -> bool {
     error.is_read_retryable()
@@ -81,29 +324,32 @@ fn has_no_namespace(error: &Error) -> bool {
 }
 
 fn said(error: &Error) -> Says {
-    [
-        may_read_again(error),
-        recovers(error),
-        takes_no_writes(error),
-        changes_its_state(error),
-        shuts_down(error),
-        is_out_of_time(error),
-        asks_who(error),
-        leaves_commit_unknown(error),
-        may_resume(error),
-        has_no_namespace(error),
-    ]
+    Says {
+        may_read_again: may_read_again(error),
+        recovers: recovers(error),
+        takes_no_writes: takes_no_writes(error),
+        changes_its_state: changes_its_state(error),
+        shuts_down: shuts_down(error),
+        is_out_of_time: is_out_of_time(error),
+        asks_who: asks_who(error),
+        leaves_commit_unknown: leaves_commit_unknown(error),
+        may_resume: may_resume(error),
+        has_no_namespace: has_no_namespace(error),
+    }
 }
 
-fn says(error: &Error, code: i32, row: &Says) -> bool {
-    error.sdam_code() == Some(code) && said(error) == *row
+/// Whether an error is judged by this code.
+fn is_of(error: &Error, code: i32) -> bool {
+    error.sdam_code() == Some(code)
 }
 
 #[test]
 fn each_code_says_what_the_table_says(rt: HostRuntime) -> Result<(), Fail> {
-    for (code, row) in rows() {
-        let error = held(rt.alloc(), command_failed(rt.alloc(), *code)?)?;
-        assert!(rt; says(error.get(), *code, row));
+    for row in rows() {
+        let code = row.code;
+        let error = held(rt.alloc(), command_failed(rt.alloc(), code)?)?;
+        assert!(rt; is_of(error.get(), code), "code {code}");
+        assert_eq!(rt; said(error.get()), row.says, "code {code}");
     }
     Ok(())
 }

@@ -2,7 +2,7 @@
 use crate::copies::{concern, write_errors};
 use crate::errors::{command, command_failed, text_list};
 use crate::results::{copies_alike, counts};
-use crate::texts::kind;
+use crate::texts::{kind, texts};
 use bson_lite::{Boxed, Bson, ByIndex, List, Text};
 use driver_error::{
     BulkWriteError, CommandErrorBody, Error, ErrorKind, GridFsErrorKind, GridFsFileIdentifier,
@@ -13,8 +13,8 @@ use std::test::Fail;
 
 #[test]
 fn kinds_are_copied(rt: HostRuntime) -> Result<(), Fail> {
-    for at in 0..21 {
-        assert!(rt; copies_alike(rt.alloc(), kind(rt.alloc(), at)?)?);
+    for (at, text) in texts().iter().enumerate() {
+        assert!(rt; copies_alike(rt.alloc(), kind(rt.alloc(), at)?)?, "{text}");
     }
     assert!(rt; copies_alike(rt.alloc(), IoKind::Other)?);
     Ok(())
@@ -58,10 +58,24 @@ fn body(alloc: Global) -> Result<CommandErrorBody, AllocError> {
     })
 }
 
+const FAILED_WRITES: [&str; 4] = [
+    "an insert of many",
+    "a bulk write",
+    "a write error",
+    "a write concern error",
+];
+
+fn failed_writes() -> &'static [&'static str] {
+    &FAILED_WRITES
+}
+
 #[test]
 fn failures_of_writes_are_copied(rt: HostRuntime) -> Result<(), Fail> {
-    for at in 0..4 {
-        assert!(rt; copies_alike(rt.alloc(), failed_write(rt.alloc(), at)?)?);
+    for (at, name) in failed_writes().iter().enumerate() {
+        assert!(rt;
+            copies_alike(rt.alloc(), failed_write(rt.alloc(), at)?)?,
+            "{name}"
+        );
     }
     assert!(rt; copies_alike(rt.alloc(), body(rt.alloc())?)?);
     Ok(())
@@ -74,6 +88,21 @@ fn failed_write(alloc: Global, at: usize) -> Result<ErrorKind, AllocError> {
         2 => ErrorKind::Write(WriteFailure::WriteError(write_error(alloc)?)),
         _ => ErrorKind::Write(WriteFailure::WriteConcernError(concern(alloc)?)),
     })
+}
+
+const FILE_ERRORS: [&str; 8] = [
+    "no file of a name",
+    "no file of an id",
+    "no revision",
+    "a closed upload",
+    "a chunk of another size",
+    "another number of chunks",
+    "a failed abort",
+    "a failed abort of what had failed",
+];
+
+fn file_errors() -> &'static [&'static str] {
+    &FILE_ERRORS
 }
 
 fn file_error(alloc: Global, at: usize) -> Result<GridFsErrorKind<Error>, AllocError> {
@@ -108,8 +137,11 @@ fn file_error(alloc: Global, at: usize) -> Result<GridFsErrorKind<Error>, AllocE
 
 #[test]
 fn errors_of_files_are_copied(rt: HostRuntime) -> Result<(), Fail> {
-    for at in 0..8 {
-        assert!(rt; copies_alike(rt.alloc(), file_error(rt.alloc(), at)?)?);
+    for (at, name) in file_errors().iter().enumerate() {
+        assert!(rt;
+            copies_alike(rt.alloc(), file_error(rt.alloc(), at)?)?,
+            "{name}"
+        );
     }
     Ok(())
 }

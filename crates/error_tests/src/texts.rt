@@ -8,7 +8,7 @@ use driver_error::{
 use std::alloc::{AllocError, Global};
 use std::test::Fail;
 
-const TEXTS: [&str; 21] = [
+const TEXTS: [&str; 22] = [
     "An invalid argument was provided: m",
     "The server returned an invalid reply to a database operation: m",
     "The server does not support a database operation: m",
@@ -29,10 +29,11 @@ const TEXTS: [&str; 21] = [
     "TooDeep",
     "ZeroByte",
     "MissingChunk { n: 3 }",
+    "\"m\"",
     "WriteInProgress",
 ];
 
-fn texts() -> &'static [&'static str] {
+pub(crate) fn texts() -> &'static [&'static str] {
     &TEXTS
 }
 
@@ -63,6 +64,7 @@ pub(crate) fn kind(alloc: Global, at: usize) -> Result<ErrorKind, AllocError> {
         17 => ErrorKind::BsonSerialization(EncodeFault::TooDeep),
         18 => ErrorKind::BsonSerialization(EncodeFault::ZeroByte),
         19 => ErrorKind::GridFs(GridFsErrorKind::MissingChunk { n: 3 }),
+        20 => ErrorKind::BsonDeserialization(message),
         _ => ErrorKind::GridFs(GridFsErrorKind::WriteInProgress),
     })
 }

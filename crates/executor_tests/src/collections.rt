@@ -31,7 +31,7 @@ const BY_TWO: &[u8] = b"\x03writeConcern\0\x0c\0\0\0\x10w\0\x02\0\0\0\0";
 const BY_THREE: &[u8] = b"\x03writeConcern\0\x0c\0\0\0\x10w\0\x03\0\0\0\0";
 
 /// The concerns of a write, of its collection and of its client.
-#[derive(Clone, Copy)]
+#[derive(Clone, Copy, Debug)]
 struct Concerns {
     own: Concern,
     collection: Concern,
@@ -239,7 +239,7 @@ fn a_collections_own_concern_counts_between_its_writes_and_its_clients(
 ) -> std::result::Result<(), Fail> {
     for (concerns, concern) in SENT {
         let sent = is_sent(rt.alloc(), *concerns, concern)?;
-        assert!(rt; sent);
+        assert!(rt; sent, "{concerns:?}");
     }
     let refused = is_refused(rt.alloc(), REFUSED)?;
     assert!(rt; refused);

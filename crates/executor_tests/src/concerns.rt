@@ -8,7 +8,7 @@ use test_parts::faking::{ALIKE, DONE, Given, fake_link};
 use test_parts::inserting::{Ended, Seen, insert_under};
 
 /// What a row's concern says of the servers that acknowledge a write.
-#[derive(Clone, Copy)]
+#[derive(Clone, Copy, Debug)]
 enum Servers {
     Unset,
     Nodes(u32),
@@ -17,7 +17,7 @@ enum Servers {
 }
 
 /// A concern as a row spells it.
-#[derive(Clone, Copy)]
+#[derive(Clone, Copy, Debug)]
 struct Concern {
     w: Servers,
     w_timeout: Option<u32>,
@@ -226,7 +226,7 @@ fn is_refused(alloc: Global, concern: Concern, ended: Ended) -> Result<bool, All
 fn a_concern_is_spelled_by_its_fields_that_are_set(rt: HostRuntime) -> Result<(), Fail> {
     for (concern, bytes) in SPELLED {
         let spelled = is_spelled(rt.alloc(), *concern, bytes)?;
-        assert!(rt; spelled);
+        assert!(rt; spelled, "{concern:?}");
     }
     Ok(())
 }
@@ -235,7 +235,7 @@ fn a_concern_is_spelled_by_its_fields_that_are_set(rt: HostRuntime) -> Result<()
 fn a_clients_concern_stands_between_number_and_database(rt: HostRuntime) -> Result<(), Fail> {
     for (concern, end) in SENT {
         let sent = is_sent(rt.alloc(), *concern, end)?;
-        assert!(rt; sent);
+        assert!(rt; sent, "{concern:?}");
     }
     Ok(())
 }
@@ -244,7 +244,7 @@ fn a_clients_concern_stands_between_number_and_database(rt: HostRuntime) -> Resu
 fn a_concern_that_is_refused_sends_nothing(rt: HostRuntime) -> Result<(), Fail> {
     for (concern, ended) in REFUSED {
         let refused = is_refused(rt.alloc(), *concern, *ended)?;
-        assert!(rt; refused);
+        assert!(rt; refused, "{concern:?}");
     }
     Ok(())
 }

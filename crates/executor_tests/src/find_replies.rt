@@ -1,6 +1,6 @@
 //! Replies to findAndModify over a fake link: the document that they tell, or none, the failures, and the forms that
 //! are refused.
-use crate::write_replies::{BARE, FoundDocument, REFUSED, Told, told_of};
+use crate::write_replies::{BARE, FoundDocument, REFUSED, Row, Told, told_of};
 use std::test::Fail;
 use test_parts::inserting::Ended;
 use test_parts::writes::Kind;
@@ -59,116 +59,137 @@ const LABELLED: &[u8] =
     b"\x65\0\0\0\x10ok\0\x01\0\0\0\x0avalue\0\x03writeConcernError\0\x20\0\0\0\x10code\0\x40\0\0\0\x02errmsg\0\x05\0\0\0late\0\0\x04errorLabels\0\x11\0\0\0\x020\0\x05\0\0\0told\0\0\0";
 
 /// The calls, the replies to them, and what they tell.
-const REPLIES: &[(Kind, &[u8], Told)] = &[
-    (
-        Kind::FindOneAndDelete,
-        FOUND,
-        Told::Found(FoundDocument::Number(1)),
-    ),
-    (
-        Kind::FindOneAndUpdate,
-        FOUND,
-        Told::Found(FoundDocument::Number(1)),
-    ),
-    (
-        Kind::FindOneAndReplace,
-        FOUND,
-        Told::Found(FoundDocument::Number(1)),
-    ),
-    (
-        Kind::FindOneAndUpdate,
-        LONG,
-        Told::Found(FoundDocument::Number(2)),
-    ),
-    (
-        Kind::FindOneAndDelete,
-        NONE_FOUND,
-        Told::Found(FoundDocument::None),
-    ),
-    (
-        Kind::FindOneAndReplace,
-        NONE_FOUND,
-        Told::Found(FoundDocument::None),
-    ),
-    (
-        Kind::FindOneAndUpdate,
-        EMPTY_FOUND,
-        Told::Found(FoundDocument::Empty),
-    ),
-    (
-        Kind::FindOneAndDelete,
-        BARE,
-        Told::Failed(Ended::InvalidResponse),
-    ),
-    (
-        Kind::FindOneAndUpdate,
-        COUNTED,
-        Told::Failed(Ended::InvalidResponse),
-    ),
-    (
-        Kind::FindOneAndDelete,
-        NUMBER,
-        Told::Failed(Ended::InvalidResponse),
-    ),
-    (
-        Kind::FindOneAndReplace,
-        TEXT,
-        Told::Failed(Ended::InvalidResponse),
-    ),
-    (
-        Kind::FindOneAndUpdate,
-        FLAG,
-        Told::Failed(Ended::InvalidResponse),
-    ),
-    (
-        Kind::FindOneAndDelete,
-        LIST,
-        Told::Failed(Ended::InvalidResponse),
-    ),
-    (
-        Kind::FindOneAndUpdate,
-        EMPTY_LIST,
-        Told::Failed(Ended::InvalidResponse),
-    ),
-    (
-        Kind::FindOneAndUpdate,
-        DUPLICATE,
-        Told::Failed(Ended::WriteError(11000)),
-    ),
-    (
-        Kind::FindOneAndUpdate,
-        DUPLICATE_ALONE,
-        Told::Failed(Ended::InvalidResponse),
-    ),
-    (
-        Kind::FindOneAndDelete,
-        UNMET,
-        Told::Failed(Ended::ConcernError(64)),
-    ),
-    (
-        Kind::FindOneAndReplace,
-        BOTH,
-        Told::Failed(Ended::WriteError(11000)),
-    ),
-    (
-        Kind::FindOneAndUpdate,
-        LABELLED,
-        Told::Labelled(Ended::ConcernError(64)),
-    ),
-    (
-        Kind::FindOneAndReplace,
-        REFUSED,
-        Told::Failed(Ended::Command(13)),
-    ),
+const REPLIES: &[Row] = &[
+    Row {
+        kind: Kind::FindOneAndDelete,
+        name: "found",
+        reply: FOUND,
+        told: Told::Found(FoundDocument::Number(1)),
+    },
+    Row {
+        kind: Kind::FindOneAndUpdate,
+        name: "found",
+        reply: FOUND,
+        told: Told::Found(FoundDocument::Number(1)),
+    },
+    Row {
+        kind: Kind::FindOneAndReplace,
+        name: "found",
+        reply: FOUND,
+        told: Told::Found(FoundDocument::Number(1)),
+    },
+    Row {
+        kind: Kind::FindOneAndUpdate,
+        name: "long",
+        reply: LONG,
+        told: Told::Found(FoundDocument::Number(2)),
+    },
+    Row {
+        kind: Kind::FindOneAndDelete,
+        name: "none found",
+        reply: NONE_FOUND,
+        told: Told::Found(FoundDocument::None),
+    },
+    Row {
+        kind: Kind::FindOneAndReplace,
+        name: "none found",
+        reply: NONE_FOUND,
+        told: Told::Found(FoundDocument::None),
+    },
+    Row {
+        kind: Kind::FindOneAndUpdate,
+        name: "empty found",
+        reply: EMPTY_FOUND,
+        told: Told::Found(FoundDocument::Empty),
+    },
+    Row {
+        kind: Kind::FindOneAndDelete,
+        name: "bare",
+        reply: BARE,
+        told: Told::Failed(Ended::InvalidResponse),
+    },
+    Row {
+        kind: Kind::FindOneAndUpdate,
+        name: "counted",
+        reply: COUNTED,
+        told: Told::Failed(Ended::InvalidResponse),
+    },
+    Row {
+        kind: Kind::FindOneAndDelete,
+        name: "number",
+        reply: NUMBER,
+        told: Told::Failed(Ended::InvalidResponse),
+    },
+    Row {
+        kind: Kind::FindOneAndReplace,
+        name: "text",
+        reply: TEXT,
+        told: Told::Failed(Ended::InvalidResponse),
+    },
+    Row {
+        kind: Kind::FindOneAndUpdate,
+        name: "flag",
+        reply: FLAG,
+        told: Told::Failed(Ended::InvalidResponse),
+    },
+    Row {
+        kind: Kind::FindOneAndDelete,
+        name: "list",
+        reply: LIST,
+        told: Told::Failed(Ended::InvalidResponse),
+    },
+    Row {
+        kind: Kind::FindOneAndUpdate,
+        name: "empty list",
+        reply: EMPTY_LIST,
+        told: Told::Failed(Ended::InvalidResponse),
+    },
+    Row {
+        kind: Kind::FindOneAndUpdate,
+        name: "duplicate",
+        reply: DUPLICATE,
+        told: Told::Failed(Ended::WriteError(11000)),
+    },
+    Row {
+        kind: Kind::FindOneAndUpdate,
+        name: "duplicate alone",
+        reply: DUPLICATE_ALONE,
+        told: Told::Failed(Ended::InvalidResponse),
+    },
+    Row {
+        kind: Kind::FindOneAndDelete,
+        name: "unmet",
+        reply: UNMET,
+        told: Told::Failed(Ended::ConcernError(64)),
+    },
+    Row {
+        kind: Kind::FindOneAndReplace,
+        name: "both",
+        reply: BOTH,
+        told: Told::Failed(Ended::WriteError(11000)),
+    },
+    Row {
+        kind: Kind::FindOneAndUpdate,
+        name: "labelled",
+        reply: LABELLED,
+        told: Told::Labelled(Ended::ConcernError(64)),
+    },
+    Row {
+        kind: Kind::FindOneAndReplace,
+        name: "refused",
+        reply: REFUSED,
+        told: Told::Failed(Ended::Command(13)),
+    },
 ];
 
 #[test]
 fn a_find_and_modify_tells_the_document_of_its_reply(
     rt: HostRuntime,
 ) -> std::result::Result<(), Fail> {
-    for (kind, reply, told) in REPLIES {
-        let found = told_of(rt.alloc(), *kind, reply)?;
-        assert!(rt; found == Some(*told), "{kind:?}");
+    for row in REPLIES {
+        let (kind, name) = (row.kind, row.name);
+        let found = told_of(rt.alloc(), kind, row.reply)?;
+        assert_eq!(rt; found, Some(row.told), "{kind:?} of {name}");
     }
     Ok(())
 }

@@ -104,7 +104,7 @@ const STRANGE_INDEX: &[u8] =
     b"\x53\0\0\0\x10ok\0\x01\0\0\0\x10n\0\0\0\0\0\x04writeErrors\0\x32\0\0\0\x030\0\x2a\0\0\0\x10index\0\x01\0\0\0\x10code\0\xf8\x2a\0\0\x02errmsg\0\x04\0\0\0dup\0\0\0\0";
 
 /// What a document that was found tells.
-#[derive(Clone, Copy, PartialEq, Eq)]
+#[derive(Clone, Copy, Debug, PartialEq, Eq)]
 pub(crate) enum FoundDocument {
     None,
     Empty,
@@ -115,7 +115,7 @@ pub(crate) enum FoundDocument {
 }
 
 /// What a write tells of its reply.
-#[derive(Clone, Copy, PartialEq, Eq)]
+#[derive(Clone, Copy, Debug, PartialEq, Eq)]
 pub(crate) enum Told {
     Inserted,
     Updated {
@@ -160,129 +160,333 @@ const LEFT_ALIKE: Told = Told::Updated {
     upserted: None,
 };
 
-/// Updates and deletes, the replies to them, and what they tell.
-const REPLIES: &[(Kind, &[u8], Told)] = &[
-    (Kind::UpdateMany, THREE_FOUND, UPDATED),
-    (Kind::UpdateMany, LONG_COUNTS, UPDATED),
-    (Kind::UpdateOne, DOUBLES, LEFT_ALIKE),
-    (Kind::UpdateOne, CHANGED, ONE_UPDATED),
-    (Kind::ReplaceOne, CHANGED, ONE_UPDATED),
-    (Kind::UpdateOne, PUT_IN, UPSERTED),
-    (Kind::UpdateMany, PUT_IN, UPSERTED),
-    (Kind::ReplaceOne, PUT_IN, UPSERTED),
-    (Kind::UpdateMany, NONE_PUT_IN, UPDATED),
-    (Kind::UpdateMany, PUT_IN_WITHOUT_ID, UPDATED),
-    (Kind::UpdateOne, NO_ERRORS, ONE_UPDATED),
-    (
-        Kind::UpdateOne,
-        UNCOUNTED,
-        Told::Failed(Ended::InvalidResponse),
-    ),
-    (Kind::UpdateOne, TEXT, Told::Failed(Ended::InvalidResponse)),
-    (Kind::UpdateOne, NULL, Told::Failed(Ended::InvalidResponse)),
-    (
-        Kind::UpdateMany,
-        DOUBLE_THREE,
-        Told::Failed(Ended::InvalidResponse),
-    ),
-    (
-        Kind::UpdateOne,
-        NEGATIVE,
-        Told::Failed(Ended::InvalidResponse),
-    ),
-    (Kind::UpdateOne, DONE, Told::Failed(Ended::InvalidResponse)),
-    (
-        Kind::ReplaceOne,
-        NEGATIVELY_CHANGED,
-        Told::Failed(Ended::InvalidResponse),
-    ),
-    (
-        Kind::UpdateOne,
-        DUPLICATE,
-        Told::Failed(Ended::WriteError(11000)),
-    ),
-    (
-        Kind::UpdateMany,
-        TWO_ERRORS,
-        Told::Failed(Ended::WriteError(11000)),
-    ),
-    (
-        Kind::UpdateMany,
-        UNMET,
-        Told::Failed(Ended::ConcernError(64)),
-    ),
-    (
-        Kind::UpdateOne,
-        BOTH,
-        Told::Failed(Ended::WriteError(11000)),
-    ),
-    (
-        Kind::ReplaceOne,
-        LABELLED,
-        Told::Labelled(Ended::WriteError(11000)),
-    ),
-    (Kind::UpdateOne, REFUSED, Told::Failed(Ended::Command(13))),
-    (Kind::DeleteOne, DONE, Told::Deleted(1)),
-    (Kind::DeleteOne, NONE_FOUND, Told::Deleted(0)),
-    (Kind::DeleteMany, THREE_FOUND, Told::Deleted(3)),
-    (Kind::DeleteMany, LONG_COUNTS, Told::Deleted(3)),
-    (Kind::DeleteMany, MANY, Told::Deleted(4_294_967_296)),
-    (Kind::DeleteOne, BARE, Told::Failed(Ended::InvalidResponse)),
-    (
-        Kind::DeleteOne,
-        UNCOUNTED,
-        Told::Failed(Ended::InvalidResponse),
-    ),
-    (Kind::DeleteOne, TEXT, Told::Failed(Ended::InvalidResponse)),
-    (
-        Kind::DeleteMany,
-        NEGATIVE,
-        Told::Failed(Ended::InvalidResponse),
-    ),
-    (
-        Kind::DeleteMany,
-        DOUBLE_THREE,
-        Told::Failed(Ended::InvalidResponse),
-    ),
-    (
-        Kind::DeleteOne,
-        DUPLICATE,
-        Told::Failed(Ended::WriteError(11000)),
-    ),
-    (
-        Kind::DeleteMany,
-        UNMET,
-        Told::Failed(Ended::ConcernError(64)),
-    ),
-    (
-        Kind::DeleteMany,
-        BOTH,
-        Told::Failed(Ended::WriteError(11000)),
-    ),
-    (
-        Kind::DeleteOne,
-        LABELLED,
-        Told::Labelled(Ended::WriteError(11000)),
-    ),
-    (Kind::DeleteMany, REFUSED, Told::Failed(Ended::Command(13))),
+/// A write, the name of the reply to it and the reply, and what it tells.
+pub(crate) struct Row {
+    pub(crate) kind: Kind,
+    pub(crate) name: &'static str,
+    pub(crate) reply: &'static [u8],
+    pub(crate) told: Told,
+}
+
+/// Updates and deletes.
+const REPLIES: &[Row] = &[
+    Row {
+        kind: Kind::UpdateMany,
+        name: "three found",
+        reply: THREE_FOUND,
+        told: UPDATED,
+    },
+    Row {
+        kind: Kind::UpdateMany,
+        name: "long counts",
+        reply: LONG_COUNTS,
+        told: UPDATED,
+    },
+    Row {
+        kind: Kind::UpdateOne,
+        name: "doubles",
+        reply: DOUBLES,
+        told: LEFT_ALIKE,
+    },
+    Row {
+        kind: Kind::UpdateOne,
+        name: "changed",
+        reply: CHANGED,
+        told: ONE_UPDATED,
+    },
+    Row {
+        kind: Kind::ReplaceOne,
+        name: "changed",
+        reply: CHANGED,
+        told: ONE_UPDATED,
+    },
+    Row {
+        kind: Kind::UpdateOne,
+        name: "put in",
+        reply: PUT_IN,
+        told: UPSERTED,
+    },
+    Row {
+        kind: Kind::UpdateMany,
+        name: "put in",
+        reply: PUT_IN,
+        told: UPSERTED,
+    },
+    Row {
+        kind: Kind::ReplaceOne,
+        name: "put in",
+        reply: PUT_IN,
+        told: UPSERTED,
+    },
+    Row {
+        kind: Kind::UpdateMany,
+        name: "none put in",
+        reply: NONE_PUT_IN,
+        told: UPDATED,
+    },
+    Row {
+        kind: Kind::UpdateMany,
+        name: "put in without id",
+        reply: PUT_IN_WITHOUT_ID,
+        told: UPDATED,
+    },
+    Row {
+        kind: Kind::UpdateOne,
+        name: "no errors",
+        reply: NO_ERRORS,
+        told: ONE_UPDATED,
+    },
+    Row {
+        kind: Kind::UpdateOne,
+        name: "uncounted",
+        reply: UNCOUNTED,
+        told: Told::Failed(Ended::InvalidResponse),
+    },
+    Row {
+        kind: Kind::UpdateOne,
+        name: "text",
+        reply: TEXT,
+        told: Told::Failed(Ended::InvalidResponse),
+    },
+    Row {
+        kind: Kind::UpdateOne,
+        name: "null",
+        reply: NULL,
+        told: Told::Failed(Ended::InvalidResponse),
+    },
+    Row {
+        kind: Kind::UpdateMany,
+        name: "double three",
+        reply: DOUBLE_THREE,
+        told: Told::Failed(Ended::InvalidResponse),
+    },
+    Row {
+        kind: Kind::UpdateOne,
+        name: "negative",
+        reply: NEGATIVE,
+        told: Told::Failed(Ended::InvalidResponse),
+    },
+    Row {
+        kind: Kind::UpdateOne,
+        name: "done",
+        reply: DONE,
+        told: Told::Failed(Ended::InvalidResponse),
+    },
+    Row {
+        kind: Kind::ReplaceOne,
+        name: "negatively changed",
+        reply: NEGATIVELY_CHANGED,
+        told: Told::Failed(Ended::InvalidResponse),
+    },
+    Row {
+        kind: Kind::UpdateOne,
+        name: "duplicate",
+        reply: DUPLICATE,
+        told: Told::Failed(Ended::WriteError(11000)),
+    },
+    Row {
+        kind: Kind::UpdateMany,
+        name: "two errors",
+        reply: TWO_ERRORS,
+        told: Told::Failed(Ended::WriteError(11000)),
+    },
+    Row {
+        kind: Kind::UpdateMany,
+        name: "unmet",
+        reply: UNMET,
+        told: Told::Failed(Ended::ConcernError(64)),
+    },
+    Row {
+        kind: Kind::UpdateOne,
+        name: "both",
+        reply: BOTH,
+        told: Told::Failed(Ended::WriteError(11000)),
+    },
+    Row {
+        kind: Kind::ReplaceOne,
+        name: "labelled",
+        reply: LABELLED,
+        told: Told::Labelled(Ended::WriteError(11000)),
+    },
+    Row {
+        kind: Kind::UpdateOne,
+        name: "refused",
+        reply: REFUSED,
+        told: Told::Failed(Ended::Command(13)),
+    },
+    Row {
+        kind: Kind::DeleteOne,
+        name: "done",
+        reply: DONE,
+        told: Told::Deleted(1),
+    },
+    Row {
+        kind: Kind::DeleteOne,
+        name: "none found",
+        reply: NONE_FOUND,
+        told: Told::Deleted(0),
+    },
+    Row {
+        kind: Kind::DeleteMany,
+        name: "three found",
+        reply: THREE_FOUND,
+        told: Told::Deleted(3),
+    },
+    Row {
+        kind: Kind::DeleteMany,
+        name: "long counts",
+        reply: LONG_COUNTS,
+        told: Told::Deleted(3),
+    },
+    Row {
+        kind: Kind::DeleteMany,
+        name: "many",
+        reply: MANY,
+        told: Told::Deleted(4_294_967_296),
+    },
+    Row {
+        kind: Kind::DeleteOne,
+        name: "bare",
+        reply: BARE,
+        told: Told::Failed(Ended::InvalidResponse),
+    },
+    Row {
+        kind: Kind::DeleteOne,
+        name: "uncounted",
+        reply: UNCOUNTED,
+        told: Told::Failed(Ended::InvalidResponse),
+    },
+    Row {
+        kind: Kind::DeleteOne,
+        name: "text",
+        reply: TEXT,
+        told: Told::Failed(Ended::InvalidResponse),
+    },
+    Row {
+        kind: Kind::DeleteMany,
+        name: "negative",
+        reply: NEGATIVE,
+        told: Told::Failed(Ended::InvalidResponse),
+    },
+    Row {
+        kind: Kind::DeleteMany,
+        name: "double three",
+        reply: DOUBLE_THREE,
+        told: Told::Failed(Ended::InvalidResponse),
+    },
+    Row {
+        kind: Kind::DeleteOne,
+        name: "duplicate",
+        reply: DUPLICATE,
+        told: Told::Failed(Ended::WriteError(11000)),
+    },
+    Row {
+        kind: Kind::DeleteMany,
+        name: "unmet",
+        reply: UNMET,
+        told: Told::Failed(Ended::ConcernError(64)),
+    },
+    Row {
+        kind: Kind::DeleteMany,
+        name: "both",
+        reply: BOTH,
+        told: Told::Failed(Ended::WriteError(11000)),
+    },
+    Row {
+        kind: Kind::DeleteOne,
+        name: "labelled",
+        reply: LABELLED,
+        told: Told::Labelled(Ended::WriteError(11000)),
+    },
+    Row {
+        kind: Kind::DeleteMany,
+        name: "refused",
+        reply: REFUSED,
+        told: Told::Failed(Ended::Command(13)),
+    },
 ];
 
 /// Replies to an unordered insert of one document, and what it tells: the count and the errors go together, and
 /// each error has an index of its own.
-const UNORDERED: &[(&[u8], Told)] = &[
-    (DONE, Told::Inserted),
-    (NO_ERRORS, Told::Inserted),
-    (DUPLICATE, Told::Failed(Ended::WriteError(11000))),
-    (LABELLED, Told::Labelled(Ended::WriteError(11000))),
-    (BOTH, Told::Failed(Ended::WriteError(11000))),
-    (UNMET, Told::Failed(Ended::ConcernError(64))),
-    (REFUSED, Told::Failed(Ended::Command(13))),
-    (NONE_FOUND, Told::Failed(Ended::InvalidResponse)),
-    (THREE_FOUND, Told::Failed(Ended::InvalidResponse)),
-    (BARE, Told::Failed(Ended::InvalidResponse)),
-    (COUNTED_ERROR, Told::Failed(Ended::InvalidResponse)),
-    (STRANGE_INDEX, Told::Failed(Ended::InvalidResponse)),
-    (TWO_ERRORS, Told::Failed(Ended::InvalidResponse)),
+const UNORDERED: &[Row] = &[
+    Row {
+        kind: Kind::InsertOne,
+        name: "done",
+        reply: DONE,
+        told: Told::Inserted,
+    },
+    Row {
+        kind: Kind::InsertOne,
+        name: "no errors",
+        reply: NO_ERRORS,
+        told: Told::Inserted,
+    },
+    Row {
+        kind: Kind::InsertOne,
+        name: "duplicate",
+        reply: DUPLICATE,
+        told: Told::Failed(Ended::WriteError(11000)),
+    },
+    Row {
+        kind: Kind::InsertOne,
+        name: "labelled",
+        reply: LABELLED,
+        told: Told::Labelled(Ended::WriteError(11000)),
+    },
+    Row {
+        kind: Kind::InsertOne,
+        name: "both",
+        reply: BOTH,
+        told: Told::Failed(Ended::WriteError(11000)),
+    },
+    Row {
+        kind: Kind::InsertOne,
+        name: "unmet",
+        reply: UNMET,
+        told: Told::Failed(Ended::ConcernError(64)),
+    },
+    Row {
+        kind: Kind::InsertOne,
+        name: "refused",
+        reply: REFUSED,
+        told: Told::Failed(Ended::Command(13)),
+    },
+    Row {
+        kind: Kind::InsertOne,
+        name: "none found",
+        reply: NONE_FOUND,
+        told: Told::Failed(Ended::InvalidResponse),
+    },
+    Row {
+        kind: Kind::InsertOne,
+        name: "three found",
+        reply: THREE_FOUND,
+        told: Told::Failed(Ended::InvalidResponse),
+    },
+    Row {
+        kind: Kind::InsertOne,
+        name: "bare",
+        reply: BARE,
+        told: Told::Failed(Ended::InvalidResponse),
+    },
+    Row {
+        kind: Kind::InsertOne,
+        name: "counted error",
+        reply: COUNTED_ERROR,
+        told: Told::Failed(Ended::InvalidResponse),
+    },
+    Row {
+        kind: Kind::InsertOne,
+        name: "strange index",
+        reply: STRANGE_INDEX,
+        told: Told::Failed(Ended::InvalidResponse),
+    },
+    Row {
+        kind: Kind::InsertOne,
+        name: "two errors",
+        reply: TWO_ERRORS,
+        told: Told::Failed(Ended::InvalidResponse),
+    },
 ];
 
 /// What an update tells.
@@ -395,18 +599,20 @@ fn told_unordered(
 fn updates_and_deletes_tell_what_their_replies_count(
     rt: HostRuntime,
 ) -> std::result::Result<(), Fail> {
-    for (kind, reply, told) in REPLIES {
-        let found = told_of(rt.alloc(), *kind, reply)?;
-        assert!(rt; found == Some(*told), "{kind:?}");
+    for row in REPLIES {
+        let (kind, name) = (row.kind, row.name);
+        let found = told_of(rt.alloc(), kind, row.reply)?;
+        assert_eq!(rt; found, Some(row.told), "{kind:?} of {name}");
     }
     Ok(())
 }
 
 #[test]
 fn an_unordered_insert_reads_its_reply_too(rt: HostRuntime) -> std::result::Result<(), Fail> {
-    for (reply, told) in UNORDERED {
-        let found = told_unordered(rt.alloc(), reply)?;
-        assert!(rt; found == Some(*told));
+    for row in UNORDERED {
+        let name = row.name;
+        let found = told_unordered(rt.alloc(), row.reply)?;
+        assert_eq!(rt; found, Some(row.told), "of {name}");
     }
     Ok(())
 }

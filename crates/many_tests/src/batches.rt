@@ -13,7 +13,7 @@ use test_parts::faking::{DONE, Given, Servers, inserted};
 use test_parts::inserting::{Ended, SERVER};
 
 /// The three limits of a connection.
-#[derive(Clone, Copy)]
+#[derive(Clone, Copy, Debug)]
 struct Sizes {
     bson: i64,
     message: i64,
@@ -21,7 +21,7 @@ struct Sizes {
 }
 
 /// What a build comes to.
-#[derive(Clone, Copy)]
+#[derive(Clone, Copy, Debug)]
 enum Built {
     Takes(usize),
     Refused(&'static str),
@@ -195,20 +195,23 @@ fn builds(alloc: Global, insert: &mut Insert<'_>, sizes: Sizes, built: Built) ->
     }
 }
 
-/// Whether builds of one insert, one after the other, come to these.
-fn all_build(alloc: Global, rows: &[(Sizes, Built)]) -> Option<bool> {
+/// The first of these that a build of one insert does not come to, one after the other; no answer where there is
+/// no memory.
+fn wrong_build(alloc: Global, rows: &[(Sizes, Built)]) -> Option<Option<(Sizes, Built)>> {
     let documents = documents(alloc)?;
     let options = InsertManyOptions::default();
     let collection = items(alloc).ok()?;
     let mut insert = Insert::new(collection, 5, documents.as_slice(), &options);
-    let mut all = true;
+    let mut wrong = None;
     for (sizes, built) in rows {
-        all = builds(alloc, &mut insert, *sizes, *built) && all;
+        if !builds(alloc, &mut insert, *sizes, *built) && wrong.is_none() {
+            wrong = Some((*sizes, *built));
+        }
     }
     drop(insert);
     drop(options);
     drop(documents);
-    Some(all)
+    Some(wrong)
 }
 
 /// Later builds have as many documents as the first that was taken; where those do not fit they are refused.
@@ -371,16 +374,17 @@ fn all_read(alloc: Global, ordered: bool, reply: &[u8], told: Told) -> Option<bo
 
 #[test]
 fn a_first_build_takes_the_longest_front(rt: HostRuntime) -> Result<(), Fail> {
-    for (at, row) in BUILDS.iter().enumerate() {
-        let same = all_build(rt.alloc(), &[*row]) == Some(true);
-        assert!(rt; same, "row {at}");
+    for row in BUILDS {
+        let same = matches!(wrong_build(rt.alloc(), &[*row]), Some(None));
+        assert!(rt; same, "{row:?}");
     }
     Ok(())
 }
 
 #[test]
 fn later_builds_take_as_many_documents(rt: HostRuntime) -> Result<(), Fail> {
-    assert!(rt; all_build(rt.alloc(), LATER) == Some(true));
+    let wrong = wrong_build(rt.alloc(), LATER);
+    assert!(rt; matches!(wrong, Some(None)), "{wrong:?}");
     Ok(())
 }
 

@@ -17,7 +17,7 @@ const TWO_DONE: &[u8] = b"\x14\0\0\0\x10ok\0\x01\0\0\0\x10n\0\x02\0\0\0\0";
 const THREE_DONE: &[u8] = b"\x14\0\0\0\x10ok\0\x01\0\0\0\x10n\0\x03\0\0\0\0";
 
 /// A document of a list.
-#[derive(Clone, Copy)]
+#[derive(Clone, Copy, Debug)]
 enum Item {
     /// `{x: 1}`
     Plain,
@@ -28,7 +28,7 @@ enum Item {
 
 /// An insert of a list: whether its database is `a.b` and not `shop`, its documents, the flaw of its comment, and how
 /// it ends.
-#[derive(Clone, Copy)]
+#[derive(Clone, Copy, Debug)]
 struct Row {
     dotted: bool,
     items: &'static [Item],
@@ -229,9 +229,8 @@ fn draws_in_order(alloc: Global) -> Result<bool, AllocError> {
 #[test]
 fn lists_are_refused_for_their_input_in_order(rt: HostRuntime) -> Result<(), Fail> {
     for row in ROWS {
-        let ended = row.ended;
         let ends = ends(rt.alloc(), *row)?;
-        assert!(rt; ends, "to end {ended:?}");
+        assert!(rt; ends, "{row:?}");
     }
     Ok(())
 }

@@ -4,8 +4,9 @@ use crate::scripts::ran;
 use std::alloc::{AllocError, Global};
 use std::test::Fail;
 
-/// A script and its report.
+/// The name of an example, its script and its report.
 struct Row {
+    name: &'static str,
     script: &'static str,
     report: &'static str,
 }
@@ -289,42 +290,52 @@ totals: calls=3 ok=1 sends=6 entries=5
 
 const EXAMPLES: [Row; 10] = [
     Row {
+        name: "lost_reply",
         script: LOST_REPLY,
         report: REPORT_OF_LOST_REPLY,
     },
     Row {
+        name: "late_arrival",
         script: LATE_ARRIVAL,
         report: REPORT_OF_LATE_ARRIVAL,
     },
     Row {
+        name: "two_failures",
         script: TWO_FAILURES,
         report: REPORT_OF_TWO_FAILURES,
     },
     Row {
+        name: "refused_write",
         script: REFUSED_WRITE,
         report: REPORT_OF_REFUSED_WRITE,
     },
     Row {
+        name: "refused_input",
         script: REFUSED_INPUT,
         report: REPORT_OF_REFUSED_INPUT,
     },
     Row {
+        name: "upsert",
         script: UPSERT,
         report: REPORT_OF_UPSERT,
     },
     Row {
+        name: "multi_update",
         script: MULTI_UPDATE,
         report: REPORT_OF_MULTI_UPDATE,
     },
     Row {
+        name: "write_concern_error",
         script: WRITE_CONCERN_ERROR,
         report: REPORT_OF_WRITE_CONCERN_ERROR,
     },
     Row {
+        name: "claimed_job",
         script: CLAIMED_JOB,
         report: REPORT_OF_CLAIMED_JOB,
     },
     Row {
+        name: "insert_many",
         script: INSERT_MANY,
         report: REPORT_OF_INSERT_MANY,
     },
@@ -336,17 +347,19 @@ fn is_reported(alloc: Global, row: &Row) -> Result<bool, AllocError> {
     Ok(status == 0 && text.as_slice() == row.report.as_bytes())
 }
 
-fn are_reported(alloc: Global, rows: &[Row]) -> Result<bool, AllocError> {
+/// The name of the first example that is not reported as its row says.
+fn first_wrong(alloc: Global, rows: &[Row]) -> Result<Option<&'static str>, AllocError> {
     for row in rows {
         if !is_reported(alloc, row)? {
-            return Ok(false);
+            return Ok(Some(row.name));
         }
     }
-    Ok(true)
+    Ok(None)
 }
 
 #[test]
 fn examples_are_reported_as_their_texts_say(rt: HostRuntime) -> Result<(), Fail> {
-    assert!(rt; are_reported(rt.alloc(), &EXAMPLES)?);
+    let wrong = first_wrong(rt.alloc(), &EXAMPLES)?;
+    assert_eq!(rt; wrong, None);
     Ok(())
 }

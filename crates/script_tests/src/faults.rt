@@ -581,11 +581,15 @@ fn is_told(alloc: Global, call: &str, row: &Row) -> Result<bool, AllocError> {
     Ok(status == 0 && text.as_slice() == report.as_bytes())
 }
 
-/// The number of the first row that a call is not told by.
-fn first_wrong(alloc: Global, call: &str, rows: &[Row]) -> Result<Option<usize>, AllocError> {
-    for (at, row) in rows.iter().enumerate() {
+/// The schedule of the first row that a call is not told by.
+fn first_wrong(
+    alloc: Global,
+    call: &str,
+    rows: &[Row],
+) -> Result<Option<&'static str>, AllocError> {
+    for row in rows {
         if !is_told(alloc, call, row)? {
-            return Ok(Some(at));
+            return Ok(Some(row.schedule));
         }
     }
     Ok(None)

@@ -1,5 +1,5 @@
 //! The writes that answer a document, by their schedules and options: the outcome, the sends and the entries.
-use crate::writes::{Row, are_reported};
+use crate::writes::{Row, first_wrong};
 use std::test::Fail;
 
 const DELETE: &str = "{\"findOneAndDelete\":{\"ns\":\"shop.items\",\"filter\":[[\"x\",1]]}}";
@@ -357,18 +357,21 @@ totals: calls=1 ok=1 sends=1 entries=1
 
 #[test]
 fn a_found_document_is_answered_as_the_schedule_says(rt: HostRuntime) -> Result<(), Fail> {
-    assert!(rt; are_reported(rt.alloc(), &SERVED)?);
+    let wrong = first_wrong(rt.alloc(), &SERVED)?;
+    assert_eq!(rt; wrong, None);
     Ok(())
 }
 
 #[test]
 fn a_resend_answers_what_the_first_send_found(rt: HostRuntime) -> Result<(), Fail> {
-    assert!(rt; are_reported(rt.alloc(), &SENT_AGAIN)?);
+    let wrong = first_wrong(rt.alloc(), &SENT_AGAIN)?;
+    assert_eq!(rt; wrong, None);
     Ok(())
 }
 
 #[test]
 fn options_and_input_of_finds_are_judged(rt: HostRuntime) -> Result<(), Fail> {
-    assert!(rt; are_reported(rt.alloc(), &OPTIONS)?);
+    let wrong = first_wrong(rt.alloc(), &OPTIONS)?;
+    assert_eq!(rt; wrong, None);
     Ok(())
 }

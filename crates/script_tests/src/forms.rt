@@ -273,18 +273,19 @@ fn has_status(alloc: Global, form: &str, around: &Around, status: u8) -> Result<
     Ok(found == status && refused == (status == 3))
 }
 
-fn have_status(
+/// The first form whose script has another status.
+fn first_wrong(
     alloc: Global,
-    forms: &[&str],
+    forms: &[&'static str],
     around: &Around,
     status: u8,
-) -> Result<bool, AllocError> {
+) -> Result<Option<&'static str>, AllocError> {
     for form in forms {
         if !has_status(alloc, form, around, status)? {
-            return Ok(false);
+            return Ok(Some(*form));
         }
     }
-    Ok(true)
+    Ok(None)
 }
 
 /// A script of one call, of options or limits alone, and of one served step.
@@ -310,48 +311,56 @@ const AROUND_SERVED: Around = Around {
 
 #[test]
 fn calls_are_read(rt: HostRuntime) -> Result<(), Fail> {
-    assert!(rt; have_status(rt.alloc(), &CALLS, &AROUND_CALL, 0)?);
+    let wrong = first_wrong(rt.alloc(), &CALLS, &AROUND_CALL, 0)?;
+    assert_eq!(rt; wrong, None);
     Ok(())
 }
 
 #[test]
 fn other_calls_are_refused(rt: HostRuntime) -> Result<(), Fail> {
-    assert!(rt; have_status(rt.alloc(), &NO_CALLS, &AROUND_CALL, 3)?);
+    let wrong = first_wrong(rt.alloc(), &NO_CALLS, &AROUND_CALL, 3)?;
+    assert_eq!(rt; wrong, None);
     Ok(())
 }
 
 #[test]
 fn options_are_read(rt: HostRuntime) -> Result<(), Fail> {
-    assert!(rt; have_status(rt.alloc(), &OPTIONS, &AROUND_OPTIONS, 0)?);
+    let wrong = first_wrong(rt.alloc(), &OPTIONS, &AROUND_OPTIONS, 0)?;
+    assert_eq!(rt; wrong, None);
     Ok(())
 }
 
 #[test]
 fn other_options_are_refused(rt: HostRuntime) -> Result<(), Fail> {
-    assert!(rt; have_status(rt.alloc(), &NO_OPTIONS, &AROUND_OPTIONS, 3)?);
+    let wrong = first_wrong(rt.alloc(), &NO_OPTIONS, &AROUND_OPTIONS, 3)?;
+    assert_eq!(rt; wrong, None);
     Ok(())
 }
 
 #[test]
 fn limits_are_read(rt: HostRuntime) -> Result<(), Fail> {
-    assert!(rt; have_status(rt.alloc(), &LIMITS, &AROUND_LIMITS, 0)?);
+    let wrong = first_wrong(rt.alloc(), &LIMITS, &AROUND_LIMITS, 0)?;
+    assert_eq!(rt; wrong, None);
     Ok(())
 }
 
 #[test]
 fn other_limits_are_refused(rt: HostRuntime) -> Result<(), Fail> {
-    assert!(rt; have_status(rt.alloc(), &NO_LIMITS, &AROUND_LIMITS, 3)?);
+    let wrong = first_wrong(rt.alloc(), &NO_LIMITS, &AROUND_LIMITS, 3)?;
+    assert_eq!(rt; wrong, None);
     Ok(())
 }
 
 #[test]
 fn served_steps_are_read(rt: HostRuntime) -> Result<(), Fail> {
-    assert!(rt; have_status(rt.alloc(), &SERVED, &AROUND_SERVED, 0)?);
+    let wrong = first_wrong(rt.alloc(), &SERVED, &AROUND_SERVED, 0)?;
+    assert_eq!(rt; wrong, None);
     Ok(())
 }
 
 #[test]
 fn other_served_steps_are_refused(rt: HostRuntime) -> Result<(), Fail> {
-    assert!(rt; have_status(rt.alloc(), &NOT_SERVED, &AROUND_SERVED, 3)?);
+    let wrong = first_wrong(rt.alloc(), &NOT_SERVED, &AROUND_SERVED, 3)?;
+    assert_eq!(rt; wrong, None);
     Ok(())
 }

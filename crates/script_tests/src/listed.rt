@@ -163,11 +163,11 @@ fn row_lists(alloc: Global, row: &Row, ordered: bool) -> Result<bool, AllocError
     }
 }
 
-/// The number of the first row by which an insert lists something else.
-fn first_wrong(alloc: Global, ordered: bool) -> Result<Option<usize>, AllocError> {
-    for (at, row) in ROWS.iter().enumerate() {
+/// The schedule of the first row by which an insert lists something else.
+fn first_wrong(alloc: Global, ordered: bool) -> Result<Option<&'static str>, AllocError> {
+    for row in ROWS.iter() {
         if !row_lists(alloc, row, ordered)? {
-            return Ok(Some(at));
+            return Ok(Some(row.schedule));
         }
     }
     Ok(None)

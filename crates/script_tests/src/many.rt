@@ -1,7 +1,7 @@
 //! Inserts of many documents by their batches, schedules and limits: the outcome, the sends and the entries.
 use crate::schedules::script_in;
 use crate::scripts::ran;
-use crate::writes::{Row, is_reported};
+use crate::writes::{Row, first_wrong, is_reported};
 use bson_lite::{Boxed, ByIndex, Bytes, List, Text};
 use driver_actions::Outcome;
 use driver_error::{Error, ErrorKind, IndexedWriteError, InsertManyError};
@@ -344,16 +344,6 @@ fn goes_out_at_once(alloc: Global, count: usize) -> Result<bool, AllocError> {
     let report = long_report(alloc, count)?;
     let (status, text) = ran(alloc, script.as_str(), None, report.len())?;
     Ok(status == 0 && text.as_slice() == report.as_bytes())
-}
-
-/// The number of the first row that is not reported as it says.
-fn first_wrong(alloc: Global, rows: &[Row]) -> Result<Option<usize>, AllocError> {
-    for (at, row) in rows.iter().enumerate() {
-        if !is_reported(alloc, row)? {
-            return Ok(Some(at));
-        }
-    }
-    Ok(None)
 }
 
 #[test]

@@ -44,8 +44,15 @@ const INSERTS: [Inserts; 3] = [
     },
 ];
 
-/// The levels of read concerns that are known.
-const LEVELS: [&str; 5] = ["local", "majority", "linearizable", "available", "snapshot"];
+/// The levels of read concerns that are known, and one that is not.
+const LEVELS: [&str; 6] = [
+    "local",
+    "majority",
+    "linearizable",
+    "available",
+    "snapshot",
+    "own",
+];
 
 /// A script of limits, and what its server then says that it takes.
 struct Limited {
@@ -427,38 +434,41 @@ fn is_limited(alloc: Global, row: &Limited) -> Result<bool, AllocError> {
     }
 }
 
-fn all_limits_are_read(alloc: Global) -> Result<bool, AllocError> {
+/// The script of the first row whose limits are not read.
+fn first_unlimited(alloc: Global) -> Result<Option<&'static str>, AllocError> {
     for row in LIMITS.iter() {
         if !is_limited(alloc, row)? {
-            return Ok(false);
+            return Ok(Some(row.script));
         }
     }
-    Ok(true)
+    Ok(None)
 }
 
-fn all_levels_are_read(alloc: Global) -> Result<bool, AllocError> {
+/// The first level of a read concern that is not read.
+fn first_unread_level(alloc: Global) -> Result<Option<&'static str>, AllocError> {
     for level in LEVELS.iter() {
         if !is_level_read(alloc, level)? {
-            return Ok(false);
+            return Ok(Some(*level));
         }
     }
-    is_level_read(alloc, "own")
+    Ok(None)
 }
 
-fn all_calls_are_read(alloc: Global) -> Result<bool, AllocError> {
+/// The first call that is not read as what it is.
+fn first_unread_call(alloc: Global) -> Result<Option<&'static str>, AllocError> {
     for (number, call) in CALLS.iter().enumerate() {
         if !is_read(alloc, call, number)? {
-            return Ok(false);
+            return Ok(Some(*call));
         }
     }
-    Ok(true)
+    Ok(None)
 }
 
-/// The number of the first insert of many that is not read as its row says.
-fn first_unread(alloc: Global) -> Result<Option<usize>, AllocError> {
-    for (at, row) in INSERTS.iter().enumerate() {
+/// The first insert of many that is not read as its row says.
+fn first_unread_insert(alloc: Global) -> Result<Option<&'static str>, AllocError> {
+    for row in INSERTS.iter() {
         if !is_insert_read(alloc, row)? {
-            return Ok(Some(at));
+            return Ok(Some(row.call));
         }
     }
     Ok(None)
@@ -466,25 +476,28 @@ fn first_unread(alloc: Global) -> Result<Option<usize>, AllocError> {
 
 #[test]
 fn the_parts_of_an_insert_of_many_are_read(rt: HostRuntime) -> Result<(), Fail> {
-    let wrong = first_unread(rt.alloc())?;
+    let wrong = first_unread_insert(rt.alloc())?;
     assert_eq!(rt; wrong, None);
     Ok(())
 }
 
 #[test]
 fn the_parts_of_each_call_are_read(rt: HostRuntime) -> Result<(), Fail> {
-    assert!(rt; all_calls_are_read(rt.alloc())?);
+    let wrong = first_unread_call(rt.alloc())?;
+    assert_eq!(rt; wrong, None);
     Ok(())
 }
 
 #[test]
 fn the_options_of_a_client_are_read(rt: HostRuntime) -> Result<(), Fail> {
-    assert!(rt; all_levels_are_read(rt.alloc())?);
+    let wrong = first_unread_level(rt.alloc())?;
+    assert_eq!(rt; wrong, None);
     Ok(())
 }
 
 #[test]
 fn the_limits_of_a_server_are_read(rt: HostRuntime) -> Result<(), Fail> {
-    assert!(rt; all_limits_are_read(rt.alloc())?);
+    let wrong = first_unlimited(rt.alloc())?;
+    assert_eq!(rt; wrong, None);
     Ok(())
 }

@@ -141,17 +141,19 @@ fn is_reported(alloc: Global, row: &Row) -> Result<bool, AllocError> {
     Ok(status == 0 && text.as_slice() == row.report.as_bytes())
 }
 
-fn are_reported(alloc: Global, rows: &[Row]) -> Result<bool, AllocError> {
+/// What the script of the first row says that is not reported as the row says.
+fn first_wrong(alloc: Global, rows: &[Row]) -> Result<Option<&'static str>, AllocError> {
     for row in rows {
         if !is_reported(alloc, row)? {
-            return Ok(false);
+            return Ok(Some(row.script));
         }
     }
-    Ok(true)
+    Ok(None)
 }
 
 #[test]
 fn an_insert_is_sent_again_where_it_may_be(rt: HostRuntime) -> Result<(), Fail> {
-    assert!(rt; are_reported(rt.alloc(), &ROWS)?);
+    let wrong = first_wrong(rt.alloc(), &ROWS)?;
+    assert_eq!(rt; wrong, None);
     Ok(())
 }

@@ -257,31 +257,34 @@ fn is_read(alloc: Global, row: &Row) -> Result<bool, AllocError> {
     }
 }
 
-fn all_are_read(alloc: Global, rows: &[Row]) -> Result<bool, AllocError> {
+/// The step of the first row that is not read as the row says.
+fn first_unread(alloc: Global, rows: &[Row]) -> Result<Option<&'static str>, AllocError> {
     for row in rows {
         if !is_read(alloc, row)? {
-            return Ok(false);
+            return Ok(Some(row.text));
         }
     }
-    Ok(true)
+    Ok(None)
 }
 
-fn no_step_is_read(alloc: Global, texts: &[&str]) -> Result<bool, AllocError> {
+/// The first of these that is read as a step.
+fn first_step(alloc: Global, texts: &[&'static str]) -> Result<Option<&'static str>, AllocError> {
     for text in texts {
         if script_of_step(alloc, text)?.is_some() {
-            return Ok(false);
+            return Ok(Some(*text));
         }
     }
-    Ok(true)
+    Ok(None)
 }
 
-fn no_script_is_read(alloc: Global, texts: &[&str]) -> Result<bool, AllocError> {
+/// The first of these that is read as a script.
+fn first_script(alloc: Global, texts: &[&'static str]) -> Result<Option<&'static str>, AllocError> {
     for text in texts {
         if script_in(alloc, text)?.is_some() {
-            return Ok(false);
+            return Ok(Some(*text));
         }
     }
-    Ok(true)
+    Ok(None)
 }
 
 /// Whether a script lists these selections and check-outs to fail, no other call, and these late deliveries.
@@ -307,19 +310,22 @@ fn lists(
 
 #[test]
 fn steps_are_read(rt: HostRuntime) -> Result<(), Fail> {
-    assert!(rt; all_are_read(rt.alloc(), &STEPS)?);
+    let wrong = first_unread(rt.alloc(), &STEPS)?;
+    assert_eq!(rt; wrong, None);
     Ok(())
 }
 
 #[test]
 fn other_steps_are_refused(rt: HostRuntime) -> Result<(), Fail> {
-    assert!(rt; no_step_is_read(rt.alloc(), &NO_STEPS)?);
+    let wrong = first_step(rt.alloc(), &NO_STEPS)?;
+    assert_eq!(rt; wrong, None);
     Ok(())
 }
 
 #[test]
 fn other_faults_and_late_deliveries_are_refused(rt: HostRuntime) -> Result<(), Fail> {
-    assert!(rt; no_script_is_read(rt.alloc(), &NO_SCRIPTS)?);
+    let wrong = first_script(rt.alloc(), &NO_SCRIPTS)?;
+    assert_eq!(rt; wrong, None);
     Ok(())
 }
 

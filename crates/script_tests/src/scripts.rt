@@ -298,8 +298,8 @@ fn other_words_are_answered_by_their_usage(rt: HostRuntime) -> Result<(), Fail> 
     let empty: [&str; 0] = [];
     for texts in [&empty[..], &["run", "x"], &["Run"], &["--help"]] {
         let (status, text) = program(&rt, rt.alloc(), texts, Bytes::new(rt.alloc()))?;
-        assert_eq!(rt; status, 2);
-        assert_eq!(rt; text.as_slice(), usage.as_bytes());
+        assert_eq!(rt; status, 2, "of {texts:?}");
+        assert_eq!(rt; text.as_slice(), usage.as_bytes(), "of {texts:?}");
     }
     Ok(())
 }

@@ -1,6 +1,6 @@
 //! One insert under limits of the server: its document of 29 bytes goes out where each limit lets it, else it is refused
 //! with the text of the limit that it breaks, and nothing is sent. A number that was drawn for it stays drawn.
-use crate::writes::{Row, are_reported};
+use crate::writes::{Row, first_wrong};
 use std::test::Fail;
 
 /// The document is `{_id: ObjectId, x: Int32}`, and the body of its command has 33 bytes.
@@ -160,18 +160,21 @@ const BEHIND: [Row; 2] = [
 
 #[test]
 fn an_insert_within_the_limits_goes_out(rt: HostRuntime) -> Result<(), Fail> {
-    assert!(rt; are_reported(rt.alloc(), &WITHIN)?);
+    let wrong = first_wrong(rt.alloc(), &WITHIN)?;
+    assert_eq!(rt; wrong, None);
     Ok(())
 }
 
 #[test]
 fn an_insert_past_a_limit_is_refused_and_not_sent(rt: HostRuntime) -> Result<(), Fail> {
-    assert!(rt; are_reported(rt.alloc(), &BROKEN)?);
+    let wrong = first_wrong(rt.alloc(), &BROKEN)?;
+    assert_eq!(rt; wrong, None);
     Ok(())
 }
 
 #[test]
 fn a_number_that_was_drawn_for_a_refused_insert_stays_drawn(rt: HostRuntime) -> Result<(), Fail> {
-    assert!(rt; are_reported(rt.alloc(), &BEHIND)?);
+    let wrong = first_wrong(rt.alloc(), &BEHIND)?;
+    assert_eq!(rt; wrong, None);
     Ok(())
 }

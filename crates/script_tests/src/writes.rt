@@ -425,29 +425,36 @@ pub(crate) fn is_reported(alloc: Global, row: &Row) -> Result<bool, AllocError> 
     Ok(status == 0 && text.as_slice() == row.report.as_bytes())
 }
 
-pub(crate) fn are_reported(alloc: Global, rows: &[Row]) -> Result<bool, AllocError> {
+/// The calls of the first row that is not reported as it says, and what its script says behind them.
+pub(crate) fn first_wrong(
+    alloc: Global,
+    rows: &[Row],
+) -> Result<Option<(&'static str, &'static str)>, AllocError> {
     for row in rows {
         if !is_reported(alloc, row)? {
-            return Ok(false);
+            return Ok(Some((row.calls, row.behind)));
         }
     }
-    Ok(true)
+    Ok(None)
 }
 
 #[test]
 fn writes_are_answered_as_the_schedule_says(rt: HostRuntime) -> Result<(), Fail> {
-    assert!(rt; are_reported(rt.alloc(), &SERVED)?);
+    let wrong = first_wrong(rt.alloc(), &SERVED)?;
+    assert_eq!(rt; wrong, None);
     Ok(())
 }
 
 #[test]
 fn writes_are_sent_again_where_they_may_be(rt: HostRuntime) -> Result<(), Fail> {
-    assert!(rt; are_reported(rt.alloc(), &SENT_AGAIN)?);
+    let wrong = first_wrong(rt.alloc(), &SENT_AGAIN)?;
+    assert_eq!(rt; wrong, None);
     Ok(())
 }
 
 #[test]
 fn options_and_input_are_judged(rt: HostRuntime) -> Result<(), Fail> {
-    assert!(rt; are_reported(rt.alloc(), &OPTIONS)?);
+    let wrong = first_wrong(rt.alloc(), &OPTIONS)?;
+    assert_eq!(rt; wrong, None);
     Ok(())
 }

@@ -37,7 +37,7 @@ pub const KINDS: &[Kind] = &[
 ];
 
 /// A part of a write that is a document of the caller's, or an option that is one.
-#[derive(Clone, Copy, PartialEq, Eq)]
+#[derive(Clone, Copy, Debug, PartialEq, Eq)]
 pub enum Part {
     Filter,
     /// The update, the replacement, or the inserted document.
@@ -55,7 +55,7 @@ pub enum Part {
 }
 
 /// What is odd about a document.
-#[derive(Clone, Copy)]
+#[derive(Clone, Copy, Debug)]
 pub enum Flaw {
     /// It nests so many levels, itself counting one.
     Levels(usize),
@@ -64,7 +64,7 @@ pub enum Flaw {
 }
 
 /// What an update does, or what is put in the place of a document.
-#[derive(Clone, Copy)]
+#[derive(Clone, Copy, Debug)]
 pub enum Change {
     /// `{$set: {y: 2}}`
     Operators,
@@ -79,14 +79,14 @@ pub enum Change {
 }
 
 /// A part that is odd.
-#[derive(Clone, Copy)]
+#[derive(Clone, Copy, Debug)]
 pub struct Odd {
     pub part: Part,
     pub flaw: Flaw,
 }
 
 /// A concern of a write or of its client.
-#[derive(Clone, Copy)]
+#[derive(Clone, Copy, Debug)]
 pub enum Concern {
     Unset,
     /// One without a field.
@@ -95,7 +95,7 @@ pub enum Concern {
 }
 
 /// A write that a row asks for: whether its database is `a.b` and not `shop`, and which parts of it are odd.
-#[derive(Clone, Copy)]
+#[derive(Clone, Copy, Debug)]
 pub struct Asked {
     pub kind: Kind,
     pub dotted: bool,

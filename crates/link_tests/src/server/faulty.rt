@@ -49,42 +49,88 @@ fn authenticates(model: &mut ModelServer, alloc: Global, conn: &Conn) -> bool {
     model.reauthenticate(alloc, conn).is_ok()
 }
 
-/// Whether one call of each kind answers.
-fn all_answer(model: &mut ModelServer, alloc: Global) -> Result<[bool; 4], AllocError> {
-    let selects = selects(model, alloc);
-    let support = tells_support(model, alloc);
-    let Some(conn) = conn_of(model, alloc)? else {
-        return Ok([selects, support, false, false]);
-    };
-    let again = authenticates(model, alloc, &conn);
-    model.check_in(conn);
-    Ok([selects, support, true, again])
+/// Which calls answer, one of each kind.
+#[derive(Clone, Copy, Debug, PartialEq, Eq)]
+struct Answers {
+    selects: bool,
+    tells_support: bool,
+    checks_out: bool,
+    authenticates: bool,
 }
 
-/// Whether one call of each kind answers in each of four rounds as the lists say.
-fn rounds(alloc: Global, model: &mut ModelServer) -> Result<bool, AllocError> {
-    let table = [
-        [false, false, false, false],
-        [true, true, false, false],
-        [true, true, true, false],
-        [true, true, true, true],
-    ];
-    for answers in table {
-        if all_answer(model, alloc)? != answers {
-            return Ok(false);
+/// Four rounds, by the lists of calls that fail.
+const ROUNDS: [Answers; 4] = [
+    Answers {
+        selects: false,
+        tells_support: false,
+        checks_out: false,
+        authenticates: false,
+    },
+    Answers {
+        selects: true,
+        tells_support: true,
+        checks_out: false,
+        authenticates: false,
+    },
+    Answers {
+        selects: true,
+        tells_support: true,
+        checks_out: true,
+        authenticates: false,
+    },
+    Answers {
+        selects: true,
+        tells_support: true,
+        checks_out: true,
+        authenticates: true,
+    },
+];
+
+/// Which calls answer in a round.
+fn answers_of(model: &mut ModelServer, alloc: Global) -> Result<Answers, AllocError> {
+    let selects = selects(model, alloc);
+    let tells_support = tells_support(model, alloc);
+    let Some(conn) = conn_of(model, alloc)? else {
+        return Ok(Answers {
+            selects,
+            tells_support,
+            checks_out: false,
+            authenticates: false,
+        });
+    };
+    let authenticates = authenticates(model, alloc, &conn);
+    model.check_in(conn);
+    Ok(Answers {
+        selects,
+        tells_support,
+        checks_out: true,
+        authenticates,
+    })
+}
+
+/// The first round whose calls answer otherwise, with what answered.
+fn wrong_round(
+    alloc: Global,
+    model: &mut ModelServer,
+    rounds: &[Answers],
+) -> Result<Option<(usize, Answers)>, AllocError> {
+    for (at, round) in rounds.iter().enumerate() {
+        let answers = answers_of(model, alloc)?;
+        if answers != *round {
+            return Ok(Some((at, answers)));
         }
     }
-    Ok(true)
+    Ok(None)
 }
 
 #[test]
 fn listed_calls_fail(rt: HostRuntime) -> Result<(), Fail> {
     let alloc = rt.alloc();
     let mut model = ModelServer::new(alloc, USUAL_SETUP, first_calls_fail(alloc)?);
-    let done = rounds(alloc, &mut model);
+    let wrong = wrong_round(alloc, &mut model, &ROUNDS);
     let answered = model.answered().len();
     drop(model);
-    assert!(rt; done?);
+    assert_eq!(rt; wrong?, None);
     assert_eq!(rt; answered, 5);
     Ok(())
 }

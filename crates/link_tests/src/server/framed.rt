@@ -3,8 +3,10 @@ use super::*;
 use driver_link::{Frame, Sequence};
 use model_server::reading::read_send;
 
-/// A frame with the documents of its sequences, how many writes it has, and the bytes of its reply.
+/// The name of a command, its frame with the documents of its sequences, how many writes it has, and the bytes of
+/// its reply.
 struct Spelled {
+    name: &'static str,
     database: &'static str,
     body: &'static [u8],
     sequences: &'static [(&'static str, &'static [u8])],
@@ -24,6 +26,7 @@ const ONE_OP: &[u8] =
 
 const FRAMES: [Spelled; 9] = [
     Spelled {
+        name: "insert",
         database: "a",
         body: b"_\0\0\0\x02insert\0\x02\0\0\0c\0\x08ordered\0\x01\x03lsid\0\x1e\0\0\0\x05id\0\x10\0\0\0\x04\0\x01\x02\x03\x04\x05\x06\x07\x08\x09\x0a\x0b\x0c\x0d\x0e\x0f\0\x12txnNumber\0\x01\0\0\0\0\0\0\0\x02$db\0\x02\0\0\0a\0\0",
         sequences: &[("documents", b"\x05\0\0\0\0")],
@@ -31,6 +34,7 @@ const FRAMES: [Spelled; 9] = [
         expected: ONE,
     },
     Spelled {
+        name: "update",
         database: "a",
         body: b"N\0\0\0\x02update\0\x02\0\0\0c\0\x08ordered\0\x01\x04updates\0\x1d\0\0\0\x030\0\x15\0\0\0\x03q\0\x05\0\0\0\0\x03u\0\x05\0\0\0\0\0\0\x02$db\0\x02\0\0\0a\0\0",
         sequences: &[],
@@ -38,6 +42,7 @@ const FRAMES: [Spelled; 9] = [
         expected: CHANGED,
     },
     Spelled {
+        name: "delete",
         database: "a",
         body: b"Q\0\0\0\x02delete\0\x02\0\0\0c\0\x08ordered\0\x01\x04deletes\0 \0\0\0\x030\0\x18\0\0\0\x03q\0\x05\0\0\0\0\x10limit\0\x01\0\0\0\0\0\x02$db\0\x02\0\0\0a\0\0",
         sequences: &[],
@@ -45,6 +50,7 @@ const FRAMES: [Spelled; 9] = [
         expected: ONE,
     },
     Spelled {
+        name: "findAndModify",
         database: "a",
         body: b":\0\0\0\x02findAndModify\0\x02\0\0\0c\0\x03query\0\x05\0\0\0\0\x08remove\0\x01\x02$db\0\x02\0\0\0a\0\0",
         sequences: &[],
@@ -52,6 +58,7 @@ const FRAMES: [Spelled; 9] = [
         expected: NO_VALUE,
     },
     Spelled {
+        name: "bulkWrite",
         database: "admin",
         body: b"-\0\0\0\x10bulkWrite\0\x01\0\0\0\x08ordered\0\x01\x02$db\0\x06\0\0\0admin\0\0",
         sequences: &[
@@ -65,6 +72,7 @@ const FRAMES: [Spelled; 9] = [
         expected: ONE_OP,
     },
     Spelled {
+        name: "commitTransaction",
         database: "admin",
         body: b"o\0\0\0\x10commitTransaction\0\x01\0\0\0\x03lsid\0\x1e\0\0\0\x05id\0\x10\0\0\0\x04\0\x01\x02\x03\x04\x05\x06\x07\x08\x09\x0a\x0b\x0c\x0d\x0e\x0f\0\x12txnNumber\0\x01\0\0\0\0\0\0\0\x08autocommit\0\0\x02$db\0\x06\0\0\0admin\0\0",
         sequences: &[],
@@ -72,6 +80,7 @@ const FRAMES: [Spelled; 9] = [
         expected: TRANSIENT,
     },
     Spelled {
+        name: "abortTransaction",
         database: "admin",
         body: b"n\0\0\0\x10abortTransaction\0\x01\0\0\0\x03lsid\0\x1e\0\0\0\x05id\0\x10\0\0\0\x04\0\x01\x02\x03\x04\x05\x06\x07\x08\x09\x0a\x0b\x0c\x0d\x0e\x0f\0\x12txnNumber\0\x01\0\0\0\0\0\0\0\x08autocommit\0\0\x02$db\0\x06\0\0\0admin\0\0",
         sequences: &[],
@@ -79,6 +88,7 @@ const FRAMES: [Spelled; 9] = [
         expected: TRANSIENT,
     },
     Spelled {
+        name: "getMore",
         database: "admin",
         body: b"D\0\0\0\x12getMore\0\x01\0\0\0\0\0\0\0\x02collection\0\x0f\0\0\0$cmd.bulkWrite\0\x02$db\0\x06\0\0\0admin\0\0",
         sequences: &[],
@@ -86,6 +96,7 @@ const FRAMES: [Spelled; 9] = [
         expected: NO_CURSOR,
     },
     Spelled {
+        name: "killCursors",
         database: "admin",
         body: b"M\0\0\0\x02killCursors\0\x0f\0\0\0$cmd.bulkWrite\0\x04cursors\0\x10\0\0\0\x120\0\x01\0\0\0\0\0\0\0\0\x02$db\0\x06\0\0\0admin\0\0",
         sequences: &[],
@@ -128,18 +139,19 @@ fn reply_to(alloc: Global, spelled: &Spelled) -> Result<Bytes, AllocError> {
     }
 }
 
-/// Whether each frame is answered as it says.
-fn all_answered(alloc: Global, frames: &[Spelled]) -> Result<bool, AllocError> {
+/// The name of the first command that is not answered as its frame says; no name where all are.
+fn wrong_frame(alloc: Global, frames: &[Spelled]) -> Result<&'static str, AllocError> {
     for spelled in frames {
         if reply_to(alloc, spelled)?.as_slice() != spelled.expected {
-            return Ok(false);
+            return Ok(spelled.name);
         }
     }
-    Ok(true)
+    Ok("")
 }
 
 #[test]
 fn each_command_is_read(rt: HostRuntime) -> Result<(), Fail> {
-    assert!(rt; all_answered(rt.alloc(), &FRAMES)?);
+    let wrong = wrong_frame(rt.alloc(), &FRAMES)?;
+    assert!(rt; wrong.is_empty(), "{wrong}");
     Ok(())
 }

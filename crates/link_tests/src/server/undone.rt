@@ -2,24 +2,52 @@
 use super::*;
 use model_server::delivery::{deliver_each, undo_each};
 
-/// Sends that wait: an insert outside transactions, and a transaction of two inserts with its commit.
-const WAITING: [(i64, bool, bool, Asks); 4] = [
-    (1, false, false, Asks::Insert),
-    (2, true, true, Asks::Insert),
-    (2, false, true, Asks::Insert),
-    (2, false, true, Asks::Commit),
+/// A send that waits: its number, whether it starts a transaction, whether it is in one, and what it asks for.
+struct Waiting {
+    number: i64,
+    start: bool,
+    inside: bool,
+    asks: Asks,
+}
+
+/// An insert outside transactions, and a transaction of two inserts with its commit.
+const WAITING: [Waiting; 4] = [
+    Waiting {
+        number: 1,
+        start: false,
+        inside: false,
+        asks: Asks::Insert,
+    },
+    Waiting {
+        number: 2,
+        start: true,
+        inside: true,
+        asks: Asks::Insert,
+    },
+    Waiting {
+        number: 2,
+        start: false,
+        inside: true,
+        asks: Asks::Insert,
+    },
+    Waiting {
+        number: 2,
+        start: false,
+        inside: true,
+        asks: Asks::Commit,
+    },
 ];
 
 /// A server that has seen nothing, and on which these sends wait.
-fn waited(alloc: Global, sends: &[(i64, bool, bool, Asks)]) -> Result<Server, AllocError> {
+fn waited(alloc: Global, sends: &[Waiting]) -> Result<Server, AllocError> {
     let mut server = new_server(alloc);
-    for (number, start, inside, asks) in sends {
+    for waiting in sends {
         let send = Send {
             session: Some([7; 16]),
-            number: Some(*number),
-            start: *start,
-            in_transaction: *inside,
-            body: body_of(alloc, *asks)?,
+            number: Some(waiting.number),
+            start: waiting.start,
+            in_transaction: waiting.inside,
+            body: body_of(alloc, waiting.asks)?,
         };
         server.waiting.push(Some(send))?;
     }
@@ -40,7 +68,7 @@ fn all_wait(server: &Server, wait: bool) -> bool {
 /// is undone.
 fn is_undone(
     alloc: Global,
-    sends: &[(i64, bool, bool, Asks)],
+    sends: &[Waiting],
     picks: &[u64],
     entries: usize,
 ) -> Result<bool, AllocError> {
