@@ -26,6 +26,7 @@ pub mod Gathering
 pub mod GentleParts
 pub mod InputFaults
 pub mod InsertFit
+pub mod InsertLengths
 pub mod InsertsKept
 pub mod InsertsServed
 pub mod ListedIds

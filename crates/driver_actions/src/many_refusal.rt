@@ -7,12 +7,11 @@ ghost use Rattle.driver_actions.specs.ManyInputs.{JudgesManyInput, RefusesManyVa
 ghost use Rattle.driver_actions.specs.inside.Faults.{JudgesArgument};
 ghost use Rattle.driver_actions.specs.inside.ManyFaults.{own_fault, own_faults};
 
-use crate::faults::{comment_fault, first_of, length_fault};
-use crate::refusal::{document_refusal, error_of, name_refusal, refused};
+use crate::faults::{comment_fault, first_of};
+use crate::refusal::{body_fault, document_refusal, error_of, name_refusal, refused};
 use bson_lite::{Document, EncodeFault, Namespace};
 use driver_error::Error;
 use driver_link::InsertManyOptions;
-use driver_ops::insert_body;
 use std::alloc::{AllocError, Global};
 
 /// What is wrong with the input of an insert of documents: there are none, else the name of its database, else the
@@ -65,8 +64,8 @@ fn many_fault(
     ensures { IfOk result (λ fault. RefusesManyValues namespace.now documents.now options.now fault) }
 {
     let fault = comment_fault(alloc, &options.comment)?;
-    let body = insert_body(alloc, namespace.coll.as_str(), options)?;
-    let fault = first_of(fault, length_fault(&body));
+    let length = body_fault(alloc, namespace, options)?;
+    let fault = first_of(fault, length);
     Ok(first_of(own_faults(documents), fault))
 }
 

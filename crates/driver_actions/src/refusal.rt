@@ -1,11 +1,12 @@
 //! Which writes are refused for their input, found before anything is drawn or sent.
-ghost use Rattle.std.specs.Prelude.{◌≡◌, IfOk};
+ghost use Rattle.std.specs.Prelude.{◌≡◌, IfOk, None, length, nat_lt};
 ghost use Rattle.driver_error.specs.declared.kind.ErrorKind.TheVariants.{InvalidArgument};
 ghost use Rattle.driver_error.specs.Conversions.{IsMade};
 ghost use Rattle.driver_error.specs.LabelTexts.{no_labels};
+ghost use Rattle.driver_ops.specs.Inserts.{insert_command};
 ghost use Rattle.driver_actions.specs.Forms.{deletes, finds, inserts, updates};
 ghost use Rattle.driver_actions.specs.Inputs.{JudgesInput, RefusesValues, change_refusal, dotted_text, has_dot, modification_refusal, name_refusal, replacement_text, update_text};
-ghost use Rattle.driver_actions.specs.inside.Faults.{ErrorOfFault, JudgesArgument, RefusesDocument};
+ghost use Rattle.driver_actions.specs.inside.Faults.{ErrorOfFault, JudgesArgument, RefusesDocument, length_fault};
 
 use crate::faults::{
     LEVELS, LONGEST, comment_fault, delete_fault, find_fault, first_of, length_fault, update_fault,
@@ -224,9 +225,57 @@ fn insert_fault(
     ensures { IfOk result (λ fault. RefusesValues (inserts namespace.now document.now options.now) fault) }
 {
     let fault = comment_fault(alloc, &options.comment)?;
-    let body = insert_body(alloc, namespace.coll.as_str(), options)?;
-    let fault = first_of(fault, length_fault(&body));
+    let length = body_fault(alloc, namespace, options)?;
+    let fault = first_of(fault, length);
     Ok(first_of(document_refusal(document), fault))
+}
+
+/// The fault of an insert's body that is too long by itself. It is built only where it may be.
+pub(crate) fn body_fault(
+    alloc: Global,
+    namespace: &Namespace,
+    options: &InsertManyOptions,
+) -> Result<Option<EncodeFault>, AllocError>
+    ensures { IfOk result (λ fault. fault ≡ length_fault (insert_command namespace.now options.now)) }
+{
+    match &options.comment {
+        None => uncommented_fault(alloc, namespace, options),
+        Some(_) => built_fault(alloc, namespace, options),
+    }
+}
+
+/// The same of a body without a comment, which is short where the name of its collection is.
+fn uncommented_fault(
+    alloc: Global,
+    namespace: &Namespace,
+    options: &InsertManyOptions,
+) -> Result<Option<EncodeFault>, AllocError>
+    requires { options.now.comment ≡ None }
+    ensures { IfOk result (λ fault. fault ≡ length_fault (insert_command namespace.now options.now)) }
+{
+    if is_short(&namespace.coll) {
+        return Ok(None);
+    }
+    built_fault(alloc, namespace, options)
+}
+
+/// Whether a name is so short that a body with it is, where nothing else in it is a caller's.
+fn is_short(name: &Text) -> bool
+    ensures { result ≡ nat_lt (length name.now) 1000000 }
+{
+    name.len() < 1_000_000
+}
+
+/// The same by the body itself.
+fn built_fault(
+    alloc: Global,
+    namespace: &Namespace,
+    options: &InsertManyOptions,
+) -> Result<Option<EncodeFault>, AllocError>
+    ensures { IfOk result (λ fault. fault ≡ length_fault (insert_command namespace.now options.now)) }
+{
+    let body = insert_body(alloc, namespace.coll.as_str(), options)?;
+    Ok(length_fault(&body))
 }
 
 /// Why a document is refused by itself once it has an id, whichever id it gets. It takes no memory.

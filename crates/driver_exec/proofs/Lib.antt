@@ -11,9 +11,11 @@ pub mod Concerns
 pub mod Courses
 pub mod EndNeeds
 pub mod FaultErrors
+pub mod FieldBytes
 pub mod FixedNumbers
 pub mod HeldSessions
 pub mod InvariantSteps
+pub mod JoinedBodies
 pub mod KeptFailures
 pub mod Moments
 pub mod Moves

@@ -3,5 +3,6 @@ pub mod Attempting
 pub mod Executing
 pub mod Failures
 pub mod Holding
+pub mod JoinedBodies
 pub mod OldDeployment
 pub mod Retry

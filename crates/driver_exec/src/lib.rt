@@ -9,6 +9,8 @@ mod execute;
 mod execution_session;
 mod failure;
 mod fields;
+mod framing;
+mod joined_body;
 mod labels;
 pub mod laws;
 mod old_deployment;

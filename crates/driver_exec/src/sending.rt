@@ -1,10 +1,8 @@
 //! The command of an attempt on its connection: its number, its frame, one exchange, and what comes of the
 //! reply.
 ghost use Rattle.std.specs.Prelude.{◌≡◌, ◌≤◌, ◌+◌, ◌⊎◌, ℕ, IsSome, Some, length, take};
-ghost use Rattle.std.specs.Option.{option_copied};
 ghost use Rattle.driver_link.specs.declared.machine.Send.{Send as Sent};
 ghost use Rattle.driver_link.specs.Reads.{Reads};
-ghost use Rattle.driver_ops.specs.Fields.{FramesUnder, in_context};
 ghost use Rattle.driver_ops.specs.Operations.{HasBodies, IsFixed, SameSpec, StaysFixed, batch_of};
 ghost use Rattle.driver_exec.specs.Attempting.{besides_out, builds_again};
 ghost use Rattle.driver_exec.specs.Concerns.{concern_of};
@@ -13,11 +11,10 @@ ghost use Rattle.driver_exec.specs.inside.Attempting.{ExchangesOnce, Sending};
 use crate::attempt_end::{AttemptEnd, lost, read, unbuilt};
 use crate::concern::effective_concern;
 use crate::execution_session::{ExecutionSession, draw_number};
-use crate::fields::append_fields;
+use crate::framing::frame_of;
 use crate::steps::Steps;
-use driver_error::Result;
-use driver_link::{Address, ClientOptions, Conn, Frame, Link, Place, WriteConcern};
-use driver_ops::{Command, Operation, read_answer};
+use driver_link::{Address, ClientOptions, Conn, Frame, Link, Place};
+use driver_ops::{Operation, read_answer};
 use driver_session::Retryability;
 use std::alloc::Global;
 use std::sync::ledger::Ledger;
@@ -144,19 +141,4 @@ fn exchange<O: Operation, L: Link, Q: Ledger>(
             ),
         ),
     }
-}
-
-/// The frame of a command with the executor's fields.
-fn frame_of(
-    alloc: Global,
-    mut command: Command,
-    session: Option<&[u8; 16]>,
-    number: Option<i64>,
-    concern: Option<&WriteConcern>,
-) -> Result<Frame>
-    ensures { FramesUnder (in_context (option_copied session.entry) number (option_copied concern.entry))
-        command result }
-{
-    append_fields(alloc, &mut command, session, number, concern)?;
-    command.into_frame(alloc)
 }

@@ -1,11 +1,10 @@
 -- The ids of documents by their indexes, where they were inserted.
-use Rattle.std.proofs.Common.{◌≡◌, ℕ, zero, suc, ◌+◌, ◌<◌, ◌≤◌, List, [], ◌∷◌, ◌++◌, Bool, true, false, not, ◌&&◌, length, drop, take, get_or, nat_eq, add-one, length-take-le, take-suc, take_all, arith, refl, sym, ap, ◌∙◌}
+use Rattle.std.proofs.Common.{◌≡◌, ℕ, zero, suc, ◌+◌, ◌<◌, ◌≤◌, List, [], ◌∷◌, ◌++◌, Bool, true, false, ◌&&◌, length, drop, take, get_or, add-one, length-take-le, take-suc, take_all, arith, refl, sym, ap, ◌∙◌}
 use Rattle.std.proofs.lemmas.Bool.{le-ltb, lt-ltb}
 use Rattle.std.proofs.lemmas.List.{at_drop_all, drop_more}
 use Rattle.std.specs.Prelude.{if◌then◌else◌, nat_lt}
 use Rattle.std.specs.Cmp.{nat_cmp_total}
 use Rattle.std.specs.FinMap as finite
-use Rattle.std.specs.HashSet as bag
 use Rattle.std.specs.Ordering.{nat_cmp}
 use Rattle.bson_lite.proofs.FinMaps.{insert_swapped}
 use Rattle.bson_lite.proofs.Rising.{apart}
@@ -13,7 +12,6 @@ use Rattle.bson_lite.specs.declared.bson.Bson.{Bson}
 use Rattle.driver_error.specs.declared.write.IndexedWriteError.{IndexedWriteError}
 use Rattle.driver_ops.specs.declared.own_document.OwnDocument.{OwnDocument}
 use Rattle.driver_ops.specs.InsertAnswers.{ids_where, is_inserted}
-use Rattle.driver_ops.proofs.FailedStatements.{Indexes}
 
 -- the same documents have the same ids
 pub ids_alike : (these those : ℕ → Bool) → ((index : ℕ) → these index ≡ those index) → (documents : List OwnDocument) (at : ℕ)
@@ -23,10 +21,6 @@ ids_alike these those same [] at = refl
 ids_alike these those same (own ∷ rest) at =
     ap (λ (here : Bool). if here then finite.insert (ids_where these (at + 1) rest) at own.id else ids_where these (at + 1) rest) (same at)
     ∙ ap (λ (ids : finite.FinMap nat_cmp Bson). if those at then finite.insert ids at own.id else ids) (ids_alike these those same rest (at + 1))
-
--- nothing failed
-pub none_failed : (failed : Indexes) → bag.IsEmpty failed → (index : ℕ) → not (bag.contains nat_eq failed index) ≡ true
-none_failed failed none index = rw none refl
 
 -- no document was passed, and none has an id
 pub ids_none : (inserted : ℕ → Bool) (documents : List OwnDocument) → finite.empty ≡ ids_where inserted 0 (take 0 documents)

@@ -113,16 +113,27 @@ fn failed_indexes(alloc: Global, errors: &[IndexedWriteError]) -> Result<HashSet
     Ok(failed)
 }
 
-/// The ids of all documents, by their indexes.
+/// The ids of all documents, by their indexes. The first one is put first, so that each comes behind all others.
 pub(crate) fn ids_of(alloc: Global, documents: &[OwnDocument]) -> Result<ByIndex<Bson>, AllocError>
     ensures { IfOk result (λ ids. ids ≡ ids_where (λ at. true) 0 documents.now) }
 {
-    let failed = HashSet::new(alloc);
-    ids_besides(alloc, documents, &failed)
+    let mut ids = ByIndex::new(alloc);
+    let mut at = 0;
+    'documents: while at < documents.len() {
+        add_id(alloc, &mut ids, at, &documents[at].id)?;
+        at += 1;
+    }
+    Ok(ids)
 }
 
-/// The ids of the documents besides those that failed, by their indexes. The first one is put first, so that each
-/// comes behind all others.
+/// Puts a copy of an id at its index.
+fn add_id(alloc: Global, ids: &mut ByIndex<Bson>, at: usize, id: &Bson) -> Result<(), AllocError>
+    ensures { OnOk result (ids.new ≡ finite.insert ids.old at id.now) }
+{
+    ids.insert(at, id.try_clone(alloc)?)
+}
+
+/// The ids of the documents besides those that failed, by their indexes, put in the same order.
 fn ids_besides(
     alloc: Global,
     documents: &[OwnDocument],

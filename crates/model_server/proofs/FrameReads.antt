@@ -16,7 +16,7 @@ use Rattle.driver_link.specs.declared.machine.Send.{Send}
 use Rattle.model_server.proofs.ReadLaws.{with_name}
 
 -- bytes spell one document alone
-document_once : (a b : List (Pair Bson)) (bytes : List ℕ) → Spells a bytes → Spells b bytes → a ≡ b
+pub document_once : (a b : List (Pair Bson)) (bytes : List ℕ) → Spells a bytes → Spells b bytes → a ≡ b
 document_once a b bytes left right = cc (sym (read_again a left.has) ∙ ap read (sym left.is ∙ right.is) ∙ read_again b right.has)
 
 -- pieces of bytes spell one list of documents alone

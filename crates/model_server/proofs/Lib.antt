@@ -22,3 +22,5 @@ pub mod EndedTransactions
 pub mod ValidServers
 pub mod QuietAnswers
 pub mod NewWrites
+pub mod PlainBytes
+pub mod PlainInserts

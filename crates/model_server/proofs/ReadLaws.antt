@@ -1,12 +1,14 @@
 -- What a frame's documents are, read one after another.
-use Rattle.std.proofs.Common.{◌≡◌, ◌<◌, ◌≤◌, ℕ, ◌+◌, List, [], ◌∷◌, ◌++◌, Some, None, drop, length, slice_get, refl, sym, ap, ◌∙◌, append_assoc, append-nil, add-one, subst, drop-cons}
+use Rattle.std.proofs.Common.{◌≡◌, ◌<◌, ◌≤◌, ℕ, ◌+◌, List, [], ◌∷◌, ◌++◌, Some, None, drop, length, slice_get, refl, sym, ap, ◌∙◌, append_assoc, append-nil, add-one, subst, drop-cons, arith}
 use Rattle.std.proofs.lemmas.List.{drop_all}
 use Rattle.std.proofs.lemmas.Option.{slice_get_within, get_or_from_slice_get}
+use Rattle.std.specs.Prelude.{Bool, true, Option, bytes_eq, if◌then◌else◌}
 use Rattle.std.specs.Option.{option_map_or}
 use Rattle.bson_lite.specs.declared.bson.Bson.{Bson}
 use Rattle.bson_lite.specs.declared.document.Pair.{Pair}
 use Rattle.bson_lite.specs.Spelling.{Spells}
-use Rattle.driver_link.specs.Asking.{spelled}
+use Rattle.driver_link.specs.Asking.{only_sequence, spelled}
+use Rattle.driver_link.specs.declared.keys.TheConstants.{DOCUMENTS}
 use Rattle.driver_link.specs.Framed.{Framed}
 use Rattle.driver_link.specs.Reads.{Reads, SpellAll, SpellSequences, SpellsSequence}
 use Rattle.driver_link.specs.Sequences.{documents_at, name_at}
@@ -14,6 +16,7 @@ use Rattle.driver_link.specs.declared.frame.Documents.{Documents}
 use Rattle.driver_link.specs.declared.frame.Sequence.{Sequence}
 use Rattle.driver_link.specs.declared.machine.Place.{Place}
 use Rattle.driver_link.specs.declared.machine.Send.{Send}
+use Rattle.model_server.specs.inside.ReadFrames.{AreLone}
 
 -- two values that are there are the same
 pub some_same : {A : Type 0} {x y : A} → Some x ≡ Some y → x ≡ y
@@ -160,3 +163,22 @@ read_law frame places send body sequences only each reads =
     let body_is : body ≡ reads.body = some_same (only reads.body reads.body_spelled) in
     let sequences_are : sequences ≡ reads.sequences = some_same (each reads.sequences reads.sequences_spelled) in
     (λ i. spelled frame.database (body_is i) (sequences_are i) places) ∙ reads.spelled
+
+-- the documents of one sequence under their name are the only ones
+lone_of : (sequences : List Sequence) (documents : List (List (Pair Bson))) → length sequences ≡ 1 → bytes_eq (name_at sequences 0) DOCUMENTS.now ≡ true
+    → ((ds : List (List (Pair Bson))) → SpellAll ds (documents_at sequences 0) → Some documents ≡ Some ds)
+    → (all : List Documents) → SpellSequences all sequences → only_sequence DOCUMENTS.now all ≡ Some documents
+unfolding only_sequence
+lone_of [] documents one named each all spelled = absurd (omega (arith, one))
+lone_of (sequence ∷ []) documents one named each [] spelled = absurd spelled
+lone_of (sequence ∷ []) documents one named each (read ∷ []) spelled =
+    ap (λ (name : List ℕ). if bytes_eq name DOCUMENTS.now then Some read.documents else None) spelled.0.name
+    ∙ ap (λ (same : Bool). if same then Some read.documents else None) named
+    ∙ sym (each read.documents spelled.0.documents)
+lone_of (sequence ∷ []) documents one named each (read ∷ other ∷ rest) spelled = absurd spelled.1
+lone_of (sequence ∷ other ∷ rest) documents one named each all spelled = absurd (omega (arith, one))
+
+pub are_lone : (sequences : List Sequence) (found : Option (List (List (Pair Bson)))) → length sequences ≡ 1 → bytes_eq (name_at sequences 0) DOCUMENTS.now ≡ true
+    → ((ds : List (List (Pair Bson))) → SpellAll ds (documents_at sequences 0) → found ≡ Some ds) → AreLone sequences found
+are_lone sequences None one named each = tt
+are_lone sequences (Some documents) one named each = lone_of sequences documents one named each

@@ -19,3 +19,4 @@ pub mod Valid
 pub mod ErrorAnswers
 pub mod Ended
 pub mod Fresh
+pub mod inside

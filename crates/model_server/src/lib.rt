@@ -21,6 +21,7 @@ mod link;
 pub mod meeting;
 pub mod ops;
 pub mod places;
+mod plain_insert;
 pub mod reading;
 pub mod refusing;
 pub mod replying;

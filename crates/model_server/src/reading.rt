@@ -1,5 +1,5 @@
 //! From a frame and the places of its writes to the send that they spell.
-ghost use Rattle.std.specs.Prelude.{◌≡◌, ◌<◌, List as Listed, length, slice_get, Some, IfOk};
+ghost use Rattle.std.specs.Prelude.{◌≡◌, ◌<◌, List as Listed, bytes_eq, length, slice_get, Some, IfOk};
 ghost use Rattle.bson_lite.specs.Spelling.{Spells};
 ghost use Rattle.bson_lite.specs.declared.bson.Bson.{Bson as Value};
 ghost use Rattle.bson_lite.specs.declared.document.Pair.{Pair};
@@ -9,16 +9,108 @@ ghost use Rattle.driver_link.specs.Sequences.{documents_at};
 ghost use Rattle.driver_link.specs.declared.frame.Documents.{Documents as Named};
 ghost use Rattle.driver_link.specs.declared.frame.Sequence.{Sequence as Framed};
 ghost use Rattle.driver_link.specs.declared.machine.Send.{Send as Sent};
+ghost use Rattle.std.specs.Option.{option_map};
+ghost use Rattle.model_server.specs.inside.PlainInserts.{IsPlainInsert, asks_inserts, plain_send};
+ghost use Rattle.model_server.specs.inside.ReadFrames.{AreLone, ReadsFrame};
 
 use crate::asking::asked_body;
 use crate::body_fields::{goes_to, send_as};
+use crate::plain_insert::{PlainInsert, plain_insert};
+use crate::writing::asked_inserts;
 use bson_lite::{DecodeFault, Document, List, Text, decode};
+use driver_link::keys::DOCUMENTS;
 use driver_link::{Documents, Frame, Place, Send};
 use std::alloc::{AllocError, Global};
 
-/// The send that a frame and places read as, and `None` where they read as none.
+/// The send that a frame and places read as, and `None` where they read as none. A plain insert's body is told by its
+/// bytes.
 pub fn read_send(alloc: Global, frame: &Frame, places: &[Place]) -> Result<Option<Send>, AllocError>
     ensures { IfOk result (λ found. (send : Sent) → Reads frame.now places.now send → found ≡ Some send) }
+{
+    let plain = plain_insert(alloc, frame.database(), frame.body())?;
+    match plain {
+        Some(plain) => insert_send(alloc, frame, plain, places),
+        None => document_send(alloc, frame, places),
+    }
+}
+
+/// The same of a plain insert, whose documents stand in one sequence.
+fn insert_send(
+    alloc: Global,
+    frame: &Frame,
+    plain: PlainInsert,
+    places: &[Place],
+) -> Result<Option<Send>, AllocError>
+    ensures { IfOk result (λ found. IsPlainInsert frame.now.database frame.now.body plain →
+        ReadsFrame frame.now places.now found) }
+{
+    let documents = lone_documents(alloc, frame)?;
+    match documents {
+        Some(documents) => plain_send(alloc, plain, documents, places),
+        None => document_send(alloc, frame, places),
+    }
+}
+
+/// The send of a plain insert of these documents.
+fn plain_send(
+    alloc: Global,
+    plain: PlainInsert,
+    documents: List<Document>,
+    places: &[Place],
+) -> Result<Option<Send>, AllocError>
+    ensures { IfOk result (λ found. found ≡ option_map (plain_send plain)
+        (asks_inserts plain.namespace plain.ordered places.now documents)) }
+{
+    let PlainInsert {
+        namespace,
+        ordered,
+        session,
+        number,
+    } = plain;
+    let asked = asked_inserts(alloc, namespace, ordered, documents, places)?;
+    match asked {
+        Some(body) => Ok(Some(Send {
+            session: Some(session),
+            number: Some(number),
+            start: false,
+            in_transaction: false,
+            body,
+        })),
+        None => Ok(None),
+    }
+}
+
+/// The documents of a frame's one sequence, where it has no other and this has their name.
+fn lone_documents(alloc: Global, frame: &Frame) -> Result<Option<List<Document>>, AllocError>
+    ensures { IfOk result (λ found. AreLone frame.now.sequences found) }
+{
+    if frame.sequence_count() != 1 {
+        return Ok(None);
+    }
+    named_documents(alloc, frame)
+}
+
+/// The same of a frame with one sequence.
+fn named_documents(alloc: Global, frame: &Frame) -> Result<Option<List<Document>>, AllocError>
+    requires { length frame.now.sequences ≡ 1 }
+    ensures { IfOk result (λ found. AreLone frame.now.sequences found) }
+{
+    if is_documents(frame.sequence_name(0)) {
+        return decoded_documents(alloc, frame, 0);
+    }
+    Ok(None)
+}
+
+/// Whether a sequence has this name.
+fn is_documents(name: &str) -> bool
+    ensures { result ≡ bytes_eq name.now DOCUMENTS.now }
+{
+    name == DOCUMENTS
+}
+
+/// The send that a frame and places read as, from its documents.
+fn document_send(alloc: Global, frame: &Frame, places: &[Place]) -> Result<Option<Send>, AllocError>
+    ensures { IfOk result (λ found. ReadsFrame frame.now places.now found) }
 {
     let Some(body) = decoded(alloc, frame.body())? else {
         return Ok(None);

@@ -5,6 +5,7 @@ ghost use Rattle.driver_link.specs.Writes.{placed as placed_with, writes_on, wri
 ghost use Rattle.driver_link.specs.Commands.{needed};
 ghost use Rattle.driver_link.specs.Values.{array_of};
 ghost use Rattle.std.specs.Option.{option_and_then};
+ghost use Rattle.model_server.specs.inside.PlainInserts.{asks_inserts};
 
 use crate::body_fields::{array_field, bool_field};
 use bson_lite::{Bson, Document, List, Namespace, Pair, Text, TryClone};
@@ -38,7 +39,7 @@ fn written_on(
     ensures { IfOk result (λ writes. writes ≡ writes_on kind namespace.now documents) }
 {
     let documents = documents.into_vec();
-    let mut writes = Vec::with_capacity(alloc, documents.len())?;
+    let mut writes = Vec::with_capacity(alloc, documents.len().saturating_add(1))?;
     for document in documents {
         writes.push(Written {
             kind,
@@ -134,6 +135,44 @@ pub fn asked_insert(
     };
     let writes = written_on(alloc, WriteKind::Insert, namespace, documents)?;
     asked_writes(alloc, SendCommand::Insert, ordered, places, writes)
+}
+
+/// What an insert of documents asks for, by whether it is ordered.
+pub(crate) fn asked_inserts(
+    alloc: Global,
+    namespace: Namespace,
+    ordered: bool,
+    documents: List<Document>,
+    places: &[Place],
+) -> Result<Option<SendBody>, AllocError>
+    ensures { IfOk result (λ asked. asked ≡ asks_inserts namespace ordered places.now documents) }
+{
+    let writes = written_into(alloc, WriteKind::Insert, namespace, documents)?;
+    asked_writes(alloc, SendCommand::Insert, ordered, places, writes)
+}
+
+/// Writes of one kind on one namespace, which moves into the last of them.
+fn written_into(
+    alloc: Global,
+    kind: WriteKind,
+    namespace: Namespace,
+    documents: List<Document>,
+) -> Result<List<Written>, AllocError>
+    ensures { IfOk result (λ writes. writes ≡ writes_on kind namespace documents) }
+{
+    let mut before = documents;
+    match before.pop() {
+        None => Ok(List::new(alloc)),
+        Some(document) => {
+            let mut writes = written_on(alloc, kind, &namespace, before)?;
+            writes.push(Written {
+                kind,
+                namespace,
+                document,
+            })?;
+            Ok(writes)
+        }
+    }
 }
 
 /// The documents of a list of values that are all documents.

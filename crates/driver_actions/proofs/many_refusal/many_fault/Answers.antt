@@ -1,14 +1,11 @@
 -- The first fault of the documents with their ids, of the comment, and of the length.
 use Rattle.std.proofs.Common.{sym, ap, subst, ◌∙◌}
-use Rattle.driver_ops.specs.Inserts.{insert_command}
 use Rattle.driver_actions.specs.ManyInputs.{RefusesManyValues}
-use Rattle.driver_actions.specs.inside.Faults.{first_of, length_fault}
+use Rattle.driver_actions.specs.inside.Faults.{first_of}
 use Rattle.driver_actions.proofs.ManyFaults.{refused_values}
 use Rattle.driver_actions.proofs.many_refusal.many_fault.Goals as goal
 
 pub returns : goal.returns
 returns c =
     subst (RefusesManyValues c.args.namespace.now c.args.documents.now c.args.options.now) (sym (c.first_of.ensures ∙ ap (first_of c.own_faults.result) c.first_of-fault.ensures))
-    (refused_values c.args.namespace.now c.args.documents.now c.args.options.now c.own_faults.result c.in_ok-fault.fault c.length_fault.result c.own_faults.ensures c.in_ok-fault.ensures
-    (c.length_fault.ensures ∙ ap length_fault (c.in_ok-body.ensures c.args.namespace.now.db
-    ∙ ap (λ coll. insert_command (record { db = c.args.namespace.now.db; coll = coll }) c.args.options.now) c.as_str.ensures.value)))
+    (refused_values c.args.namespace.now c.args.documents.now c.args.options.now c.own_faults.result c.in_ok-fault.fault c.in_ok-length.length c.own_faults.ensures c.in_ok-fault.ensures c.in_ok-length.ensures)

@@ -1,18 +1,16 @@
-use Rattle.std.proofs.Common.{◌≡◌, ap, sym, ◌∙◌, subst}
+-- What the bytes of a body tell is of the frame.
+use Rattle.std.proofs.Common.{ℕ, List, subst}
 use Rattle.std.proofs.lemmas.Result.{IfOk-weaker}
-use Rattle.bson_lite.specs.Spelling.{Spells}
-use Rattle.driver_link.specs.Asking.{spelled}
-use Rattle.model_server.proofs.ReadLaws.{read_law}
+use Rattle.model_server.specs.inside.PlainInserts.{IsPlainInsert, ReadsPlain}
+use Rattle.model_server.specs.inside.ReadFrames.{ReadsFrame}
 use Rattle.model_server.proofs.reading.read_send.Goals as goal
 
-pub returns : goal.returns
-returns c =
-    IfOk-weaker c.send_of.result
-    (λ found. found ≡ spelled c.database.result.now c.in-Some.body c.in-Some-2.sequences c.args.places.now) _
-    (λ found is send reads.
-    is
-    ∙ ap (λ name. spelled name c.in-Some.body c.in-Some-2.sequences c.args.places.now) c.database.ensures
-    ∙ read_law c.args.frame.now c.args.places.now send c.in-Some.body c.in-Some-2.sequences
-    (λ d spelled. sym c.in-Some.is ∙ c.in_ok-body.ensures d (subst (Spells d) (sym c.body.ensures) spelled))
-    (λ ds all. sym c.in-Some-2.is ∙ c.in_ok-sequences.ensures ds all) reads)
-    c.send_of.ensures
+pub returns-in-Some : goal.returns-in-Some
+returns-in-Some c =
+    IfOk-weaker c.insert_send.result (λ found. IsPlainInsert c.args.frame.now.database c.args.frame.now.body c.in-Some.plain → ReadsFrame c.args.frame.now c.args.places.now found)
+    (λ found. ReadsFrame c.args.frame.now c.args.places.now found)
+    (λ found reads. reads
+    (subst (λ (body : List ℕ). IsPlainInsert c.args.frame.now.database body c.in-Some.plain) c.body.ensures
+    (subst (λ (database : List ℕ). IsPlainInsert database c.body.result.now c.in-Some.plain) c.database.ensures
+    (subst (λ told. ReadsPlain c.database.result.now c.body.result.now told) c.in-Some.is c.in_ok-plain.ensures))))
+    c.insert_send.ensures
