@@ -44,6 +44,7 @@ pub(crate) struct DeleteParts {
 }
 
 /// The options that every write has, under their keys.
+#[inline(always)]
 #[tactic(auto, unfolding(crate::specs::Calls::shared_of))]
 fn read_shared(alloc: Global, value: &Value) -> Result<SharedOptions, Unread>
     ensures { GivesPart result (shared_of (view value.now)) }
@@ -57,6 +58,7 @@ fn read_shared(alloc: Global, value: &Value) -> Result<SharedOptions, Unread>
 }
 
 /// The options of an insert, of which these are set.
+#[inline(always)]
 fn insert_options(ordered: Option<bool>, shared: SharedOptions) -> InsertManyOptions
     ensures { result ≡ insert_options ordered shared }
 {
@@ -68,6 +70,7 @@ fn insert_options(ordered: Option<bool>, shared: SharedOptions) -> InsertManyOpt
     }
 }
 
+#[inline(always)]
 #[tactic(auto, unfolding(crate::specs::Calls::insert_one_of))]
 fn insert_one(alloc: Global, value: &Value) -> Result<Call, Unread>
     ensures { GivesPart result (insert_one_of (view value.now)) }
@@ -461,6 +464,7 @@ fn update_under(alloc: Global, name: &str, value: &Value) -> Result<Call, Unread
 }
 
 /// The write of one statement whose parts stand under its name.
+#[inline(always)]
 #[tactic(auto, unfolding(crate::specs::Calls::write_under))]
 fn write_under(alloc: Global, name: &str, value: &Value) -> Result<Call, Unread>
     ensures { GivesPart result (write_under name.now (view value.now)) }
@@ -478,6 +482,7 @@ fn write_under(alloc: Global, name: &str, value: &Value) -> Result<Call, Unread>
 }
 
 /// The call whose parts stand under its name: an insert of many documents, or a write of one statement.
+#[inline(always)]
 #[tactic(auto, unfolding(crate::specs::Calls::call_under))]
 fn call_under(alloc: Global, name: &str, value: &Value) -> Result<Call, Unread>
     ensures { GivesPart result (call_under name.now (view value.now)) }

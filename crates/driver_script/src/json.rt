@@ -4,6 +4,7 @@ ghost use Rattle.serde_json.specs.Data.{Data};
 ghost use Rattle.serde_json.specs.View.{view, items_view};
 ghost use Rattle.driver_script.specs.Json.{GivesPart, each, list_of, needed_part, optional_part, has_only, among};
 
+use crate::script::MOST_CALLS;
 use bson_lite::List;
 use serde_json::Value;
 use std::alloc::{AllocError, Global};
@@ -48,11 +49,17 @@ impl<T: FromJson> FromJson for List<T> {
     }
 }
 
+/// For how many of these items room is made before they are read: no more than a script has calls, since the first
+/// item may be wrong.
+pub(crate) fn room_for(items: &[Value]) -> usize {
+    items.len().min(MOST_CALLS)
+}
+
 #[tactic(auto, unfolding(crate::specs::Json::each))]
 fn read_each<T: FromJson>(alloc: Global, items: &[Value]) -> Result<List<T>, Unread>
     ensures { GivesPart result (each T.spec (items_view items.now)) }
 {
-    let mut found = List::new(alloc);
+    let mut found = List::with_capacity(alloc, room_for(items))?;
     for item in items {
         found.push(T::read(alloc, item)?)?;
     }
@@ -60,6 +67,7 @@ fn read_each<T: FromJson>(alloc: Global, items: &[Value]) -> Result<List<T>, Unr
 }
 
 /// The value under a key that has to be there.
+#[inline(always)]
 #[tactic(auto, unfolding(crate::specs::Json::needed_part))]
 pub(crate) fn read_needed<T: FromJson>(
     alloc: Global,
@@ -75,6 +83,7 @@ pub(crate) fn read_needed<T: FromJson>(
 }
 
 /// The value under a key, where it is there.
+#[inline(always)]
 #[tactic(auto, unfolding(crate::specs::Json::optional_part))]
 pub(crate) fn read_optional<T: FromJson>(
     alloc: Global,

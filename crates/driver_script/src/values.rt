@@ -3,7 +3,7 @@ ghost use Rattle.serde_json.specs.View.{view, items_view};
 ghost use Rattle.driver_script.specs.Json.{GivesPart};
 ghost use Rattle.driver_script.specs.Values.{value_of, tagged, document_of, pairs_of, pair_of, array_of, values_of};
 
-use crate::json::{FromJson, Unread};
+use crate::json::{FromJson, Unread, room_for};
 use crate::keys::{ARRAY, DOC};
 use crate::leaves::{integer, read_leaf};
 use bson_lite::{Bson, Document, List, Pair, Text};
@@ -90,7 +90,7 @@ fn read_document(alloc: Global, value: &Value) -> Result<Document, Unread>
 fn read_pairs(alloc: Global, items: &[Value]) -> Result<Document, Unread>
     ensures { GivesPart result (pairs_of (items_view items.now)) }
 {
-    let mut document = Document::new(alloc);
+    let mut document = Document::with_capacity(alloc, room_for(items))?;
     for item in items {
         document.push_pair(read_pair(alloc, item)?)?;
     }
@@ -99,6 +99,7 @@ fn read_pairs(alloc: Global, items: &[Value]) -> Result<Document, Unread>
 
 /// A key and a value, as a list of the two.
 #[cycle(value)]
+#[inline(always)]
 #[tactic(auto, unfolding(crate::specs::Values::pair_of))]
 fn read_pair(alloc: Global, value: &Value) -> Result<Pair<Bson>, Unread>
     ensures { GivesPart result (pair_of (view value.now)) }
@@ -137,7 +138,7 @@ fn read_array(alloc: Global, value: &Value) -> Result<List<Bson>, Unread>
 fn read_values(alloc: Global, items: &[Value]) -> Result<List<Bson>, Unread>
     ensures { GivesPart result (values_of (items_view items.now)) }
 {
-    let mut values = List::new(alloc);
+    let mut values = List::with_capacity(alloc, room_for(items))?;
     for item in items {
         values.push(read_value(alloc, item)?)?;
     }

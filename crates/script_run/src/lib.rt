@@ -8,6 +8,7 @@ mod distinct;
 mod failed_writes;
 pub mod laws;
 mod lines;
+mod numbers;
 pub mod program;
 pub mod report;
 pub mod running;

@@ -1,10 +1,12 @@
 //! The lines of a report, each put behind a text.
-ghost use Rattle.std.specs.Prelude.{◌≡◌, ◌++◌, map, string_bytes, IfOk, OnOk};
+ghost use Rattle.std.specs.Prelude.{◌≡◌, ◌++◌, codes, decimal, map, string_bytes, IfOk, OnOk};
+ghost use Rattle.std.specs.Fmt.{signed_decimal};
 ghost use Rattle.driver_link.specs.Cases.{body_writes};
 ghost use Rattle.driver_ops.specs.OptionFields.{document_in};
 ghost use Rattle.script_run.specs.Words.{listed, place_text};
-ghost use Rattle.script_run.specs.Lines.{inserted_text, count_text, counts_text, upserted_text, updated_text, deleted_text, found_text, many_text, answer_text, result_text, single_name, call_name, call_line, call_lines, write_name, command_name, send_line, send_lines, entry_line, entry_lines};
+ghost use Rattle.script_run.specs.Lines.{newline, inserted_text, count_text, counts_text, upserted_text, updated_text, deleted_text, found_text, many_text, answer_text, result_text, single_name, call_name, call_line, call_lines, write_name, command_name, send_line, send_lines, entry_line, entry_lines};
 
+use crate::numbers::{push_signed, push_unsigned};
 use crate::words::{
     push_error, push_number, push_place, push_places, push_session, push_value, push_value_or_none,
 };
@@ -39,8 +41,8 @@ fn push_inserted(
 fn push_count(out: &mut String, name: &str, count: u64) -> Result<(), AllocError>
     ensures { OnOk result (string_bytes out.new ≡ string_bytes out.old ++ count_text name.now count) }
 {
-    write!(out, "{name}{count}")?;
-    Ok(())
+    out.push_str(name)?;
+    push_unsigned(out, count)
 }
 
 /// How many documents an update found and changed.
@@ -73,9 +75,8 @@ fn push_updated(alloc: Global, out: &mut String, updated: &UpdateResult) -> Resu
 fn push_deleted(out: &mut String, deleted: &DeleteResult) -> Result<(), AllocError>
     ensures { OnOk result (string_bytes out.new ≡ string_bytes out.old ++ deleted_text deleted.now) }
 {
-    let count = deleted.deleted_count;
-    write!(out, "ok deleted={count}")?;
-    Ok(())
+    out.push_str("ok deleted=")?;
+    push_unsigned(out, deleted.deleted_count)
 }
 
 /// A copy of a document as a value, where there is one.
@@ -159,6 +160,19 @@ fn name_of_single(write: &SingleWrite) -> &'static str
     }
 }
 
+/// What stands before the answer of a call: its number and its name.
+fn push_call_head(out: &mut String, at: usize, name: &str) -> Result<(), AllocError>
+    ensures { OnOk result
+        (string_bytes out.new ≡
+        string_bytes out.old ++ (codes "call " ++ (decimal at ++ (codes " " ++ (name.now ++ codes ": "))))) }
+{
+    out.push_str("call ")?;
+    push_unsigned(out, at as u64)?;
+    out.push_str(" ")?;
+    out.push_str(name)?;
+    out.push_str(": ")
+}
+
 #[tactic(auto, unfolding(crate::specs::Lines::call_line))]
 fn push_call(
     alloc: Global,
@@ -169,8 +183,7 @@ fn push_call(
 ) -> Result<(), AllocError>
     ensures { OnOk result (string_bytes out.new ≡ string_bytes out.old ++ call_line at call.now outcome.now) }
 {
-    let name = name_of_call(call);
-    write!(out, "call {at} {name}: ")?;
+    push_call_head(out, at, name_of_call(call))?;
     push_result(alloc, out, &outcome.result)?;
     out.push_str("\n")
 }
@@ -232,12 +245,25 @@ fn push_placed(out: &mut String, body: &SendBody) -> Result<(), AllocError>
     }
 }
 
+/// What stands before the session of a send: its number and its command.
+fn push_send_head(out: &mut String, at: usize, command: &str) -> Result<(), AllocError>
+    ensures { OnOk result
+        (string_bytes out.new ≡
+        string_bytes out.old ++
+        (codes "send " ++ (decimal at ++ (codes ": " ++ (command.now ++ codes " session="))))) }
+{
+    out.push_str("send ")?;
+    push_unsigned(out, at as u64)?;
+    out.push_str(": ")?;
+    out.push_str(command)?;
+    out.push_str(" session=")
+}
+
 #[tactic(auto, unfolding(crate::specs::Lines::send_line))]
 fn push_send(out: &mut String, at: usize, send: &Send) -> Result<(), AllocError>
     ensures { OnOk result (string_bytes out.new ≡ string_bytes out.old ++ send_line at send.now) }
 {
-    let command = name_of_command(&send.body);
-    write!(out, "send {at}: {command} session=")?;
+    push_send_head(out, at, name_of_command(&send.body))?;
     push_session(out, &send.session)?;
     out.push_str(" number=")?;
     push_number(out, send.number)?;
@@ -257,19 +283,37 @@ pub(crate) fn push_sends(out: &mut String, sends: &[Send]) -> Result<(), AllocEr
     Ok(())
 }
 
+/// What stands before the place of an entry: its number.
+fn push_entry_head(out: &mut String, at: usize) -> Result<(), AllocError>
+    ensures { OnOk result
+        (string_bytes out.new ≡ string_bytes out.old ++ (codes "entry " ++ (decimal at ++ codes ": "))) }
+{
+    out.push_str("entry ")?;
+    push_unsigned(out, at as u64)?;
+    out.push_str(": ")
+}
+
+/// What stands behind its transaction number: how many documents it counts.
+fn push_entry_end(out: &mut String, count: i64) -> Result<(), AllocError>
+    ensures { OnOk result
+        (string_bytes out.new ≡ string_bytes out.old ++ (codes " n=" ++ (signed_decimal count ++ newline))) }
+{
+    out.push_str(" n=")?;
+    push_signed(out, count)?;
+    out.push_str("\n")
+}
+
 #[tactic(auto, unfolding(crate::specs::Lines::entry_line))]
 fn push_entry(out: &mut String, at: usize, entry: &Entry) -> Result<(), AllocError>
     ensures { OnOk result (string_bytes out.new ≡ string_bytes out.old ++ entry_line at entry.now) }
 {
-    write!(out, "entry {at}: ")?;
+    push_entry_head(out, at)?;
     push_place(out, &entry.place)?;
     out.push_str(" session=")?;
     push_session(out, &entry.session)?;
     out.push_str(" number=")?;
     push_number(out, entry.number)?;
-    let count = entry.result.n;
-    write!(out, " n={count}\n")?;
-    Ok(())
+    push_entry_end(out, entry.result.n)
 }
 
 /// The lines of a log.

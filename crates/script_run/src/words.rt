@@ -1,20 +1,57 @@
 //! The words of a report, each put behind a text.
-ghost use Rattle.std.specs.Prelude.{◌≡◌, ◌++◌, map, codes, string_bytes, OnOk};
+ghost use Rattle.std.specs.Prelude.{◌≡◌, ◌<◌, ◌++◌, [], ◌∷◌, false, map, codes, string_bytes, OnOk};
+ghost use Rattle.std.specs.Fmt.{digit_glyph, digits};
 ghost use Rattle.std.specs.Option.{option_copied};
 ghost use Rattle.script_run.specs.Words.{two_digits, hex, plain_hex, session_text, number_text, listed, more_texts, place_text, lone, spelled_or_nothing, value_text, value_text_or_none, fault_name, io_name, kind_name, source_text, error_text};
 
 use crate::details::push_detail;
+use crate::numbers::{push_signed, push_unsigned};
 use bson_lite::{Bson, Document, EncodeFault, Text, TryClone, encode};
 use driver_error::{Error, ErrorKind, IoKind};
 use driver_link::{Place, PlacedWrite};
 use std::alloc::{AllocError, Global};
 
-#[tactic(auto, using(std::proofs::lemmas::Fmt::hex_byte))]
+/// The hexadecimal digit of a number below 16.
+#[inline(always)]
+fn digit_of(number: u8) -> u8
+    requires { number < 16 }
+    ensures digit { result ≡ digit_glyph false number }
+    ensures ascii { result < 128 }
+{
+    if number < 10 {
+        b'0' + number
+    } else {
+        b'a' + (number - 10)
+    }
+}
+
+/// Puts it behind a text.
+#[inline(always)]
+fn push_digit(out: &mut String, number: u8) -> Result<(), AllocError>
+    requires { number < 16 }
+    ensures { OnOk result (string_bytes out.new ≡ string_bytes out.old ++ digit_glyph false number ∷ []) }
+{
+    out.push(digit_of(number) as char)
+}
+
+/// Puts both digits of a byte behind a text.
+#[inline(always)]
 fn push_byte(out: &mut String, byte: u8) -> Result<(), AllocError>
     ensures { OnOk result (string_bytes out.new ≡ string_bytes out.old ++ two_digits byte) }
 {
-    write!(out, "{byte:02x}")?;
-    Ok(())
+    push_digit(out, byte / 16)?;
+    push_digit(out, byte % 16)
+}
+
+/// Puts the digits of a byte behind a text, without a leading zero.
+#[tactic(auto, using(std::proofs::lemmas::Fmt::hex_one_digit, std::proofs::lemmas::Fmt::hex_two_digits))]
+fn push_short_byte(out: &mut String, byte: u8) -> Result<(), AllocError>
+    ensures { OnOk result (string_bytes out.new ≡ string_bytes out.old ++ digits 16 false byte) }
+{
+    if byte < 16 {
+        return push_digit(out, byte);
+    }
+    push_byte(out, byte)
 }
 
 #[tactic(auto, unfolding(crate::specs::Words::hex))]
@@ -33,7 +70,7 @@ fn push_plain_hex(out: &mut String, bytes: &[u8]) -> Result<(), AllocError>
 {
     for (at, byte) in bytes.iter().enumerate() {
         if *byte != 0 {
-            write!(out, "{byte:x}")?;
+            push_short_byte(out, *byte)?;
             return push_hex(out, &bytes[at + 1..]);
         }
     }
@@ -53,10 +90,7 @@ pub(crate) fn push_number(out: &mut String, number: Option<i64>) -> Result<(), A
     ensures { OnOk result (string_bytes out.new ≡ string_bytes out.old ++ number_text number) }
 {
     match number {
-        Some(number) => {
-            write!(out, "{number}")?;
-            Ok(())
-        }
+        Some(number) => push_signed(out, number),
         None => out.push_str("-"),
     }
 }
@@ -64,10 +98,9 @@ pub(crate) fn push_number(out: &mut String, number: Option<i64>) -> Result<(), A
 pub(crate) fn push_place(out: &mut String, place: &Place) -> Result<(), AllocError>
     ensures { OnOk result (string_bytes out.new ≡ string_bytes out.old ++ place_text place.now) }
 {
-    let call = place.call;
-    let index = place.index;
-    write!(out, "{call}.{index}")?;
-    Ok(())
+    push_unsigned(out, place.call)?;
+    out.push_str(".")?;
+    push_unsigned(out, place.index)
 }
 
 #[tactic(auto, unfolding(crate::specs::Words::listed, crate::specs::Words::more_texts))]

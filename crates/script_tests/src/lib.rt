@@ -19,6 +19,8 @@ mod many;
 #[cfg(test)]
 mod parts;
 #[cfg(test)]
+mod repeats;
+#[cfg(test)]
 mod retries;
 #[cfg(test)]
 mod schedules;
