@@ -2,7 +2,7 @@
 use driver_error::Error;
 
 /// What comes behind a batch.
-#[derive(Debug, Drop)]
+#[derive(Drop)]
 pub(crate) enum Behind {
     /// The next batch, behind so many documents.
     Next(usize),

@@ -17,3 +17,4 @@ pub mod Keeping
 pub mod RetriedSends
 pub mod Readings
 pub mod Forms
+pub mod TakenNumbers

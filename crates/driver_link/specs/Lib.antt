@@ -14,6 +14,7 @@ pub mod FakeLink
 pub mod Faults
 pub mod FindOptions
 pub mod Framed
+pub mod Gathered
 pub mod Honesty
 pub mod Ids
 pub mod Interrupting

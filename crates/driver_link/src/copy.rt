@@ -77,8 +77,8 @@ impl TryClone for Planned {
         Ok(Planned {
             n: self.n,
             modified: self.modified,
-            upserted: self.upserted.try_clone(alloc)?,
             value: self.value.try_clone(alloc)?,
+            upserted: self.upserted.try_clone(alloc)?,
         })
     }
 }

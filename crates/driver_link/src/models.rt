@@ -4,6 +4,7 @@ ghost use Rattle.driver_link.specs.Models.{multi_of, namespace_of, operation_of}
 
 use crate::updates::UpdateModifications;
 use bson_lite::{Bson, Document, List, Namespace};
+use std::mem;
 
 /// What a model does. A replacement is an update.
 #[derive(Clone, Copy, Debug, PartialEq, Eq)]
@@ -96,7 +97,7 @@ impl UpdateOneModel {
     pub fn hint(mut self, hint: Bson) -> UpdateOneModel
         ensures { result ≡ record self { hint = Some hint } }
     {
-        self.hint = Some(hint);
+        drop(mem::replace(&mut self.hint, Some(hint)));
         self
     }
 
@@ -176,7 +177,7 @@ impl UpdateManyModel {
     pub fn hint(mut self, hint: Bson) -> UpdateManyModel
         ensures { result ≡ record self { hint = Some hint } }
     {
-        self.hint = Some(hint);
+        drop(mem::replace(&mut self.hint, Some(hint)));
         self
     }
 
@@ -238,7 +239,7 @@ impl ReplaceOneModel {
     pub fn hint(mut self, hint: Bson) -> ReplaceOneModel
         ensures { result ≡ record self { hint = Some hint } }
     {
-        self.hint = Some(hint);
+        drop(mem::replace(&mut self.hint, Some(hint)));
         self
     }
 
@@ -291,7 +292,7 @@ impl DeleteOneModel {
     pub fn hint(mut self, hint: Bson) -> DeleteOneModel
         ensures { result ≡ record self { hint = Some hint } }
     {
-        self.hint = Some(hint);
+        drop(mem::replace(&mut self.hint, Some(hint)));
         self
     }
 }
@@ -330,7 +331,7 @@ impl DeleteManyModel {
     pub fn hint(mut self, hint: Bson) -> DeleteManyModel
         ensures { result ≡ record self { hint = Some hint } }
     {
-        self.hint = Some(hint);
+        drop(mem::replace(&mut self.hint, Some(hint)));
         self
     }
 }

@@ -51,7 +51,7 @@ pub(crate) fn copy_beside(
 {
     Ok(Beside {
         let_vars: let_vars.try_clone(alloc)?,
-        comment: comment.try_clone(alloc)?,
         write_concern: write_concern.try_clone(alloc)?,
+        comment: comment.try_clone(alloc)?,
     })
 }

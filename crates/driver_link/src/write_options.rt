@@ -23,8 +23,8 @@ impl TryClone for InsertManyOptions {
         Ok(InsertManyOptions {
             ordered: self.ordered,
             bypass_document_validation: self.bypass_document_validation,
-            comment: self.comment.try_clone(alloc)?,
             write_concern: self.write_concern.try_clone(alloc)?,
+            comment: self.comment.try_clone(alloc)?,
         })
     }
 }

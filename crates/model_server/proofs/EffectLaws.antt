@@ -3,6 +3,7 @@ use Rattle.std.proofs.Common.{◌≡◌, ℕ, ℤ, true, false, List, [], ◌++�
 use Rattle.std.proofs.lemmas.List.{append-nil}
 use Rattle.std.specs.FinMap as finite
 use Rattle.driver_link.specs.Cases.{is_in_transaction, known_as, known_under}
+use Rattle.driver_link.specs.Gathered.{is_numbered}
 use Rattle.driver_link.specs.declared.machine.Entry.{Entry}
 use Rattle.driver_link.specs.declared.machine.KnownSession.{KnownSession}
 use Rattle.driver_link.specs.declared.machine.Send.{Send}
@@ -11,7 +12,7 @@ use Rattle.driver_link.specs.declared.machine.Statement.{Statement}
 use Rattle.model_server.specs.Changes.{effect_in}
 use Rattle.model_server.specs.Does.{Does}
 use Rattle.model_server.specs.Parts.{Makes, parts_as}
-use Rattle.model_server.specs.Seen.{is_numbered, is_outside, is_too_old}
+use Rattle.model_server.specs.Seen.{is_outside, is_too_old}
 use Rattle.model_server.specs.declared.cases.Case.{Case}
 use Rattle.model_server.specs.declared.cases.Case.TheVariants as met
 use Rattle.model_server.specs.declared.change.Effect.TheVariants as effect

@@ -2,8 +2,10 @@
 use Rattle.std.proofs.Common.{◌≡◌, ℕ, ℤ, ◌&&◌, ◌||◌, Bool, true, false, List, ◌++◌, Option, None, Some, refl, sym, ap, ◌∙◌, if◌then◌else◌}
 use Rattle.std.proofs.lemmas.List.{append-nil}
 use Rattle.std.specs.FinMap as finite
+use Rattle.driver_link.proofs.TakenNumbers.{case_traced, known_traced}
 use Rattle.driver_link.specs.Cases.{Case, case_of, is_decided, is_in_transaction, known_of, known_under, results_of, writes_of}
 use Rattle.driver_link.specs.Exchange.{interrupted, interrupted_labels, interrupted_reply}
+use Rattle.driver_link.specs.Gathered.{gathered_by, is_numbered}
 use Rattle.driver_link.specs.Honesty.{can_be_transient, has_transient, honest, ran_before}
 use Rattle.driver_link.specs.Interrupting.{aborted, done_before, told_of_error, interrupted_case, interrupted_done, interrupted_in, interruption, runs_in, session_interrupted, transient_as}
 use Rattle.driver_link.specs.Replies.{error_reply, served_reply}
@@ -16,13 +18,12 @@ use Rattle.driver_link.specs.declared.machine.Server.{Server}
 use Rattle.driver_link.specs.declared.machine.ServerTransaction.TheVariants as transaction
 use Rattle.driver_link.specs.declared.machine.Statement.{Statement}
 use Rattle.model_server.proofs.EffectLaws.{taken_law}
-use Rattle.model_server.proofs.ServeLaws.{case_traced, known_traced}
 use Rattle.model_server.proofs.StillLaws.{still_law}
 use Rattle.model_server.proofs.TransientLaws.{before_traced, cursors_stay, transient_law, transient_traced}
 use Rattle.model_server.specs.Changes.{changed, effect_in}
 use Rattle.model_server.specs.Does.{Does}
 use Rattle.model_server.specs.Parts.{Makes, parts_as}
-use Rattle.model_server.specs.Seen.{gathered_by, is_numbered, is_too_old, seen}
+use Rattle.model_server.specs.Seen.{is_too_old, seen}
 use Rattle.model_server.specs.Transient.{called, still_transient}
 use Rattle.model_server.specs.declared.cases.Case.{Case as Met}
 use Rattle.model_server.specs.declared.cases.Case.TheVariants as met

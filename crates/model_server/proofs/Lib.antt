@@ -10,17 +10,5 @@ pub mod UndoLaws
 pub mod StillLaws
 pub mod IndexLaws
 pub mod ExchangeLaws
-pub mod SteadyLaws
-pub mod CommitLaws
-pub mod GrowLaws
-pub mod InsideLaws
-pub mod FrameReads
-pub mod HonestLabels
-pub mod ErrorReplies
-pub mod HeldSessions
-pub mod EndedTransactions
-pub mod ValidServers
-pub mod QuietAnswers
-pub mod NewWrites
 pub mod PlainBytes
 pub mod PlainInserts

@@ -1,7 +1,9 @@
 -- What was made over a server is the machine's serving, whatever trace the server has by then.
-use Rattle.std.proofs.Common.{◌≡◌, ℕ, ℤ, List, Option, None, Some, refl, sym, ap, ◌∙◌}
-use Rattle.driver_link.specs.Cases.{Case, case_as, case_of, case_under, known_as, known_of, results_of, too_old, outside, gathers, commits, aborts, of_cursor, nothing, denied, writes_of}
+use Rattle.std.proofs.Common.{◌≡◌, ℕ, List, Option, refl, sym, ap, ◌∙◌}
+use Rattle.driver_link.proofs.TakenNumbers.{case_traced, known_traced}
+use Rattle.driver_link.specs.Cases.{Case, case_of, known_of, results_of, too_old, outside, gathers, commits, aborts, of_cursor, nothing, denied, writes_of}
 use Rattle.driver_link.specs.Cursors.{Reply}
+use Rattle.driver_link.specs.Gathered.{gathered_by}
 use Rattle.driver_link.specs.Replies.{denied_reply, reply_in, served_reply, transaction_of}
 use Rattle.driver_link.specs.Serving.{Plan, cursors_after, done_in, served, served_in, session_after}
 use Rattle.driver_link.specs.Statements.{entries_of}
@@ -10,28 +12,12 @@ use Rattle.driver_link.specs.declared.machine.Server.{Server}
 use Rattle.driver_link.specs.declared.machine.Statement.{Statement}
 use Rattle.model_server.specs.Changes.{changed, cursors_put, effect_in}
 use Rattle.model_server.specs.Parts.{parts_as}
-use Rattle.model_server.specs.Seen.{seen, gathered_by}
+use Rattle.model_server.specs.Seen.{seen}
 use Rattle.model_server.specs.declared.cases.Case.{Case as Met}
 use Rattle.model_server.specs.declared.change.CursorChange.{CursorChange}
 use Rattle.model_server.specs.declared.change.Effect.{Effect}
 
--- what is known of a session does not depend on the trace
-pub known_traced : (session : Option (List ℕ)) (number : Option ℤ) (server : Server) (trace : List Send) (send : Send)
-    → known_as session number (record server { trace = trace }) send ≡ known_as session number server send
-unfolding known_as
-known_traced None number server trace send = refl
-known_traced (Some id) None server trace send = refl
-known_traced (Some id) (Some number) server trace send = refl
-
--- nor does the case
-pub case_traced : (session : Option (List ℕ)) (number : Option ℤ) (server : Server) (trace : List Send) (send : Send)
-    → case_as session number (record server { trace = trace }) send ≡ case_as session number server send
-unfolding case_as case_under
-case_traced None number server trace send = refl
-case_traced (Some id) None server trace send = refl
-case_traced (Some id) (Some number) server trace send = refl
-
--- nor does the reply
+-- the reply does not depend on the trace
 reply_traced : (case : Case) (plan : Plan) (done : List Statement) (server : Server) (trace : List Send) (send : Send)
     → reply_in case plan done (record server { trace = trace }) send ≡ reply_in case plan done server send
 unfolding reply_in

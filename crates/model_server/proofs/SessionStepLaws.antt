@@ -4,6 +4,7 @@ use Rattle.std.proofs.lemmas.List.{append-nil}
 use Rattle.std.proofs.lemmas.List.Sums.{take_while-cons}
 use Rattle.std.specs.FinMap as finite
 use Rattle.bson_lite.specs.Indexed.{insert_each}
+use Rattle.driver_link.specs.Gathered.{entries_in}
 use Rattle.driver_link.specs.declared.machine.Counted.{Counted}
 use Rattle.driver_link.specs.declared.machine.Entry.{Entry}
 use Rattle.driver_link.specs.declared.machine.KnownSession.{KnownSession}
@@ -14,7 +15,6 @@ use Rattle.driver_link.specs.Serving.{gathered, session_after}
 use Rattle.driver_link.specs.Statements.{Results, negated, is_failed, has_failed, has_run, before_failing, kept_with}
 use Rattle.model_server.specs.Does.{Does}
 use Rattle.model_server.specs.Ran.{ran_at, runs_first}
-use Rattle.model_server.specs.Seen.{entries_in}
 use Rattle.model_server.specs.declared.cases.Case.TheVariants as met
 use Rattle.model_server.specs.declared.change.SessionStep.TheVariants as step
 

@@ -5,11 +5,12 @@ use Rattle.std.specs.Cmp.Lexicographic.{nat_list_cmp_total}
 use Rattle.std.specs.FinMap as finite
 use Rattle.std.proofs.lemmas.Bool.{or_right}
 use Rattle.bson_lite.proofs.FinMaps.{get_inserted}
+use Rattle.driver_link.proofs.TakenNumbers.{not_below_taken, not_new, open_above, taken_again}
 use Rattle.driver_link.specs.Cases.{Case, is_end, unnumbered_case, write_case, case_as, case_of, case_under, is_decided, is_in_transaction, known_under, numbered_case, too_old, outside, gathers, commits, aborts, of_cursor, nothing, denied, writes_of}
 use Rattle.driver_link.specs.Honesty.{can_be_transient}
 use Rattle.driver_link.specs.Interrupting.{done_before, interrupted_case, interrupted_in, interruption, session_interrupted}
 use Rattle.driver_link.specs.Serving.{sessions_as}
-use Rattle.driver_link.specs.Sessions.{denied_transaction, begin_session, is_below, is_committed, is_new, running, taken}
+use Rattle.driver_link.specs.Sessions.{denied_transaction, is_below, is_committed, is_new, running, taken}
 use Rattle.driver_link.specs.Statements.{entries_of, negated}
 use Rattle.driver_link.specs.declared.machine.Entry.{Entry}
 use Rattle.driver_link.specs.declared.machine.KnownSession.{KnownSession}
@@ -20,7 +21,6 @@ use Rattle.driver_link.specs.declared.machine.SendBody.TheVariants.{Write, Commi
 use Rattle.driver_link.specs.declared.machine.ServerTransaction.{ServerTransaction}
 use Rattle.driver_link.specs.declared.machine.ServerTransaction.TheVariants as transaction
 use Rattle.driver_link.specs.declared.machine.Statement.{Statement}
-use Rattle.model_server.proofs.TransientLaws.{not_below_itself, not_new, taken_again}
 use Rattle.model_server.specs.Transient.{still_transient}
 
 -- a case in which a transaction commits, or is aborted at the client's wish
@@ -89,17 +89,6 @@ unnumbered_commits (Kill cursor) = refl
 free : Bool → ServerTransaction → Bool
 free inside transaction = if inside then negated (is_committed transaction) else true
 
--- a number that was taken is not below the greatest of its session
-pub not_below_taken : (number : ℤ) (inside start : Bool) (before : Option KnownSession) → is_below number before ≡ false
-    → int_lt number (taken number inside start before).greatest ≡ false
-unfolding taken is_below
-not_below_taken number inside start None above = not_below_itself number
-not_below_taken number inside start (Some known) above = by_test (int_lt known.greatest number)
-  where
-    by_test : (b : Bool) → int_lt number (if b then begin_session number inside start else known).greatest ≡ false
-    by_test true = not_below_itself number
-    by_test false = above
-
 module _ (id : List ℕ) (number : ℤ) (server : Server) (send : Send) (above : is_below number (finite.get server.sessions id) ≡ false) where
   known : KnownSession
   known = known_under id number server send
@@ -159,17 +148,6 @@ module _ (id : List ℕ) (number : ℤ) (server : Server) (send : Send) (above :
       same (transaction.Running entries) = refl
       same transaction.Committed = refl
       same transaction.Aborted = refl
-
--- a send that the rules on numbers and transactions do not decide is not too old
-pub open_above : (number : ℤ) (id : List ℕ) (server : Server) (send : Send) → is_decided (case_under id number server send) ≡ false
-    → is_below number (finite.get server.sessions id) ≡ false
-unfolding case_under
-open_above number id server send undecided = by_test (is_below number (finite.get server.sessions id)) undecided
-  where
-    by_test : (b : Bool)
-        → is_decided (if b then too_old else numbered_case (known_under id number server send) (is_new number (finite.get server.sessions id)) send send.body) ≡ false → b ≡ false
-    by_test true is = let no = is in cc
-    by_test false is = refl
 
 commits_inside : (id : List ℕ) (number : ℤ) (server : Server) (send : Send) → is_commits (case_under id number server send) ≡ true → is_in_transaction send ≡ true
 unfolding case_under is_commits

@@ -1,16 +1,15 @@
 -- A transaction that was called transient, and what an answer is judged by, whatever trace the server has.
 use Rattle.std.proofs.Common.{◌≡◌, ℕ, ℤ, Bool, true, false, List, Option, None, Some, refl, sym, ap, ◌∙◌, if◌then◌else◌}
 use Rattle.std.specs.Prelude.{int_lt}
-use Rattle.std.proofs.Common.{arith}
-use Rattle.std.proofs.lemmas.Int.{ints}
 use Rattle.std.specs.Cmp.Lexicographic.{nat_list_cmp_total}
 use Rattle.std.specs.FinMap as finite
 use Rattle.bson_lite.proofs.FinMaps.{get_inserted, insert_again}
+use Rattle.driver_link.proofs.TakenNumbers.{not_new, taken_again}
 use Rattle.driver_link.specs.Cases.{is_in_transaction, known_under}
 use Rattle.driver_link.specs.Exchange.{refused_labels}
 use Rattle.driver_link.specs.Honesty.{can_be_transient, honest, ran_before}
 use Rattle.driver_link.specs.Interrupting.{aborted, transient_as}
-use Rattle.driver_link.specs.Sessions.{begin_session, taken}
+use Rattle.driver_link.specs.Sessions.{taken}
 use Rattle.driver_link.specs.declared.machine.KnownSession.{KnownSession}
 use Rattle.driver_link.specs.declared.machine.Send.{Send}
 use Rattle.driver_link.specs.declared.machine.Server.{Server}
@@ -44,10 +43,6 @@ cursors_stay effect.Nothing server = refl
 cursors_stay (effect.Logged entries) server = refl
 cursors_stay (effect.Taken id number in_transaction start step transient) server = refl
 
--- a number is not below itself
-pub not_below_itself : (number : ℤ) → int_lt number number ≡ false
-not_below_itself number = grind (arith, ints)
-
 -- a step leaves the number
 greatest_stays : (step : SessionStep) (known : KnownSession) → (stepped step known).greatest ≡ known.greatest
 greatest_stays step.Stays known = refl
@@ -57,23 +52,6 @@ greatest_stays (step.Fails ran) known = refl
 greatest_stays step.Ends known = refl
 greatest_stays step.Commits known = refl
 greatest_stays step.Denied known = refl
-
--- a number that was taken is not new
-pub not_new : (number : ℤ) (in_transaction start : Bool) (before : Option KnownSession)
-    → int_lt (taken number in_transaction start before).greatest number ≡ false
-unfolding taken
-not_new number in_transaction start None = not_below_itself number
-not_new number in_transaction start (Some known) = by_test (int_lt known.greatest number) refl
-  where
-    by_test : (b : Bool) → int_lt known.greatest number ≡ b → int_lt (if b then begin_session number in_transaction start else known).greatest number ≡ false
-    by_test true is = not_below_itself number
-    by_test false is = is
-
--- it is not taken again
-pub taken_again : (number : ℤ) (in_transaction start : Bool) (known : KnownSession) → int_lt known.greatest number ≡ false
-    → taken number in_transaction start (Some known) ≡ known
-unfolding taken
-taken_again number in_transaction start known is = ap (λ b. if b then begin_session number in_transaction start else known) is
 
 -- what is known of a session after a step of it
 pub known_after : (id : List ℕ) (number : ℤ) (step : SessionStep) (server : Server) (send : Send)

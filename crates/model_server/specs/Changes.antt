@@ -3,6 +3,7 @@ use Rattle.std.specs.Prelude.{ℕ, ◌||◌, Bool, true, false, List, [], ◌∷
 use Rattle.std.specs.FinMap as finite
 use Rattle.bson_lite.specs.Indexed.{insert_each}
 use Rattle.driver_link.specs.Cursors.{Reply, closed}
+use Rattle.driver_link.specs.Gathered.{entries_in}
 use Rattle.driver_link.specs.Interrupting.{aborted}
 use Rattle.driver_link.specs.Serving.{has_entries}
 use Rattle.driver_link.specs.Sessions.{taken, denied_transaction}
@@ -10,7 +11,6 @@ use Rattle.driver_link.specs.declared.machine.Entry.{Entry}
 use Rattle.driver_link.specs.declared.machine.KnownSession.{KnownSession}
 use Rattle.driver_link.specs.declared.machine.Server.{Server}
 use Rattle.driver_link.specs.declared.machine.ServerTransaction.TheVariants as transaction
-use Rattle.model_server.specs.Seen.{entries_in}
 use Rattle.model_server.specs.declared.change.CursorChange.{CursorChange}
 use Rattle.model_server.specs.declared.change.CursorChange.TheVariants as cursor
 use Rattle.model_server.specs.declared.change.Effect.{Effect}

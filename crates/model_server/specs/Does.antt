@@ -1,12 +1,13 @@
 -- What a step of a session has to do.
 use Rattle.std.specs.Prelude.{◌≡◌, List, ◌++◌}
+use Rattle.driver_link.specs.Gathered.{entries_in}
 use Rattle.driver_link.specs.Serving.{log_gains}
 use Rattle.driver_link.specs.declared.machine.Entry.{Entry}
 use Rattle.driver_link.specs.declared.machine.KnownSession.{KnownSession}
 use Rattle.driver_link.specs.declared.machine.Statement.{Statement}
 use Rattle.model_server.specs.Changes.{stepped, logged_by}
 use Rattle.model_server.specs.Parts.{Makes}
-use Rattle.model_server.specs.Seen.{seen, entries_in}
+use Rattle.model_server.specs.Seen.{seen}
 use Rattle.model_server.specs.declared.cases.Case.{Case}
 use Rattle.model_server.specs.declared.change.SessionStep.{SessionStep}
 

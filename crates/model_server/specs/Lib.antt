@@ -13,10 +13,4 @@ pub mod ModelState
 pub mod Displacing
 pub mod Undoing
 pub mod Indexes
-pub mod Steady
-pub mod Events
-pub mod Valid
-pub mod ErrorAnswers
-pub mod Ended
-pub mod Fresh
 pub mod inside

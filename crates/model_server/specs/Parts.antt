@@ -1,6 +1,7 @@
 -- What a send in its case makes of sessions and log, for serving and for interrupting alike.
 use Rattle.std.specs.Prelude.{ℕ, ℤ, List, ◌++◌, Option}
 use Rattle.driver_link.specs.Cases.{Case, known_as, writes_of}
+use Rattle.driver_link.specs.Gathered.{gathered_by}
 use Rattle.driver_link.specs.Serving.{log_gains, sessions_as}
 use Rattle.driver_link.specs.Statements.{entries_of}
 use Rattle.driver_link.specs.declared.machine.Entry.{Entry}
@@ -8,7 +9,7 @@ use Rattle.driver_link.specs.declared.machine.KnownSession.{KnownSession}
 use Rattle.driver_link.specs.declared.machine.Send.{Send}
 use Rattle.driver_link.specs.declared.machine.Server.{Server}
 use Rattle.driver_link.specs.declared.machine.Statement.{Statement}
-use Rattle.model_server.specs.Seen.{seen, gathered_by}
+use Rattle.model_server.specs.Seen.{seen}
 use Rattle.model_server.specs.declared.cases.Case.{Case as Met}
 
 -- what a case makes of a session, by what its statements came to and the entries of those that ran

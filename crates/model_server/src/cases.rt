@@ -2,10 +2,11 @@
 ghost use Rattle.std.specs.Prelude.{◌≡◌, List as Listed, unwrap_or};
 ghost use Rattle.std.specs.Option.{option_copied};
 ghost use Rattle.driver_link.specs.Cases.{body_writes, is_ordered as ordered_body, is_in_transaction as in_transaction_of, write_case as case_of_write, commit_case as case_of_commit, abort_case as case_of_abort, numbered_case as case_numbered, unnumbered_case as case_unnumbered, case_under as case_by_number, case_of as case_met, known_under, known_of, results_of, is_decided as decided};
+ghost use Rattle.driver_link.specs.Gathered.{entries_in, gathered_by};
 ghost use Rattle.driver_link.specs.Sessions.{begin_session as begun_with, running};
 ghost use Rattle.driver_link.specs.Statements.{no_results};
 ghost use Rattle.driver_link.specs.declared.machine.Entry.{Entry as Written};
-ghost use Rattle.model_server.specs.Seen.{seen, entries_in, gathered_by, is_too_old as too_old};
+ghost use Rattle.model_server.specs.Seen.{seen, is_too_old as too_old};
 
 use bson_lite::{ByIndex, List};
 use driver_link::{

@@ -3,12 +3,12 @@
 ghost use Rattle.std.specs.Prelude.{◌≡◌, ◌++◌, Some, IsSome, IfOk, OnOk, OnErr};
 ghost use Rattle.std.specs.FinMap as finite;
 ghost use Rattle.driver_link.specs.Cursors.{closed, results_left};
+ghost use Rattle.driver_link.specs.Gathered.{entries_in};
 ghost use Rattle.driver_link.specs.Serving.{has_entries};
 ghost use Rattle.driver_link.specs.Sessions.{taken, denied_transaction};
 ghost use Rattle.driver_link.specs.declared.machine.KnownSession.{KnownSession as Known};
 ghost use Rattle.model_server.specs.Changes.{stepped, logged_by, ended, step_in, effect_in, changed};
 ghost use Rattle.model_server.specs.Displacing.{displaced_by, session_displaced, outdated};
-ghost use Rattle.model_server.specs.Seen.{entries_in};
 
 use crate::cases::begin_session;
 use crate::cursors::place_of;

@@ -1,13 +1,13 @@
 //! What serving a send comes to, made in full before anything is put in place.
 ghost use Rattle.std.specs.Prelude.{◌≡◌, List as Listed, false, IfOk};
 ghost use Rattle.driver_link.specs.Exchange.{empty_server, plan_of};
+ghost use Rattle.driver_link.specs.Gathered.{is_numbered};
 ghost use Rattle.driver_link.specs.Replies.{served_reply};
 ghost use Rattle.driver_link.specs.Serving.{session_after, served as serving};
 ghost use Rattle.driver_link.specs.declared.machine.Send.{Send as Sent};
 ghost use Rattle.driver_link.specs.declared.machine.Server.{Server as State};
 ghost use Rattle.model_server.specs.Changes.{changed, effect_in};
 ghost use Rattle.model_server.specs.Parts.{Makes, parts_of};
-ghost use Rattle.model_server.specs.Seen.{is_numbered};
 
 use crate::cases::{Case, case_of, is_in_transaction, is_too_old, writes_of};
 use crate::change::{CursorChange, Effect};

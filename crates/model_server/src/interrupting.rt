@@ -2,6 +2,7 @@
 ghost use Rattle.std.specs.Prelude.{◌≡◌, ◌&&◌, List as Listed, Some, false, IfOk};
 ghost use Rattle.driver_link.specs.Cases.{case_of as case_met, is_decided as decided, known_of, results_of};
 ghost use Rattle.driver_link.specs.Exchange.{interrupted as after_interruption, interrupted_labels, interrupted_reply as reply_interrupted};
+ghost use Rattle.driver_link.specs.Gathered.{entries_in, gathered_by, is_numbered};
 ghost use Rattle.driver_link.specs.Honesty.{can_be_transient as transient_by_rule};
 ghost use Rattle.driver_link.specs.Interrupting.{interrupted_case as left_of, interrupted_done as done_by_rule, interruption, session_interrupted, runs_in as runs_by_rule, told_of_error};
 ghost use Rattle.driver_link.specs.Replies.{error_reply};
@@ -13,7 +14,7 @@ ghost use Rattle.driver_link.specs.declared.machine.Server.{Server as State};
 ghost use Rattle.model_server.specs.Changes.{changed, effect_in};
 ghost use Rattle.model_server.specs.Does.{Does};
 ghost use Rattle.model_server.specs.Parts.{parts_of, ran_of};
-ghost use Rattle.model_server.specs.Seen.{seen, entries_in, gathered_by, is_too_old as too_old, is_numbered};
+ghost use Rattle.model_server.specs.Seen.{seen, is_too_old as too_old};
 ghost use Rattle.model_server.specs.Transient.{called, still_transient};
 
 use crate::cases::{Case, case_of, is_decided, is_in_transaction, kept_of, writes_of};

@@ -25,7 +25,6 @@ mod plain_insert;
 pub mod reading;
 pub mod refusing;
 pub mod replying;
-pub mod run_laws;
 pub mod server;
 pub mod serving;
 pub mod statements;

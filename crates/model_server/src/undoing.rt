@@ -2,11 +2,11 @@
 //! Only what the change itself touches is copied, and nothing that grows with a run.
 ghost use Rattle.std.specs.Prelude.{◌≡◌, ◌++◌, Bool, IsSome, List as Listed, IfOk, unwrap_or};
 ghost use Rattle.std.specs.FinMap as finite;
+ghost use Rattle.driver_link.specs.Gathered.{entries_in};
 ghost use Rattle.driver_link.specs.Sessions.{taken};
 ghost use Rattle.driver_link.specs.declared.machine.Entry.{Entry as Written};
 ghost use Rattle.model_server.specs.Changes.{changed, effect_in, ended, stepped};
 ghost use Rattle.model_server.specs.Displacing.{displaced_by, outdated, session_displaced};
-ghost use Rattle.model_server.specs.Seen.{entries_in};
 ghost use Rattle.model_server.specs.Undoing.{closed_place, cursors_before, known_before, lessened, rewritten, server_before, sessions_before, transaction_before};
 
 use crate::change::{CursorChange, Displaced, Effect, SessionStep, give_back, lend};

@@ -1,13 +1,14 @@
 use Rattle.std.proofs.Common.{List, ap, ◌∙◌}
 use Rattle.driver_link.specs.Cases.{known_of, writes_of}
 use Rattle.driver_link.specs.Exchange.{plan_of}
+use Rattle.driver_link.specs.Gathered.{gathered_by}
 use Rattle.driver_link.specs.Replies.{reply_in}
 use Rattle.driver_link.specs.Serving.{Plan, cursors_after, session_after}
 use Rattle.driver_link.specs.Statements.{entries_of}
 use Rattle.driver_link.specs.declared.machine.Entry.{Entry}
 use Rattle.model_server.proofs.ServeLaws.{serve_law, served_reply_law}
 use Rattle.model_server.specs.Parts.{parts_as}
-use Rattle.model_server.specs.Seen.{seen, gathered_by}
+use Rattle.model_server.specs.Seen.{seen}
 use Rattle.model_server.proofs.exchange.prepare.Goals as goal
 
 pub returns-clause-reply : goal.returns-clause-reply

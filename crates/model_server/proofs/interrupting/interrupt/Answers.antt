@@ -4,13 +4,13 @@ use Rattle.std.proofs.lemmas.Int.{to_z-of_z}
 use Rattle.std.proofs.lemmas.Result.{IfOk-weaker}
 use Rattle.driver_link.specs.Cases.{is_decided, known_of}
 use Rattle.driver_link.specs.Exchange.{interrupted_labels}
+use Rattle.driver_link.specs.Gathered.{gathered_by}
 use Rattle.driver_link.specs.Interrupting.{interruption, told_of_error}
 use Rattle.driver_link.specs.Replies.{error_reply, served_reply}
 use Rattle.driver_link.specs.Serving.{served, usual}
 use Rattle.driver_link.specs.declared.machine.Send.{Send}
 use Rattle.model_server.proofs.InterruptLaws.{decided_law, decided_reply_law, open_law, open_reply_law}
 use Rattle.model_server.specs.Changes.{changed}
-use Rattle.model_server.specs.Seen.{gathered_by}
 use Rattle.model_server.proofs.interrupting.interrupt.Goals as goal
 
 pub returns-then-is_decided-clause-reply : goal.returns-then-is_decided-clause-reply

@@ -1,6 +1,7 @@
 use Rattle.std.proofs.Common.{ap, ◌∙◌, w32}
 use Rattle.std.proofs.lemmas.Int.{to_z-of_z}
 use Rattle.driver_link.specs.Cases.{known_of, writes_of}
+use Rattle.driver_link.specs.Gathered.{gathered_by}
 use Rattle.driver_link.specs.Honesty.{has_transient}
 use Rattle.driver_link.specs.Interrupting.{interruption, runs_in, session_interrupted, told_of_error}
 use Rattle.driver_link.specs.Replies.{error_reply}
@@ -8,7 +9,7 @@ use Rattle.driver_link.specs.Statements.{entries_of}
 use Rattle.driver_link.specs.declared.machine.Server.{Server}
 use Rattle.model_server.proofs.InterruptLaws.{interrupt_law, labels_law}
 use Rattle.model_server.specs.Parts.{parts_as}
-use Rattle.model_server.specs.Seen.{gathered_by, seen}
+use Rattle.model_server.specs.Seen.{seen}
 use Rattle.model_server.specs.Transient.{called}
 use Rattle.model_server.proofs.interrupting.interrupt_in.Goals as goal
 

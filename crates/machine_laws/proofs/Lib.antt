@@ -1,0 +1,12 @@
+pub mod SteadyLaws
+pub mod CommitLaws
+pub mod GrowLaws
+pub mod InsideLaws
+pub mod FrameReads
+pub mod HonestLabels
+pub mod ErrorReplies
+pub mod HeldSessions
+pub mod EndedTransactions
+pub mod ValidServers
+pub mod QuietAnswers
+pub mod NewWrites

@@ -1,5 +1,0 @@
-use Rattle.model_server.proofs.CommitLaws.{aborted_law}
-use Rattle.model_server.proofs.laws.an_aborted_transaction_adds_nothing.Goals as goal
-
-pub returns : goal.returns
-returns c = aborted_law

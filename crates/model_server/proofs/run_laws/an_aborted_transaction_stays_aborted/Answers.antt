@@ -1,5 +1,0 @@
-use Rattle.model_server.proofs.EndedTransactions.{aborted_stays}
-use Rattle.model_server.proofs.run_laws.an_aborted_transaction_stays_aborted.Goals as goal
-
-pub returns : goal.returns
-returns c = aborted_stays

@@ -1,5 +1,0 @@
-use Rattle.model_server.proofs.QuietAnswers.{none_written}
-use Rattle.model_server.proofs.run_laws.an_answer_without_writes_has_none.Goals as goal
-
-pub returns : goal.returns
-returns c = none_written

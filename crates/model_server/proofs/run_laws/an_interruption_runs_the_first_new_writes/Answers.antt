@@ -1,5 +1,0 @@
-use Rattle.model_server.proofs.NewWrites.{first_new}
-use Rattle.model_server.proofs.run_laws.an_interruption_runs_the_first_new_writes.Goals as goal
-
-pub returns : goal.returns
-returns c = first_new

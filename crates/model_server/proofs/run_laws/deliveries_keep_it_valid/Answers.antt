@@ -1,5 +1,0 @@
-use Rattle.model_server.proofs.ValidServers.{delivered_valid}
-use Rattle.model_server.proofs.run_laws.deliveries_keep_it_valid.Goals as goal
-
-pub returns : goal.returns
-returns c = delivered_valid

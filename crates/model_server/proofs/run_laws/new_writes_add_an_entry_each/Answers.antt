@@ -1,5 +1,0 @@
-use Rattle.model_server.proofs.NewWrites.{each_new}
-use Rattle.model_server.proofs.run_laws.new_writes_add_an_entry_each.Goals as goal
-
-pub returns : goal.returns
-returns c = each_new

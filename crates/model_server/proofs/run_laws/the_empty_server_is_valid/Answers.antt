@@ -1,5 +1,0 @@
-use Rattle.model_server.proofs.ValidServers.{empty_valid}
-use Rattle.model_server.proofs.run_laws.the_empty_server_is_valid.Goals as goal
-
-pub returns : goal.returns
-returns c = empty_valid
