@@ -18,3 +18,4 @@ pub mod RetriedSends
 pub mod Readings
 pub mod Forms
 pub mod TakenNumbers
+pub mod FrameReads

@@ -2,7 +2,6 @@ pub mod SteadyLaws
 pub mod CommitLaws
 pub mod GrowLaws
 pub mod InsideLaws
-pub mod FrameReads
 pub mod HonestLabels
 pub mod ErrorReplies
 pub mod HeldSessions

@@ -26,7 +26,7 @@ use Rattle.driver_link.specs.Values.{binary_of, int64_of, text_of}
 use Rattle.driver_link.proofs.Forms.{bool_is, document_is, text_is}
 use Rattle.model_server.specs.declared.plain_insert.PlainInsert.{PlainInsert}
 use Rattle.model_server.specs.inside.PlainInserts.{IsPlainInsert, IsSound, asks_documents, plain_body, plain_send, session_document}
-use Rattle.model_server.proofs.FrameReads.{document_once}
+use Rattle.driver_link.proofs.FrameReads.{document_once}
 use Rattle.model_server.proofs.PlainBytes.{binary_value, document_depth, document_valid, document_zero, flag_value as flag_folded, number_value, text_value}
 
 -- fields that nest two levels at most and have no zero byte where none may stand, of values in their ranges
