@@ -99,7 +99,7 @@ session_spelled id sixteen =
     ∙ append-nil (session_head ++ (id ++ 0 ∷ []))
 
 -- the field of a transaction number, up to the number
-abbrev number_head : List ℕ
+abbrev pub number_head : List ℕ
 number_head = 18 ∷ 116 ∷ 120 ∷ 110 ∷ 78 ∷ 117 ∷ 109 ∷ 98 ∷ 101 ∷ 114 ∷ 0 ∷ []
 
 pub number_spelled : (number : ℤ) → body_of (number_field (Some number)) ≡ number_head ++ eight (cast_unsigned w64 number)

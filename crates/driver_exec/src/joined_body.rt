@@ -1,9 +1,10 @@
 //! The body of a command in bytes with the executor's fields behind its own, of which no document is made.
 ghost use Rattle.std.specs.Prelude.{◌≡◌, ◌+◌, ◌≤◌, ◌++◌, None, Some, true, length, IfOk, OnOk};
+ghost use Rattle.std.specs.Int.{w64, cast_unsigned};
 ghost use Rattle.std.specs.Option.{option_copied};
 ghost use Rattle.std.specs.Str.{IsUtf8};
 ghost use Rattle.bson_lite.specs.Ranges.{fits};
-ghost use Rattle.bson_lite.specs.Spelling.{body_of, counted, four};
+ghost use Rattle.bson_lite.specs.Spelling.{body_of, counted, eight, four};
 ghost use Rattle.driver_ops.specs.Fields.{IsSixteen, executor_fields, in_context, number_field, session_field};
 ghost use Rattle.driver_exec.specs.inside.JoinedBodies.{InRange, JoinsElements, MayJoin, SpellsBody, database_field, elements_in};
 
@@ -163,8 +164,15 @@ fn push_int(out: &mut Bytes, number: i64) -> Result<(), AllocError>
     ensures field { OnOk result (out.new ≡ out.old ++ body_of (number_field (Some number))) }
 {
     out.extend_from_slice(b"\x12txnNumber\0")?;
-    out.extend_from_slice(&number.to_le_bytes())?;
+    out.extend_from_slice(&number_bytes(number))?;
     Ok(())
+}
+
+/// A number in its 64 bits.
+fn number_bytes(number: i64) -> [u8; 8]
+    ensures { result ≡ eight (cast_unsigned w64 number) }
+{
+    number.to_le_bytes()
 }
 
 /// Appends the element that names the database.

@@ -1,9 +1,11 @@
 -- The body of a plain insert in bytes, field by field.
-use Rattle.std.proofs.Common.{◌≡◌, ℕ, suc, ◌+◌, Bool, true, false, List, [], ◌∷◌, ◌++◌, map, bytes_eq, length, length-append, append-nil, append_assoc, refl, sym, ap, ◌∙◌, arith}
-use Rattle.std.specs.Prelude.{ℤ, if◌then◌else◌}
+use Rattle.std.proofs.Common.{◌≡◌, ℕ, ℤ, pos, negsuc, suc, ◌+◌, ◌<◌, Bool, true, false, List, [], ◌∷◌, ◌++◌, map, bytes_eq, length, length-append, append-nil, append_assoc, refl, sym, ap, ◌∙◌, arith}
+use Rattle.std.specs.Prelude.{if◌then◌else◌}
 use Rattle.std.specs.Int.{w64, cast_unsigned}
 use Rattle.std.specs.Str.{is_utf8}
+use Rattle.std.proofs.lemmas.Bool.{ltb-true}
 use denote.Hole.Carrier.{roll}
+use mir.Val.{SFits}
 use Rattle.bson_lite.specs.declared.bson.Binary.{Binary}
 use Rattle.bson_lite.specs.declared.bson.Bson as bson
 use Rattle.bson_lite.specs.declared.bson.Bson.{Bson}
@@ -15,7 +17,6 @@ use Rattle.bson_lite.specs.Spelling.{body_of, counted, deepest_pair, depth, eigh
 use Rattle.bson_lite.proofs.Nested.{Folded, folded}
 use Rattle.bson_lite.proofs.Numbers.{same-bytes_eq}
 use Rattle.driver_link.specs.declared.keys.TheConstants.{DATABASE, INSERT, ORDERED, SESSION, SESSION_ID, TRANSACTION_NUMBER, UUID_SUBTYPE}
-use Rattle.driver_link.specs.Numbers.{field}
 use Rattle.model_server.specs.declared.plain_insert.PlainInsert.{PlainInsert}
 use Rattle.model_server.specs.inside.PlainInserts.{collection_field, database_field, number_field, order_field, plain_body, session_document, session_field}
 
@@ -86,7 +87,7 @@ session_spelled id sixteen =
     ∙ append-nil (session_head ++ (id ++ 0 ∷ []))
 
 -- the field of a transaction number, up to the number
-abbrev number_head : List ℕ
+abbrev pub number_head : List ℕ
 number_head = 18 ∷ 116 ∷ 120 ∷ 110 ∷ 78 ∷ 117 ∷ 109 ∷ 98 ∷ 101 ∷ 114 ∷ 0 ∷ []
 
 pub number_spelled : (number : ℤ) → body_of (number_field number) ≡ number_head ++ eight (cast_unsigned w64 number)
@@ -99,6 +100,11 @@ pub database_spelled : (database : List ℕ) → body_of (database_field databas
 database_spelled database =
     ap (λ (value : ℕ × List ℕ). element DATABASE.now value ++ []) (text_value database).spells
     ∙ append-nil ((2 ∷ 36 ∷ 100 ∷ 98 ∷ 0 ∷ []) ++ counted database)
+
+-- a number in the range of 64 bits is one of them
+pub signed_64 : (number : ℤ) → fits 0x8000_0000_0000_0000 number ≡ true → SFits w64 number
+signed_64 (pos n) in_range = let below : n < 0x8000_0000_0000_0000 = ltb-true n 0x8000_0000_0000_0000 in_range in record { sfits = below }
+signed_64 (negsuc n) in_range = let below : n < 0x8000_0000_0000_0000 = ltb-true n 0x8000_0000_0000_0000 in_range in record { sfits = below }
 
 -- parts that were appended one after another
 pub two_parts : (out first second : List ℕ) → (out ++ first) ++ second ≡ out ++ (first ++ second)

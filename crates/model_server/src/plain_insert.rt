@@ -1,9 +1,10 @@
 //! The body of an insert without options, as it goes out under a session and a number: told by its bytes, of which no
 //! document is made.
 ghost use Rattle.std.specs.Prelude.{◌≡◌, ◌++◌, ◌∷◌, [], true, bytes_eq, length, IfOk, IfSome, OnOk, if◌then◌else◌};
+ghost use Rattle.std.specs.Int.{w64, cast_unsigned};
 ghost use Rattle.std.specs.Str.{IsUtf8};
 ghost use Rattle.bson_lite.specs.Ranges.{fits};
-ghost use Rattle.bson_lite.specs.Spelling.{body_of, counted, four};
+ghost use Rattle.bson_lite.specs.Spelling.{body_of, counted, eight, four};
 ghost use Rattle.model_server.specs.inside.PlainInserts.{IsSound, ReadsPlain, collection_field, database_field, number_field, order_field, plain_body, session_field};
 
 use bson_lite::{Bytes, Namespace, Text};
@@ -40,6 +41,7 @@ fn confirmed(
     body: &[u8],
     plain: PlainInsert,
 ) -> Result<Option<PlainInsert>, AllocError>
+    requires { fits 0x8000_0000_0000_0000 plain.number ≡ true }
     ensures { IfOk result (λ found. ReadsPlain plain.namespace.db body.now found) }
 {
     let bytes = plain_bytes(alloc, &plain, body.len())?;
@@ -58,7 +60,9 @@ fn is_same(bytes: &Bytes, body: &[u8]) -> bool
 
 /// What a body would say if it were that of such an insert into a collection of a database.
 fn guessed(alloc: Global, database: &str, body: &[u8]) -> Result<Option<PlainInsert>, AllocError>
-    ensures { IfOk result (λ found. IfSome found (λ plain. plain.namespace.db ≡ database.now)) }
+    ensures names { IfOk result (λ found. IfSome found (λ plain. plain.namespace.db ≡ database.now)) }
+    ensures in_range { IfOk result
+        (λ found. IfSome found (λ plain. fits 0x8000_0000_0000_0000 plain.number ≡ true)) }
 {
     match parts_of(body) {
         None => Ok(None),
@@ -85,7 +89,9 @@ struct Parts<'a> {
 }
 
 /// The parts of a body that begins as that of an insert.
-fn parts_of(body: &[u8]) -> Option<Parts<'_>> {
+fn parts_of(body: &[u8]) -> Option<Parts<'_>>
+    ensures { IfSome result (λ parts. fits 0x8000_0000_0000_0000 parts.number ≡ true) }
+{
     if body.get(5..11)? != INSERT.as_bytes() {
         return None;
     }
@@ -97,8 +103,15 @@ fn parts_of(body: &[u8]) -> Option<Parts<'_>> {
         collection,
         ordered,
         session: *session,
-        number: i64::from_le_bytes(*number),
+        number: number_in(*number),
     })
+}
+
+/// A number in these 64 bits.
+fn number_in(bytes: [u8; 8]) -> i64
+    ensures { fits 0x8000_0000_0000_0000 result ≡ true }
+{
+    i64::from_le_bytes(bytes)
 }
 
 /// A text with its length before it, and what stands behind its last letter.
@@ -114,6 +127,7 @@ fn collection_behind(bytes: &[u8]) -> Option<(&str, &[u8])> {
 
 /// The body of such an insert in so many bytes.
 fn plain_bytes(alloc: Global, plain: &PlainInsert, count: usize) -> Result<Bytes, AllocError>
+    requires { fits 0x8000_0000_0000_0000 plain.now.number ≡ true }
     ensures bytes { IfOk result
         (λ bytes. bytes ≡ four count ++ (body_of (plain_body plain.now) ++ 0 ∷ [])) }
     ensures sound { IfOk result (λ _. IsSound plain.now) }
@@ -127,6 +141,7 @@ fn plain_bytes(alloc: Global, plain: &PlainInsert, count: usize) -> Result<Bytes
 
 /// Appends the elements of such a body.
 fn push_fields(out: &mut Bytes, plain: &PlainInsert) -> Result<(), AllocError>
+    requires { fits 0x8000_0000_0000_0000 plain.now.number ≡ true }
     ensures fields { OnOk result (out.new ≡ out.old ++ body_of (plain_body plain.now)) }
     ensures sound { OnOk result (IsSound plain.now) }
 {
@@ -185,12 +200,18 @@ fn push_session(out: &mut Bytes, id: &[u8; 16]) -> Result<(), AllocError>
 
 /// Appends the element of a transaction number.
 fn push_number(out: &mut Bytes, number: i64) -> Result<(), AllocError>
-    ensures in_range { fits 0x8000_0000_0000_0000 number ≡ true }
-    ensures field { OnOk result (out.new ≡ out.old ++ body_of (number_field number)) }
+    ensures { OnOk result (out.new ≡ out.old ++ body_of (number_field number)) }
 {
     out.extend_from_slice(b"\x12txnNumber\0")?;
-    out.extend_from_slice(&number.to_le_bytes())?;
+    out.extend_from_slice(&number_bytes(number))?;
     Ok(())
+}
+
+/// A number in its 64 bits.
+fn number_bytes(number: i64) -> [u8; 8]
+    ensures { result ≡ eight (cast_unsigned w64 number) }
+{
+    number.to_le_bytes()
 }
 
 /// Appends the element that names a database.

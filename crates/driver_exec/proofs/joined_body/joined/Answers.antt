@@ -1,5 +1,5 @@
 -- The elements of both stand between the length of all and the last byte.
-use Rattle.std.proofs.Common.{◌≤◌, ℕ, ◌+◌, List, [], ◌∷◌, ◌++◌, length, ap, subst, ◌∙◌}
+use Rattle.std.proofs.Common.{◌≤◌, ℕ, List, [], ◌∷◌, ◌++◌, ap, subst, ◌∙◌}
 use Rattle.bson_lite.specs.Spelling.{four}
 use Rattle.driver_exec.specs.inside.JoinedBodies.{elements_in}
 use Rattle.driver_exec.proofs.JoinedBodies.{regrouped}

@@ -7,4 +7,4 @@ use Rattle.model_server.proofs.plain_insert.plain_insert.Goals as goal
 pub returns-in-Some : goal.returns-in-Some
 returns-in-Some c =
     subst (λ (db : List ℕ). IfOk c.confirmed.result (λ found. ReadsPlain db c.args.body.now found))
-    (subst (λ guess. IfSome guess (λ plain. plain.namespace.db ≡ c.args.database.now)) c.in-Some.is c.in_ok-guess.ensures) c.confirmed.ensures
+    (subst (λ guess. IfSome guess (λ plain. plain.namespace.db ≡ c.args.database.now)) c.in-Some.is c.in_ok-guess.ensures.names) c.confirmed.ensures
