@@ -1,5 +1,6 @@
 //! From a frame and the places of its writes to the send that they spell.
-ghost use Rattle.std.specs.Prelude.{◌≡◌, ◌<◌, List as Listed, bytes_eq, length, slice_get, Some, IfOk};
+ghost use Rattle.std.specs.Prelude.{◌≡◌, ◌<◌, List as Listed, bytes_eq, length, slice_get, true, Some, IfOk};
+ghost use Rattle.bson_lite.specs.Ranges.{fits};
 ghost use Rattle.bson_lite.specs.Spelling.{Spells};
 ghost use Rattle.bson_lite.specs.declared.bson.Bson.{Bson as Value};
 ghost use Rattle.bson_lite.specs.declared.document.Pair.{Pair};
@@ -41,8 +42,8 @@ fn insert_send(
     plain: PlainInsert,
     places: &[Place],
 ) -> Result<Option<Send>, AllocError>
-    ensures { IfOk result (λ found. IsPlainInsert frame.now.database frame.now.body plain →
-        ReadsFrame frame.now places.now found) }
+    requires { IsPlainInsert frame.now.database frame.now.body plain }
+    ensures { IfOk result (λ found. ReadsFrame frame.now places.now found) }
 {
     let documents = lone_documents(alloc, frame)?;
     match documents {
@@ -58,6 +59,7 @@ fn plain_send(
     documents: List<Document>,
     places: &[Place],
 ) -> Result<Option<Send>, AllocError>
+    requires { fits 0x8000_0000_0000_0000 plain.number ≡ true }
     ensures { IfOk result (λ found. found ≡ option_map (plain_send plain)
         (asks_inserts plain.namespace plain.ordered places.now documents)) }
 {

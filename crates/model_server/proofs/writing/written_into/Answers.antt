@@ -9,9 +9,9 @@ pub returns-in-None : goal.returns-in-None
 returns-in-None c =
     c.new.ensures ∙ ap (λ documents. writes_on c.args.kind c.args.namespace documents) (sym c.in-None.ensures.0)
 
-pub returns-in-Some : goal.returns-in-Some
-returns-in-Some c =
-    c.in_ok-push.ensures.ok
-    ∙ ap (λ (writes : List Written). writes ++ write_on c.args.kind c.args.namespace c.in-Some.document ∷ []) c.in_ok-writes.ensures
+pub returns-in_ok-push-in-Some : goal.returns-in_ok-push-in-Some
+returns-in_ok-push-in-Some c =
+    c.in_ok-push-in-Some.ensures.ok
+    ∙ ap (λ (writes : List Written). writes ++ write_on c.args.kind c.args.namespace c.in-Some.document ∷ []) c.in_ok-writes-in-Some.ensures
     ∙ sym (map_push (write_on c.args.kind c.args.namespace) c.pop.new.self c.in-Some.document)
     ∙ ap (λ documents. writes_on c.args.kind c.args.namespace documents) (sym c.in-Some.ensures)
