@@ -5,10 +5,9 @@ use driver_link::{
     DeleteOptions, FindOneAndDeleteOptions, FindOneAndReplaceOptions, FindOneAndUpdateOptions,
     InsertManyOptions, UpdateModifications, UpdateOptions,
 };
-use std::fmt;
 
 /// A write of one statement.
-#[derive(Drop)]
+#[derive(Debug, Drop)]
 pub enum SingleWrite {
     /// Inserts a document, with an id put first where it has none.
     InsertOne {
@@ -71,28 +70,6 @@ pub enum SingleWrite {
     },
 }
 
-/// It prints as its kind alone: each field that is looked at here costs half a megabyte of proof.
-impl fmt::Debug for SingleWrite {
-    fn fmt<W: fmt::Write>(&self, f: &mut fmt::Formatter<W>) -> fmt::Result {
-        f.write_str(kind_of_write(self))
-    }
-}
-
-/// The kind of a write.
-fn kind_of_write(write: &SingleWrite) -> &'static str {
-    match write {
-        SingleWrite::InsertOne { .. } => "InsertOne",
-        SingleWrite::UpdateOne { .. } => "UpdateOne",
-        SingleWrite::UpdateMany { .. } => "UpdateMany",
-        SingleWrite::ReplaceOne { .. } => "ReplaceOne",
-        SingleWrite::DeleteOne { .. } => "DeleteOne",
-        SingleWrite::DeleteMany { .. } => "DeleteMany",
-        SingleWrite::FindOneAndDelete { .. } => "FindOneAndDelete",
-        SingleWrite::FindOneAndUpdate { .. } => "FindOneAndUpdate",
-        SingleWrite::FindOneAndReplace { .. } => "FindOneAndReplace",
-    }
-}
-
 /// What a single write answers.
 #[derive(Debug, Drop)]
 pub enum SingleAnswer {
@@ -104,7 +81,7 @@ pub enum SingleAnswer {
 }
 
 /// One call of a driver's user.
-#[derive(Drop)]
+#[derive(Debug, Drop)]
 pub enum Call {
     /// A write of one statement.
     Single {
@@ -116,21 +93,6 @@ pub enum Call {
         documents: List<Document>,
         options: InsertManyOptions,
     },
-}
-
-/// It prints as its kind alone, as a write does.
-impl fmt::Debug for Call {
-    fn fmt<W: fmt::Write>(&self, f: &mut fmt::Formatter<W>) -> fmt::Result {
-        f.write_str(kind_of_call(self))
-    }
-}
-
-/// The kind of a call.
-fn kind_of_call(call: &Call) -> &'static str {
-    match call {
-        Call::Single { .. } => "Single",
-        Call::InsertMany { .. } => "InsertMany",
-    }
 }
 
 /// What a call answers.
