@@ -39,7 +39,7 @@ fn plain_frame(
     number: Option<i64>,
     concern: Option<&WriteConcern>,
 ) -> Result<Frame>
-    requires { option_copied concern.entry ≡ None }
+    requires { option_copied concern ≡ None }
     ensures { FramesUnder (in_context (option_copied session.entry) number (option_copied concern.entry))
         command result }
 {
