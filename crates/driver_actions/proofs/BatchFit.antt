@@ -21,8 +21,8 @@ use Rattle.driver_ops.specs.Targets.{namespace_of}
 use Rattle.driver_exec.specs.OperationCauses.{TakesFirst}
 use Rattle.driver_exec.proofs.FixedNumbers.{MayBeFixed}
 use Rattle.driver_exec.proofs.HeldSessions.{IsOf}
+use Rattle.driver_actions.proofs.BatchSizes.{takes_longest}
 use Rattle.driver_actions.proofs.BatchWrites.{EachIs}
-use Rattle.driver_actions.proofs.FewestCuts.{takes_longest}
 
 -- the sizes of a front are the front of the sizes
 front_sizes : (count : ℕ) (own : List OwnDocument) → sizes_of (take count own) ≡ take count (sizes_of own)

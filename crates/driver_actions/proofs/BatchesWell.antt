@@ -1,5 +1,5 @@
 -- Each batch of a valid insert of many documents whose part of the schedule is gentle ends well.
-use Rattle.std.proofs.Common.{◌≡◌, ℕ, ◌+◌, ◌-◌, ◌<◌, ◌≤◌, List, [], ◌∷◌, ◌++◌, drop, length, length-drop, refl, sym, ap, subst, ◌∙◌, inl, inr, arith}
+use Rattle.std.proofs.Common.{◌≡◌, ℕ, ◌+◌, ◌<◌, ◌≤◌, List, [], ◌∷◌, ◌++◌, drop, length, refl, sym, ap, subst, ◌∙◌, inl, inr, arith}
 use Rattle.std.specs.Prelude.{ℤ, pos, ◌+ℤ◌, ◌<ℤ◌, ◌≤ℤ◌, Option, None, Some, ◌⊎◌}
 use Rattle.std.proofs.lemmas.Int.{ints}
 use Rattle.std.proofs.lemmas.List.{append-nil}
@@ -50,14 +50,13 @@ use Rattle.driver_exec.proofs.SessionNumbers.{lent_within}
 use Rattle.driver_exec.proofs.TraceSessions.{lends_holds}
 use Rattle.driver_exec.proofs.WholeOperation.{executes_client}
 use Rattle.driver_actions.specs.Batches.{BatchEnd, MakesBatch, MakesBatches, rest_of}
-use Rattle.driver_actions.specs.MainTheorem.{KeepsMaking, KeepsMakingWhereTold}
 use Rattle.driver_actions.specs.ManyCompleteness.{CarrySame, InsertsHaveNumbers, IsGentleCallPart, RaisesByWhereTold, ServesInserts, many_concern}
 use Rattle.driver_actions.proofs.BatchFit.{FitsOne, batch_unrefused}
+use Rattle.driver_actions.proofs.BatchNumbers.{batch_fewer, batch_setup, number_left, numbers_left}
 use Rattle.driver_actions.proofs.BatchWrites.{EachIs, IsNewFrom, batch_asks, batch_body, batch_may_send, own_rest, rest_is}
-use Rattle.driver_actions.proofs.BatchesMade.{batch_advances, batch_moves, batches_move, fixed_or_one, is_fixed_or_one, left_here, mid_told, new_behind, next_new, run_told, some_gone}
+use Rattle.driver_actions.proofs.BatchesMade.{batch_advances, batch_moves, batches_move, fixed_or_one, is_fixed_or_one, left_here, mid_told, new_behind, next_new, run_told}
 use Rattle.driver_actions.proofs.CallMoves.{GainsOwn}
 use Rattle.driver_actions.proofs.GentleParts.{command_alike, part_gentle}
-use Rattle.driver_actions.proofs.InsertFit.{served_setup}
 use Rattle.driver_actions.proofs.InsertsServed.{IsAnswered, MayBeInserted, inserts_again, inserts_answered, inserts_first, inserts_only}
 
 -- each batch ended well
@@ -81,13 +80,13 @@ next_above last number is = omega (arith, ints)
 number_none : (number : ℤ) → ◌≡◌ {A = Option ℤ} (Some number) None → ⊥
 number_none number is = cc
 
--- so many numbers for the documents that are left leave one more
-one_left : (most left : ℕ) → 0 < left → pos (most + left) ≤ℤ last_number → pos most <ℤ last_number
-one_left most left some within = omega (arith, ints)
+-- numbers for the batches that are left leave one more
+one_left : (most left : ℕ) → 1 ≤ left → pos (most + left) ≤ℤ last_number → pos most <ℤ last_number
+one_left most left some enough = omega (arith, ints)
 
 -- behind a batch they are enough for the rest
-rest_left : (most left statements rest : ℕ) → rest ≡ left - statements → 0 < statements → statements ≤ left → pos (most + left) ≤ℤ last_number → pos (most + 1 + rest) ≤ℤ last_number
-rest_left most left statements rest is some within enough = omega (arith, ints)
+rest_left : (most left rest : ℕ) → 1 + rest ≤ left → pos (most + left) ≤ℤ last_number → pos (most + 1 + rest) ≤ℤ last_number
+rest_left most left rest fewer enough = omega (arith, ints)
 
 module _ (target : OperationTarget) (options : InsertManyOptions) (call : ℕ) (client : ClientOptions) (setup : Setup) (concerned : concern_refusal (many_concern target options client) ≡ None)
     (command : (context : SendContext) → context.concern ≡ many_concern target options client → IsSixteen context.session
@@ -95,6 +94,10 @@ module _ (target : OperationTarget) (options : InsertManyOptions) (call : ℕ) (
   -- a document fits alone
   abbrev FitsHere : ℕ → List (Pair Bson) → Type 0
   FitsHere = FitsOne target options setup
+
+  -- how many numbers the batches of these documents take at most
+  abbrev left_numbers : List OwnDocument → ℕ
+  left_numbers own = numbers_left target options call FitsHere (Some setup) own
 
   -- one batch, over a told pool and a told server, before which all stands
   module _ (index : ℕ) (documents : List (List (Pair Bson))) (own : List OwnDocument) (are : AreOwn documents own) (each : EachIs FitsHere index documents) (before now : Moment) (end : BatchEnd)
@@ -248,14 +251,6 @@ module _ (target : OperationTarget) (options : InsertManyOptions) (call : ℕ) (
       (made.executes (fixed_or_one end.statements) (is_fixed_or_one end.statements)) in
       ap (λ k. k.options) kept ∙ client_is
 
-  -- and the setup of a told link
-  setup_kept : (before now : Moment) (run run_now : ServerRun) → server_run before.link ≡ Some run → server_run now.link ≡ Some run_now → KeepsMaking before now → setup_of before.link ≡ Some setup
-      → setup_of now.link ≡ Some setup
-  setup_kept before now run run_now run_is run_now_is keeps setup_is =
-      let making : KeepsMakingWhereTold (Some run) (Some run_now)
-      = subst (λ r. KeepsMakingWhereTold r (Some run_now)) run_is (subst (λ r. KeepsMakingWhereTold (server_run before.link) r) run_now_is keeps) in
-      served_setup now.link.making run_now run_now_is ∙ ap (λ (s : Setup). Some s) making.0 ∙ sym (served_setup before.link.making run run_is) ∙ setup_is
-
   -- the batches that follow one another lead on
   batches_before : (short : Type 0) (ends : List BatchEnd) (index : ℕ) (documents : List (List (Pair Bson))) (own : List OwnDocument) → AreOwn documents own → EachIs FitsHere index documents → (before now : Moment)
       → (run last : ServerRun) → server_run before.link ≡ Some run → server_run now.link ≡ Some last → MakesBatches short target options call index own ends before now → IsBefore run last
@@ -277,18 +272,19 @@ module _ (target : OperationTarget) (options : InsertManyOptions) (call : ℕ) (
         | inr stops ↦ subst (IsBefore run) (same_told told.0 last (sym told.1 ∙ ap (λ m. server_run m.link) (sym stops.same) ∙ last_is)) here
       ]
 
-  -- within a call whose part is gentle they end well, where a session has numbers enough for the documents that are left
+  -- within a call whose part is gentle they end well, where a session has numbers enough for the batches that are left
   pub batches_well : (told last : ServerRun) → IsGentleCallPart ServesInserts (InsertsHaveNumbers client (Some setup)) told last → (short : Type 0) (ends : List BatchEnd) (index : ℕ) (documents : List (List (Pair Bson)))
       (own : List OwnDocument) → AreOwn documents own → EachIs FitsHere index documents → (before now : Moment) → before.client.options ≡ client → setup_of before.link ≡ Some setup
       → (pool : Pool) (run : ServerRun) → before.store.pool ≡ Some pool → server_run before.link ≡ Some run → server_run now.link ≡ Some last → Between pool run.server.trace → Sound run.server
-      → IsNewFrom run.server.trace call index → DrawnApart now.store → (most : ℕ) → NumbersWithin (pos most) pool.idle → pos (most + length own) ≤ℤ last_number → IsBefore told run
+      → IsNewFrom run.server.trace call index → DrawnApart now.store → (most : ℕ) → NumbersWithin (pos most) pool.idle
+      → pos (most + left_numbers own) ≤ℤ last_number → IsBefore told run
       → MakesBatches short target options call index own ends before now → AllWell ends
   batches_well told last gentle short [] index documents own are each before now client_is setup_is pool run pool_is run_is last_is between sound new apart most numbers enough begins made = tt
   batches_well told last gentle short (end ∷ ends) index documents own are each before now client_is setup_is pool run pool_is run_is last_is between sound new apart most numbers enough begins made =
       let mid = made.0 in
       let batch = made.1.0 in
       let moves = batch_moves target options call FitsHere index documents own are each before mid end batch in
-      let further = one_left most (length own) batch.left enough in
+      let further = one_left most (left_numbers own) (number_left target options call FitsHere (Some setup) own batch.left) enough in
       elim made.1.1 [
         | inl on ↦
             let own_on = own_rest on.statements documents own are in
@@ -304,16 +300,16 @@ module _ (target : OperationTarget) (options : InsertManyOptions) (call : ℕ) (
             let one = batch_advances target options call FitsHere index documents own are each before mid end batch pool mid_now.pool run mid_now.run pool_is mid_now.pool_is run_is mid_now.run_is between sound new mid_now.apart in
             let new_on = next_new target options call FitsHere index mid_now.run.server.trace end.statements on.statements on.told
             (new_behind target options call FitsHere index documents own are each before mid end batch pool mid_now.pool run mid_now.run pool_is mid_now.pool_is run_is mid_now.run_is between sound new mid_now.apart) in
-            let some = some_gone target options call FitsHere index documents own are each before mid end batch on.on on.statements on.told in
+            let fewer = batch_fewer target options call FitsHere (Some setup) index documents own are each before mid end batch setup_is on.on on.statements on.told in
             let raises : RaisesByWhereTold 1 (Some pool) (Some mid_now.pool)
             = subst (λ p. RaisesByWhereTold 1 p (Some mid_now.pool)) pool_is (subst (λ p. RaisesByWhereTold 1 before.store.pool p) mid_now.pool_is moves.raises) in
             let begins_on = before_twice told run mid_now.run begins
             (batch_before index documents own are each before mid end batch client_is setup_is pool run mid_now.run pool_is run_is mid_now.run_is between sound new apart_mid most numbers further) in (
               here,
               batches_well told last gentle short ends (index + on.statements) (drop on.statements documents) (drop on.statements own) own_on each_on mid now
-                  (client_kept index own before mid end batch client_is) (setup_kept before mid run mid_now.run run_is mid_now.run_is moves.making setup_is) mid_now.pool mid_now.run mid_now.pool_is mid_now.run_is last_is
+                  (client_kept index own before mid end batch client_is) (batch_setup target options call FitsHere (Some setup) index documents own are each before mid end batch setup_is) mid_now.pool mid_now.run mid_now.pool_is mid_now.run_is last_is
                   one.between one.sound new_on apart (most + 1) (raises most numbers)
-                  (rest_left most (length own) on.statements (length (drop on.statements own)) (length-drop on.statements own) some.0 some.1 enough) begins_on on.rest,
+                  (rest_left most (left_numbers own) (left_numbers (drop on.statements own)) fewer enough) begins_on on.rest,
             )
         | inr stops ↦
             let last_mid : server_run mid.link ≡ Some last = ap (λ m. server_run m.link) (sym stops.same) ∙ last_is in

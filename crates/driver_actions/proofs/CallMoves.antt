@@ -136,7 +136,7 @@ within_above a b more (first ∷ idle) within = (above first.number a b more wit
     above number a b more within = omega (arith, ints)
 
 -- numbers rise by the sum of two rises
-raises_twice : (a b : ℕ) (x y z : Option Pool) (ids : List (List ℕ)) → GainsDrawn x y ids → RaisesByWhereTold a x y → RaisesByWhereTold b y z → RaisesByWhereTold (a + b) x z
+pub raises_twice : (a b : ℕ) (x y z : Option Pool) (ids : List (List ℕ)) → GainsDrawn x y ids → RaisesByWhereTold a x y → RaisesByWhereTold b y z → RaisesByWhereTold (a + b) x z
 raises_twice a b None y z ids gains first second = tt
 raises_twice a b (Some old) y None ids gains first second = tt
 raises_twice a b (Some old) None (Some now) ids gains first second = absurd gains
@@ -145,12 +145,12 @@ raises_twice a b (Some old) (Some mid) (Some now) ids gains first second = λ mo
     subst (λ n. NumbersWithin (pos n) now.idle) both (second (most + a) (first most within))
 
 -- a pool that stays raises none
-raises_same : (count : ℕ) (pool : Option Pool) → RaisesByWhereTold count pool pool
+pub raises_same : (count : ℕ) (pool : Option Pool) → RaisesByWhereTold count pool pool
 raises_same count None = tt
 raises_same count (Some told) = λ most within. within_above most (most + count) (omega arith) told.idle within
 
 -- what rises by so many at most rises by more at most
-raises_more : (a b : ℕ) → a ≤ b → (x y : Option Pool) → RaisesByWhereTold a x y → RaisesByWhereTold b x y
+pub raises_more : (a b : ℕ) → a ≤ b → (x y : Option Pool) → RaisesByWhereTold a x y → RaisesByWhereTold b x y
 raises_more a b more None y raises = tt
 raises_more a b more (Some old) None raises = tt
 raises_more a b more (Some old) (Some now) raises = λ most within. within_above (most + a) (most + b) (omega (arith, more)) now.idle (raises most within)
@@ -249,3 +249,16 @@ left_moves number before now asked left gains =
       read = left.read;
       words = left.words;
     }
+
+-- one that raises the numbers by so many at most takes no more
+pub moves_raising : (a b number : ℕ) (before now : Moment) → CallMoves a number before now → RaisesBy b before now → CallMoves b number before now
+moves_raising a b number before now moves raises = record {
+  draws = moves.draws;
+  lends = moves.lends;
+  making = moves.making;
+  replayed = moves.replayed;
+  gains = moves.gains;
+  raises = raises;
+  read = moves.read;
+  words = moves.words;
+}

@@ -329,7 +329,11 @@ module _ (run : RunState) (calls : List Call) (before now : Moment) (left : Leav
     (count : length run.outcomes ≡ run.made) (apart : DrawnApart now.store) where
   -- the numbers that the calls before it take at most
   abbrev most : ℕ
-  most = all_numbers_of (take run.made calls)
+  most = all_numbers_of (setup_of before.link) (take run.made calls)
+
+  -- no idle session's number is above them, where the link tells its server
+  most_within : (pool : Pool) (told : ServerRun) → server_run before.link ≡ Some told → NumbersWithin (pos (all_numbers_of (Some told.setup) (take run.made calls))) pool.idle → NumbersWithin (pos most) pool.idle
+  most_within pool told link_is within = subst (λ s. NumbersWithin (pos (all_numbers_of s (take run.made calls))) pool.idle) (sym (served_setup before.link.making told link_is)) within
 
   -- a single write, by what is told
   single_told : (store : Option Pool) (link link_now : Option ServerRun) → before.store.pool ≡ store → server_run before.link ≡ link → server_run now.link ≡ link_now
@@ -344,7 +348,7 @@ module _ (run : RunState) (calls : List Call) (before now : Moment) (left : Leav
         between = leaves.between;
         sound = leaves.sound;
         new = new_place run.made told.server.trace (subst (λ n. AllBelow n told.server.trace) count leaves.below);
-        numbers = leaves.numbers;
+        numbers = most_within pool told link_is leaves.numbers;
       } in
       single_call_well most run.made before now (form_of write) valid pool told told_now ready pool_is link_is now_is apart gentle result makes
 
@@ -364,7 +368,7 @@ module _ (run : RunState) (calls : List Call) (before now : Moment) (left : Leav
           new = λ earlier at write has stands of_call. let under : write.place.call < run.made = below earlier at write has stands in absurd (omega (arith, under, of_call));
           apart = subst DrawnApartIn pool_now_is apart;
         };
-        numbers = leaves.numbers;
+        numbers = most_within pool told link_is leaves.numbers;
       }
 
   -- one that is made ends well where it is valid and its part is gentle

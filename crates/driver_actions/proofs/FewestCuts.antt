@@ -3,10 +3,8 @@ use Rattle.std.proofs.Common.{◌≡◌, ℕ, zero, suc, ◌+◌, ◌<◌, ◌�
 use Rattle.std.specs.Prelude.{Option, None, Some, IfSome, Result, Ok, Err}
 use Rattle.std.proofs.lemmas.List.{append-nil, length-take-le}
 use Rattle.bson_lite.specs.declared.bson.Bson.{Bson}
-use Rattle.bson_lite.specs.declared.bson.ObjectId.{ObjectId}
 use Rattle.bson_lite.specs.declared.document.Pair.{Pair}
 use Rattle.bson_lite.specs.declared.namespace.Namespace.{Namespace}
-use Rattle.bson_lite.specs.Spelling.{spelling}
 use Rattle.driver_batches.specs.declared.sizes.Limits.{Limits}
 use Rattle.driver_batches.specs.Batches.{CutsFront, IsGreedyCut}
 use Rattle.driver_batches.specs.Fronts.{IsLongestFront}
@@ -22,7 +20,6 @@ use Rattle.driver_link.specs.declared.machine.Setup.{Setup}
 use Rattle.driver_link.specs.declared.write_options.InsertManyOptions.{InsertManyOptions}
 use Rattle.driver_link.specs.LinkState.{server_run}
 use Rattle.driver_link.specs.ServerRun.{ServerRun}
-use Rattle.driver_session.specs.StoreTells.{StoreTells}
 use Rattle.driver_session.proofs.PoolTells.{same_told}
 use Rattle.driver_ops.specs.declared.own_document.OwnDocument.{OwnDocument}
 use Rattle.driver_ops.specs.declared.target.OperationTarget.{OperationTarget}
@@ -42,49 +39,12 @@ use Rattle.driver_actions.specs.FewestBatches.{AreSendsOf, GoesOut, IsFewestCut,
 use Rattle.driver_actions.specs.MainTheorem.{KeepsMakingWhereTold}
 use Rattle.driver_actions.specs.ManyAnswers.{AllOfDocuments, count_of, gathered, nothing_gathered, with_result}
 use Rattle.driver_actions.specs.ManyCalls.{MadeMany, MakesMany, RanShort}
-use Rattle.driver_actions.specs.ManyIds.{DrawsOwnIds}
+use Rattle.driver_actions.proofs.BatchSizes.{ids_each, rest_sizes, sizes_are, sizes_length, takes_longest}
 use Rattle.driver_actions.proofs.BatchWrites.{EachIs, batch_asks, batch_writes, own_length, own_rest, places_length, rest_is}
 use Rattle.driver_actions.proofs.BatchesMade.{asked_here, batch_moves, built_here, command_here, count_here, fixed_or_one, run_told, some_gone}
 use Rattle.driver_actions.proofs.CallMoves.{copies, sends_gain}
 use Rattle.driver_actions.proofs.InsertFit.{served_setup}
 use Rattle.driver_actions.proofs.ManyMade.{IsGiven, end_is_ok, made_moves, sent, sent_each}
-
--- as many ids as documents
-ids_each : (store now : StoreTells) (documents : List (List (Pair Bson))) (ids : List ObjectId) → DrawsOwnIds store now documents ids → length ids ≡ length documents
-ids_each store now [] [] draws = refl
-ids_each store now [] (id ∷ ids) draws = absurd draws
-ids_each store now (document ∷ documents) [] draws = absurd draws
-ids_each store now (document ∷ documents) (id ∷ ids) draws = ap suc (ids_each draws.0 now documents ids draws.1.1)
-
--- the sizes of documents as they are sent are those of their spellings
-sizes_are : (documents : List (List (Pair Bson))) (own : List OwnDocument) → AreOwn documents own → map (λ document. length (spelling document)) documents ≡ sizes_of own
-sizes_are [] [] are = refl
-sizes_are [] (front ∷ own) are = absurd are
-sizes_are (document ∷ documents) [] are = absurd are
-sizes_are (document ∷ documents) (front ∷ own) are =
-    ap (λ (bytes : List ℕ). length bytes ∷ map (λ d. length (spelling d)) documents) (sym are.0.is) ∙ ap (λ sizes. length front.bytes ∷ sizes) (sizes_are documents own are.2)
-
--- the sizes of the rest
-rest_sizes : (count : ℕ) (own : List OwnDocument) → sizes_of (drop count own) ≡ drop count (sizes_of own)
-rest_sizes zero own = refl
-rest_sizes (suc count) [] = refl
-rest_sizes (suc count) (front ∷ own) = rest_sizes count own
-
--- as many as there are documents
-sizes_length : (own : List OwnDocument) → length (sizes_of own) ≡ length own
-sizes_length [] = refl
-sizes_length (front ∷ own) = ap suc (sizes_length own)
-
--- what a first build takes is the longest front, of one document too
-pub takes_longest : (limits : Limits) (own : List OwnDocument) (statements : ℕ) → TakesFront limits own (statements_fixed own None) statements → IsLongestFront (Fits limits) (sizes_of own) statements
-takes_longest limits [] statements takes = takes.0
-takes_longest limits (front ∷ []) statements takes =
-    subst (λ n. IsLongestFront (Fits limits) (sizes_of (front ∷ [])) n) (sym takes.0) (record {
-      within = omega arith;
-      fits = takes.1;
-      longest = λ longer above within fits. omega (arith, above, within);
-    })
-takes_longest limits (front ∷ (next ∷ own)) statements takes = takes.0
 
 -- the places at the front of a call's are so many
 places_front : (call index count all : ℕ) → count ≤ all → take count (places_from call index all) ≡ places_from call index count

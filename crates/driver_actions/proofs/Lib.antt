@@ -1,8 +1,10 @@
 pub mod AppendedCalls
 pub mod BatchFit
+pub mod BatchNumbers
 pub mod BatchParts
 pub mod BatchPlaces
 pub mod BatchSequence
+pub mod BatchSizes
 pub mod BatchWrites
 pub mod BatchesListed
 pub mod BatchesMade
@@ -29,6 +31,7 @@ pub mod InsertFit
 pub mod InsertLengths
 pub mod InsertsKept
 pub mod InsertsServed
+pub mod KeptSetups
 pub mod ListedIds
 pub mod LogEntries
 pub mod ManyCalls
@@ -36,6 +39,7 @@ pub mod ManyCompleteness
 pub mod ManyFaults
 pub mod ManyInLog
 pub mod ManyMade
+pub mod ManyNumbers
 pub mod ManyParts
 pub mod ManyRefusals
 pub mod ManySpelled
@@ -47,6 +51,7 @@ pub mod OwnIds
 pub mod OwnOps
 pub mod Parts
 pub mod Refusals
+pub mod RunCounts
 pub mod RunSteps
 pub mod SentOps
 pub mod ServerMaking

@@ -20,6 +20,7 @@ use Rattle.driver_session.specs.Pool.{Pool}
 use Rattle.driver_session.specs.Session.{last_number}
 use Rattle.driver_session.specs.StoreTells.{DrawnApartIn}
 use Rattle.driver_ops.specs.declared.target.OperationTarget.{OperationTarget}
+use Rattle.driver_ops.specs.InsertFronts.{sizes_of}
 use Rattle.driver_ops.specs.Targets.{namespace_of}
 use Rattle.driver_exec.specs.Gentle.{EndsWell}
 use Rattle.driver_exec.specs.Moment.{Moment}
@@ -30,11 +31,13 @@ use Rattle.driver_actions.specs.ManyAnswers.{AllOfDocuments, AnswersMany, EndsAl
 use Rattle.driver_actions.specs.ManyCalls.{MadeMany, MakesMany, RanShort}
 use Rattle.driver_actions.specs.ManyCompleteness.{CompletesMany, EachFitsAlone, InsertsHaveNumbers, IsGentleCallPart, IsGentleCallWhereTold, IsValidMany, MayCompleteCall, MayCompleteCallWhereTold, ServesInserts}
 use Rattle.driver_actions.specs.ManyInputs.{AreTwelve, IsManyAccepted, ManyInputRefused, TellsManyInput}
+use Rattle.driver_actions.specs.Numbers.{many_numbers, numbers_for}
 use Rattle.driver_actions.proofs.BatchFit.{FitsOne, setup_limits}
 use Rattle.driver_actions.proofs.BatchWrites.{EachIs}
 use Rattle.driver_actions.proofs.BatchesWell.{AllWell, batches_well}
 use Rattle.driver_actions.proofs.InsertFit.{served_setup}
-use Rattle.driver_actions.proofs.ManyMade.{IsGiven, as_many, made_drew, sent, sent_each}
+use Rattle.driver_actions.proofs.ManyMade.{IsGiven, made_drew, sent, sent_each}
+use Rattle.driver_actions.proofs.ManyNumbers.{made_sizes}
 
 -- ids of twelve bytes, as many as documents
 some_ids : List (List (Pair Bson)) → List ObjectId
@@ -123,8 +126,11 @@ module _ (before now : Moment) (target : OperationTarget) (documents : List (Lis
         let part : IsGentleCallPart ServesInserts (InsertsHaveNumbers before.client.options (Some run.setup)) run last
         = subst (λ s. IsGentleCallPart ServesInserts (InsertsHaveNumbers before.client.options s) run last) setup_is gentle in
         let drew = made_drew before now target documents options call result made in
-        let enough : pos (most + length made.own) ≤ℤ last_number
-        = subst (λ n. pos (most + n) ≤ℤ last_number) (sym (as_many before now target documents options call result made)) valid.numbers in
+        let within : pos (most + many_numbers (Some run.setup) (namespace_of target) documents options) ≤ℤ last_number
+        = subst (λ s. pos (most + many_numbers s (namespace_of target) documents options) ≤ℤ last_number) setup_is valid.numbers in
+        let enough : pos (most + numbers_for (Some run.setup) (namespace_of target) options (sizes_of made.own)) ≤ℤ last_number
+        = subst (λ sizes. pos (most + numbers_for (Some run.setup) (namespace_of target) options sizes) ≤ℤ last_number)
+        (sym (made_sizes before now target documents options call result made)) within in
         batches_well target options call before.client.options run.setup valid.concerned valid.command run last part (RanShort result) made.ends 0 sent_now made.own made.owns.are_own
         (sent_fits target documents options run.setup fits sent_now (sent_each before now target documents options call result made)) made.mid now
         (ap (λ moment. moment.client.options) made.rest) (ap (λ moment. setup_of moment.link) made.rest ∙ setup_is) pool run (drew.pool ∙ pool_is)

@@ -34,7 +34,6 @@ use Rattle.driver_actions.specs.Batches.{BatchEnd, MakesBatch, MakesBatches, goe
 use Rattle.driver_actions.specs.Calls.{GetsId, IsOwn, given_insert}
 use Rattle.driver_actions.specs.ManyAnswers.{AllOfDocuments, AnswersMany, EndsAlone, count_of, failures_of, gathered, nothing_gathered, with_kind, with_result}
 use Rattle.driver_actions.specs.ManyCalls.{MadeMany, MakesMany, RanShort}
-use Rattle.driver_actions.specs.ManyCompleteness.{RaisesBy}
 use Rattle.driver_actions.specs.ManyEntries.{AnswerStands, AnswerStandsWhereTold, HasListed, IsOwnInsert, KeepsCall, KeepsCallWhereTold, ListedStand, ListsAll, MayWriteCall}
 use Rattle.driver_actions.specs.ManyIds.{DrawsOwnIds, MayDrawAllBy}
 use Rattle.driver_actions.specs.ManyInputs.{AreTwelve, ManyInputRefused, TellsManyInput, with_ids}
@@ -320,10 +319,6 @@ module _ (before now : Moment) (target : OperationTarget) (documents : List (Lis
     | inl unmade ↦ moves_more 0 (length documents) call before now (omega arith) (moves_drew call before now (unmade_drew before now documents error unmade.draws))
     | inr made ↦ made_moves before now target documents options call (Err error) made
   ]
-
-  -- so it raises the numbers of idle sessions by one at most for each document
-  pub many_raises : (result : Result InsertManyResult Error) → MakesMany before now target documents options call result → RaisesBy (length documents) before now
-  many_raises result makes = (many_moves result makes).raises
 
   -- one that was made keeps what stands
   made_keeps : (result : Result InsertManyResult Error) → MadeMany before now target documents options call result → KeepsCall before now (namespace_of target) documents call

@@ -5,7 +5,8 @@ use Rattle.std.specs.Prelude.{pos, Option, None, Some, slice_get}
 use Rattle.std.proofs.lemmas.List.{length-take-le, map_push, take-append-le}
 use Rattle.std.proofs.lemmas.List.Sums.{sum_by_push}
 use Rattle.driver_link.specs.Exchange.{empty_server}
-use Rattle.driver_link.specs.LinkState.{server_run}
+use Rattle.driver_link.specs.declared.machine.Setup.{Setup}
+use Rattle.driver_link.specs.LinkState.{server_run, setup_of}
 use Rattle.driver_link.specs.ServerRun.{IsFresh, ServerRun}
 use Rattle.driver_link.proofs.Lists.{get_last}
 use Rattle.driver_link.specs.Apart.{AllApart}
@@ -19,10 +20,11 @@ use Rattle.driver_actions.specs.declared.call.Outcome.{Outcome}
 use Rattle.driver_actions.specs.CallByCall.{CallCaused, with_clock}
 use Rattle.driver_actions.specs.CallMaking.{MakesCall}
 use Rattle.driver_actions.specs.MainTheorem.{KeepsMakingWhereTold, all_numbers_of, numbers_of}
-use Rattle.driver_actions.specs.ManyCompleteness.{RaisesByWhereTold}
+use Rattle.driver_actions.specs.ManyCompleteness.{RaisesBy, RaisesByWhereTold}
 use Rattle.driver_actions.specs.Standing.{Leaves, LeavesWhereTold, RunInvariant, RunState, new_run, run_more}
 use Rattle.driver_actions.proofs.AppendedCalls.{ran_appended, take_next, take_none}
 use Rattle.driver_actions.proofs.EachCall.{call_moves}
+use Rattle.driver_actions.proofs.InsertFit.{served_setup}
 use Rattle.driver_actions.proofs.RunSteps.{Ran, ran_none, ran_more, ran_holds}
 
 -- before the first call
@@ -35,7 +37,7 @@ leaves_none pool run new fresh =
       sound = ran.sound;
       below = ran.below;
       own = ran.own;
-      numbers = subst (λ p. NumbersWithin (pos (all_numbers_of [])) p.idle) (sym new) tt;
+      numbers = subst (λ p. NumbersWithin (pos (all_numbers_of (Some run.setup) [])) p.idle) (sym new) tt;
     }
 
 -- the same of what store and link tell
@@ -55,9 +57,15 @@ ran_of calls outcomes pool run leaves = record {
 }
 
 -- one call more takes its numbers behind those of the others
-all_numbers_more : (calls : List Call) (call : Call) → all_numbers_of calls + numbers_of call ≡ all_numbers_of (calls ++ call ∷ [])
+all_numbers_more : (setup : Option Setup) (calls : List Call) (call : Call) → all_numbers_of setup calls + numbers_of setup call ≡ all_numbers_of setup (calls ++ call ∷ [])
 unfolding all_numbers_of
-all_numbers_more calls call = sym (ap sum (map_push numbers_of calls call) ∙ sum_by_push (λ x. x) (map numbers_of calls) (numbers_of call))
+all_numbers_more setup calls call = sym (ap sum (map_push (numbers_of setup) calls call) ∙ sum_by_push (λ x. x) (map (numbers_of setup) calls) (numbers_of setup call))
+
+-- the setup of a told server stays
+setup_stays : (link link_now : Option ServerRun) (run run_now : ServerRun) → link ≡ Some run → link_now ≡ Some run_now → KeepsMakingWhereTold link link_now → run_now.setup ≡ run.setup
+setup_stays link link_now run run_now is now_is making =
+    let kept : KeepsMakingWhereTold (Some run) (Some run_now) = subst (λ n. KeepsMakingWhereTold (Some run) n) now_is (subst (λ l. KeepsMakingWhereTold l link_now) is making) in
+    kept.0
 
 -- what rises by so many at most, where the pools are told
 raises_told : (count : ℕ) (store store_now : Option Pool) (pool pool_now : Pool) → store ≡ Some pool → store_now ≡ Some pool_now → RaisesByWhereTold count store store_now
@@ -85,14 +93,19 @@ module _ (calls : List Call) (call : Call) (outcomes : List Outcome) (last : Out
         let ran = ran_appended calls (call ∷ []) outcomes count pool run.server (ran_of calls outcomes pool run leaves) in
         let ran_now = ran_more longer outcomes before now pool pool_now run run_now is now_is run_is run_now_is last apart ran call last.result refl at makes in
         let moves = call_moves before now call (length outcomes) last.result makes in
-        let numbers = raises_told (numbers_of call) before.store.pool now.store.pool pool pool_now is now_is moves.raises (all_numbers_of calls) leaves.numbers in
+        let setup : Option Setup = Some run_now.setup in
+        let stays : run_now.setup ≡ run.setup = setup_stays (server_run before.link) (server_run now.link) run run_now run_is run_now_is moves.making in
+        let told : setup_of before.link ≡ setup = served_setup before.link.making run run_is ∙ ap (λ (s : Setup). Some s) (sym stays) in
+        let raises : RaisesBy (numbers_of setup call) before now = subst (λ s. RaisesBy (numbers_of s call) before now) told moves.raises in
+        let within : NumbersWithin (pos (all_numbers_of setup calls)) pool.idle = subst (λ s. NumbersWithin (pos (all_numbers_of (Some s) calls)) pool.idle) (sym stays) leaves.numbers in
+        let numbers = raises_told (numbers_of setup call) before.store.pool now.store.pool pool pool_now is now_is raises (all_numbers_of setup calls) within in
         record {
           holds = ran_holds longer more pool_now run_now.server counts ran_now;
           between = ran_now.between;
           sound = ran_now.sound;
           below = ran_now.below;
           own = ran_now.own;
-          numbers = subst (λ n. NumbersWithin (pos n) pool_now.idle) (all_numbers_more calls call) numbers;
+          numbers = subst (λ n. NumbersWithin (pos n) pool_now.idle) (all_numbers_more (Some run_now.setup) calls call) numbers;
         }
 
     -- whatever store and link tell

@@ -18,6 +18,7 @@ pub mod ManyIds
 pub mod ManyInputs
 pub mod ManyLeft
 pub mod ManyTold
+pub mod Numbers
 pub mod OwnIds
 pub mod SingleCalls
 pub mod SingleCompleteness

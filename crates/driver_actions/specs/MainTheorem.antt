@@ -41,6 +41,7 @@ use Rattle.driver_actions.specs.Forms.{WriteForm, body_in, concern_in, form_of, 
 use Rattle.driver_actions.specs.Inputs.{IsAccepted}
 use Rattle.driver_actions.specs.ManyCompleteness.{InsertsHaveNumbers, IsGentleCallWhereTold, IsValidMany, ServesInserts}
 use Rattle.driver_actions.specs.ManyLeft.{LeavesByCall}
+use Rattle.driver_actions.specs.Numbers.{many_numbers}
 
 -- the answer of the call at a number, where it is Ok
 abbrev pub answer_at : List Outcome → ℕ → Option Answer
@@ -70,14 +71,14 @@ pub record IsValidWrite (most : ℕ) (options : ClientOptions) (setup : Option S
   pub fits : IfSome setup (λ setup. FitsAlone setup.description form)
   pub number : pos most <ℤ last_number
 
--- how many numbers of sessions a call takes at most: one for each of its batches, of which each has a write at least
-abbrev pub numbers_of : Call → ℕ
-numbers_of (Single write) = 1
-numbers_of (InsertMany namespace documents options) = length documents
+-- how many numbers of sessions a call takes at most, over a link that tells its setup or not: one for each of its batches
+abbrev pub numbers_of : Option Setup → Call → ℕ
+numbers_of setup (Single write) = 1
+numbers_of setup (InsertMany namespace documents options) = many_numbers setup namespace documents options
 
 -- how many calls take together
-unfoldable pub all_numbers_of : List Call → ℕ
-all_numbers_of calls = sum (map numbers_of calls)
+unfoldable pub all_numbers_of : Option Setup → List Call → ℕ
+all_numbers_of setup calls = sum (map (numbers_of setup) calls)
 
 -- a call is valid at a moment, after at most so many numbers
 abbrev pub IsValid : ℕ → Moment → Call → Type 0
@@ -113,7 +114,7 @@ IsGentle before now call = IsGentleCallWhereTold (ServesCall call) (MayRepeat be
 
 -- completeness of a call: a valid one whose part of the schedule is gentle ends well, whatever came before it
 abbrev pub CallCompletes : List Call → Moment → Moment → Call → Result Answer Error → Type 0
-CallCompletes earlier before now call result = IsValid (all_numbers_of earlier) before call → IsGentle before now call → EndsWell result
+CallCompletes earlier before now call result = IsValid (all_numbers_of (setup_of before.link) earlier) before call → IsGentle before now call → EndsWell result
 
 -- each send that a told server got between two moments carries writes of this call, and of no other
 abbrev pub SendsOwn : ℕ → Option ServerRun → Option ServerRun → Type 0

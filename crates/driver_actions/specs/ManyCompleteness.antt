@@ -38,6 +38,7 @@ use Rattle.driver_exec.specs.Moment.{Moment}
 use Rattle.driver_exec.specs.OperationCauses.{DrawsNumbers}
 use Rattle.driver_actions.specs.ManyEntries.{MayWriteCall}
 use Rattle.driver_actions.specs.ManyInputs.{IsManyAccepted}
+use Rattle.driver_actions.specs.Numbers.{many_numbers}
 
 -- the exchanges of a part with these numbers are of sends that carry the same
 abbrev pub CarrySame : ServerRun → ℕ → ℕ → Type 0
@@ -83,14 +84,14 @@ many_concern target options client = effective_concern (feature_of options.write
 -- an insert of many documents is valid after at most so many numbers, under a client's options, over a link that tells its setup
 -- or not: its input is accepted, its write concern is not refused, its command has a spelling with that concern under any session
 -- and number or none, each document fits alone into a command over the setup's connections, and a session has numbers enough for
--- its batches, of which each has a document at least
+-- its batches
 pub record IsValidMany (most : ℕ) (client : ClientOptions) (setup : Option Setup) (target : OperationTarget) (documents : List (List (Pair Bson))) (options : InsertManyOptions) : Type 0 where
   pub accepted : IsManyAccepted (namespace_of target) documents options
   pub concerned : concern_refusal (many_concern target options client) ≡ None
   pub command : (context : SendContext) → context.concern ≡ many_concern target options client → IsSixteen context.session
       → refusal (insert_command (namespace_of target) options ++ executor_fields context (namespace_of target).db) ≡ None
   pub fits : IfSome setup (λ setup. EachFitsAlone setup.description (namespace_of target) documents options)
-  pub numbers : pos (most + length documents) ≤ℤ last_number
+  pub numbers : pos (most + many_numbers setup (namespace_of target) documents options) ≤ℤ last_number
 
 -- whether the sends of an insert have numbers, under a client's options and a setup
 abbrev pub InsertsHaveNumbers : ClientOptions → Option Setup → Type 0
@@ -104,6 +105,10 @@ RaisesByWhereTold count pool pool_now = Unit {0}
 -- the same of two moments
 abbrev pub RaisesBy : ℕ → Moment → Moment → Type 0
 RaisesBy count before now = RaisesByWhereTold count before.store.pool now.store.pool
+
+-- over an insert of these documents they rise by one at most for each of its batches
+abbrev pub RaisesByBatches : Moment → Moment → Namespace → List (List (Pair Bson)) → InsertManyOptions → Type 0
+RaisesByBatches before now namespace documents options = RaisesBy (many_numbers (setup_of before.link) namespace documents options) before now
 
 -- a call may be made, and no idle session has a number above this one
 pub record MayCompleteCall (most : ℕ) (pool pool_now : Pool) (run : ServerRun) (call : ℕ) : Type 0 where

@@ -59,14 +59,15 @@ AllBelow made trace = (send : Send) (at : ℕ) (write : PlacedWrite) → Has tra
 
 -- what these calls with these outcomes left: the main theorem holds of them; nothing is lent, and no
 -- number that was sent is above its session's; the trace is orderly, the server settled, and each write that was
--- sent is of one of the calls, in a place of a call that was made; and no idle session's number is above those that the calls take at most
+-- sent is of one of the calls, in a place of a call that was made; and no idle session's number is above those that the calls take at
+-- most over the server's setup
 pub record Leaves (calls : List Call) (outcomes : List Outcome) (pool : Pool) (run : ServerRun) : Type 0 where
   pub holds : MainTheorem calls outcomes run.server
   pub between : Between pool run.server.trace
   pub sound : Sound run.server
   pub below : AllBelow (length outcomes) run.server.trace
   pub own : AllOwn calls run.server.trace
-  pub numbers : NumbersWithin (pos (all_numbers_of calls)) pool.idle
+  pub numbers : NumbersWithin (pos (all_numbers_of (Some run.setup) calls)) pool.idle
 
 -- a store and a link tell what these calls left
 abbrev pub LeavesWhereTold : List Call → List Outcome → Option Pool → Option ServerRun → Type 0

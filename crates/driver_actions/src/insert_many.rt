@@ -1,5 +1,5 @@
 //! Inserts of many documents, as a collection's user asks for them.
-ghost use Rattle.std.specs.Prelude.{◌≡◌, IfErr, IfOk, None, Some, length, map};
+ghost use Rattle.std.specs.Prelude.{◌≡◌, IfErr, IfOk, None, Some, map};
 ghost use Rattle.driver_error.specs.declared.kind.ErrorKind.TheVariants.{Memory};
 ghost use Rattle.driver_error.specs.Error.{kind_of};
 ghost use Rattle.driver_ops.specs.declared.target.OperationTarget.TheVariants.{Collection as Within};
@@ -7,7 +7,7 @@ ghost use Rattle.driver_exec.specs.Client.{options_of};
 ghost use Rattle.driver_exec.specs.Moment.{moment_of};
 ghost use Rattle.driver_actions.specs.FewestBatches.{OkIsFewestCut};
 ghost use Rattle.driver_actions.specs.ManyCalls.{MakesMany, ManyCaused};
-ghost use Rattle.driver_actions.specs.ManyCompleteness.{CompletesMany, RaisesBy};
+ghost use Rattle.driver_actions.specs.ManyCompleteness.{CompletesMany, RaisesByBatches};
 ghost use Rattle.driver_actions.specs.ManyEntries.{KeepsCall, ListedStand};
 ghost use Rattle.driver_actions.specs.ManyTold.{TellsTruly};
 
@@ -124,7 +124,7 @@ impl InsertMany {
     /// between the operations of one client (`keeps`), and the documents whose ids are listed have their entries in
     /// the log, which are all where it is Ok (`listed`), and what its batches told is so, whatever ended it (`told`);
     /// an Ok was cut into no more batches than the limits ask for (`fewest`); a valid one whose part of the schedule
-    /// is gentle ends well (`complete`), and the numbers of idle sessions rise by one at most for each document
+    /// is gentle ends well (`complete`), and the numbers of idle sessions rise by one at most for each batch
     /// (`raises`). Errors: InvalidArgument and BsonSerialization for its input, InsertMany for documents that failed
     /// or a write concern that was not met, and those of `execute_operation`, each alone.
     pub fn run<S: SessionStore, L: Link, K: Clock, R: Rng>(
@@ -161,9 +161,10 @@ impl InsertMany {
             (moment_of S.tells L.tells K.tells R.stream client.old outside.old)
             (moment_of S.tells L.tells K.tells R.stream client.new outside.new)
             (Within self.collection) self.documents self.options outside.old.call result }
-        ensures raises { RaisesBy (length self.documents)
+        ensures raises { RaisesByBatches
             (moment_of S.tells L.tells K.tells R.stream client.old outside.old)
-            (moment_of S.tells L.tells K.tells R.stream client.new outside.new) }
+            (moment_of S.tells L.tells K.tells R.stream client.new outside.new)
+            self.collection.namespace self.documents self.options }
         ensures options { options_of client.new ≡ options_of client.old }
         ensures call { outside.new.call ≡ outside.old.call }
     {

@@ -1,9 +1,12 @@
-//! Laws: of one call and its times, of a run between two of its calls, of one exchange, and of what the batches of an
-//! insert tell together.
-ghost use Rattle.std.specs.Prelude.{◌≡◌, ◌++◌, ◌∷◌, ℕ, List, [], take, Ok, Result, Some};
+//! Laws: of one call and its times, of a run between two of its calls, of one exchange, of what the batches of an
+//! insert tell together, and of how many there are.
+ghost use Rattle.std.specs.Prelude.{◌≡◌, ◌≤◌, ◌++◌, ◌∷◌, ℕ, List, [], length, take, Ok, Result, Some};
 ghost use Rattle.std.specs.FinMap as finite;
 ghost use Rattle.bson_lite.specs.declared.bson.Bson.{Bson};
 ghost use Rattle.bson_lite.specs.declared.document.Pair.{Pair};
+ghost use Rattle.driver_batches.specs.declared.sizes.Limits.{Limits};
+ghost use Rattle.driver_batches.specs.Batches.{IsPartition};
+ghost use Rattle.driver_batches.specs.Sizes.{Fits};
 ghost use Rattle.driver_error.specs.declared.error.Error.{Error};
 ghost use Rattle.driver_error.specs.declared.results.InsertManyResult.{InsertManyResult};
 ghost use Rattle.driver_error.specs.LabelTexts.{has_label};
@@ -22,6 +25,7 @@ ghost use Rattle.driver_actions.specs.Batches.{BatchEnd, MakesBatch, MakesBatche
 ghost use Rattle.driver_actions.specs.CallByCall.{CallCaused, IsTimed};
 ghost use Rattle.driver_actions.specs.ManyAnswers.{gathered, nothing_gathered};
 ghost use Rattle.driver_actions.specs.ManyCalls.{MadeMany, RanShort};
+ghost use Rattle.driver_actions.specs.Numbers.{runs_of};
 ghost use Rattle.driver_actions.specs.Standing.{RunInvariant, RunState};
 ghost use Rattle.driver_actions.specs.declared.call.Call.{Call};
 ghost use Rattle.driver_actions.specs.declared.call.Outcome.{Outcome};
@@ -136,4 +140,10 @@ pub fn all_labels_are_gathered()
 /// A failure is gathered exactly where one of the ends is an error of kind InsertMany.
 pub fn a_failure_is_gathered_where_one_is_told()
     ensures { (ends : List BatchEnd) → (gathered nothing_gathered ends).failed ≡ some_failed ends }
+{}
+
+/// No cut of documents into runs that keep to the limits has fewer runs than an insert of them is counted for.
+pub fn no_cut_has_fewer_runs()
+    ensures { (limits : Limits) (sizes : List ℕ) (runs : List (List ℕ)) →
+        IsPartition (Fits limits) sizes runs → runs_of limits sizes ≤ length runs }
 {}
