@@ -16,6 +16,22 @@ use Rattle.driver_link.specs.declared.write_options.InsertManyOptions.{InsertMan
 use Rattle.driver_ops.specs.InsertFronts.{insert_limits}
 use Rattle.driver_actions.specs.Numbers.{goes_in, numbers_for, runs_beside, runs_of}
 
+-- what counts one and more is at least one
+at_least_one : (n : ℕ) → 1 ≤ suc n
+at_least_one n = omega arith
+
+-- one fewer and one
+one_fewer : (n m : ℕ) → n ≡ suc m → 1 + m ≤ n
+one_fewer n m is = omega (arith, is)
+
+-- a count that is within another is within one more
+one_above : (n m : ℕ) → n ≤ m → n ≤ suc m
+one_above n m within = omega (arith, within)
+
+-- one run and those of the rest
+run_above : (n more rest m : ℕ) → n ≡ suc more → more ≤ rest → rest ≤ m → n ≤ suc m
+run_above n more rest m is alone within = omega (arith, is, alone, within)
+
 module _ (limits : Limits) where
   -- each document is within its own limit
   abbrev EachWithin : List ℕ → Type 0
@@ -172,11 +188,11 @@ module _ (limits : Limits) where
   -- runs that keep to the limits are no fewer
   no_fewer : (runs : List (List ℕ)) → AllByRecursion (Fits limits) runs → runs_of limits (flat_map (λ run. run) runs) ≤ length runs
   no_fewer [] each = omega arith
-  no_fewer ([] ∷ runs) each = let rest = no_fewer runs each.1 in omega (arith, rest)
+  no_fewer ([] ∷ runs) each = one_above (runs_of limits (flat_map (λ (run : List ℕ). run) runs)) (length runs) (no_fewer runs each.1)
   no_fewer ((first ∷ front) ∷ runs) each =
       let left = flat_map (λ (run : List ℕ). run) runs in
-      let rest = no_fewer runs each.1 in
-      omega (arith, whole_run first front left each.0, beside_alone (length (first ∷ front)) (sum (first ∷ front)) left, rest)
+      run_above (runs_of limits ((first ∷ front) ++ left)) (runs_beside limits (length (first ∷ front)) (sum (first ∷ front)) left) (runs_of limits left) (length runs)
+      (whole_run first front left each.0) (beside_alone (length (first ∷ front)) (sum (first ∷ front)) left) (no_fewer runs each.1)
 
   pub no_cut_has_fewer : (sizes : List ℕ) (runs : List (List ℕ)) → IsPartition (Fits limits) sizes runs → runs_of limits sizes ≤ length runs
   no_cut_has_fewer sizes runs cut = subst (λ s. runs_of limits s ≤ length runs) cut.whole (no_fewer runs cut.each)
@@ -185,7 +201,7 @@ module _ (limits : Limits) where
 pub some_number : (setup : Option Setup) (namespace : Namespace) (options : InsertManyOptions) (sizes : List ℕ) → 0 < length sizes → 1 ≤ numbers_for setup namespace options sizes
 some_number None namespace options sizes some = omega (arith, some)
 some_number (Some setup) namespace options [] some = absurd (omega (arith, some))
-some_number (Some setup) namespace options (size ∷ sizes) some = omega arith
+some_number (Some setup) namespace options (size ∷ sizes) some = at_least_one (runs_beside (insert_limits namespace options setup.description) 1 size sizes)
 
 -- behind a batch that took the longest front by the limits of the setup that is told, one number fewer is left to take
 pub fewer_numbers : (setup : Option Setup) (namespace : Namespace) (options : InsertManyOptions) (sizes : List ℕ) (count : ℕ) → 0 < count → count ≤ length sizes
@@ -193,4 +209,4 @@ pub fewer_numbers : (setup : Option Setup) (namespace : Namespace) (options : In
     → 1 + numbers_for setup namespace options (drop count sizes) ≤ numbers_for setup namespace options sizes
 fewer_numbers None namespace options sizes count some within front = omega (arith, length-drop count sizes, some, within)
 fewer_numbers (Some setup) namespace options sizes count some within front =
-    let runs = front_runs (insert_limits namespace options setup.description) sizes count some front in omega (arith, runs)
+    let limits = insert_limits namespace options setup.description in one_fewer (runs_of limits sizes) (runs_of limits (drop count sizes)) (front_runs limits sizes count some front)
