@@ -7,7 +7,8 @@ use Rattle.driver_batches.specs.Fronts.{IsLongestFront}
 use Rattle.driver_batches.specs.Sizes.{Fits}
 use Rattle.driver_link.specs.declared.machine.Setup.{Setup}
 use Rattle.driver_link.specs.declared.write_options.InsertManyOptions.{InsertManyOptions}
-use Rattle.driver_link.specs.LinkState.{setup_of}
+use Rattle.driver_link.specs.LinkState.{Described, Making, Served, Untold, run_in, server_run, setup_in}
+use Rattle.driver_link.specs.ServerRun.{ServerRun}
 use Rattle.driver_ops.specs.declared.own_document.OwnDocument.{OwnDocument}
 use Rattle.driver_ops.specs.declared.target.OperationTarget.{OperationTarget}
 use Rattle.driver_ops.specs.InsertFronts.{insert_limits, sizes_of}
@@ -17,15 +18,27 @@ use Rattle.driver_ops.specs.SendKinds.{first}
 use Rattle.driver_ops.specs.Targets.{namespace_of}
 use Rattle.driver_exec.specs.Moment.{Moment}
 use Rattle.driver_exec.specs.Reporting.{HasBuilt}
-use Rattle.driver_actions.specs.Batches.{BatchEnd, MakesBatch, MakesBatches, goes_on, rest_of}
+use Rattle.driver_actions.specs.Batches.{BatchEnd, MakesBatch, MakesBatches, goes_on}
+use Rattle.driver_actions.specs.MainTheorem.{KeepsMakingWhereTold}
 use Rattle.driver_actions.specs.ManyCompleteness.{RaisesBy}
-use Rattle.driver_actions.specs.Numbers.{numbers_for}
+use Rattle.driver_actions.specs.Numbers.{numbers_for, server_setup}
 use Rattle.driver_actions.proofs.BatchSizes.{rest_sizes, sizes_length, takes_told}
 use Rattle.driver_actions.proofs.BatchWrites.{EachIs, own_rest, rest_is}
-use Rattle.driver_actions.proofs.BatchesMade.{batch_moves, built_here, executes_here, fixed_or_one, some_gone}
+use Rattle.driver_actions.proofs.BatchesMade.{batch_moves, built_here, fixed_or_one, some_gone}
 use Rattle.driver_actions.proofs.CallMoves.{raises_more, raises_same, raises_twice}
-use Rattle.driver_actions.proofs.KeptSetups.{executes_setup}
 use Rattle.driver_actions.proofs.RunCounts.{fewer_numbers, some_number}
+
+-- a told server keeps its setup
+keeps_setup : (link now : Option ServerRun) → KeepsMakingWhereTold link now → server_setup now ≡ server_setup link
+keeps_setup None now making = ap server_setup making
+keeps_setup (Some run) None making = absurd making
+keeps_setup (Some run) (Some run_now) making = ap (λ (s : Setup). Some s) making.0
+
+-- what holds of the setup that a link tells holds of its server's
+of_server : (making : Making) (setup : Option Setup) (P : Setup → Type 0) → server_setup (run_in making) ≡ setup → IfSome (setup_in making) P → IfSome setup P
+of_server Untold setup P is holds = subst (λ s. IfSome s P) is tt
+of_server (Described given) setup P is holds = subst (λ s. IfSome s P) is tt
+of_server (Served run) setup P is holds = subst (λ s. IfSome s P) is holds
 
 module _ (target : OperationTarget) (options : InsertManyOptions) (call : ℕ) (G : ℕ → List (Pair Bson) → Type 0) (setup : Option Setup) where
   -- how many numbers these documents take at most
@@ -38,12 +51,11 @@ module _ (target : OperationTarget) (options : InsertManyOptions) (call : ℕ) (
 
   -- one batch
   module _ (index : ℕ) (documents : List (List (Pair Bson))) (own : List OwnDocument) (are : AreOwn documents own) (each : EachIs G index documents) (before now : Moment) (end : BatchEnd)
-      (made : MakesBatch target options call index own before now end) (setup_is : setup_of before.link ≡ setup) where
-    -- its link tells the same setup
-    pub batch_setup : setup_of now.link ≡ setup
+      (made : MakesBatch target options call index own before now end) (setup_is : server_setup (server_run before.link) ≡ setup) where
+    -- its server has the same setup
+    pub batch_setup : server_setup (server_run now.link) ≡ setup
     batch_setup =
-        executes_setup (insert_spec target index own options) (rest_of call index own (fixed_or_one end.statements)) first before now 0 made.count (statements_fixed own None) end.statements end.result
-        (executes_here target options call G index documents own are each before now end made) ∙ setup_is
+        keeps_setup (server_run before.link) (server_run now.link) (batch_moves target options call G index documents own are each before now end made).making ∙ setup_is
 
     -- where a further one was begun it took the longest front
     longest_told : goes_on (insert_is_ordered options) end.result ≡ true → (statements : ℕ) → end.statements ≡ Some statements
@@ -53,7 +65,7 @@ module _ (target : OperationTarget) (options : InsertManyOptions) (call : ℕ) (
         = built_here target options call G index documents own are each before now end made on in
         let same : built.statements ≡ statements = ap fixed_or_one (sym built.is ∙ told) in
         let described : IfSome setup (λ found. built.description ≡ found.description)
-        = subst (λ s. IfSome s (λ found. built.description ≡ found.description)) setup_is built.described in
+        = of_server before.link.making setup (λ found. built.description ≡ found.description) setup_is built.described in
         subst (λ n. IfSome setup (λ found. IsLongestFront (Fits (insert_limits (namespace_of target) options found.description)) (sizes_of own) n)) same
         (takes_told (namespace_of target) options own built.description built.statements setup described built.takes)
 
@@ -66,7 +78,7 @@ module _ (target : OperationTarget) (options : InsertManyOptions) (call : ℕ) (
 
   -- batches one after another raise the numbers of idle sessions by no more than that
   pub batches_raise : (short : Type 0) (ends : List BatchEnd) (index : ℕ) (documents : List (List (Pair Bson))) (own : List OwnDocument) → AreOwn documents own → EachIs G index documents → (before now : Moment)
-      → setup_of before.link ≡ setup → MakesBatches short target options call index own ends before now → RaisesBy (numbers_left own) before now
+      → server_setup (server_run before.link) ≡ setup → MakesBatches short target options call index own ends before now → RaisesBy (numbers_left own) before now
   batches_raise short [] index documents own are each before now setup_is made = subst (RaisesBy (numbers_left own) before) (sym made.0) (raises_same (numbers_left own) before.store.pool)
   batches_raise short (end ∷ ends) index documents own are each before now setup_is made =
       let mid = made.0 in

@@ -1,5 +1,5 @@
 -- Each batch of a valid insert of many documents whose part of the schedule is gentle ends well.
-use Rattle.std.proofs.Common.{◌≡◌, ℕ, ◌+◌, ◌<◌, ◌≤◌, List, [], ◌∷◌, ◌++◌, drop, length, refl, sym, ap, subst, ◌∙◌, inl, inr, arith}
+use Rattle.std.proofs.Common.{◌≡◌, ℕ, ◌+◌, ◌≤◌, List, [], ◌∷◌, ◌++◌, drop, length, refl, sym, ap, subst, ◌∙◌, inl, inr, arith}
 use Rattle.std.specs.Prelude.{ℤ, pos, ◌+ℤ◌, ◌<ℤ◌, ◌≤ℤ◌, Option, None, Some, ◌⊎◌}
 use Rattle.std.proofs.lemmas.Int.{ints}
 use Rattle.std.proofs.lemmas.List.{append-nil}
@@ -51,8 +51,10 @@ use Rattle.driver_exec.proofs.TraceSessions.{lends_holds}
 use Rattle.driver_exec.proofs.WholeOperation.{executes_client}
 use Rattle.driver_actions.specs.Batches.{BatchEnd, MakesBatch, MakesBatches, rest_of}
 use Rattle.driver_actions.specs.ManyCompleteness.{CarrySame, InsertsHaveNumbers, IsGentleCallPart, RaisesByWhereTold, ServesInserts, many_concern}
+use Rattle.driver_actions.specs.Numbers.{server_setup}
 use Rattle.driver_actions.proofs.BatchFit.{FitsOne, batch_unrefused}
 use Rattle.driver_actions.proofs.BatchNumbers.{batch_fewer, batch_setup, number_left, numbers_left}
+use Rattle.driver_actions.proofs.InsertFit.{served_setup}
 use Rattle.driver_actions.proofs.BatchWrites.{EachIs, IsNewFrom, batch_asks, batch_body, batch_may_send, own_rest, rest_is}
 use Rattle.driver_actions.proofs.BatchesMade.{batch_advances, batch_moves, batches_move, fixed_or_one, is_fixed_or_one, left_here, mid_told, new_behind, next_new, run_told}
 use Rattle.driver_actions.proofs.CallMoves.{GainsOwn}
@@ -300,14 +302,18 @@ module _ (target : OperationTarget) (options : InsertManyOptions) (call : ℕ) (
             let one = batch_advances target options call FitsHere index documents own are each before mid end batch pool mid_now.pool run mid_now.run pool_is mid_now.pool_is run_is mid_now.run_is between sound new mid_now.apart in
             let new_on = next_new target options call FitsHere index mid_now.run.server.trace end.statements on.statements on.told
             (new_behind target options call FitsHere index documents own are each before mid end batch pool mid_now.pool run mid_now.run pool_is mid_now.pool_is run_is mid_now.run_is between sound new mid_now.apart) in
-            let fewer = batch_fewer target options call FitsHere (Some setup) index documents own are each before mid end batch setup_is on.on on.statements on.told in
+            let server_is : server_setup (server_run before.link) ≡ Some setup = ap server_setup run_is ∙ sym (served_setup before.link.making run run_is) ∙ setup_is in
+            let mid_setup : setup_of mid.link ≡ Some setup
+            = served_setup mid.link.making mid_now.run mid_now.run_is ∙ sym (ap server_setup mid_now.run_is)
+            ∙ batch_setup target options call FitsHere (Some setup) index documents own are each before mid end batch server_is in
+            let fewer = batch_fewer target options call FitsHere (Some setup) index documents own are each before mid end batch server_is on.on on.statements on.told in
             let raises : RaisesByWhereTold 1 (Some pool) (Some mid_now.pool)
             = subst (λ p. RaisesByWhereTold 1 p (Some mid_now.pool)) pool_is (subst (λ p. RaisesByWhereTold 1 before.store.pool p) mid_now.pool_is moves.raises) in
             let begins_on = before_twice told run mid_now.run begins
             (batch_before index documents own are each before mid end batch client_is setup_is pool run mid_now.run pool_is run_is mid_now.run_is between sound new apart_mid most numbers further) in (
               here,
               batches_well told last gentle short ends (index + on.statements) (drop on.statements documents) (drop on.statements own) own_on each_on mid now
-                  (client_kept index own before mid end batch client_is) (batch_setup target options call FitsHere (Some setup) index documents own are each before mid end batch setup_is) mid_now.pool mid_now.run mid_now.pool_is mid_now.run_is last_is
+                  (client_kept index own before mid end batch client_is) mid_setup mid_now.pool mid_now.run mid_now.pool_is mid_now.run_is last_is
                   one.between one.sound new_on apart (most + 1) (raises most numbers)
                   (rest_left most (left_numbers own) (left_numbers (drop on.statements own)) fewer enough) begins_on on.rest,
             )

@@ -2,7 +2,7 @@
 use Rattle.std.proofs.Common.{ℕ}
 use Rattle.std.specs.Prelude.{Result, Ok, Err}
 use Rattle.driver_error.specs.declared.error.Error.{Error}
-use Rattle.driver_link.specs.LinkState.{server_run, setup_of}
+use Rattle.driver_link.specs.LinkState.{server_run}
 use Rattle.driver_session.specs.StoreTells.{Draws, LendsAsBefore}
 use Rattle.driver_ops.specs.Targets.{in_collection}
 use Rattle.driver_exec.specs.Moment.{Moment}
@@ -15,12 +15,13 @@ use Rattle.driver_actions.specs.CallByCall.{CallCaused, with_clock}
 use Rattle.driver_actions.specs.CallMaking.{MakesCall}
 use Rattle.driver_actions.specs.Forms.{form_of}
 use Rattle.driver_actions.specs.MainTheorem.{IsReplayed, KeepsMaking, SendsOwn, numbers_of}
+use Rattle.driver_actions.specs.Numbers.{server_setup}
 use Rattle.driver_actions.proofs.CallMoves.{CallMoves, gains_sends_own}
 use Rattle.driver_actions.proofs.CallSends.{makes_moves}
 use Rattle.driver_actions.proofs.ManyNumbers.{many_leaves}
 
 -- what a call leaves
-pub call_moves : (before now : Moment) (call : Call) (number : ℕ) (result : Result Answer Error) → MakesCall before now call number result → CallMoves (numbers_of (setup_of before.link) call) number before now
+pub call_moves : (before now : Moment) (call : Call) (number : ℕ) (result : Result Answer Error) → MakesCall before now call number result → CallMoves (numbers_of (server_setup (server_run before.link)) call) number before now
 call_moves before now (Single write) number (Ok (answer.Single given)) makes = makes_moves before now (form_of write) number (Ok given) makes
 call_moves before now (Single write) number (Ok (answer.Many output)) makes = absurd makes
 call_moves before now (Single write) number (Err error) makes = makes_moves before now (form_of write) number (Err error) makes
@@ -31,7 +32,7 @@ call_moves before now (InsertMany namespace documents options) number (Err error
 -- a call that ended with its cause left the same, since its readings of the clock change neither store nor link
 module _ (number : ℕ) (before now : Moment) (call : Call) (outcome : Outcome) (caused : CallCaused number before now call outcome) where
   -- between these readings
-  caused_moves : CallMoves (numbers_of (setup_of before.link) call) number (with_clock before caused.first) (with_clock now caused.clock)
+  caused_moves : CallMoves (numbers_of (server_setup (server_run before.link)) call) number (with_clock before caused.first) (with_clock now caused.clock)
   caused_moves = call_moves (with_clock before caused.first) (with_clock now caused.clock) call number outcome.result caused.makes
 
   -- what it drew

@@ -31,7 +31,6 @@ pub mod InsertFit
 pub mod InsertLengths
 pub mod InsertsKept
 pub mod InsertsServed
-pub mod KeptSetups
 pub mod ListedIds
 pub mod LogEntries
 pub mod ManyCalls

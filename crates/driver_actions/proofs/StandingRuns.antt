@@ -6,7 +6,7 @@ use Rattle.std.proofs.lemmas.List.{length-take-le, map_push, take-append-le}
 use Rattle.std.proofs.lemmas.List.Sums.{sum_by_push}
 use Rattle.driver_link.specs.Exchange.{empty_server}
 use Rattle.driver_link.specs.declared.machine.Setup.{Setup}
-use Rattle.driver_link.specs.LinkState.{server_run, setup_of}
+use Rattle.driver_link.specs.LinkState.{server_run}
 use Rattle.driver_link.specs.ServerRun.{IsFresh, ServerRun}
 use Rattle.driver_link.proofs.Lists.{get_last}
 use Rattle.driver_link.specs.Apart.{AllApart}
@@ -21,10 +21,10 @@ use Rattle.driver_actions.specs.CallByCall.{CallCaused, with_clock}
 use Rattle.driver_actions.specs.CallMaking.{MakesCall}
 use Rattle.driver_actions.specs.MainTheorem.{KeepsMakingWhereTold, all_numbers_of, numbers_of}
 use Rattle.driver_actions.specs.ManyCompleteness.{RaisesBy, RaisesByWhereTold}
+use Rattle.driver_actions.specs.Numbers.{server_setup}
 use Rattle.driver_actions.specs.Standing.{Leaves, LeavesWhereTold, RunInvariant, RunState, new_run, run_more}
 use Rattle.driver_actions.proofs.AppendedCalls.{ran_appended, take_next, take_none}
 use Rattle.driver_actions.proofs.EachCall.{call_moves}
-use Rattle.driver_actions.proofs.InsertFit.{served_setup}
 use Rattle.driver_actions.proofs.RunSteps.{Ran, ran_none, ran_more, ran_holds}
 
 -- before the first call
@@ -95,7 +95,7 @@ module _ (calls : List Call) (call : Call) (outcomes : List Outcome) (last : Out
         let moves = call_moves before now call (length outcomes) last.result makes in
         let setup : Option Setup = Some run_now.setup in
         let stays : run_now.setup ≡ run.setup = setup_stays (server_run before.link) (server_run now.link) run run_now run_is run_now_is moves.making in
-        let told : setup_of before.link ≡ setup = served_setup before.link.making run run_is ∙ ap (λ (s : Setup). Some s) (sym stays) in
+        let told : server_setup (server_run before.link) ≡ setup = ap server_setup run_is ∙ ap (λ (s : Setup). Some s) (sym stays) in
         let raises : RaisesBy (numbers_of setup call) before now = subst (λ s. RaisesBy (numbers_of s call) before now) told moves.raises in
         let within : NumbersWithin (pos (all_numbers_of setup calls)) pool.idle = subst (λ s. NumbersWithin (pos (all_numbers_of (Some s) calls)) pool.idle) (sym stays) leaves.numbers in
         let numbers = raises_told (numbers_of setup call) before.store.pool now.store.pool pool pool_now is now_is raises (all_numbers_of setup calls) within in

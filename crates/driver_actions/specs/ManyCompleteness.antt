@@ -38,7 +38,7 @@ use Rattle.driver_exec.specs.Moment.{Moment}
 use Rattle.driver_exec.specs.OperationCauses.{DrawsNumbers}
 use Rattle.driver_actions.specs.ManyEntries.{MayWriteCall}
 use Rattle.driver_actions.specs.ManyInputs.{IsManyAccepted}
-use Rattle.driver_actions.specs.Numbers.{many_numbers}
+use Rattle.driver_actions.specs.Numbers.{many_numbers, server_setup}
 
 -- the exchanges of a part with these numbers are of sends that carry the same
 abbrev pub CarrySame : ServerRun → ℕ → ℕ → Type 0
@@ -106,9 +106,9 @@ RaisesByWhereTold count pool pool_now = Unit {0}
 abbrev pub RaisesBy : ℕ → Moment → Moment → Type 0
 RaisesBy count before now = RaisesByWhereTold count before.store.pool now.store.pool
 
--- over an insert of these documents they rise by one at most for each of its batches
+-- over an insert of these documents they rise by one at most for each of its batches, where the server is told, and else for each document
 abbrev pub RaisesByBatches : Moment → Moment → Namespace → List (List (Pair Bson)) → InsertManyOptions → Type 0
-RaisesByBatches before now namespace documents options = RaisesBy (many_numbers (setup_of before.link) namespace documents options) before now
+RaisesByBatches before now namespace documents options = RaisesBy (many_numbers (server_setup (server_run before.link)) namespace documents options) before now
 
 -- a call may be made, and no idle session has a number above this one
 pub record MayCompleteCall (most : ℕ) (pool pool_now : Pool) (run : ServerRun) (call : ℕ) : Type 0 where

@@ -8,6 +8,7 @@ use Rattle.bson_lite.specs.Spelling.{spelling}
 use Rattle.driver_batches.specs.declared.sizes.Limits.{Limits}
 use Rattle.driver_link.specs.declared.machine.Setup.{Setup}
 use Rattle.driver_link.specs.declared.write_options.InsertManyOptions.{InsertManyOptions}
+use Rattle.driver_link.specs.ServerRun.{ServerRun}
 use Rattle.driver_ops.specs.InsertFronts.{insert_limits}
 
 -- a document of this size goes into a run that has so many documents and bytes already
@@ -36,10 +37,15 @@ unfoldable pub sizes_with_ids : List (List (Pair Bson)) → List ℕ
 sizes_with_ids documents = map size_with_id documents
 
 -- how many numbers an insert of documents of these sizes takes at most: one for each run by the limits of the setup's connections, and
--- where the link tells no setup one for each document
+-- where no setup is told one for each document
 abbrev pub numbers_for : Option Setup → Namespace → InsertManyOptions → List ℕ → ℕ
 numbers_for None namespace options sizes = length sizes
 numbers_for (Some setup) namespace options sizes = runs_of (insert_limits namespace options setup.description) sizes
+
+-- the setup of a server, where it is told
+abbrev pub server_setup : Option ServerRun → Option Setup
+server_setup None = None
+server_setup (Some run) = Some run.setup
 
 -- how many an insert of documents takes at most
 abbrev pub many_numbers : Option Setup → Namespace → List (List (Pair Bson)) → InsertManyOptions → ℕ

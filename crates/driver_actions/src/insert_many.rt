@@ -124,9 +124,10 @@ impl InsertMany {
     /// between the operations of one client (`keeps`), and the documents whose ids are listed have their entries in
     /// the log, which are all where it is Ok (`listed`), and what its batches told is so, whatever ended it (`told`);
     /// an Ok was cut into no more batches than the limits ask for (`fewest`); a valid one whose part of the schedule
-    /// is gentle ends well (`complete`), and the numbers of idle sessions rise by one at most for each batch
-    /// (`raises`). Errors: InvalidArgument and BsonSerialization for its input, InsertMany for documents that failed
-    /// or a write concern that was not met, and those of `execute_operation`, each alone.
+    /// is gentle ends well (`complete`), and the numbers of idle sessions rise by one at most for each batch, where the
+    /// server is told, and else for each document (`raises`). Errors: InvalidArgument and BsonSerialization for its
+    /// input, InsertMany for documents that failed or a write concern that was not met, and those of
+    /// `execute_operation`, each alone.
     pub fn run<S: SessionStore, L: Link, K: Clock, R: Rng>(
         self,
         alloc: Global,
