@@ -71,12 +71,11 @@ fn push_updated(alloc: Global, out: &mut String, updated: &UpdateResult) -> Resu
     push_upserted(alloc, out, &updated.upserted_id)
 }
 
-#[tactic(auto, unfolding(crate::specs::Lines::deleted_text))]
+#[tactic(auto, unfolding(crate::specs::Lines::count_text, crate::specs::Lines::deleted_text))]
 fn push_deleted(out: &mut String, deleted: &DeleteResult) -> Result<(), AllocError>
     ensures { OnOk result (string_bytes out.new ≡ string_bytes out.old ++ deleted_text deleted.now) }
 {
-    out.push_str("ok deleted=")?;
-    push_unsigned(out, deleted.deleted_count)
+    push_count(out, "ok deleted=", deleted.deleted_count)
 }
 
 /// A copy of a document as a value, where there is one.
