@@ -2,7 +2,7 @@
 """Prints what each function of a crate took to prove, in seconds, by the times of the files that a check left.
 
 The folder is that of a check that runs in one job and in one go: the seed of a crate's edits while `rt ci` runs
-(the `seed` of a folder `rt-edits-..` in /tmp), or the one that `rattle check --incremental` was given. A
+(the `seed` in its temporary folder `rt-edits-PID-..`), or the one that `rattle check --incremental` was given. A
 file's time is that of the one before it until its own, so waits count too: compare figures of one run alone.
 
 Usage: python3 scripts/seed_times.py FOLDER [COUNT]
