@@ -17,6 +17,8 @@ use Rattle.driver_actions.specs.Batches.{BatchEnd, GoesOn, MakesBatch, MakesBatc
 use Rattle.driver_actions.specs.ManyAnswers.{AllOfDocuments, AnswersMany, EndsAlone, TellsGathered, count_of, gathered, nothing_gathered, with_result}
 use Rattle.driver_actions.specs.ManyCalls.{RanShort}
 use Rattle.driver_actions.specs.inside.Batches.{AllGathered, BatchesMade, GathersBatch, StopsBatches}
+use Rattle.driver_actions.specs.inside.Taking.{AnswersTold}
+use Rattle.driver_actions.proofs.ConcernLabels.{HasItsLabels, answers_gathered, batches_gathered}
 
 -- batches of which each lets the next one be begun, from an index and the documents that are left there to another
 abbrev pub MakesFront : OperationTarget → InsertManyOptions → ℕ → ℕ → List OwnDocument → List BatchEnd → ℕ → List OwnDocument → Moment → Moment → Type 0
@@ -190,13 +192,17 @@ answers_told ends told (Ok output) all is tells = (all, subst (λ t. TellsGather
 answers_told ends told (Err error) all is tells = inr (inr (all, subst (λ t. TellsGathered t (Err error)) is tells))
 
 module _ (target : OperationTarget) (options : InsertManyOptions) (call : ℕ) (own : List OwnDocument) (before now : Moment) where
+  -- what was gathered of all batches has the labels of its write concern error
+  all_labelled : (told : Gathered) → AllGathered target options call own before now told → HasItsLabels told
+  all_labelled told all = subst (λ (t : Gathered). HasItsLabels t) (sym all.told_is) (batches_gathered ⊥ target options call all.ends own before now all.batches)
+
   -- of a call whose batches are done
-  pub done_answered : (told : Gathered) (result : Result InsertManyResult Error) → AllGathered target options call own before now told → TellsGathered told result
+  pub done_answered : (told : Gathered) (result : Result InsertManyResult Error) → AllGathered target options call own before now told → AnswersTold told result
       → BatchesMade target options call own before now result
-  done_answered told result all tells = record {
+  done_answered told result all answers = record {
     ends = all.ends;
     batches = never_short target options call (RanShort result) 0 own all.ends before now all.batches;
-    answers = answers_told all.ends told result all.documents all.told_is tells;
+    answers = answers_told all.ends told result all.documents all.told_is (answers_gathered told result (all_labelled told all) answers);
   }
 
   -- of one that ended with an error

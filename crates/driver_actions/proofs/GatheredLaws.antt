@@ -257,7 +257,7 @@ set_again : (labels : LabelSet) → label_set (in_order labels) ≡ labels
 set_again labels = sym (with_labels_none (in_order labels)) ∙ labels_again labels
 
 -- so the labels of two sets
-labels_joined : (known labels : LabelSet) (label : List ℕ)
+pub labels_joined : (known labels : LabelSet) (label : List ℕ)
     → has_label (with_labels known (in_order labels)) label ≡ (has_label known label || has_label labels label)
 labels_joined known labels label =
     labels_added known (in_order labels) label

@@ -1,4 +1,4 @@
--- What batches told, taken one after another: ids at their indexes, all failures, and the labels of the answered error.
+-- What batches told, taken one after another: ids at their indexes, all failures, and the labels of a set once more.
 use Rattle.std.proofs.Common.{◌≡◌, ℕ, ◌+◌, List, [], ◌∷◌, ◌++◌, Bool, true, false, cond, ◌||◌, map, is_some, add-one, refl, sym, ap, ◌∙◌}
 use Rattle.std.specs.Prelude.{Option, Some, Err}
 use Rattle.std.specs.Cmp.Lexicographic.{slice_cmp}
@@ -10,7 +10,7 @@ use Rattle.driver_error.specs.declared.error.Error.{Error}
 use Rattle.driver_error.specs.declared.write.IndexedWriteError.{IndexedWriteError}
 use Rattle.driver_error.specs.declared.write.InsertManyError.{InsertManyError}
 use Rattle.driver_error.specs.declared.write.WriteConcernError.{WriteConcernError}
-use Rattle.driver_error.specs.Error.{ErrorKind, IsAlone, KeepsAllButLabels, kind_of, labels_of}
+use Rattle.driver_error.specs.Error.{ErrorKind, kind_of, labels_of}
 use Rattle.driver_error.specs.LabelTexts.{LabelSet, has_label, in_order, label_set, no_labels, with_labels}
 use Rattle.driver_error.proofs.LabelSets.{has_label-none, has_label-with, same_labels}
 use Rattle.driver_error.proofs.SortedLabels.{with_labels_none}
@@ -50,15 +50,6 @@ told_taken before now first count error labels why labels_are kind_is taken tell
   tells,
 )
 
--- an error that was changed twice kept all but its labels
-pub keeps_twice : (a b c : Error) → KeepsAllButLabels a b → KeepsAllButLabels b c → KeepsAllButLabels a c
-keeps_twice a b c first second = record {
-  kind = second.kind ∙ first.kind;
-  version = second.version ∙ first.version;
-  source = second.source ∙ first.source;
-  response = second.response ∙ first.response;
-}
-
 -- a text is the first of several or another
 found_by : (here : Bool) (value : Unit {0}) (later : Option (Unit {0})) → (here || is_some later) ≡ is_some (cond here (Some value) later)
 found_by true value later = refl
@@ -82,14 +73,3 @@ set_in_order labels = same_labels (label_set (in_order labels)) labels (λ text.
 -- the labels of a set, added one after another to none, are that set
 pub labels_again : (labels : LabelSet) → with_labels no_labels (in_order labels) ≡ labels
 labels_again labels = with_labels_none (in_order labels) ∙ set_in_order labels
-
--- an error of a kind alone that gained the labels of a set has these alone
-pub labelled_alone : (kind : ErrorKind) (labels : LabelSet) (before now : Error) → IsAlone kind no_labels before
-    → labels_of now ≡ with_labels (labels_of before) (in_order labels) → KeepsAllButLabels before now → IsAlone kind labels now
-labelled_alone kind labels before now alone gains keeps = record {
-  kind_is = keeps.kind ∙ alone.kind_is;
-  labels_are = gains ∙ ap (λ (set : LabelSet). with_labels set (in_order labels)) alone.labels_are ∙ labels_again labels;
-  no_version = keeps.version ∙ alone.no_version;
-  no_source = keeps.source ∙ alone.no_source;
-  no_response = keeps.response ∙ alone.no_response;
-}

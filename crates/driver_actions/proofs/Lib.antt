@@ -20,6 +20,7 @@ pub mod CallWrites
 pub mod CallsInOrder
 pub mod Causes
 pub mod Completeness
+pub mod ConcernLabels
 pub mod EachCall
 pub mod FewestCuts
 pub mod GatheredEnds

@@ -2,14 +2,14 @@
 ghost use Rattle.std.specs.Prelude.{◌≡◌, ◌+◌, ◌++◌, Err, IfErr, IfOk, Ok, OnOk, map, true};
 ghost use Rattle.std.specs.FinMap as finite;
 ghost use Rattle.driver_error.specs.declared.kind.ErrorKind.TheVariants.{InsertMany};
-ghost use Rattle.driver_error.specs.Conversions.{IsMade};
-ghost use Rattle.driver_error.specs.Error.{KeepsAllButLabels, kind_of, labels_of};
+ghost use Rattle.driver_error.specs.Conversions.{IsNew};
+ghost use Rattle.driver_error.specs.Error.{kind_of};
 ghost use Rattle.driver_error.specs.LabelTexts.{in_order, with_labels};
 ghost use Rattle.driver_ops.specs.InsertAnswers.{errors_there};
 ghost use Rattle.driver_ops.specs.InsertSpec.{id_beside};
 ghost use Rattle.driver_actions.specs.Batches.{tells_documents};
-ghost use Rattle.driver_actions.specs.ManyAnswers.{TellsGathered, failures_of, later_concern, moved_error, nothing_gathered, put_ids, told_errors, with_failures, with_kind};
-ghost use Rattle.driver_actions.specs.inside.Taking.{StopsWith, Takes};
+ghost use Rattle.driver_actions.specs.ManyAnswers.{failures_of, later_concern, moved_error, nothing_gathered, put_ids, told_errors, with_failures, with_kind};
+ghost use Rattle.driver_actions.specs.inside.Taking.{AnswersTold, StopsWith, Takes};
 
 use bson_lite::{Boxed, Bson, ByIndex, List, Text, TryClone};
 use driver_error::{
@@ -154,7 +154,7 @@ impl Gathered {
 
     /// The answer: the ids of all documents, or an error of the failures with all labels.
     pub(crate) fn answer(self, alloc: Global) -> Result<InsertManyResult>
-        ensures { TellsGathered self result }
+        ensures { AnswersTold self result }
     {
         if self.failed {
             return Err(failure(alloc, self));
@@ -324,7 +324,7 @@ fn add_all(alloc: Global, all: &mut Labels, labels: &[Text]) -> std::result::Res
 
 /// The error of all failures that were told.
 fn failure(alloc: Global, told: Gathered) -> Error
-    ensures { IsMade (InsertMany (failures_of told)) told.labels result }
+    ensures { IsNew (InsertMany (failures_of told)) (in_order told.labels) result }
 {
     let Gathered {
         inserted_ids,
@@ -355,49 +355,16 @@ fn errors_there(errors: List<IndexedWriteError>) -> Option<List<IndexedWriteErro
     }
 }
 
-/// An error of a kind with exactly these labels. `Error::new` would add those of the write concern error inside, which
-/// the errors of the batches have already.
+/// An error of a kind with these labels, and those of a write concern error inside, which the errors of the batches
+/// have already.
 fn labelled(alloc: Global, kind: ErrorKind, labels: &Labels) -> Error
-    ensures { IsMade kind labels.now result }
+    ensures { IsNew kind (in_order labels.now) result }
 {
-    let mut error = Error::from_kind(kind);
-    match label_error(alloc, &mut error, labels) {
-        Ok(()) => error,
+    match labels.sorted(alloc) {
+        Ok(texts) => Error::new(alloc, kind, texts.as_slice()),
         Err(_refused) => {
-            drop(error);
+            drop(kind);
             Error::from_kind(ErrorKind::Memory)
         }
     }
-}
-
-/// Adds the labels of a set to an error.
-fn label_error(
-    alloc: Global,
-    error: &mut Error,
-    labels: &Labels,
-) -> std::result::Result<(), AllocError>
-    ensures labels { OnOk result
-        (labels_of error.new ≡ with_labels (labels_of error.old) (in_order labels.now)) }
-    ensures rest { OnOk result (KeepsAllButLabels error.old error.new) }
-{
-    let texts = labels.sorted(alloc)?;
-    add_labels(alloc, error, texts.as_slice())?;
-    Ok(())
-}
-
-/// Adds labels to an error.
-#[tactic(auto, unfolding(driver_error::specs::LabelTexts::with_labels), using(crate::proofs::Gathering::keeps_twice))]
-fn add_labels(
-    alloc: Global,
-    error: &mut Error,
-    labels: &[Text],
-) -> std::result::Result<(), AllocError>
-    ensures labels { OnOk result
-        (labels_of error.new ≡ with_labels (labels_of error.old) labels.now) }
-    ensures rest { OnOk result (KeepsAllButLabels error.old error.new) }
-{
-    for label in labels {
-        error.add_label(alloc, label.as_str())?;
-    }
-    Ok(())
 }

@@ -1,5 +1,5 @@
 //! An error: its kind, its labels, and the error that caused it.
-ghost use Rattle.std.specs.Prelude.{◌≡◌, ◌++◌, None, Some, OnOk, OnErr, IfOk, IfNone};
+ghost use Rattle.std.specs.Prelude.{◌≡◌, [], ◌++◌, None, Some, OnOk, OnErr, IfOk, IfNone};
 ghost use Rattle.std.specs.Option.{option_copied};
 ghost use Rattle.driver_error.specs.declared.kind.ErrorKind.TheVariants.{Custom};
 ghost use Rattle.driver_error.specs.Conversions.{IsMade, IsNew};
@@ -67,9 +67,10 @@ fn boxed(
 }
 
 impl Error {
-    /// An error of this kind without labels. It takes no memory. A kind with a write concern error
-    /// inside is made by [`Error::new`], which takes the labels of that one.
+    /// An error of this kind without labels. It takes no memory. The kind has no labels inside: one
+    /// that may have a write concern error with labels is made by [`Error::new`], which adds them.
     pub fn from_kind(kind: ErrorKind) -> Error
+        requires { inner_labels kind ≡ [] }
         ensures { IsAlone kind no_labels result }
     {
         Error {
@@ -201,9 +202,11 @@ impl Error {
         }
     }
 
-    /// The same error of another kind. It takes no memory.
+    /// The same error of another kind, which has no labels inside, so that the labels stay as they
+    /// are. It takes no memory.
     #[tactic(auto, unfolding(crate::specs::Error::with_kind))]
     pub fn with_kind(self, kind: ErrorKind) -> Error
+        requires { inner_labels kind ≡ [] }
         ensures { result ≡ with_kind kind self }
     {
         let Error {

@@ -1,5 +1,6 @@
 //! The failure of a numbered write at a deployment that takes no transaction numbers, in words for the caller.
-ghost use Rattle.std.specs.Prelude.{◌≡◌, IfOk};
+ghost use Rattle.std.specs.Prelude.{◌≡◌, [], IfOk, IfSome};
+ghost use Rattle.driver_error.specs.Kinds.{inner_labels};
 ghost use Rattle.driver_exec.specs.OldDeployment.{no_retryable_writes, refuses_numbers, reworded};
 ghost use Rattle.driver_exec.specs.inside.OldDeployment.{MayReword};
 
@@ -31,10 +32,11 @@ pub(crate) fn reworded(alloc: Global, error: Error) -> Result<Error, AllocError>
     }
 }
 
-/// The kind with the message for the caller, where it gets one.
+/// The kind with the message for the caller, where it gets one. That one has no labels inside.
 #[tactic(auto, unfolding(crate::specs::OldDeployment::reworded_kind))]
 fn reworded_kind(alloc: Global, kind: &ErrorKind) -> Result<Option<ErrorKind>, AllocError>
-    ensures { IfOk result (λ now. MayReword kind.now now) }
+    ensures words { IfOk result (λ now. MayReword kind.now now) }
+    ensures unlabelled { IfOk result (λ now. IfSome now (λ why. inner_labels why ≡ [])) }
 {
     match kind {
         ErrorKind::Command(error) => {

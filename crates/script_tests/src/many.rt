@@ -264,7 +264,7 @@ fn outcome_of(alloc: Global, errors: List<IndexedWriteError>) -> Result<Outcome,
     };
     let kind = ErrorKind::InsertMany(Boxed::new(alloc, failures)?);
     Ok(Outcome {
-        result: Err(Error::from_kind(kind)),
+        result: Err(Error::new(alloc, kind, &[])),
         started_ms: 0,
         ended_ms: 0,
     })
