@@ -1,8 +1,9 @@
 //! The program: words to a command, and a script from its input to its report.
-ghost use Rattle.std.specs.Prelude.{◌≡◌, ◌≢◌, ◌≤◌, ◌↔◌, Some, None, IfOk, OnOk, length, ◌<◌, ◌^◌, ◌+◌, ◌-◌};
-ghost use Rattle.driver_link.specs.Exchange.{after_picks, delivered};
+ghost use Rattle.std.specs.Prelude.{◌≡◌, ◌≢◌, ◌≤◌, ◌↔◌, [], Some, None, IfOk, OnOk, length, ◌<◌, ◌^◌, ◌+◌, ◌-◌};
+ghost use Rattle.driver_link.specs.Exchange.{after_picks, delivered, empty_server};
 ghost use Rattle.driver_link.specs.Faults.{Rose};
 ghost use Rattle.driver_link.specs.WellFormed.{IsWellFormed};
+ghost use Rattle.model_server.specs.ModelState.{no_calls};
 ghost use Rattle.script_run.specs.Ended.{Completes, Ended, EndsWithStatus, IsRefused, IsRunOf, IsTooLarge, SaysTo, Refusal, Reported, RunIsMade, command_of, program_ends, refused_line, usage_line};
 ghost use Rattle.script_run.specs.Report.{drawn_of};
 
@@ -13,7 +14,7 @@ use crate::streams::{LIMIT, ReadFault, read_all, write_all};
 use bson_lite::{Bytes, Text, TryClone};
 use driver_actions::run_calls;
 use driver_exec::{Client, Outside};
-use driver_link::{CountingIds, Failed, MemClock, Sink, Source};
+use driver_link::{CountingIds, Failed, MemClock, Schedule, Setup, Sink, Source};
 use driver_script::{Script, ScriptFault, read_script};
 use driver_session::PlainStore;
 use model_server::ModelServer;
@@ -58,6 +59,21 @@ fn say<O: Sink>(sink: &mut O, line: &[u8])
     let _ = write_all(sink, line);
 }
 
+/// A model server that has seen nothing. It takes no memory.
+fn fresh_server(alloc: Global, setup: Setup, schedule: Schedule) -> ModelServer
+    requires { IsWellFormed schedule }
+    ensures { result ≡ record {
+      server = empty_server;
+      setup = setup;
+      schedule = schedule;
+      counts = no_calls;
+      answers = [];
+      faults = 0;
+    } }
+{
+    ModelServer::new(alloc, setup, schedule)
+}
+
 /// Makes the calls of a script on a new client over a new model server, and then serves the waiting sends that
 /// the script names.
 fn run_of(alloc: Global, asked: Script) -> Result<Run, AllocError>
@@ -68,7 +84,7 @@ fn run_of(alloc: Global, asked: Script) -> Result<Run, AllocError>
     let mut client = Client::new(options, PlainStore::new(alloc, CountingIds::new()));
     let schedule = asked.schedule.try_clone(alloc)?;
     let mut outside = Outside {
-        link: ModelServer::new(alloc, asked.setup, schedule),
+        link: fresh_server(alloc, asked.setup, schedule),
         clock: MemClock::new(0, 0),
         words: Pcg32::seed_from_u64(SEED),
         call: 0,

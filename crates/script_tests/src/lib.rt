@@ -1,6 +1,5 @@
-//! Tests of scripts from outside: statuses and reports, which forms are read and as what, each fault of one insert,
-//! the rows of updates, deletes, findAndModify and inserts of many, each fault of an insert of many, limits of the
-//! server, and the examples.
+//! Tests of runs from outside: statuses and reports, each fault of one insert, the rows of updates, deletes,
+//! findAndModify and inserts of many, each fault of an insert of many, limits of the server, and the examples.
 //! They stand apart so that the library is proved once and not once more for its tests.
 #![tactic(auto)]
 
@@ -11,19 +10,11 @@ mod faults;
 #[cfg(test)]
 mod finds;
 #[cfg(test)]
-mod forms;
-#[cfg(test)]
 mod listed;
 #[cfg(test)]
 mod many;
 #[cfg(test)]
-mod parts;
-#[cfg(test)]
-mod repeats;
-#[cfg(test)]
 mod retries;
-#[cfg(test)]
-mod schedules;
 #[cfg(test)]
 mod scripts;
 #[cfg(test)]

@@ -1,15 +1,17 @@
 //! Inserts of many documents by their batches, schedules and limits: the outcome, the sends and the entries.
-use crate::schedules::script_in;
 use crate::scripts::ran;
 use crate::writes::{Row, first_wrong, is_reported};
 use bson_lite::{Boxed, ByIndex, Bytes, List, Text};
 use driver_actions::Outcome;
 use driver_error::{Error, ErrorKind, IndexedWriteError, InsertManyError};
+use driver_script::read_script;
 use script_run::{Run, report_text};
 use std::alloc::{AllocError, Global};
 use std::test::Fail;
 
 const NONE: &str = "{\"insertMany\":{\"ns\":\"a.b\",\"docs\":[]}}";
+
+const SCRIPT_OF_NONE: &str = "{\"calls\":[{\"insertMany\":{\"ns\":\"a.b\",\"docs\":[]}}]}";
 
 const THREE: &str =
     "{\"insertMany\":{\"ns\":\"a.b\",\"docs\":[[[\"x\",1]],[[\"x\",1]],[[\"x\",1]]]}}";
@@ -272,15 +274,15 @@ fn outcome_of(alloc: Global, errors: List<IndexedWriteError>) -> Result<Outcome,
 
 /// The report of a run of one insert of many that ended with these errors.
 fn report_of(alloc: Global, pairs: &[(usize, i32)]) -> Result<Bytes, AllocError> {
-    let script = script_in(
-        alloc,
-        "{\"calls\":[{\"insertMany\":{\"ns\":\"a.b\",\"docs\":[]}}]}",
-    )?;
+    let script = match read_script(alloc, SCRIPT_OF_NONE.as_bytes()) {
+        Ok(script) => script,
+        Err(_) => return Err(AllocError),
+    };
     let errors = errors_of(alloc, pairs)?;
     let mut outcomes = List::new(alloc);
     outcomes.push(outcome_of(alloc, errors)?)?;
     let run = Run {
-        script,
+        script: Some(script),
         outcomes: Some(outcomes),
         client: None,
         server: None,

@@ -1,5 +1,5 @@
 //! Scripts in which a key comes twice, of which the later counts, and numbers at the edges of 64 bits.
-use crate::scripts::ran;
+use crate::schedules::is_told;
 use std::alloc::{AllocError, Global};
 use std::test::Fail;
 
@@ -30,25 +30,30 @@ const NO_SCRIPTS: [&str; 12] = [
     "{\"calls\":[{\"deleteOne\":{\"ns\":\"a.b\",\"filter\":[[\"x\",1.0]]}}]}",
 ];
 
-/// Whether each of these scripts ends with this status.
-fn have_status(alloc: Global, scripts: &[&str], status: u8) -> Result<bool, AllocError> {
+/// The first of these scripts that is not read or refused as it should be.
+fn first_wrong(
+    alloc: Global,
+    scripts: &[&'static str],
+    read: bool,
+) -> Result<Option<&'static str>, AllocError> {
     for script in scripts {
-        let (found, _text) = ran(alloc, script, None, 1000)?;
-        if found != status {
-            return Ok(false);
+        if !is_told(alloc, script, read)? {
+            return Ok(Some(*script));
         }
     }
-    Ok(true)
+    Ok(None)
 }
 
 #[test]
 fn the_later_of_two_keys_counts(rt: HostRuntime) -> Result<(), Fail> {
-    assert!(rt; have_status(rt.alloc(), &SCRIPTS, 0)?);
+    let wrong = first_wrong(rt.alloc(), &SCRIPTS, true)?;
+    assert_eq!(rt; wrong, None);
     Ok(())
 }
 
 #[test]
 fn what_the_later_key_makes_no_script_is_refused(rt: HostRuntime) -> Result<(), Fail> {
-    assert!(rt; have_status(rt.alloc(), &NO_SCRIPTS, 3)?);
+    let wrong = first_wrong(rt.alloc(), &NO_SCRIPTS, false)?;
+    assert_eq!(rt; wrong, None);
     Ok(())
 }

@@ -184,6 +184,16 @@ pub(crate) fn script_in(alloc: Global, text: &str) -> Result<Option<Script>, All
     }
 }
 
+/// Whether a text is read as a script where it should be, and else refused as a whole.
+pub(crate) fn is_told(alloc: Global, text: &str, read: bool) -> Result<bool, AllocError> {
+    match read_script(alloc, text.as_bytes()) {
+        Ok(_) => Ok(read),
+        Err(ScriptFault::Memory) => Err(AllocError),
+        Err(ScriptFault::Wrong { path }) => Ok(!read && path.as_str() == "$"),
+        Err(_) => Ok(false),
+    }
+}
+
 /// The script whose schedule is one step.
 fn script_of_step(alloc: Global, step: &str) -> Result<Option<Script>, AllocError> {
     let mut text = String::new(alloc);

@@ -1,5 +1,5 @@
 //! Which calls, options, limits and served steps a script may have.
-use crate::scripts::ran;
+use crate::schedules::is_told;
 use std::alloc::{AllocError, Global};
 use std::test::Fail;
 
@@ -262,26 +262,24 @@ struct Around {
     behind: &'static str,
 }
 
-/// Whether the script of a form has the status. One that is not read is refused as a whole.
-fn has_status(alloc: Global, form: &str, around: &Around, status: u8) -> Result<bool, AllocError> {
+/// Whether the script of a form is read, or refused as a whole, as it should be.
+fn is_right(alloc: Global, form: &str, around: &Around, read: bool) -> Result<bool, AllocError> {
     let mut script = String::new(alloc);
     script.push_str(around.before)?;
     script.push_str(form)?;
     script.push_str(around.behind)?;
-    let (found, text) = ran(alloc, script.as_str(), None, 1000)?;
-    let refused = text.as_slice() == "script refused at $\n".as_bytes();
-    Ok(found == status && refused == (status == 3))
+    is_told(alloc, script.as_str(), read)
 }
 
-/// The first form whose script has another status.
+/// The first form whose script is not read or refused as it should be.
 fn first_wrong(
     alloc: Global,
     forms: &[&'static str],
     around: &Around,
-    status: u8,
+    read: bool,
 ) -> Result<Option<&'static str>, AllocError> {
     for form in forms {
-        if !has_status(alloc, form, around, status)? {
+        if !is_right(alloc, form, around, read)? {
             return Ok(Some(*form));
         }
     }
@@ -311,56 +309,56 @@ const AROUND_SERVED: Around = Around {
 
 #[test]
 fn calls_are_read(rt: HostRuntime) -> Result<(), Fail> {
-    let wrong = first_wrong(rt.alloc(), &CALLS, &AROUND_CALL, 0)?;
+    let wrong = first_wrong(rt.alloc(), &CALLS, &AROUND_CALL, true)?;
     assert_eq!(rt; wrong, None);
     Ok(())
 }
 
 #[test]
 fn other_calls_are_refused(rt: HostRuntime) -> Result<(), Fail> {
-    let wrong = first_wrong(rt.alloc(), &NO_CALLS, &AROUND_CALL, 3)?;
+    let wrong = first_wrong(rt.alloc(), &NO_CALLS, &AROUND_CALL, false)?;
     assert_eq!(rt; wrong, None);
     Ok(())
 }
 
 #[test]
 fn options_are_read(rt: HostRuntime) -> Result<(), Fail> {
-    let wrong = first_wrong(rt.alloc(), &OPTIONS, &AROUND_OPTIONS, 0)?;
+    let wrong = first_wrong(rt.alloc(), &OPTIONS, &AROUND_OPTIONS, true)?;
     assert_eq!(rt; wrong, None);
     Ok(())
 }
 
 #[test]
 fn other_options_are_refused(rt: HostRuntime) -> Result<(), Fail> {
-    let wrong = first_wrong(rt.alloc(), &NO_OPTIONS, &AROUND_OPTIONS, 3)?;
+    let wrong = first_wrong(rt.alloc(), &NO_OPTIONS, &AROUND_OPTIONS, false)?;
     assert_eq!(rt; wrong, None);
     Ok(())
 }
 
 #[test]
 fn limits_are_read(rt: HostRuntime) -> Result<(), Fail> {
-    let wrong = first_wrong(rt.alloc(), &LIMITS, &AROUND_LIMITS, 0)?;
+    let wrong = first_wrong(rt.alloc(), &LIMITS, &AROUND_LIMITS, true)?;
     assert_eq!(rt; wrong, None);
     Ok(())
 }
 
 #[test]
 fn other_limits_are_refused(rt: HostRuntime) -> Result<(), Fail> {
-    let wrong = first_wrong(rt.alloc(), &NO_LIMITS, &AROUND_LIMITS, 3)?;
+    let wrong = first_wrong(rt.alloc(), &NO_LIMITS, &AROUND_LIMITS, false)?;
     assert_eq!(rt; wrong, None);
     Ok(())
 }
 
 #[test]
 fn served_steps_are_read(rt: HostRuntime) -> Result<(), Fail> {
-    let wrong = first_wrong(rt.alloc(), &SERVED, &AROUND_SERVED, 0)?;
+    let wrong = first_wrong(rt.alloc(), &SERVED, &AROUND_SERVED, true)?;
     assert_eq!(rt; wrong, None);
     Ok(())
 }
 
 #[test]
 fn other_served_steps_are_refused(rt: HostRuntime) -> Result<(), Fail> {
-    let wrong = first_wrong(rt.alloc(), &NOT_SERVED, &AROUND_SERVED, 3)?;
+    let wrong = first_wrong(rt.alloc(), &NOT_SERVED, &AROUND_SERVED, false)?;
     assert_eq!(rt; wrong, None);
     Ok(())
 }
