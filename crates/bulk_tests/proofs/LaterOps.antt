@@ -4,6 +4,7 @@ use Rattle.std.proofs.lemmas.List.{length-drop, take_all}
 use Rattle.std.specs.Prelude.{Option, None, Some, Ok, if◌then◌else◌}
 use Rattle.std.specs.List.{AllByRecursion, list_any}
 use Rattle.bson_lite.specs.declared.bson.ObjectId.{ObjectId}
+use Rattle.driver_error.specs.BulkResults.{ResultSpec}
 use Rattle.driver_link.specs.declared.machine.Place.{Place}
 use Rattle.driver_link.specs.declared.models.WriteModel.{WriteModel}
 use Rattle.driver_link.specs.declared.write_options.BulkWriteOptions.{BulkWriteOptions}
@@ -75,11 +76,11 @@ accepted_undotted ids (model ∷ models) is =
     (first_none (first_text database_refusal (model ∷ models)) (else_text (first_text update_refusal (model ∷ models)) (first_text replacement_refusal (model ∷ models))) is)
 
 -- so for each command that it may build a later batch asks for something, where each op that is left has a place
-pub later_bodies : (target : OperationTarget) (first at : ℕ) (given options : BulkWriteOptions) (verbose : Bool) (store now : StoreTells) (models : List WriteModel) (ops own : List OwnOp) (places : List Place)
-    → PreparesOps store now models options (Ok own) → ops ≡ drop at own → length places ≡ length ops → HasBodies (bulk_spec target first ops given verbose) places
-later_bodies target first at given options verbose store now models ops own places prepared same each =
-    subst (λ known. HasBodies (bulk_spec target first known given verbose) places) (sym same)
-    (bulk_bodies_of target first (drop at own) given verbose (drop at (with_model_ids prepared.1.ids models)) places
+pub later_bodies : (target : OperationTarget) (first at : ℕ) (given options : BulkWriteOptions) {R : Type 0} (tells : ResultSpec R) (store now : StoreTells) (models : List WriteModel) (ops own : List OwnOp) (places : List Place)
+    → PreparesOps store now models options (Ok own) → ops ≡ drop at own → length places ≡ length ops → HasBodies (bulk_spec tells target first ops given) places
+later_bodies target first at given options tells store now models ops own places prepared same each =
+    subst (λ known. HasBodies (bulk_spec tells target first known given) places) (sym same)
+    (bulk_bodies_of target first (drop at own) given tells (drop at (with_model_ids prepared.1.ids models)) places
     (ops_left at (with_model_ids prepared.1.ids models) own prepared.1.are_ops)
     (undotted_left at (with_model_ids prepared.1.ids models) (accepted_undotted prepared.1.ids models prepared.0.arguments))
     (each ∙ ap length same))

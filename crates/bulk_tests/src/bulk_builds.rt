@@ -3,7 +3,9 @@
 use crate::bulk_models::{A_X, A_Z, B_Y, OPS, insert, is_op, let_go, named, number, ops_of, six};
 use bson_lite::{Bson, Document, List, ObjectId, Text, TryClone};
 use driver_actions::bulk_ops;
-use driver_error::{Error, ErrorKind};
+use driver_error::{
+    BulkWriteResult, Error, ErrorKind, SummaryBulkWriteResult, VerboseBulkWriteResult,
+};
 use driver_exec::Client;
 use driver_link::{
     BulkWriteOptions, ClientOptions, CountingIds, Description, Sequence, WriteModel,
@@ -67,6 +69,9 @@ const BATCHES: &[Batch] = &[
     },
 ];
 
+/// A bulk write whose results are counts alone.
+type Summed<'a> = BulkWriteOp<'a, SummaryBulkWriteResult>;
+
 /// Which server a build is for: its wire version, and its limits on a document, on a message and on a batch.
 #[derive(Clone, Copy, Debug)]
 struct Row {
@@ -88,8 +93,8 @@ enum Built {
 
 const TOO_LARGE: &str = "operation at index 5 exceeds the maximum size";
 
-/// Three inserts of `{_id: ObjectId, x: 1}` into `gen.a`, of which the first is the caller's fifth from 0: the body has
-/// 43 bytes, each op 56, and the document of the namespace 19, which is sent once.
+/// Three inserts of `{_id: ObjectId, x: 1}` into `gen.a`, of which the first is the caller's fifth from 0: the body
+/// has 43 bytes, each op 56, and the document of the namespace 19, which is sent once.
 const BUILDS: &[(Row, Built)] = &[
     (
         Row {
@@ -359,10 +364,10 @@ fn document(alloc: Global) -> Result<Document, AllocError> {
     Ok(document)
 }
 
-/// Three inserts of it into `gen.a`.
-fn three(alloc: Global) -> Result<List<WriteModel>, AllocError> {
+/// Eight inserts of it into `gen.a`, of which the batch has the last three.
+fn eight(alloc: Global) -> Result<List<WriteModel>, AllocError> {
     let mut models = List::new(alloc);
-    for _ in 0..3 {
+    for _ in 0..8 {
         let to = named(alloc, "gen", "a")?;
         models.push(insert(alloc, to, document(alloc)?))?;
     }
@@ -391,7 +396,7 @@ fn is_refused(error: Error, built: Built) -> bool {
 }
 
 /// Whether a build for such a connection comes to this.
-fn builds(alloc: Global, op: &mut BulkWriteOp<'_>, row: Row, built: Built) -> bool {
+fn builds(alloc: Global, op: &mut Summed<'_>, row: Row, built: Built) -> bool {
     match op.build(alloc, &described(row)) {
         Ok(command) => {
             let sent = ops_in(&command);
@@ -408,10 +413,10 @@ fn builds(alloc: Global, op: &mut BulkWriteOp<'_>, row: Row, built: Built) -> bo
 /// The first of these that a build of one bulk write does not come to, one after the other; no answer where there is
 /// no memory.
 fn wrong_build(alloc: Global, rows: &[(Row, Built)]) -> Option<Option<(Row, Built)>> {
-    let models = three(alloc).ok()?;
+    let models = eight(alloc).ok()?;
     let ops = ops_of(alloc, &models)?;
     let options = BulkWriteOptions::default();
-    let mut op = BulkWriteOp::new(alloc, 5, ops.as_slice(), &options, false).ok()?;
+    let mut op: Summed<'_> = BulkWriteOp::new(alloc, ops.as_slice(), 5, &options).ok()?;
     let mut wrong = None;
     for (row, built) in rows {
         if !builds(alloc, &mut op, *row, *built) && wrong.is_none() {
@@ -436,7 +441,7 @@ fn one_builds(alloc: Global, message: i64, built: Built) -> Option<bool> {
     let mut client = Client::new(ClientOptions::default(), store);
     let same = match bulk_ops(alloc, &mut client, models.as_slice(), &options) {
         Ok(ops) => {
-            let mut op = BulkWriteOp::new(alloc, 0, ops.as_slice(), &options, false).ok()?;
+            let mut op: Summed<'_> = BulkWriteOp::new(alloc, ops.as_slice(), 0, &options).ok()?;
             let row = Row {
                 version: Some(25),
                 bson: 1,
@@ -511,18 +516,17 @@ fn all_options(alloc: Global) -> Result<BulkWriteOptions, AllocError> {
     copy
 }
 
-/// Whether copies of the six models are built with this body, on `admin`.
-fn six_are_built(
+/// Whether copies of the six models are built with this body, on `admin`, for results of a kind.
+fn six_are_built<R: BulkWriteResult>(
     alloc: Global,
     options: &BulkWriteOptions,
-    verbose: bool,
     body: &[u8],
 ) -> Option<bool> {
     let given = six(alloc).ok()?;
     let models = given.try_clone(alloc).ok()?;
     drop(given);
     let ops = ops_of(alloc, &models)?;
-    let mut op = BulkWriteOp::new(alloc, 0, ops.as_slice(), options, verbose).ok()?;
+    let mut op: BulkWriteOp<'_, R> = BulkWriteOp::new(alloc, ops.as_slice(), 0, options).ok()?;
     let same = match op.build(alloc, &SERVER) {
         Ok(command) => {
             let same = command.database.as_str() == "admin"
@@ -561,7 +565,7 @@ fn has_ops(sequence: &Sequence, batch: Batch) -> bool {
 }
 
 /// Whether a build takes the ops of a batch and numbers their namespaces as it says.
-fn is_numbered(alloc: Global, op: &mut BulkWriteOp<'_>, batch: Batch) -> bool {
+fn is_numbered(alloc: Global, op: &mut Summed<'_>, batch: Batch) -> bool {
     let description = Description {
         max_write_batch_size: batch.most,
         ..SERVER
@@ -589,8 +593,7 @@ fn batch_is_numbered(alloc: Global, batch: Batch) -> Option<bool> {
     let models = six(alloc).ok()?;
     let ops = ops_of(alloc, &models)?;
     let options = BulkWriteOptions::default();
-    let left = ops.as_slice().get(batch.first..)?;
-    let mut op = BulkWriteOp::new(alloc, batch.first, left, &options, false).ok()?;
+    let mut op: Summed<'_> = BulkWriteOp::new(alloc, ops.as_slice(), batch.first, &options).ok()?;
     let same = is_numbered(alloc, &mut op, batch);
     drop(op);
     drop(options);
@@ -626,11 +629,12 @@ fn later_builds_take_as_many_ops(rt: HostRuntime) -> Result<(), Fail> {
 #[test]
 fn all_six_models_over_three_namespaces_are_spelled(rt: HostRuntime) -> Result<(), Fail> {
     let plain = BulkWriteOptions::default();
-    let summary = six_are_built(rt.alloc(), &plain, false, BODY) == Some(true);
+    let summary = six_are_built::<SummaryBulkWriteResult>(rt.alloc(), &plain, BODY) == Some(true);
     assert!(rt; summary);
     drop(plain);
     let options = all_options(rt.alloc())?;
-    let verbose = six_are_built(rt.alloc(), &options, true, WHOLE_BODY) == Some(true);
+    let verbose = six_are_built::<VerboseBulkWriteResult>(rt.alloc(), &options, WHOLE_BODY)
+        == Some(true);
     drop(options);
     assert!(rt; verbose);
     Ok(())

@@ -3,6 +3,7 @@
 //! by lengths written by hand.
 use crate::bulk_models::{around, insert, let_go, named, number, ops_of};
 use bson_lite::{Bson, Document, List, Namespace, Text};
+use driver_error::SummaryBulkWriteResult;
 use driver_link::{
     BulkWriteOptions, DeleteManyModel, DeleteOneModel, Description, ReplaceOneModel,
     UpdateManyModel, UpdateModifications, UpdateOneModel, WriteModel,
@@ -277,7 +278,9 @@ fn taken(alloc: Global, ops: &[OwnOp], from: usize, room: Room) -> Option<usize>
         return None;
     }
     let options = BulkWriteOptions::default();
-    let mut op = BulkWriteOp::new(alloc, from, &ops[from..], &options, false).ok()?;
+    let mut op: BulkWriteOp<'_, SummaryBulkWriteResult> = BulkWriteOp::new(
+        alloc, ops, from, &options,
+    ).ok()?;
     match op.build(alloc, &server(room)) {
         Ok(command) => {
             drop(command);

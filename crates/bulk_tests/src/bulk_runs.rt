@@ -6,7 +6,7 @@ ghost use Rattle.driver_link.specs.WellFormed.{IsWellFormed};
 use crate::bulk_models::{A_X, A_Z, B_Y, OPS, insert, is_op, let_go, named, number, six};
 use bson_lite::{Bson, Document, List};
 use driver_actions::bulk_ops;
-use driver_error::{IoKind, Result, SummaryBulkWriteResult};
+use driver_error::{BulkWriteResult, IoKind, Result, SummaryBulkWriteResult};
 use driver_exec::{Client, Outside, Steps, execute_operation};
 use driver_link::{
     BulkWriteOptions, ClientOptions, CountingIds, DeleteOneModel, Description, FakeLink, Frame,
@@ -97,7 +97,7 @@ const FRAMES: &[Framed] = &[
 
 /// A model of a row, in `shop.items`.
 #[derive(Clone, Copy)]
-enum Kind {
+pub(crate) enum Kind {
     Insert,
     UpdateOne,
     UpdateMany,
@@ -246,7 +246,10 @@ fn model_of(alloc: Global, kind: Kind) -> std::result::Result<WriteModel, AllocE
 }
 
 /// The models of a row.
-fn models_of(alloc: Global, kinds: &[Kind]) -> std::result::Result<List<WriteModel>, AllocError> {
+pub(crate) fn models_of(
+    alloc: Global,
+    kinds: &[Kind],
+) -> std::result::Result<List<WriteModel>, AllocError> {
     let mut models = List::with_capacity(alloc, kinds.len())?;
     for kind in kinds {
         models.push(model_of(alloc, *kind)?)?;
@@ -288,14 +291,15 @@ fn later_ops(ops: &[OwnOp], first: usize) -> &[OwnOp]
 }
 
 /// What a batch of a bulk write, from a model on, comes to over a link, and the link afterwards.
-fn executed<L: Link + Drop, Q: Ledger>(
+fn executed<R: BulkWriteResult, L: Link + Drop, Q: Ledger>(
     alloc: Global,
     link: L,
     models: &[WriteModel],
     first: usize,
     forbidden: bool,
+    unordered: bool,
     blank: Blank,
-) -> (Result<SummaryBulkWriteResult>, L)
+) -> (Result<R>, L)
     requires name { blank.name ≡ Q.name }
     requires parts { blank.parts ≡ Q.parts }
     requires some { 0 < blank.parts }
@@ -312,7 +316,15 @@ fn executed<L: Link + Drop, Q: Ledger>(
         words: Pcg32::seed_from_u64(1),
         call: 0,
     };
-    let result = executed_by::<L, Q>(alloc, &mut client, &mut outside, models, first, blank);
+    let result = executed_by::<R, L, Q>(
+        alloc,
+        &mut client,
+        &mut outside,
+        models,
+        first,
+        unordered,
+        blank,
+    );
     let Outside {
         link,
         clock: _,
@@ -323,23 +335,27 @@ fn executed<L: Link + Drop, Q: Ledger>(
 }
 
 /// What it comes to for a client.
-fn executed_by<L: Link, Q: Ledger>(
+fn executed_by<R: BulkWriteResult, L: Link, Q: Ledger>(
     alloc: Global,
     client: &mut Client<PlainStore<CountingIds>>,
     outside: &mut Outside<L, MemClock, Pcg32>,
     models: &[WriteModel],
     first: usize,
+    unordered: bool,
     blank: Blank,
-) -> Result<SummaryBulkWriteResult>
+) -> Result<R>
     requires name { blank.name ≡ Q.name }
     requires parts { blank.parts ≡ Q.parts }
     requires some { 0 < blank.parts }
 {
-    let options = BulkWriteOptions::default();
+    let options = BulkWriteOptions {
+        ordered: if unordered { Some(false) } else { None },
+        ..BulkWriteOptions::default()
+    };
     let ops = bulk_ops(alloc, client, models, &options)?;
     let own = later_ops(ops.as_slice(), first);
     let places = places_of(alloc, own)?;
-    let mut op = BulkWriteOp::new(alloc, first, own, &options, false)?;
+    let mut op: BulkWriteOp<'_, R> = BulkWriteOp::new(alloc, ops.as_slice(), first, &options)?;
     let mut sends: Steps<Q> = Steps::new(blank);
     execute_operation(
         alloc,
@@ -360,7 +376,9 @@ fn over<L: Link + Drop>(
     forbidden: bool,
 ) -> (Result<SummaryBulkWriteResult>, L) {
     let blank = Blank::new(1);
-    executed::<L, Brand>(alloc, link, models, first, forbidden, blank)
+    executed::<SummaryBulkWriteResult, L, Brand>(
+        alloc, link, models, first, forbidden, false, blank,
+    )
 }
 
 /// How it ended.

@@ -1,6 +1,6 @@
-//! Tests of bulk writes: how they are built, byte by byte and under limits of the connection, that no other cut of a list
-//! has fewer batches, which models are refused and which ids are drawn, and what the executor sends and sends again.
-//! They stand apart since a row crosses executor and server.
+//! Tests of bulk writes: how they are built, byte by byte and under limits of the connection, that no other cut of a
+//! list has fewer batches, which models are refused and which ids are drawn, and what the executor sends and sends
+//! again. They stand apart since a row crosses executor and server.
 #![tactic(auto)]
 
 #[cfg(test)]
@@ -13,3 +13,5 @@ mod bulk_inputs;
 mod bulk_models;
 #[cfg(test)]
 mod bulk_runs;
+#[cfg(test)]
+mod single_cursors;

@@ -39,7 +39,7 @@ use Rattle.driver_ops.specs.InsertLaw.{AddsUp, IsReadExactly, TellsFailures, con
 use Rattle.driver_ops.specs.InsertLawful.{insert_lawful}
 use Rattle.driver_ops.specs.Inserts.{insert_is_ordered, insert_write}
 use Rattle.driver_ops.specs.InsertSpec.{AreOwn, ids_from, insert_spec, statements_fixed}
-use Rattle.driver_ops.specs.Operations.{AsksFor, send_of}
+use Rattle.driver_ops.specs.Operations.{AsksFor, ReadsAnswer, ReadsPages, send_of}
 use Rattle.driver_ops.specs.SendKinds.{first}
 use Rattle.driver_ops.specs.Targets.{namespace_of}
 use Rattle.driver_ops.proofs.InsertLaw.{read_exactly}
@@ -53,7 +53,7 @@ use Rattle.driver_actions.specs.declared.gathered.Gathered.{Gathered}
 use Rattle.driver_actions.specs.BatchTells.{ids_of_end, ids_of_kind}
 use Rattle.driver_actions.specs.Batches.{BatchEnd, MakesBatch, MakesBatches, places_from, rest_of}
 use Rattle.driver_actions.specs.ManyAnswers.{count_of, gathered, with_kind, with_result}
-use Rattle.driver_actions.proofs.GatheredEnds.{read_ids}
+use Rattle.driver_actions.proofs.GatheredEnds.{read_ids, reads_last}
 use Rattle.driver_actions.proofs.BatchWrites.{EachIs, IsNewFrom, IsOfCall, at_position, batch_asks, batch_writes, in_front, own_rest, place_in, rest_is}
 use Rattle.driver_actions.proofs.BatchesMade.{Advances, asked_here, batch_advances, batch_moves, batches_advance, batches_move, command_here, count_here, fixed_or_one, mid_told, new_behind, next_new, run_here, stands_here, told_as}
 use Rattle.driver_actions.proofs.ListedIds.{Ids, all_there, before_end, counted_has, document_of, entry_write, from_entries, from_statements, front_has, place_there, put_either, result_there, write_there}
@@ -104,9 +104,13 @@ module _ (target : OperationTarget) (index : ℕ) (own : List OwnDocument) (opti
     abbrev met : Scheduled
     met = next_step told.among.mid.schedule told.among.mid.server
 
+    -- the answer is the one reply
+    reads_alone : ReadsAnswer (insert_spec target index own options) count told.bytes (Err told.bare)
+    reads_alone = subst (λ pages. ReadsPages (insert_spec target index own options) count told.bytes pages (Err told.bare)) (told.alone refl) told.reads
+
     -- that of a statement that failed, or of a write concern
     of_failed : AddsUp told.done → ((has_failed told.done ≡ true) ⊎ (is_some (concern_of met.item) ≡ true)) → TellsFailures told.done (concern_of met.item) (take count own) told.bare
-    of_failed up failed = elim (exact.failed told.done (record { told = told.told; failed = failed; adds_up = up }) told.bare told.reads) [
+    of_failed up failed = elim (exact.failed told.done (record { told = told.told; failed = failed; adds_up = up }) told.bare reads_alone) [
       | inl memory ↦ absurd (not_memory failures (kind_of told.bare) is memory)
       | inr tells ↦ tells
     ]
@@ -115,7 +119,7 @@ module _ (target : OperationTarget) (index : ℕ) (own : List OwnDocument) (opti
     of_none : AddsUp told.done → has_failed told.done ≡ false → concern_of met.item ≡ None → ⊥
     of_none up unfailed none =
         not_memory failures (kind_of told.bare) is
-        (exact.there (record { done = told.done; told = told.told; unfailed = unfailed; adds_up = up; concern = none }) told.bare told.reads)
+        (exact.there (record { done = told.done; told = told.told; unfailed = unfailed; adds_up = up; concern = none }) told.bare reads_alone)
 
     -- by whether there is a write concern error
     by_concern : AddsUp told.done → has_failed told.done ≡ false → (concern : Option PlannedConcern) → concern_of met.item ≡ concern
@@ -137,7 +141,7 @@ module _ (target : OperationTarget) (index : ℕ) (own : List OwnDocument) (opti
         let short : AddsUp told.done → ⊥
         = λ up. not_both (int_eq (sum_of (λ result. result.n) (results_in told.done)) (pos (length (results_in told.done))))
         ((Decides-int_eq (sum_of (λ result. result.n) (results_in told.done)) (pos (length (results_in told.done)))).1 up) differs in
-        elim (exact.odd told.done told.told short told.bare told.reads) [
+        elim (exact.odd told.done told.told short told.bare reads_alone) [
           | inl memory ↦ absurd (not_memory failures (kind_of told.bare) is memory)
           | inr odd ↦ absurd (not_odd failures odd_insert_text (kind_of told.bare) is odd)
         ]
@@ -181,8 +185,9 @@ module _ (target : OperationTarget) (options : InsertManyOptions) (call : ℕ) (
     -- where it is Ok the ids are those of all its documents
     pub ok_ids : (output : InsertManyResult) → end.result ≡ Ok output → output ≡ all_ids (take count own)
     ok_ids output is =
-        let ends = (command_of (Ok output) is).ends in
-        read_ids (insert_is_ordered options) (take count own) ends.reads.response.body output ends.reads.reads
+        let sends = command_of (Ok output) is in
+        let reads = reads_last (insert_spec target index own options) (rest_of call index own count) (server_run before.link) (server_run now.link) sends.session sends.number output refl sends.ends in
+        read_ids (insert_is_ordered options) (take count own) reads.response.body output reads.reads
 
     -- so each has one
     pub ok_there : (output : InsertManyResult) → end.result ≡ Ok output → (position : ℕ) (document : OwnDocument) → position < count → slice_get own position ≡ Some document

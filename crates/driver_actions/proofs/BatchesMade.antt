@@ -25,6 +25,7 @@ use Rattle.driver_session.proofs.PoolTells.{same_told}
 use Rattle.driver_ops.specs.declared.own_document.OwnDocument.{OwnDocument}
 use Rattle.driver_ops.specs.declared.target.OperationTarget.{OperationTarget}
 use Rattle.driver_ops.specs.Fields.{under}
+use Rattle.driver_ops.specs.InsertLawful.{insert_lawful}
 use Rattle.driver_ops.specs.Inserts.{insert_is_ordered}
 use Rattle.driver_ops.specs.InsertSpec.{AreOwn, insert_spec, statements_fixed}
 use Rattle.driver_ops.specs.Operations.{IsFixed, OperationSpec, send_of}
@@ -197,8 +198,8 @@ module _ (target : OperationTarget) (options : InsertManyOptions) (call : ℕ) (
           borrows = command_here.borrows;
           sends = command_here.sends asked_here asks;
           keeps = one_command_keeps spec batch before now asked_here asks end.result command_here;
-          lent = executes_lends spec batch first before now 0 made.count (statements_fixed own None) end.statements end.result executes_here;
-          drawn = executes_draws spec batch first before now 0 made.count (statements_fixed own None) end.statements end.result executes_here;
+          lent = executes_lends spec batch first before now 0 made.count (statements_fixed own None) end.statements end.result (insert_lawful target index own options).alone executes_here;
+          drawn = executes_draws spec batch first before now 0 made.count (statements_fixed own None) end.statements end.result (insert_lawful target index own options).alone executes_here;
           read = executes_read spec batch first before now 0 made.count (statements_fixed own None) end.statements end.result executes_here;
           words = executes_words spec batch first before now 0 made.count (statements_fixed own None) end.statements end.result executes_here;
         }
@@ -218,7 +219,7 @@ module _ (target : OperationTarget) (options : InsertManyOptions) (call : ℕ) (
 
     -- where it was done, or its failure was read, it was built
     pub run_here : HasRun (insert_spec target index own options) first before (statements_fixed own None) end.statements end.result
-    run_here = executes_built (insert_spec target index own options) (rest_of call index own count_here) first before now 0 made.count (statements_fixed own None) end.statements end.result executes_here
+    run_here = executes_built (insert_spec target index own options) (rest_of call index own count_here) first before now 0 made.count (statements_fixed own None) end.statements end.result (insert_lawful target index own options).alone executes_here
 
     -- so it was where the next one was begun
     pub built_here : goes_on (insert_is_ordered options) end.result ≡ true → HasBuilt (insert_spec target index own options) first before (statements_fixed own None) end.statements
@@ -238,8 +239,8 @@ module _ (target : OperationTarget) (options : InsertManyOptions) (call : ℕ) (
       }
 
       -- what its sends left
-      sent_here : Left left_here.session left_here.number asked_here pool_now run.server run_now.server
-      sent_here = left_of before now pool pool_now run run_now pool_is pool_now_is run_is run_now_is asked_here stands_here left_here.session left_here.number left_here.sends.count left_here.borrows
+      sent_here : Left false left_here.session left_here.number asked_here pool_now run.server run_now.server
+      sent_here = left_of false before now pool pool_now run run_now pool_is pool_now_is run_is run_now_is asked_here stands_here left_here.session left_here.number left_here.sends.count left_here.borrows
           left_here.sends.once left_here.sends.sends
 
       -- so all went on
@@ -251,7 +252,10 @@ module _ (target : OperationTarget) (options : InsertManyOptions) (call : ℕ) (
         log = sent_here.log;
         which = λ send has. elim (sent_here.which send has) [
           | inl earlier ↦ inl earlier
-          | inr same ↦ inr (λ at write stands. batch_write target options call index documents own are count_here G each at write (ap (λ s. slice_get (writes_of s) at) same ∙ stands))
+          | inr later ↦ inr (λ at write stands. elim later [
+            | inl same ↦ batch_write target options call index documents own are count_here G each at write (ap (λ s. slice_get (writes_of s) at) same ∙ stands)
+            | inr aside ↦ absurd aside
+          ])
         ];
       }
 

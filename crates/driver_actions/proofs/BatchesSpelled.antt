@@ -1,5 +1,5 @@
 -- The failures that the batches of an insert tell are those that replies of the server spell.
-use Rattle.std.proofs.Common.{◌≡◌, ℕ, ◌+◌, ◌<◌, ◌≤◌, List, [], ◌∷◌, ◌++◌, drop, length, length-append, sym, ap, subst, ◌∙◌, inl, inr, append_assoc, arith}
+use Rattle.std.proofs.Common.{◌≡◌, ℕ, zero, suc, ◌+◌, ◌<◌, ◌≤◌, false, refl, List, [], ◌∷◌, ◌++◌, drop, length, length-append, sym, ap, subst, ◌∙◌, inl, inr, append_assoc, arith}
 use Rattle.std.specs.Prelude.{Some, Err}
 use Rattle.std.specs.Option.{option_map}
 use Rattle.bson_lite.specs.declared.bson.Bson.{Bson}
@@ -12,6 +12,7 @@ use Rattle.driver_link.specs.declared.machine.Schedule.{Schedule}
 use Rattle.driver_link.specs.declared.machine.Send.{Send}
 use Rattle.driver_link.specs.declared.write_options.InsertManyOptions.{InsertManyOptions}
 use Rattle.driver_link.specs.Apart.{AllApart}
+use Rattle.driver_link.specs.Counting.{KeepsServer}
 use Rattle.driver_link.specs.Exchange.{empty_server, next_step, replayed}
 use Rattle.driver_link.specs.LinkState.{server_run}
 use Rattle.driver_link.specs.ServerRun.{ServerRun, run_after}
@@ -22,12 +23,14 @@ use Rattle.driver_session.specs.StoreTells.{DrawnApart, DrawnApartIn}
 use Rattle.driver_ops.specs.declared.own_document.OwnDocument.{OwnDocument}
 use Rattle.driver_ops.specs.declared.target.OperationTarget.{OperationTarget}
 use Rattle.driver_ops.specs.InsertLaw.{concern_of, concern_told}
-use Rattle.driver_ops.specs.InsertSpec.{AreOwn}
+use Rattle.driver_ops.specs.InsertSpec.{AreOwn, insert_spec}
 use Rattle.driver_ops.specs.Operations.{send_of}
 use Rattle.driver_ops.specs.Served.{statements_in}
 use Rattle.driver_exec.specs.BetweenCalls.{Between, Sound}
 use Rattle.driver_exec.specs.Moment.{Moment}
+use Rattle.driver_exec.specs.Resending.{GivesPages, SendsWhereTold}
 use Rattle.driver_exec.proofs.Moves.{keeps_fold, keeps_making}
+use Rattle.driver_exec.proofs.PassesBy.{keeps_server_twice}
 use Rattle.driver_actions.specs.Batches.{BatchEnd, MakesBatch, MakesBatches, places_from}
 use Rattle.driver_actions.specs.MainTheorem.{IsReplayedWhereTold, KeepsMakingWhereTold}
 use Rattle.driver_actions.specs.ManyTold.{IsSpelled}
@@ -61,6 +64,11 @@ spelled_longer call start run last end failures more gained same spelled = recor
   concern = subst (λ s. failures.write_concern_error ≡ option_map concern_told (concern_of (next_step s spelled.server).item)) (sym same) spelled.concern;
 }
 
+-- calls that were only counted before sends
+sends_behind : (told mid now : ServerRun) (send : Send) (count : ℕ) → KeepsServer told mid → SendsWhereTold false mid now send count → SendsWhereTold false told now send count
+sends_behind told mid now send zero keeps sends = keeps_server_twice told mid now keeps sends
+sends_behind told mid now send (suc count) keeps sends = (sends.0, (sends_behind told mid sends.0 send count keeps sends.1.0, sends.1.1))
+
 -- what one batch tells
 module _ (target : OperationTarget) (options : InsertManyOptions) (call : ℕ) (G : ℕ → List (Pair Bson) → Type 0) where
   module _ (index : ℕ) (documents : List (List (Pair Bson))) (own : List OwnDocument) (are : AreOwn documents own) (each : EachIs G index documents) (before now : Moment) (end : BatchEnd)
@@ -76,9 +84,11 @@ module _ (target : OperationTarget) (options : InsertManyOptions) (call : ℕ) (
         let mid = told.among.mid in
         let send = send_of told.context (batch_body target options call index documents own are count) in
         let before_it = sends_gain run send told.earlier mid told.among.sent in
-        let gained = sends_gain (run_after mid send) send told.later run_now told.among.rest in
+        let kept = subst (λ pages. GivesPages (insert_spec target index own options) count send.session told.bytes (run_after mid send) told.among.behind pages) (told.alone refl) told.among.gives in
+        let rest = sends_behind (run_after mid send) told.among.behind run_now send told.later kept told.among.rest in
+        let gained = sends_gain (run_after mid send) send told.later run_now rest in
         let trace : (run_after mid send).server.trace ≡ mid.server.trace ++ send ∷ [] = exchanged_trace mid.server send (next_step mid.schedule mid.server) in
-        let same : run_now.schedule ≡ mid.schedule = (keeps_making (run_after mid send) send told.later run_now told.among.rest).1 in
+        let same : run_now.schedule ≡ mid.schedule = (keeps_making (run_after mid send) send told.later run_now rest).1 in
         let begun : mid.schedule ≡ run.schedule = (keeps_making run send told.earlier mid told.among.sent).1 in
         let built = built_failure target options call G index documents own are each before now end made error failures is kind_is in
         let counted : built.statements ≡ count = ap fixed_or_one (sym built.is) in

@@ -1,6 +1,6 @@
 -- Each batch of a valid insert of many documents whose part of the schedule is gentle ends well.
 use Rattle.std.proofs.Common.{◌≡◌, ℕ, ◌+◌, ◌≤◌, List, [], ◌∷◌, ◌++◌, drop, length, refl, sym, ap, subst, ◌∙◌, inl, inr, arith}
-use Rattle.std.specs.Prelude.{ℤ, pos, ◌+ℤ◌, ◌<ℤ◌, ◌≤ℤ◌, Option, None, Some, ◌⊎◌}
+use Rattle.std.specs.Prelude.{ℤ, pos, ◌+ℤ◌, ◌<ℤ◌, ◌≤ℤ◌, false, Option, None, Some, ◌⊎◌}
 use Rattle.std.proofs.lemmas.Int.{ints}
 use Rattle.std.proofs.lemmas.List.{append-nil}
 use Rattle.bson_lite.specs.declared.bson.Bson.{Bson}
@@ -28,6 +28,7 @@ use Rattle.driver_ops.specs.declared.command.Command.{Command}
 use Rattle.driver_ops.specs.declared.own_document.OwnDocument.{OwnDocument}
 use Rattle.driver_ops.specs.declared.target.OperationTarget.{OperationTarget}
 use Rattle.driver_ops.specs.Fields.{IsSixteen, SendContext, executor_fields, under}
+use Rattle.driver_ops.specs.InsertLawful.{insert_lawful}
 use Rattle.driver_ops.specs.Inserts.{insert_command}
 use Rattle.driver_ops.specs.InsertSpec.{AreOwn, insert_spec, own_of_insert, statements_fixed}
 use Rattle.driver_ops.specs.Operations.{HasNoSpelling, OperationSpec, send_of}
@@ -198,6 +199,7 @@ module _ (target : OperationTarget) (options : InsertManyOptions) (call : ℕ) (
       body = asked;
       Serves = ServesInserts;
       asked = batch_asks target options call index documents own are count;
+      alone = (insert_lawful target index own options).alone refl;
       retryability = own_of_insert before.client.options;
       concern = many_concern target options before.client.options;
       accepted = ap (λ (given : ClientOptions). concern_refusal (many_concern target options given)) client_is ∙ concerned;
@@ -236,8 +238,8 @@ module _ (target : OperationTarget) (options : InsertManyOptions) (call : ℕ) (
     sends_alike last later gained one other of_part also_of =
         let left = left_here target options call FitsHere index documents own are each before now end made in
         let send = send_of (under left.session left.number) asked in
-        let sent : SendsWhereTold run run_now send left.sends.count
-        = subst (λ r. SentTimes r (Some run_now) send left.sends.count) run_is (subst (λ r. SentTimes (server_run before.link) r send left.sends.count) run_now_is left.sends.sends) in
+        let sent : SendsWhereTold false run run_now send left.sends.count
+        = subst (λ r. SentTimes false r (Some run_now) send left.sends.count) run_is (subst (λ r. SentTimes false (server_run before.link) r send left.sends.count) run_now_is left.sends.sends) in
         command_alike run run_now last send left.sends.count later sent gained one other of_part also_of
 
     -- so it ends well within a call whose part is gentle

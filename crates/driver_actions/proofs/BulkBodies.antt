@@ -3,6 +3,7 @@ use Rattle.std.proofs.Common.{◌≡◌, ℕ, Bool, true, false, List, [], ◌�
 use Rattle.std.specs.Prelude.{Option, None, Some, Ok, if◌then◌else◌}
 use Rattle.std.specs.List.{AllByRecursion, list_any}
 use Rattle.bson_lite.specs.declared.bson.ObjectId.{ObjectId}
+use Rattle.driver_error.specs.BulkResults.{ResultSpec}
 use Rattle.driver_link.specs.declared.machine.Place.{Place}
 use Rattle.driver_link.specs.declared.models.WriteModel.{WriteModel}
 use Rattle.driver_link.specs.declared.models.WriteModel.TheVariants.{InsertOne, UpdateOne, UpdateMany, ReplaceOne, DeleteOne, DeleteMany}
@@ -66,8 +67,8 @@ accepted_undotted ids (model ∷ models) is =
     (first_none (first_text database_refusal (model ∷ models)) (else_text (first_text update_refusal (model ∷ models)) (first_text replacement_refusal (model ∷ models))) is)
 
 -- so for each command that it may build the bulk write asks for something, where each op has a place
-pub bulk_bodies : (target : OperationTarget) (first : ℕ) (given options : BulkWriteOptions) (verbose : Bool) (store now : StoreTells) (models : List WriteModel) (ops own : List OwnOp) (places : List Place)
-    → PreparesOps store now models options (Ok own) → ops ≡ own → length places ≡ length own → HasBodies (bulk_spec target first ops given verbose) places
-bulk_bodies target first given options verbose store now models ops own places prepared same each =
-    subst (λ known. HasBodies (bulk_spec target first known given verbose) places) (sym same)
-    (bulk_bodies_of target first own given verbose (with_model_ids prepared.1.ids models) places prepared.1.are_ops (accepted_undotted prepared.1.ids models prepared.0.arguments) each)
+pub bulk_bodies : (target : OperationTarget) (first : ℕ) (given options : BulkWriteOptions) {R : Type 0} (tells : ResultSpec R) (store now : StoreTells) (models : List WriteModel) (ops own : List OwnOp) (places : List Place)
+    → PreparesOps store now models options (Ok own) → ops ≡ own → length places ≡ length own → HasBodies (bulk_spec tells target first ops given) places
+bulk_bodies target first given options tells store now models ops own places prepared same each =
+    subst (λ known. HasBodies (bulk_spec tells target first known given) places) (sym same)
+    (bulk_bodies_of target first own given tells (with_model_ids prepared.1.ids models) places prepared.1.are_ops (accepted_undotted prepared.1.ids models prepared.0.arguments) each)

@@ -1,6 +1,6 @@
 -- What a call leaves of store, link and clock, whatever it does: the same of parts of it that follow one another.
 use Rattle.std.proofs.Common.{◌≡◌, ℕ, zero, suc, ◌+◌, ◌≤◌, List, [], ◌∷◌, ◌++◌, length, refl, sym, ap, subst, ◌∙◌, inl, inr, append_assoc, arith}
-use Rattle.std.specs.Prelude.{ℤ, pos, ◌≤ℤ◌, Option, None, Some, slice_get}
+use Rattle.std.specs.Prelude.{ℤ, pos, ◌≤ℤ◌, false, Option, None, Some, slice_get}
 use Rattle.std.proofs.lemmas.Int.{ints}
 use Rattle.std.proofs.lemmas.List.{append-nil}
 use Rattle.driver_link.specs.declared.machine.Send.{Send}
@@ -45,7 +45,7 @@ copies_are (suc count) send found has = elim (has_either (copies count send) (se
 ]
 
 -- a told trace gains the copies
-pub sends_gain : (told : ServerRun) (send : Send) (count : ℕ) (now : ServerRun) → SendsWhereTold told now send count → now.server.trace ≡ told.server.trace ++ copies count send
+pub sends_gain : (told : ServerRun) (send : Send) (count : ℕ) (now : ServerRun) → SendsWhereTold false told now send count → now.server.trace ≡ told.server.trace ++ copies count send
 sends_gain told send zero now sends = ap (λ s. s.trace) sends.server ∙ sym (append-nil told.server.trace)
 sends_gain told send (suc count) now sends =
     let mid = sends.0 in
@@ -92,7 +92,7 @@ gains_refl number None = refl
 gains_refl number (Some told) = record { sends = []; trace = sym (append-nil told.server.trace); own = λ send has. absurd has }
 
 -- where a send of the call went out so many times
-pub gains_sent : (number : ℕ) (link now : Option ServerRun) (send : Send) (count : ℕ) → IsSendOf number send → SentTimes link now send count → GainsOwn number link now
+pub gains_sent : (number : ℕ) (link now : Option ServerRun) (send : Send) (count : ℕ) → IsSendOf number send → SentTimes false link now send count → GainsOwn number link now
 gains_sent number None now send count of_call sent = sent
 gains_sent number (Some told) None send count of_call sent = absurd sent
 gains_sent number (Some told) (Some now) send count of_call sent = record {
@@ -115,13 +115,13 @@ gains_sends_own number (Some told) (Some now) gains = λ at send above is.
     gains.own send (has_behind told.server.trace gains.sends at send above (ap (λ t. slice_get t at) (sym gains.trace) ∙ is))
 
 -- a link's making, by the sends of an operation
-making_of : (link link_now : Option ServerRun) (send : Send) (count : ℕ) → SentTimes link link_now send count → KeepsMakingWhereTold link link_now
+making_of : (link link_now : Option ServerRun) (send : Send) (count : ℕ) → SentTimes false link link_now send count → KeepsMakingWhereTold link link_now
 making_of None link_now send count sent = sent
 making_of (Some told) None send count sent = absurd sent
 making_of (Some told) (Some now) send count sent = keeps_making told send count now sent
 
 -- the fold of a trace, by the sends of an operation
-fold_of : (link link_now : Option ServerRun) (send : Send) (count : ℕ) → SentTimes link link_now send count → IsReplayedWhereTold link → IsReplayedWhereTold link_now
+fold_of : (link link_now : Option ServerRun) (send : Send) (count : ℕ) → SentTimes false link link_now send count → IsReplayedWhereTold link → IsReplayedWhereTold link_now
 fold_of None link_now send count sent folds = subst IsReplayedWhereTold (sym sent) tt
 fold_of (Some told) None send count sent folds = absurd sent
 fold_of (Some told) (Some now) send count sent folds =

@@ -1,6 +1,6 @@
 -- What a single write left of store and link: nothing was sent, or its own write was.
 use Rattle.std.proofs.Common.{◌≡◌, ℕ, zero, suc, ◌≤◌, List, [], ◌∷◌, length, refl, sym, ap, subst, ◌∙◌, inl, inr, arith}
-use Rattle.std.specs.Prelude.{ℤ, Option, None, Some, Result, Ok, Err, slice_get}
+use Rattle.std.specs.Prelude.{ℤ, false, Option, None, Some, Result, Ok, Err, slice_get}
 use Rattle.driver_error.specs.declared.error.Error.{Error}
 use Rattle.driver_link.specs.declared.machine.Place.{Place}
 use Rattle.driver_link.specs.declared.machine.PlacedWrite.{PlacedWrite}
@@ -93,9 +93,9 @@ module _ (before now : Moment) (form : WriteForm) (number : ℕ) where
 module _ (before now : Moment) (told told_now : ServerRun) (is : server_run before.link ≡ Some told) (now_is : server_run now.link ≡ Some told_now) (a b : ℕ)
     (first : length told.server.trace ≤ a) (second : length told.server.trace ≤ b) where
   -- those of one operation
-  sent_same : (mid : Option ServerRun) → mid ≡ Some told → (link : Option ServerRun) → link ≡ Some told_now → (send : Send) (count : ℕ) → SentTimes mid link send count → CarrySame told_now a b
+  sent_same : (mid : Option ServerRun) → mid ≡ Some told → (link : Option ServerRun) → link ≡ Some told_now → (send : Send) (count : ℕ) → SentTimes false mid link send count → CarrySame told_now a b
   sent_same mid mid_is link link_is send count sent = λ one other at also.
-      let times : SentTimes (Some told) (Some told_now) send count = subst (λ l. SentTimes (Some told) l send count) link_is (subst (λ m. SentTimes m link send count) mid_is sent) in
+      let times : SentTimes false (Some told) (Some told_now) send count = subst (λ l. SentTimes false (Some told) l send count) link_is (subst (λ m. SentTimes false m link send count) mid_is sent) in
       let one_is : send ≡ one = new_is told send count told_now times a one first at in
       let other_is : send ≡ other = new_is told send count told_now times b other second also in
       ap (λ s. s.body) (sym one_is ∙ other_is)

@@ -34,6 +34,11 @@ use Rattle.driver_ops.specs.declared.command.Command.{Command}
 use Rattle.driver_ops.specs.Features.{feature_of}
 use Rattle.driver_ops.specs.Fields.{SendContext, executor_fields}
 use Rattle.driver_ops.specs.InsertSpec.{insert_spec}
+use Rattle.driver_ops.specs.DeleteLawful.{delete_lawful}
+use Rattle.driver_ops.specs.FindLawful.{find_lawful}
+use Rattle.driver_ops.specs.InsertLawful.{insert_lawful}
+use Rattle.driver_ops.specs.OperationLaw.{NeverOpen}
+use Rattle.driver_ops.specs.UpdateLawful.{update_lawful}
 use Rattle.driver_ops.specs.Operations.{HasNoSpelling, OperationSpec, ReadsAnswer, Refuses}
 use Rattle.driver_ops.specs.SendKinds.{SendKind, first}
 use Rattle.driver_ops.specs.StatementSpec.{delete_spec, find_spec, update_spec}
@@ -158,7 +163,7 @@ module _ (made : ℕ) (place : Place) (before now : Moment) (form : WriteForm) (
           subst (λ moment. IsGentlePart (IsGentleItem (kind_in form)) (DrawsNumbers true (repeats_in form moment.client.options) (setup_of moment.link)) told told_now) (sym drew.rest) gentle
 
       -- what the operation tells, and that it reads a reply which says that its command was done
-      module _ {A : Type 0} (spec : OperationSpec A) (sessions : spec.sessions ≡ true) (own_is : repeats_in form mid.client.options ≡ spec.retryability mid.client.options)
+      module _ {A : Type 0} (spec : OperationSpec A) (never : NeverOpen spec) (sessions : spec.sessions ≡ true) (own_is : repeats_in form mid.client.options ≡ spec.retryability mid.client.options)
           (concern_is : concern_in form mid.client.options ≡ concern_of spec first mid.client.options)
           (unrefused : (description : Description) → IsOf (setup_of mid.link) description → (number : Option ℕ) → MayBeFixed spec (Some 1) (setup_of mid.link) 1 number
           → (error : Error) → Refuses spec number description error → ⊥)
@@ -194,6 +199,7 @@ module _ (made : ℕ) (place : Place) (before now : Moment) (form : WriteForm) (
             body = asked_in form place sent;
             Serves = IsGentleItem (kind_in form);
             asked = runs.asks;
+            alone = never;
             retryability = repeats_in form mid.client.options;
             concern = concern_in form mid.client.options;
             accepted = accepted;
@@ -243,7 +249,7 @@ made_well made place before now (inserts namespace document options) valid pool 
     let spec = insert_spec (in_collection namespace) 0 (run.own ∷ []) options in
     let setup_is = served_setup before.link.making told link_is in
     let fits = subst (λ setup. IfSome setup (λ found. FitsAlone found.description form)) setup_is valid.fits in
-    ends_well made place before now form valid pool told told_now ready pool_is link_is now_is apart gentle write.mid (made_drew form write) write.sent spec refl refl
+    ends_well made place before now form valid pool told told_now ready pool_is link_is now_is apart gentle write.mid (made_drew form write) write.sent spec ((insert_lawful (in_collection namespace) 0 (run.own ∷ []) options).alone refl) refl refl
     (feature_else options.write_concern namespace write.mid.client.options.write_concern) (insert_unrefused namespace document options run.id run.own run.twelve run.spelled told.setup fits (setup_of write.mid.link) (ap (λ moment. setup_of moment.link) (made_drew form write).rest ∙ setup_is))
     (λ which statements command is. (is.database, is.body))
     (λ found tells bytes spelled error reads.
@@ -253,7 +259,7 @@ made_well made place before now (updates namespace filter change multi options) 
     let form = updates namespace filter change multi options in
     let run = write.runs in
     ends_well made place before now form valid pool told told_now ready pool_is link_is now_is apart gentle write.mid (made_drew form write) write.sent
-    (update_spec (in_collection namespace) filter change multi options) refl refl (feature_else options.write_concern namespace write.mid.client.options.write_concern)
+    (update_spec (in_collection namespace) filter change multi options) ((update_lawful (in_collection namespace) filter change multi options).alone refl) refl refl (feature_else options.write_concern namespace write.mid.client.options.write_concern)
     (λ description is number fixed error refuses. refuses.refused) (λ which statements command is. (is.database, is.body))
     (λ found tells bytes spelled error reads. update_plain (in_collection namespace) filter change multi options (placed_at place write.sent) found tells bytes spelled error reads)
     run.ended run.runs (λ output. Updated output) error run.tells
@@ -261,7 +267,7 @@ made_well made place before now (deletes namespace filter multi options) valid p
     let form = deletes namespace filter multi options in
     let run = write.runs in
     ends_well made place before now form valid pool told told_now ready pool_is link_is now_is apart gentle write.mid (made_drew form write) write.sent
-    (delete_spec (in_collection namespace) filter multi options) refl refl (feature_else options.write_concern namespace write.mid.client.options.write_concern)
+    (delete_spec (in_collection namespace) filter multi options) ((delete_lawful (in_collection namespace) filter multi options).alone refl) refl refl (feature_else options.write_concern namespace write.mid.client.options.write_concern)
     (λ description is number fixed error refuses. refuses.refused) (λ which statements command is. (is.database, is.body))
     (λ found tells bytes spelled error reads. delete_plain (in_collection namespace) filter multi options (placed_at place write.sent) found tells bytes spelled error reads)
     run.ended run.runs (λ output. Deleted output) error run.tells
@@ -269,7 +275,7 @@ made_well made place before now (finds namespace filter modification options) va
     let form = finds namespace filter modification options in
     let run = write.runs in
     ends_well made place before now form valid pool told told_now ready pool_is link_is now_is apart gentle write.mid (made_drew form write) write.sent
-    (find_spec (in_collection namespace) filter modification options) refl refl (feature_else options.write_concern namespace write.mid.client.options.write_concern)
+    (find_spec (in_collection namespace) filter modification options) ((find_lawful (in_collection namespace) filter modification options).alone refl) refl refl (feature_else options.write_concern namespace write.mid.client.options.write_concern)
     (λ description is number fixed error refuses. refuses.refused) (λ which statements command is. (is.database, is.body))
     (λ found tells bytes spelled error reads. find_plain (in_collection namespace) filter modification options (placed_at place write.sent) found tells bytes spelled error reads)
     run.ended run.runs (λ output. Found output) error run.tells

@@ -31,7 +31,7 @@ use Rattle.driver_ops.specs.InsertAnswers as insert
 use Rattle.driver_ops.specs.InsertAnswers.{AnswersReply, ReadsInsert, insert_reply, odd_insert_text}
 use Rattle.driver_ops.specs.InsertSpec.{insert_spec, statements_fixed}
 use Rattle.driver_ops.specs.Inserts.{insert_is_ordered}
-use Rattle.driver_ops.specs.Operations.{MayRefuse, ReadsAnswer}
+use Rattle.driver_ops.specs.Operations.{MayRefuse, ReadsAnswer, ReadsPages}
 use Rattle.driver_ops.specs.SendKinds as send
 use Rattle.driver_exec.specs.Causes.{ErrorOutline, HasReply, end_of, outline_of}
 use Rattle.driver_exec.specs.LabelTable.{labels_outside_transactions}
@@ -142,7 +142,7 @@ module _ (target : OperationTarget) (index : ℕ) (own : List OwnDocument) (opti
   answer_owns : (statements : ℕ) (bytes : List ℕ) (bare : Error) (failures : InsertManyError) → kind_of bare ≡ kind.InsertMany failures
       → ReadsAnswer (insert_spec target index own options) statements bytes (Err bare) → OwnsLabels bare
   answer_owns statements bytes bare failures is reads =
-      let found = read_when_done (insert_spec target index own options) statements bytes bare reads (subst IsReadFailure (sym is) tt) in
+      let found = read_when_done (insert_spec target index own options) statements bytes [] bare reads (subst IsReadFailure (sym is) tt) in
       kept_owns found.bare bare found.kept.kind (λ label has. ap (λ (set : LabelSet). has_label set label) found.kept.labels ∙ has)
       (read_owns (insert_is_ordered options) (take statements own) found.response.body found.bare failures (sym found.kept.kind ∙ is) found.reads)
 
@@ -153,21 +153,22 @@ module _ (target : OperationTarget) (index : ℕ) (own : List OwnDocument) (opti
     judged_by = grounds (insert_spec target index own options) send.first (statements_fixed own None) before
 
     -- which a reply spells
-    reply_owns : (bytes : List ℕ) → SpellsEnd judged_by (outline_of error) bytes → OwnsLabels error
-    reply_owns bytes spells =
+    reply_owns : (count count_now : ℕ) (items : List Answered) (bytes : List ℕ) → SpellsEnd judged_by count count_now items (outline_of error) bytes → OwnsLabels error
+    reply_owns count count_now items bytes spells =
+        let alone = subst (λ pages. ReadsPages (insert_spec target index own options) spells.statements bytes pages (Err spells.bare)) (spells.alone refl) spells.reads in
         let worded : kind_of (reworded spells.bare) ≡ kind_of error = (reworded_is spells.bare).0 ∙ sym spells.kind_is in
         let read : kind_of (reworded spells.bare) ≡ kind.InsertMany failures = worded ∙ is in
         let same : kind_of error ≡ kind_of spells.bare = sym worded ∙ reworded_read spells.bare (subst IsReadFailure (sym read) tt) in
         kept_owns spells.bare error same
         (λ label has. ap (λ (set : LabelSet). has_label set label) spells.labels_are ∙ table_keeps spells.connection_retryability spells.bare label has)
-        (answer_owns spells.statements bytes spells.bare failures (sym same ∙ is) spells.reads)
+        (answer_owns spells.statements bytes spells.bare failures (sym same ∙ is) alone)
 
     -- no fault and no refused build has such an error
     end_owns : (link now : LinkState) → EndsCaused judged_by link now (Some (outline_of error)) → OwnsLabels error
     end_owns link now caused = elim caused.needs [
-      | inl needs ↦ absurd (subst (KindNeeds judged_by link.faults now.faults caused.items (labels_of error)) is needs)
+      | inl needs ↦ absurd (subst (KindNeeds judged_by link.faults now.faults caused.items (labels_of error)) is needs.needs)
       | inr other ↦ elim other [
-        | inl replies ↦ from_reply (SpellsEnd judged_by (outline_of error)) (OwnsLabels error) caused.items reply_owns replies
+        | inl replies ↦ from_reply (SpellsEnd judged_by link.faults now.faults caused.items (outline_of error)) (OwnsLabels error) caused.items (reply_owns link.faults now.faults caused.items) replies
         | inr refuses ↦
             let refused : kind_of refuses.error ≡ kind.InsertMany failures = ap (λ (why : ErrorOutline). why.kind) (sym refuses.is) ∙ is in
             absurd (subst MayRefuse refused refuses.refuses.may)

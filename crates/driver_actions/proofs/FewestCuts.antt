@@ -1,6 +1,6 @@
 -- The sends of an insert that was answered Ok are the runs of the fewest batches that the server's limits allow.
 use Rattle.std.proofs.Common.{◌≡◌, ℕ, zero, suc, ◌+◌, ◌<◌, ◌≤◌, Bool, true, false, List, [], ◌∷◌, ◌++◌, drop, length, map, take, take-append-drop, refl, sym, ap, subst, ◌∙◌, append_assoc, inl, inr, arith}
-use Rattle.std.specs.Prelude.{Option, None, Some, IfSome, Result, Ok, Err}
+use Rattle.std.specs.Prelude.{false, Option, None, Some, IfSome, Result, Ok, Err}
 use Rattle.std.proofs.lemmas.List.{append-nil, length-take-le}
 use Rattle.bson_lite.specs.declared.bson.Bson.{Bson}
 use Rattle.bson_lite.specs.declared.document.Pair.{Pair}
@@ -27,7 +27,7 @@ use Rattle.driver_ops.specs.Fields.{under}
 use Rattle.driver_ops.specs.InsertFronts.{TakesFront, insert_limits, sizes_of}
 use Rattle.driver_ops.specs.Inserts.{insert_is_ordered, insert_writes}
 use Rattle.driver_ops.specs.InsertSpec.{AreOwn, insert_spec, statements_fixed}
-use Rattle.driver_ops.specs.Operations.{send_of}
+use Rattle.driver_ops.specs.Operations.{OperationSpec, Page, send_of}
 use Rattle.driver_ops.specs.SendKinds.{first}
 use Rattle.driver_ops.specs.Targets.{namespace_of}
 use Rattle.driver_exec.specs.Moment.{Moment}
@@ -70,10 +70,11 @@ batch_places target options call index documents own are count within =
     ∙ places_front call index count (length own) within
 
 -- the last answer of a told link
-last_told : (link link_now : Option ServerRun) (run run_now : ServerRun) (send : Send) (earlier : ℕ) (bytes : List ℕ) → link ≡ Some run → link_now ≡ Some run_now
-    → AnsweredLast link link_now send earlier bytes → LastAnswer run run_now send earlier bytes
-last_told link link_now run run_now send earlier bytes is now_is answered =
-    subst (λ n. AnsweredLast (Some run) n send earlier bytes) now_is (subst (λ l. AnsweredLast l link_now send earlier bytes) is answered)
+last_told : {A : Type 0} (spec : OperationSpec A) (statements : ℕ) (link link_now : Option ServerRun) (run run_now : ServerRun) (send : Send) (earlier : ℕ) (bytes : List ℕ) (pages : List Page) → link ≡ Some run → link_now ≡ Some run_now
+    → pages ≡ [] → AnsweredLast spec statements link link_now send earlier bytes pages → LastAnswer spec statements run run_now send earlier bytes []
+last_told spec statements link link_now run run_now send earlier bytes pages is now_is none answered =
+    subst (LastAnswer spec statements run run_now send earlier bytes) none
+    (subst (λ n. AnsweredLast spec statements (Some run) n send earlier bytes pages) now_is (subst (λ l. AnsweredLast spec statements l link_now send earlier bytes pages) is answered))
 
 -- one send or two of the same
 once_or_twice : (send : Send) (later : List Send) (earlier : ℕ) → earlier ≤ 1 → GoesOut send later (copies (suc earlier) send ++ later)
@@ -150,12 +151,12 @@ module _ (target : OperationTarget) (options : InsertManyOptions) (call : ℕ) (
     abbrev pub send : Send
     send = send_of (under command.session command.number) asked
 
-    last : LastAnswer run run_now send command.ends.earlier command.ends.bytes
-    last = last_told (server_run before.link) (server_run now.link) run run_now send command.ends.earlier command.ends.bytes run_is run_now_is
-        (command.ends.answered asked (batch_asks target options call index documents own are count))
+    last : LastAnswer (insert_spec target index own options) count run run_now send command.ends.earlier command.ends.bytes []
+    last = last_told (insert_spec target index own options) count (server_run before.link) (server_run now.link) run run_now send command.ends.earlier command.ends.bytes command.ends.pages run_is run_now_is
+        (command.ends.alone refl) (command.ends.answered asked (batch_asks target options call index documents own are count))
 
-    sent_so : SendsWhereTold run run_now send (suc command.ends.earlier)
-    sent_so = (last.mid, (last.sent, last.rest))
+    sent_so : SendsWhereTold false run run_now send (suc command.ends.earlier)
+    sent_so = (last.mid, (last.sent, last.gives))
 
     pub gained_here : run_now.server.trace ≡ run.server.trace ++ copies (suc command.ends.earlier) send
     gained_here = sends_gain run send (suc command.ends.earlier) run_now sent_so

@@ -2,7 +2,7 @@
 use Rattle.std.proofs.Common.{◌≡◌, ℕ, zero, suc, ◌+◌, ◌-◌, ◌<◌, ◌≤◌, Bool, true, false, List, [], ◌∷◌, ◌++◌, map, take, drop, refl, sym, ap, subst, ◌∙◌, inl, inr, arith}
 use Rattle.std.proofs.lemmas.Bool.{cases_eq, cases_lt, cond-false, ne_eqb}
 use Rattle.std.proofs.lemmas.List.{append-nil, append_assoc}
-use Rattle.std.specs.Prelude.{Option, None, Some, Result, Ok, Err, ◌⊎◌}
+use Rattle.std.specs.Prelude.{ℤ, Option, None, Some, Result, Ok, Err, ◌⊎◌}
 use Rattle.std.specs.Cmp.{nat_cmp_total, unsigned_ties}
 use Rattle.std.specs.FinMap as finite
 use Rattle.std.specs.Ordering.{eq_by_cmp, nat_cmp}
@@ -16,6 +16,8 @@ use Rattle.driver_error.specs.declared.write.IndexedWriteError.{IndexedWriteErro
 use Rattle.driver_error.specs.Error.{ErrorKind, kind_of, labels_of}
 use Rattle.driver_error.specs.LabelTexts.{LabelSet}
 use Rattle.driver_link.specs.declared.write_options.InsertManyOptions.{InsertManyOptions}
+use Rattle.driver_link.specs.LinkState.{server_run}
+use Rattle.driver_link.specs.ServerRun.{ServerRun}
 use Rattle.driver_link.specs.Settled.{Has}
 use Rattle.driver_ops.specs.declared.own_document.OwnDocument.{OwnDocument}
 use Rattle.driver_ops.specs.declared.target.OperationTarget.{OperationTarget}
@@ -23,9 +25,9 @@ use Rattle.driver_ops.specs.InsertAnswers.{AnswersReply, ReadsInsert, all_ids, i
 use Rattle.driver_ops.specs.InsertLawful.{Ids}
 use Rattle.driver_ops.specs.InsertSpec.{id_beside, insert_spec}
 use Rattle.driver_ops.specs.Inserts.{insert_is_ordered}
-use Rattle.driver_ops.specs.Operations.{IsFixed, ReadsOutput}
+use Rattle.driver_ops.specs.Operations.{Batch, IsFixed, OperationSpec, ReadsOutput, ReadsPagesOutput}
 use Rattle.driver_exec.specs.Moment.{Moment}
-use Rattle.driver_exec.specs.Resending.{SendsOneCommand}
+use Rattle.driver_exec.specs.Resending.{ReadsLast, SendsOneCommand}
 use Rattle.driver_actions.specs.declared.gathered.Gathered.{Gathered}
 use Rattle.driver_actions.specs.BatchTells.{AllOk, AllWentIn, TellsId, all_errors, errors_of_end, errors_of_kind, ids_of_end, ids_of_kind}
 use Rattle.driver_actions.specs.Batches.{BatchEnd, MakesBatch, MakesBatches, goes_on, is_of_documents, rest_of, tells_documents}
@@ -301,12 +303,17 @@ not_ok error output is = cc
 same_output : (one other : InsertManyResult) → ◌≡◌ {A = Result InsertManyResult Error} (Ok one) (Ok other) → one ≡ other
 same_output one other is = cc
 
+-- an output of an operation of one page is read in the last reply alone
+pub reads_last : {A : Type 0} (spec : OperationSpec A) (batch : Batch) (link now : Option ServerRun) (session : Option (List ℕ)) (number : Option ℤ) (output : A) → spec.paged ≡ false
+    → (last : ReadsLast spec batch link now session number output) → ReadsOutput spec batch.statements last.bytes output
+reads_last spec batch link now session number output is last = subst (λ pages. ReadsPagesOutput spec batch.statements last.bytes pages output) (last.alone is) last.reads
+
 -- a batch that is Ok tells the ids of its own documents
 command_ids : (target : OperationTarget) (options : InsertManyOptions) (call index : ℕ) (own : List OwnDocument) (statements : ℕ) (before now : Moment)
     (result : Result InsertManyResult Error) (output : InsertManyResult) → result ≡ Ok output
     → SendsOneCommand (insert_spec target index own options) (rest_of call index own statements) before now result → output ≡ all_ids (take statements own)
 command_ids target options call index own statements before now (Ok other) output is sends =
-    let reads : ReadsOutput (insert_spec target index own options) statements sends.ends.bytes other = sends.ends.reads in
+    let reads = reads_last (insert_spec target index own options) (rest_of call index own statements) (server_run before.link) (server_run now.link) sends.session sends.number other refl sends.ends in
     sym (same_output other output is)
     ∙ read_ids (insert_is_ordered options) (take statements own) reads.response.body other reads.reads
 command_ids target options call index own statements before now (Err error) output is sends = absurd (not_ok error output is)

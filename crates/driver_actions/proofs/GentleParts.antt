@@ -27,7 +27,7 @@ before_more (x ∷ xs) more zero below = refl
 before_more (x ∷ xs) more (suc at) below = before_more xs more at (omega (arith, below))
 
 -- the sends of one command carry the same, in a longer trace too
-pub command_alike : (told now whole : ServerRun) (send : Send) (count : ℕ) (later : List Send) → SendsWhereTold told now send count → whole.server.trace ≡ now.server.trace ++ later
+pub command_alike : (told now whole : ServerRun) (send : Send) (count : ℕ) (later : List Send) → SendsWhereTold false told now send count → whole.server.trace ≡ now.server.trace ++ later
     → (a b : ℕ) → IsOfPart told now a → IsOfPart told now b → CarrySame whole a b
 command_alike told now whole send count later sends trace a b here there = λ one other at also.
     let at_now : slice_get now.server.trace a ≡ Some one = sym (before_more now.server.trace later a here.1) ∙ ap (λ t. slice_get t a) (sym trace) ∙ at in

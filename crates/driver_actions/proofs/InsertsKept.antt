@@ -25,6 +25,7 @@ use Rattle.driver_link.specs.Serving.{Plan, usual, served, served_in}
 use Rattle.driver_link.specs.Sessions.{is_below}
 use Rattle.driver_link.specs.Settled.{IsEither, IsOrderly, IsPlain, IsSettled, IsUnnumbered, MayJoin}
 use Rattle.driver_link.specs.Statements.{Results, code_at, counts_by_plan, front_to_run, is_failed, kept_with, planned_at, statement_at, statement_of, statements}
+use Rattle.driver_link.proofs.CursorSends.{interrupted_aside, refused_aside, served_aside}
 use Rattle.driver_link.proofs.KeptStatements.{kept_from}
 use Rattle.driver_link.proofs.Lists.{has_last, none_is_some, some_is_some}
 use Rattle.driver_link.proofs.Plain.{begun_done, below_nothing, error_nothing, interrupted_above, interrupted_below, interrupted_runs, known, none_known, plain_known, planned, served_above, served_runs}
@@ -174,21 +175,30 @@ module _ (id : List ℕ) (number : ℤ) where
     served_keep_ones : (plan : Plan) → CountOneEach plan.results → KeepsOnes id number (served plan server send)
     served_keep_ones plan one = elim is_either [
       | inl plain ↦ served_plain_keep_ones send plain server trace settled keeps plan one
-      | inr free ↦ served_free_keep_ones send free server keeps plan
+      | inr other ↦ elim other [
+        | inl free ↦ served_free_keep_ones send free server keeps plan
+        | inr aside ↦ same_keep_ones server (served plan server send) (served_aside send aside server plan).sessions keeps
+      ]
     ]
 
     -- it is interrupted
     interrupted_keep_ones : (most : ℕ) (labels : List (List ℕ)) → KeepsOnes id number (interrupted most labels server send)
     interrupted_keep_ones most labels = elim is_either [
       | inl plain ↦ interrupted_plain_keep_ones send plain server trace settled keeps most labels
-      | inr free ↦ interrupted_free_keep_ones send free server keeps most labels
+      | inr other ↦ elim other [
+        | inl free ↦ interrupted_free_keep_ones send free server keeps most labels
+        | inr aside ↦ same_keep_ones server (interrupted most labels server send) (interrupted_aside send aside server most labels).sessions keeps
+      ]
     ]
 
     -- it is refused
     refused_keep_ones : (labels : List (List ℕ)) → KeepsOnes id number (told_of_error labels server send)
     refused_keep_ones labels = elim is_either [
       | inl plain ↦ subst (KeepsOnes id number) (sym (error_nothing send plain server labels server)) keeps
-      | inr free ↦ subst (KeepsOnes id number) (sym (error_free send free server labels server)) keeps
+      | inr other ↦ elim other [
+        | inl free ↦ subst (KeepsOnes id number) (sym (error_free send free server labels server)) keeps
+        | inr aside ↦ same_keep_ones server (told_of_error labels server send) (refused_aside send aside server labels).sessions keeps
+      ]
     ]
 
     -- it meets an item by which statements that run count one each

@@ -1,6 +1,6 @@
 -- A run of calls over a told pool and a told server: each call keeps what holds of the calls before it.
 use Rattle.std.proofs.Common.{◌≡◌, ℕ, ◌+◌, ◌<◌, arith, List, [], ◌∷◌, ◌++◌, length, refl, sym, ap, subst, ◌∙◌, inl, inr, length-append}
-use Rattle.std.specs.Prelude.{Option, None, Some, Result, Ok, Err, slice_get}
+use Rattle.std.specs.Prelude.{false, Option, None, Some, Result, Ok, Err, slice_get}
 use Rattle.std.specs.Result.{result_ok}
 use Rattle.std.proofs.lemmas.List.{append-nil}
 use Rattle.bson_lite.specs.declared.bson.Bson.{Bson}
@@ -117,10 +117,10 @@ module _ (calls : List Call) (outcomes : List Outcome) (before now : Moment) (po
     may_write = record { between = ran.between; sound = ran.sound; new = new_place (length outcomes) run.server.trace ran.below; apart = apart }
 
     -- what its operation left
-    left : Left by_operation.session by_operation.number (asked_in form place made.sent) pool_now run.server run_now.server
+    left : Left false by_operation.session by_operation.number (asked_in form place made.sent) pool_now run.server run_now.server
     left =
         let sends = by_operation.sends in
-        left_of made.mid now pool pool_now run run_now pool_here pool_now_is run_here run_now_is (asked_in form place made.sent)
+        left_of false made.mid now pool pool_now run run_now pool_here pool_now_is run_here run_now_is (asked_in form place made.sent)
         (may_stand pool pool_now run form place made.sent may_write)
         by_operation.session by_operation.number sends.count by_operation.borrows sends.once sends.sends
 
@@ -128,18 +128,24 @@ module _ (calls : List Call) (outcomes : List Outcome) (before now : Moment) (po
     below_now : AllBelow (length outcomes + 1) run_now.server.trace
     below_now = λ send at found has stands. elim (left.which send has) [
       | inl earlier ↦ below_later (length outcomes) run.server.trace ran.below send at found earlier stands
-      | inr same ↦
-          let only = only_write (placed_at place made.sent) at found (ap (λ s. slice_get (writes_of s) at) same ∙ stands) in
-          let is : found.place.call ≡ length outcomes = ap (λ w. w.place.call) only.1 in omega arith
+      | inr later ↦ elim later [
+        | inl same ↦
+            let only = only_write (placed_at place made.sent) at found (ap (λ s. slice_get (writes_of s) at) same ∙ stands) in
+            let is : found.place.call ≡ length outcomes = ap (λ w. w.place.call) only.1 in omega arith
+        | inr aside ↦ absurd aside
+      ]
     ]
 
     -- all that was sent is the caller's own
     own_now : AllOwn calls run_now.server.trace
     own_now = λ send at found has stands. elim (left.which send has) [
       | inl earlier ↦ ran.own send at found earlier stands
-      | inr same ↦
-          let only = only_write (placed_at place made.sent) at found (ap (λ s. slice_get (writes_of s) at) same ∙ stands) in
-          subst (λ w. OwnAt (write_at calls w.place) w.written) (sym only.1) own_here
+      | inr later ↦ elim later [
+        | inl same ↦
+            let only = only_write (placed_at place made.sent) at found (ap (λ s. slice_get (writes_of s) at) same ∙ stands) in
+            subst (λ w. OwnAt (write_at calls w.place) w.written) (sym only.1) own_here
+        | inr aside ↦ absurd aside
+      ]
     ]
 
     -- a call that did not answer

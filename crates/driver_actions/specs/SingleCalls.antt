@@ -43,7 +43,7 @@ pub record Runs {A : Type 0} (spec : OperationSpec A) (asked : SendBody) (place 
   pub one_command : SendsOneCommand spec (batch_of (place ∷ []) 1) before now executed
   pub caused : Caused spec first (Some 1) before now (end_of executed)
   pub becomes : BecomesSingle executed ended
-  pub keeps : KeepsInvariant before now asked
+  pub keeps : KeepsInvariant spec.paged before now asked
   pub entries : OkHasEntries spec asked before now executed
   pub lent : LendsAsBefore before.store now.store
   pub drawn : Draws before.store now.store

@@ -4,6 +4,7 @@
 //! `specs/Error.antt`, read one level of it.
 #![tactic(auto)]
 
+pub mod bulk_result;
 mod codes;
 pub mod command;
 pub mod conversions;
@@ -21,6 +22,7 @@ pub mod results;
 pub mod specifications;
 pub mod write;
 
+pub use bulk_result::BulkWriteResult;
 pub use command::{CommandError, CommandErrorBody};
 pub use conversions::convert_insert_many_error;
 pub use error::{Error, Result};

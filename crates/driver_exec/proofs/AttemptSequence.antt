@@ -126,6 +126,27 @@ attempt_under_options old now same batch which seen_kind options seen_options se
     attempt_as_it_was old now same batch which seen_kind (now.retryability seen_options) (old.retryability options) (concern_of now seen_kind seen_options) (concern_of old which options) seen past before after given attempt
     is_kind is_retryability is_concern is_again is_attempt makes
 
+-- an operation tells what it tells
+pub same_spec : {A : Type 0} (spec : OperationSpec A) → SameSpec spec spec
+same_spec spec = record {
+  name = refl;
+  target = refl;
+  commands = λ which statements command. (λ x. x, λ x. x);
+  bodies = λ statements places body. (λ x. x, λ x. x);
+  takes = λ fixed description statements. (λ x. x, λ x. x);
+  refused = λ fixed description error. (λ x. x, λ x. x);
+  write_concern = λ which. refl;
+  read_concern = refl;
+  selection_criteria = λ which. refl;
+  sessions = refl;
+  retryability = λ options. refl;
+  backpressure = λ options. refl;
+  after_cluster_time = refl;
+  paged = refl;
+  reads = λ statements pages result. (λ x. x, λ x. x);
+  output = λ entries output. (λ x. x, λ x. x);
+}
+
 -- an operation that tells the same twice
 pub same_twice : {A : Type 0} (a b c : OperationSpec A) → SameSpec a b → SameSpec b c → SameSpec a c
 same_twice a b c first second = record {
@@ -154,6 +175,7 @@ same_twice a b c first second = record {
   retryability = λ options. second.retryability options ∙ first.retryability options;
   backpressure = λ options. second.backpressure options ∙ first.backpressure options;
   after_cluster_time = second.after_cluster_time ∙ first.after_cluster_time;
+  paged = second.paged ∙ first.paged;
   reads = λ statements pages result. (
     λ x. (second.reads statements pages result).0 ((first.reads statements pages result).0 x),
     λ x. (first.reads statements pages result).1 ((second.reads statements pages result).1 x),

@@ -1,8 +1,9 @@
 -- What the calls of an attempt leave: the numbers of a session, a document by its bytes, a server whose calls were only
 -- counted, and the number of the attempt's send.
-use Rattle.std.proofs.Common.{◌≡◌, ℕ, List, refl, sym, ap, subst, ◌∙◌, inl, inr, arith}
+use Rattle.std.proofs.Common.{◌≡◌, ℕ, List, [], ◌∷◌, refl, sym, ap, subst, ◌∙◌, inl, inr, arith}
 use Rattle.std.specs.Prelude.{ℤ, pos, ◌+ℤ◌, ◌≤ℤ◌, Bool, true, false, Option, None, Some, Result, Ok, Err, if◌then◌else◌}
 use Rattle.std.proofs.lemmas.Int.{ints}
+use Rattle.driver_error.specs.declared.error.Error.{Error}
 use Rattle.driver_link.specs.declared.fault.LinkError.{LinkError}
 use Rattle.driver_link.specs.declared.fault.LinkError.TheVariants.{Fault, Memory}
 use Rattle.driver_link.specs.declared.options.Address.{Address}
@@ -11,7 +12,8 @@ use Rattle.driver_link.specs.Counting.{Counts, KeepsServer, Listed, OnlyCounts, 
 use Rattle.driver_link.specs.Failures.{is_network}
 use Rattle.driver_link.specs.ServerRun.{ServerRun}
 use Rattle.driver_session.specs.Session.{MayRaise, Numbers, Raises, Session}
-use Rattle.driver_exec.specs.Attempting.{AttemptState, AttemptedOperation, Sends, held_after}
+use Rattle.driver_exec.specs.AttemptExchanges.{PageAsked, held_after, held_after_answer, held_after_pages}
+use Rattle.driver_exec.specs.Attempting.{AttemptState, AttemptedOperation, MayReadOn, ReadsOn, Sends}
 use Rattle.driver_exec.specs.Holding.{ExecutionSession, dirty_session_held, number_before}
 use Rattle.driver_exec.specs.Retry.{RetryState}
 
@@ -81,7 +83,43 @@ number_after (Err (Fault fault labels)) held = by_network (is_network fault)
     by_network false = refl
 number_after (Err Memory) held = refl
 
+-- nor do further pages
+number_after_answer : (answered : Option (Result (List ℕ) LinkError)) (held : ExecutionSession) → number_before (held_after_answer answered held) ≡ number_before held
+number_after_answer None held = refl
+number_after_answer (Some result) held = number_after result held
+
+pub number_after_pages : (asked : List PageAsked) (held : ExecutionSession) → number_before (held_after_pages asked held) ≡ number_before held
+number_after_pages [] held = refl
+number_after_pages (last ∷ earlier) held = number_after_answer last.answered held
+
 -- so the number of the last send before the end of an attempt is that of its own send
 pub sent_number : {A : Type 0} {op : AttemptedOperation A} {past : Option RetryState} {before now : AttemptState} {address : Address} {conn : Conn} (result : Result (List ℕ) LinkError)
     (sends : Sends op past before now address conn result) → number_before now.held ≡ sends.number
 sent_number result sends = ap number_before sends.held_is ∙ number_after result (record sends.numbered { sent = Some sends.number })
+
+-- what is read behind the exchange of a command leaves all but the link and what is held, of which the number stays
+pub record LeavesRest (behind now : AttemptState) : Type 0 where
+  pub store : now.store ≡ behind.store
+  pub clock : now.clock ≡ behind.clock
+  pub count : now.count ≡ behind.count
+  pub fixed : now.fixed ≡ behind.fixed
+  pub number : number_before now.held ≡ number_before behind.held
+
+pub reads_leave : {A : Type 0} {op : AttemptedOperation A} {conn : Conn} {reply : List ℕ} {answer : Result A Error} (behind now : AttemptState) → ReadsOn op conn reply behind now answer → LeavesRest behind now
+reads_leave behind now reads = record {
+  store = reads.store;
+  clock = reads.clock;
+  count = reads.count;
+  fixed = reads.fixed;
+  number = ap number_before reads.exchanges.held_is ∙ number_after_pages reads.exchanges.asked behind.held;
+}
+
+pub may_read_leaves : {A : Type 0} (op : AttemptedOperation A) (conn : Conn) (result : Result (List ℕ) LinkError) (behind now : AttemptState) → MayReadOn op conn result behind now → LeavesRest behind now
+may_read_leaves op conn (Ok reply) behind now reads = reads_leave behind now reads.reads
+may_read_leaves op conn (Err failure) behind now same = record {
+  store = ap (λ s. s.store) same;
+  clock = ap (λ s. s.clock) same;
+  count = ap (λ s. s.count) same;
+  fixed = ap (λ s. s.fixed) same;
+  number = ap (λ s. number_before s.held) same;
+}

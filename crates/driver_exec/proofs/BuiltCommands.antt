@@ -1,6 +1,6 @@
 -- An operation that was done, or whose failure only a reply spells, has built its command.
 use Rattle.std.proofs.Common.{◌≡◌, ℕ, List, [], ◌∷◌, refl, sym, subst, ◌∙◌, inl, inr}
-use Rattle.std.specs.Prelude.{Bool, ◌⊎◌, Option, None, Some, Result, Ok, Err}
+use Rattle.std.specs.Prelude.{Bool, false, ◌⊎◌, Option, None, Some, Result, Ok, Err}
 use Rattle.driver_error.specs.declared.error.Error.{Error}
 use Rattle.driver_error.specs.declared.kind.ErrorKind.TheVariants as kind
 use Rattle.driver_error.specs.Error.{kind_of}
@@ -15,6 +15,7 @@ use Rattle.driver_session.specs.declared.retryability.Retryability.{Retryability
 use Rattle.driver_session.specs.declared.retryability.Retryability.TheVariants as may
 use Rattle.driver_session.specs.StoreTells.{StoreTells}
 use Rattle.driver_ops.specs.declared.command.Command.{Command}
+use Rattle.driver_ops.specs.OperationLaw.{NeverOpen}
 use Rattle.driver_ops.specs.Operations.{Batch, OperationSpec}
 use Rattle.driver_ops.specs.SendKinds.{SendKind}
 use Rattle.driver_exec.specs.Resending.{IsReadFailure}
@@ -36,14 +37,15 @@ use Rattle.driver_exec.proofs.OperationCauses.{KeptHas, ResultHas, SoFar, decide
 use Rattle.driver_exec.proofs.ReadFailures.{concern_unread, ended_unread, fault_unread, reworded_read}
 use Rattle.driver_exec.proofs.RetryFold.{Came, came_of}
 
-module _ {A : Type 0} (spec : OperationSpec A) (batch : Batch) (which : SendKind) (retryability : Retryability) (concern : Option WriteConcern) (store : StoreTells) (link : LinkState) (fixed : Option ℕ) where
+module _ {A : Type 0} (spec : OperationSpec A) (batch : Batch) (which : SendKind) (retryability : Retryability) (concern : Option WriteConcern) (store : StoreTells) (link : LinkState) (fixed : Option ℕ)
+    (alone : spec.paged ≡ false → NeverOpen spec) where
   -- the operation as its attempts see it
   abbrev op : AttemptedOperation A
   op = attempted_operation spec batch which retryability concern
 
   -- it has come so far
   abbrev Far : Option RetryState → AttemptState → Type 0
-  Far kept now = SoFar spec batch which retryability concern store link fixed kept now
+  Far kept now = SoFar spec batch which retryability concern store link fixed alone kept now
 
   -- its command was built by a moment, with as many statements as are fixed then
   pub record BuiltAt (now : AttemptState) : Type 0 where
@@ -67,19 +69,19 @@ module _ {A : Type 0} (spec : OperationSpec A) (batch : Batch) (which : SendKind
 
   module _ (kept past : Option RetryState) (mid : AttemptState) (far : Far kept mid) (now : AttemptState) where
     -- a command that went out was built
-    sent_built : (address : Address) (conn : Conn) (result : Result (List ℕ) LinkError) → Sends op past mid now address conn result → BuiltAt now
-    sent_built address conn result sends = record {
+    sent_built : (behind : AttemptState) → now.fixed ≡ behind.fixed → (address : Address) (conn : Conn) (result : Result (List ℕ) LinkError) → Sends op past mid behind address conn result → BuiltAt now
+    sent_built behind same address conn result sends = record {
       command = sends.exchanges.framed.command;
       commanded = sends.exchanges.framed.built.is;
-      is = sends.fixed_is;
-      first = first_sent spec batch which retryability concern store link fixed past mid far.adds.setup far.held_so_far far.fixed_so_far now address conn result sends;
+      is = same ∙ sends.fixed_is;
+      first = first_sent spec batch which retryability concern store link fixed alone past mid far.adds.setup far.held_so_far far.fixed_so_far behind address conn result sends;
     }
 
     -- so was that of an attempt which failed behind its connection
     execution_built : (address : Address) (error : Error) → FailsIn op past mid now address Execution error → BuiltAt now
     execution_built address error fails = elim fails [
-      | inl lost ↦ sent_built address lost.conn (Err (Fault lost.fault lost.labels)) lost.sends
-      | inr spelled ↦ sent_built address spelled.conn (Ok spelled.reply) spelled.sends
+      | inl lost ↦ sent_built now refl address lost.conn (Err (Fault lost.fault lost.labels)) lost.sends
+      | inr spelled ↦ sent_built spelled.behind spelled.reads.fixed address spelled.conn (Ok spelled.reply) spelled.sends
     ]
 
     -- what was built before an attempt that failed is built after it
@@ -113,7 +115,7 @@ module _ {A : Type 0} (spec : OperationSpec A) (batch : Batch) (which : SendKind
       let rest = reaches.1.1.1 in
       let earlier = rest.0 in
       let fails = rest.1.1 in
-      let far = reaches_far spec batch which retryability concern store link fixed clock count sharded failures earlier mid rest.1.0 in
+      let far = reaches_far spec batch which retryability concern store link fixed alone clock count sharded failures earlier mid rest.1.0 in
       let has = reaches_built clock count sharded failures earlier mid rest.1.0 in
       subst (KeptHas (RunAt now)) (sym reaches.1.0) (decided_built earlier earlier mid far now sharded failure (Ok reaches.0) fails.makes has fails.decides)
 
@@ -126,7 +128,7 @@ module _ {A : Type 0} (spec : OperationSpec A) (batch : Batch) (which : SendKind
 
     -- the last attempt
     last_built : (attempt : AttemptEnd A) (result : Result A Error) → MakesAttempt op kept mid now attempt → EndsWith kept attempt result → RunBy now result
-    last_built (Done output) result makes ends = subst (RunBy now) (sym ends) (sent_built kept kept mid far now makes.address makes.conn (Ok makes.reply) makes.sends)
+    last_built (Done output) result makes ends = subst (RunBy now) (sym ends) (sent_built kept kept mid far now makes.behind makes.reads.fixed makes.address makes.conn (Ok makes.reply) makes.sends)
     last_built (Failed failure) result makes ends = absurd ends
     last_built (Unselected error) result makes ends = by_kept kept refl ends
       where
@@ -171,7 +173,7 @@ module _ {A : Type 0} (spec : OperationSpec A) (batch : Batch) (which : SendKind
 
 module _ {A : Type 0} (spec : OperationSpec A) (batch : Batch) (which : SendKind) (before now : Moment) (count count_now : ℕ) (fixed fixed_now : Option ℕ) (result : Result A Error) where
   -- an operation that is not refused for its concern
-  module _ (executes : Proceeds spec batch which before now count count_now fixed fixed_now result) where
+  module _ (alone : spec.paged ≡ false → NeverOpen spec) (executes : Proceeds spec batch which before now count count_now fixed fixed_now result) where
     abbrev found_retryability : Retryability
     found_retryability = spec.retryability before.client.options
 
@@ -186,17 +188,17 @@ module _ {A : Type 0} (spec : OperationSpec A) (batch : Batch) (which : SendKind
     came = came_of (attempted_operation spec batch which found_retryability found_concern) executes.sharded start executes.last result executes.attempts
 
     -- its command was built by the last of them
-    runs : RunBy spec batch which found_retryability found_concern before.store (besides_out before.link) fixed executes.last result
+    runs : RunBy spec batch which found_retryability found_concern before.store (besides_out before.link) fixed alone executes.last result
     runs =
-        let far = reaches_far spec batch which found_retryability found_concern before.store (besides_out before.link) fixed before.clock count executes.sharded came.0 executes.attempts.kept executes.attempts.mid
+        let far = reaches_far spec batch which found_retryability found_concern before.store (besides_out before.link) fixed alone before.clock count executes.sharded came.0 executes.attempts.kept executes.attempts.mid
         came.1 in
-        let has = reaches_built spec batch which found_retryability found_concern before.store (besides_out before.link) fixed before.clock count executes.sharded came.0 executes.attempts.kept executes.attempts.mid
+        let has = reaches_built spec batch which found_retryability found_concern before.store (besides_out before.link) fixed alone before.clock count executes.sharded came.0 executes.attempts.kept executes.attempts.mid
         came.1 in
-        ends_built spec batch which found_retryability found_concern before.store (besides_out before.link) fixed executes.sharded executes.attempts.kept executes.attempts.mid executes.last far has result
+        ends_built spec batch which found_retryability found_concern before.store (besides_out before.link) fixed alone executes.sharded executes.attempts.kept executes.attempts.mid executes.last far has result
         executes.attempts.ends
 
     -- so it has its command
-    has_built : BuiltAt spec batch which found_retryability found_concern before.store (besides_out before.link) fixed executes.last → HasBuilt spec which before fixed fixed_now
+    has_built : BuiltAt spec batch which found_retryability found_concern before.store (besides_out before.link) fixed alone executes.last → HasBuilt spec which before fixed fixed_now
     has_built built = record {
       statements = batch.statements;
       is = executes.fixed_is ∙ built.is;
@@ -207,7 +209,7 @@ module _ {A : Type 0} (spec : OperationSpec A) (batch : Batch) (which : SendKind
       takes = built.first.takes;
     }
 
-    by_end : (found : Result A Error) → RunBy spec batch which found_retryability found_concern before.store (besides_out before.link) fixed executes.last found → HasRun spec which before fixed fixed_now found
+    by_end : (found : Result A Error) → RunBy spec batch which found_retryability found_concern before.store (besides_out before.link) fixed alone executes.last found → HasRun spec which before fixed fixed_now found
     by_end (Ok output) built = has_built built
     by_end (Err error) run = λ read. has_built (run read)
 
@@ -220,8 +222,8 @@ module _ {A : Type 0} (spec : OperationSpec A) (batch : Batch) (which : SendKind
       (λ read. absurd (concern_unread (concern_of spec which before.client.options) refuses.error refuses.is read))
 
   -- an operation as a whole
-  pub executes_built : Executes spec batch which before now count count_now fixed fixed_now result → HasRun spec which before fixed fixed_now result
-  executes_built executes = elim executes [
+  pub executes_built : (spec.paged ≡ false → NeverOpen spec) → Executes spec batch which before now count count_now fixed fixed_now result → HasRun spec which before fixed fixed_now result
+  executes_built alone executes = elim executes [
     | inl refuses ↦ refused_run refuses
-    | inr proceeds ↦ proceeds_built proceeds
+    | inr proceeds ↦ proceeds_built alone proceeds
   ]

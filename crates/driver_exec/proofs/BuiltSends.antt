@@ -70,7 +70,7 @@ module _ {A : Type 0} (op : AttemptedOperation A) where
       inl (checked_counted before.link fails.mid now.link address (Err (Fault fails.fault fails.labels)) fails.selects fails.checks_out).server
   fails_has kept before now address Execution error fails = elim fails [
     | inl lost ↦ inr (sent_has kept before now address lost.conn (Err (Fault lost.fault lost.labels)) lost.sends)
-    | inr spelled ↦ inr (sent_has kept before now address spelled.conn (Ok spelled.reply) spelled.sends)
+    | inr spelled ↦ inr (sent_has kept before spelled.behind address spelled.conn (Ok spelled.reply) spelled.sends)
   ]
 
   -- attempts that failed one after another
@@ -85,7 +85,7 @@ module _ {A : Type 0} (op : AttemptedOperation A) where
 
   -- any attempt
   attempt_has : (kept : Option RetryState) (before now : AttemptState) (attempt : AttemptEnd A) → MakesAttempt op kept before now attempt → CountsOrHas before.link now.link
-  attempt_has kept before now (Done output) makes = inr (sent_has kept before now makes.address makes.conn (Ok makes.reply) makes.sends)
+  attempt_has kept before now (Done output) makes = inr (sent_has kept before makes.behind makes.address makes.conn (Ok makes.reply) makes.sends)
   attempt_has kept before now (Failed failure) makes = fails_has kept before now failure.address failure.phase failure.error makes.0
   attempt_has kept before now (Unselected error) makes = inl (selected_counted before.link now.link (Err (Fault makes.fault makes.labels)) makes.selects).server
   attempt_has kept before now Stopped makes = inl (connected_counted before.link now.link makes.1.address makes.1.conn makes.1.readies.connects).server
@@ -94,7 +94,7 @@ module _ {A : Type 0} (op : AttemptedOperation A) where
     | inl unready ↦ inl (early_counted before.link now.link unready.asks).server
     | inr other ↦ elim other [
       | inl refused ↦ ready_counts kept before refused.ready now.link refused.address refused.conn refused.readies refused.link
-      | inr sent ↦ inr (sent_has kept before now sent.address sent.conn sent.result sent.sends)
+      | inr sent ↦ inr (sent_has kept before sent.behind sent.address sent.conn sent.result sent.sends)
     ]
   ]
 

@@ -24,6 +24,7 @@ use Rattle.driver_exec.specs.Moment.{Moment}
 use Rattle.driver_exec.specs.Readings.{MayRead, OnlyRead, ReadsClockBy}
 use Rattle.driver_exec.specs.Retry.{RetryState}
 use Rattle.driver_exec.specs.inside.Executing.{Reaches}
+use Rattle.driver_exec.proofs.Attempts.{may_read_leaves}
 use Rattle.driver_exec.proofs.RetryFold.{came_of}
 
 -- a clock that is as it was
@@ -75,14 +76,14 @@ module _ {A : Type 0} (op : AttemptedOperation A) (kept : Option RetryState) (be
       lent_read (needs_session (asks_session op.spec.sessions conn.description) before.held) before.store now.store before.held now.held readies.holds before.clock now.clock readies.lent_at
 
 module _ {A : Type 0} (op : AttemptedOperation A) (kept : Option RetryState) (before now : AttemptState) where
-  sends_read : (address : Address) (conn : Conn) (result : Result (List ℕ) LinkError) → Sends op kept before now address conn result → OnlyRead before.clock now.clock
-  sends_read address conn result sends = subst (OnlyRead before.clock) (sym sends.clock_is) (readies_read op kept before sends.ready address conn sends.readies)
+  sends_read : (behind : AttemptState) → now.clock ≡ behind.clock → (address : Address) (conn : Conn) (result : Result (List ℕ) LinkError) → Sends op kept before behind address conn result → OnlyRead before.clock now.clock
+  sends_read behind same address conn result sends = subst (OnlyRead before.clock) (sym (same ∙ sends.clock_is)) (readies_read op kept before sends.ready address conn sends.readies)
 
   failed_read : (address : Address) (phase : FailurePhase) (error : Error) → FailsIn op kept before now address phase error → OnlyRead before.clock now.clock
   failed_read address ConnectionEstablishment error fails = read_same before.clock now.clock fails.rest.clock
   failed_read address Execution error fails = elim fails [
-    | inl lost ↦ sends_read address lost.conn (Err (Fault lost.fault lost.labels)) lost.sends
-    | inr spelled ↦ sends_read address spelled.conn (Ok spelled.reply) spelled.sends
+    | inl lost ↦ sends_read now refl address lost.conn (Err (Fault lost.fault lost.labels)) lost.sends
+    | inr spelled ↦ sends_read spelled.behind spelled.reads.clock address spelled.conn (Ok spelled.reply) spelled.sends
   ]
 
   ended_read : (error : Error) → EndsAtOnce op kept before now error → OnlyRead before.clock now.clock
@@ -90,12 +91,12 @@ module _ {A : Type 0} (op : AttemptedOperation A) (kept : Option RetryState) (be
     | inl unready ↦ may_read before.clock now.clock unready.clock
     | inr other ↦ elim other [
       | inl refused ↦ subst (OnlyRead before.clock) (sym refused.clock) (readies_read op kept before refused.ready refused.address refused.conn refused.readies)
-      | inr sent ↦ sends_read sent.address sent.conn sent.result sent.sends
+      | inr sent ↦ sends_read sent.behind (may_read_leaves op sent.conn sent.result sent.behind now sent.reads).clock sent.address sent.conn sent.result sent.sends
     ]
   ]
 
   attempt_read : (attempt : AttemptEnd A) → MakesAttempt op kept before now attempt → OnlyRead before.clock now.clock
-  attempt_read (Done output) makes = sends_read makes.address makes.conn (Ok makes.reply) makes.sends
+  attempt_read (Done output) makes = sends_read makes.behind makes.reads.clock makes.address makes.conn (Ok makes.reply) makes.sends
   attempt_read (Failed failure) makes = failed_read failure.address failure.phase failure.error makes.0
   attempt_read (Unselected error) makes = read_same before.clock now.clock makes.rest.clock
   attempt_read Stopped makes = readies_read op kept before now makes.1.address makes.1.conn makes.1.readies

@@ -190,14 +190,14 @@ module _ {A : Type 0} (spec : OperationSpec A) (which : SendKind) (concern : Opt
           takes = subst (λ n. spec.takes before conn.description n) same_number built.takes;
           exchanging = record {
             result = once.result;
+            behind = once.behind;
             exchanges = record {
               frame = frame;
               framed = record { command = command; built = here; is = framed.1 };
               reads = reads_as_asked spec which (batch_of places statements) (in_context (held_id numbered) number concern) command frame framed.0 here framed.1;
-              exchanges = subst (λ p. ExchangesFrame link link_now conn frame p once.result) (front_is ∙ ap (λ n. take n places) (so_many built told tells ∙ same_number)) once.exchanges;
+              exchanges = subst (λ p. ExchangesFrame link once.behind conn frame p once.result) (front_is ∙ ap (λ n. take n places) (so_many built told tells ∙ same_number)) once.exchanges;
             };
-            held_is = once.held_is;
-            comes = comes_same spec mid same statements connection_retryability conn.description.max_wire_version address number once.result attempt once.comes;
+            comes = comes_same spec mid same statements once.behind link_now connection_retryability conn address (record numbered { sent = Some number }) held_now once.result attempt once.comes;
           };
           counted = counted;
           fixed_is = stays ∙ built.now_is ∙ ap (λ n. Some n) same_number;

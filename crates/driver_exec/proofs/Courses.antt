@@ -1,5 +1,5 @@
 -- What an operation has done so far, attempt by attempt: its sends and its session.
-use Rattle.std.proofs.Common.{◌≡◌, ℕ, suc, ◌≤◌, List, refl, sym, ap, subst, ◌∙◌, inl, inr, arith}
+use Rattle.std.proofs.Common.{◌≡◌, ℕ, suc, ◌≤◌, List, [], ◌∷◌, refl, sym, ap, subst, ◌∙◌, inl, inr, arith}
 use Rattle.std.specs.Prelude.{ℤ, pos, ◌+ℤ◌, Bool, true, false, ◌&&◌, Option, None, Some, is_none, Result, Ok, Err, if◌then◌else◌}
 use Rattle.std.specs.Option.{option_map}
 use Rattle.std.proofs.lemmas.Bool.{and_parts}
@@ -24,11 +24,12 @@ use Rattle.driver_session.proofs.UnchangedStore.{stays_then_lends, stays_twice}
 use Rattle.driver_ops.specs.Fields.{in_context, under}
 use Rattle.driver_ops.specs.Operations.{AsksFor, Batch, OperationSpec, send_of}
 use Rattle.driver_ops.specs.SendKinds.{SendKind}
-use Rattle.driver_exec.specs.Attempting.{Exchanges, held_after}
+use Rattle.driver_exec.specs.AttemptExchanges.{Exchanges, PageAsked, held_after, held_after_answer, held_after_pages}
 use Rattle.driver_exec.specs.Holding.{DrawsNumber, DrawsSession, GivesNumber, ExecutionSession, HoldsSession, dirty_session, held_id, needs_session}
 use Rattle.driver_exec.specs.Resending.{AnsweredLast, IsNumbered, SentTimes, SentWithin}
 use Rattle.driver_exec.proofs.Attempts.{raises, stays}
-use Rattle.driver_exec.proofs.SendRelations.{answered_last, begins_unsent, none_sent, sent_answered, sent_counted, sent_lost, sent_maybe}
+use Rattle.driver_exec.proofs.PassesBy.{PassesLink, link_counted}
+use Rattle.driver_exec.proofs.SendRelations.{answered_last, begins_unsent, none_sent, sent_answered, sent_lost, sent_maybe, sent_passed}
 use Rattle.driver_exec.proofs.BorrowedSession.{CountFits, HeldFrom, HoldsFrom, HoldsLast, MayGoOn, NumberFits, Unnumbered, id_of, lends_then_stays, number_of, one_at_most}
 
 module _ {A : Type 0} (spec : OperationSpec A) (batch : Batch) (store : StoreTells) (link : Option ServerRun) where
@@ -36,29 +37,47 @@ module _ {A : Type 0} (spec : OperationSpec A) (batch : Batch) (store : StoreTel
   pub record Course (most : ℕ) (store_now : StoreTells) (link_now : Option ServerRun) (session : Option Session) (sent : Option (Option ℤ)) : Type 0 where
     pub count : ℕ
     pub within : count ≤ most
-    pub sends : (body : SendBody) → AsksFor spec batch body → SentTimes link link_now (send_of (under (id_of session) (number_of sent)) body) count
+    pub sends : (body : SendBody) → AsksFor spec batch body → SentTimes spec.paged link link_now (send_of (under (id_of session) (number_of sent)) body) count
     pub holds : HoldsFrom store store_now sent session
     pub fits : CountFits sent count
 
   -- what was done once the operation is over
   pub record Over (most : ℕ) (store_now : StoreTells) (link_now : Option ServerRun) (session : Option Session) (sent : Option (Option ℤ)) : Type 0 where
-    pub sends : (body : SendBody) → AsksFor spec batch body → SentWithin most link link_now (send_of (under (id_of session) (number_of sent)) body)
+    pub sends : (body : SendBody) → AsksFor spec batch body → SentWithin spec.paged most link link_now (send_of (under (id_of session) (number_of sent)) body)
     pub holds : HoldsLast store store_now (number_of sent) session
 
   pub starts : Course 0 store link None None
-  starts = record { count = 0; within = omega arith; sends = λ body asked. begins_unsent link (send_of (under None None) body); holds = (refl, tt); fits = refl }
+  starts = record { count = 0; within = omega arith; sends = λ body asked. begins_unsent spec.paged link (send_of (under None None) body); holds = (refl, tt); fits = refl }
 
-  -- calls that were only counted, and one attempt more
-  pub counted : (most : ℕ) (store_now : StoreTells) (mid now : Option ServerRun) (session : Option Session) (sent : Option (Option ℤ)) → OnlyCounts mid now
+  -- what passed by, of which are calls that were only counted
+  pub passed : (most : ℕ) (store_now : StoreTells) (mid now : Option ServerRun) (session : Option Session) (sent : Option (Option ℤ)) → PassesLink spec.paged mid now
       → Course most store_now mid session sent → Course most store_now now session sent
-  counted most store_now mid now session sent counts course = record {
+  passed most store_now mid now session sent passes course = record {
     count = course.count;
     within = course.within;
-    sends = λ body asked. sent_counted link mid now (send_of (under (id_of session) (number_of sent)) body) course.count (course.sends body asked) counts;
+    sends = λ body asked. sent_passed spec.paged link mid now (send_of (under (id_of session) (number_of sent)) body) course.count (course.sends body asked) passes;
     holds = course.holds;
     fits = course.fits;
   }
 
+  pub counted : (most : ℕ) (store_now : StoreTells) (mid now : Option ServerRun) (session : Option Session) (sent : Option (Option ℤ)) → OnlyCounts mid now
+      → Course most store_now mid session sent → Course most store_now now session sent
+  counted most store_now mid now session sent counts course = passed most store_now mid now session sent (link_counted spec.paged mid now counts) course
+
+  -- the same once the operation is over
+  pub over_passed : (most : ℕ) (store_now : StoreTells) (mid now : Option ServerRun) (session : Option Session) (sent : Option (Option ℤ)) → PassesLink spec.paged mid now
+      → Over most store_now mid session sent → Over most store_now now session sent
+  over_passed most store_now mid now session sent passes over = record {
+    sends = λ body asked. let within = over.sends body asked in record {
+      count = within.count;
+      within = within.within;
+      once = within.once;
+      sends = sent_passed spec.paged link mid now (send_of (under (id_of session) (number_of sent)) body) within.count within.sends passes;
+    };
+    holds = over.holds;
+  }
+
+  -- one attempt more
   pub one_more : (most : ℕ) (store_now : StoreTells) (link_now : Option ServerRun) (session : Option Session) (sent : Option (Option ℤ))
       → Course most store_now link_now session sent → Course (suc most) store_now link_now session sent
   one_more most store_now link_now session sent course =
@@ -70,7 +89,7 @@ module _ {A : Type 0} (spec : OperationSpec A) (batch : Batch) (store : StoreTel
   lent_now most store_mid store_now link_now at session lends course = record {
     count = 0;
     within = omega arith;
-    sends = λ body asked. none_sent link link_now (send_of (under None None) body) (send_of (under (Some session.id) None) body) course.count course.fits (course.sends body asked);
+    sends = λ body asked. none_sent spec.paged link link_now (send_of (under None None) body) (send_of (under (Some session.id) None) body) course.count course.fits (course.sends body asked);
     holds = record {
       at = at;
       lent = session;
@@ -259,6 +278,30 @@ module _ {A : Type 0} (spec : OperationSpec A) (batch : Batch) (store : StoreTel
       by_network true = record { id = dirty_id held.session; sent = refl; holds = soiled store_now held.sent held.session holds }
       by_network false = record { id = refl; sent = refl; holds = holds }
 
+  -- what is held after further pages has the same id and number
+  after_answer : (store_now : StoreTells) (held : ExecutionSession) (answered : Option (Result (List ℕ) LinkError)) → HoldsFrom store store_now held.sent held.session
+      → HeldAfter held (held_after_answer answered held) store_now
+  after_answer store_now held None holds = record { id = refl; sent = refl; holds = holds }
+  after_answer store_now held (Some result) holds = after_exchange store_now held result holds
+
+  after_pages : (store_now : StoreTells) (held : ExecutionSession) (asked : List PageAsked) → HoldsFrom store store_now held.sent held.session
+      → HeldAfter held (held_after_pages asked held) store_now
+  after_pages store_now held [] holds = record { id = refl; sent = refl; holds = holds }
+  after_pages store_now held (last ∷ earlier) holds = after_answer store_now held last.answered holds
+
+  pub pages_course : (most : ℕ) (store_now : StoreTells) (link_now : Option ServerRun) (held : ExecutionSession) (asked : List PageAsked) → Course most store_now link_now held.session held.sent
+      → Course most store_now link_now (held_after_pages asked held).session (held_after_pages asked held).sent
+  pages_course most store_now link_now held asked course =
+      let after = after_pages store_now held asked course.holds in
+      subst (λ s. Course most store_now link_now (held_after_pages asked held).session s) (sym after.sent) (record {
+        count = course.count;
+        within = course.within;
+        sends = λ body with_places.
+            subst (λ id. SentTimes spec.paged link link_now (send_of (under id (number_of held.sent)) body) course.count) (sym after.id) (course.sends body with_places);
+        holds = after.holds;
+        fits = course.fits;
+      })
+
   -- how many sends there are with one more
   fits_more : (sent : Option (Option ℤ)) (number : Option ℤ) (count : ℕ) → MayGoOn sent → CountFits sent count → ((before : Option ℤ) → sent ≡ Some before → number ≡ before)
       → CountFits (Some number) (suc count)
@@ -270,12 +313,12 @@ module _ {A : Type 0} (spec : OperationSpec A) (batch : Batch) (store : StoreTel
 
   -- the send is the one before, where there was one
   same_send : (mid : Option ServerRun) (session : Option (List ℕ)) (sent : Option (Option ℤ)) (number : Option ℤ) (count : ℕ) (body : SendBody)
-      → ((before : Option ℤ) → sent ≡ Some before → number ≡ before) → CountFits sent count → SentTimes link mid (send_of (under session (number_of sent)) body) count
-      → SentTimes link mid (send_of (under session number) body) count
+      → ((before : Option ℤ) → sent ≡ Some before → number ≡ before) → CountFits sent count → SentTimes spec.paged link mid (send_of (under session (number_of sent)) body) count
+      → SentTimes spec.paged link mid (send_of (under session number) body) count
   same_send mid session None number count body again fits sent =
-      subst (λ n. SentTimes link mid (send_of (under session number) body) n) (sym fits) (none_sent link mid (send_of (under session None) body) (send_of (under session number) body) count fits sent)
+      subst (λ n. SentTimes spec.paged link mid (send_of (under session number) body) n) (sym fits) (none_sent spec.paged link mid (send_of (under session None) body) (send_of (under session number) body) count fits sent)
   same_send mid session (Some before) number count body again fits sent =
-      subst (λ n. SentTimes link mid (send_of (under session n) body) count) (sym (again before refl)) sent
+      subst (λ n. SentTimes spec.paged link mid (send_of (under session n) body) count) (sym (again before refl)) sent
 
   module _ (most : ℕ) (store_now : StoreTells) (mid : LinkState) (now : LinkState) (ready numbered : ExecutionSession) (connection_retryability : Retryability) (number : Option ℤ)
       (goes : MayGoOn ready.sent) (draws : DrawsNumber ready.sent connection_retryability ready numbered (Ok number)) (course : Course most store_now (server_run mid) ready.session ready.sent) where
@@ -286,8 +329,8 @@ module _ {A : Type 0} (spec : OperationSpec A) (batch : Batch) (store : StoreTel
     is_drawn = drawn store_now connection_retryability ready numbered number course.holds draws
 
     -- the sends so far, as this one
-    so_far : (body : SendBody) → AsksFor spec batch body → SentTimes link (server_run mid) (send_of (under (id_of numbered.session) number) body) course.count
-    so_far body asked = subst (λ id. SentTimes link (server_run mid) (send_of (under id number) body) course.count) (sym is_drawn.same_id)
+    so_far : (body : SendBody) → AsksFor spec batch body → SentTimes spec.paged link (server_run mid) (send_of (under (id_of numbered.session) number) body) course.count
+    so_far body asked = subst (λ id. SentTimes spec.paged link (server_run mid) (send_of (under id number) body) course.count) (sym is_drawn.same_id)
         (same_send (server_run mid) (id_of ready.session) ready.sent number course.count body is_drawn.again course.fits (course.sends body asked))
 
     module _ {which : SendKind} {concern : Option WriteConcern} (conn : Conn) (result : Result (List ℕ) LinkError)
@@ -296,24 +339,24 @@ module _ {A : Type 0} (spec : OperationSpec A) (batch : Batch) (store : StoreTel
       kept = after_exchange store_now held result is_drawn.holds
 
       -- a send that was answered or lost
-      sent_course : ((body : SendBody) → AsksFor spec batch body → SentTimes link (server_run now) (send_of (under (id_of numbered.session) number) body) (suc course.count))
+      sent_course : ((body : SendBody) → AsksFor spec batch body → SentTimes spec.paged link (server_run now) (send_of (under (id_of numbered.session) number) body) (suc course.count))
           → Course (suc most) store_now (server_run now) (held_after result held).session (held_after result held).sent
       sent_course sends = subst (λ s. Course (suc most) store_now (server_run now) (held_after result held).session s) (sym kept.sent) (record {
         count = suc course.count;
         within = omega (arith, course.within);
-        sends = λ body asked. subst (λ id. SentTimes link (server_run now) (send_of (under id number) body) (suc course.count)) (sym kept.id) (sends body asked);
+        sends = λ body asked. subst (λ id. SentTimes spec.paged link (server_run now) (send_of (under id number) body) (suc course.count)) (sym kept.id) (sends body asked);
         holds = kept.holds;
         fits = fits_more ready.sent number course.count goes course.fits is_drawn.again;
       })
 
       answered_sends : (bytes : List ℕ) → result ≡ Ok bytes → (body : SendBody) → AsksFor spec batch body
-          → SentTimes link (server_run now) (send_of (under (id_of numbered.session) number) body) (suc course.count)
-      answered_sends bytes is body asked = sent_answered link (send_of (under (id_of numbered.session) number) body) course.count (server_run mid) (server_run now) bytes (so_far body asked)
+          → SentTimes spec.paged link (server_run now) (send_of (under (id_of numbered.session) number) body) (suc course.count)
+      answered_sends bytes is body asked = sent_answered spec.paged link (send_of (under (id_of numbered.session) number) body) course.count (server_run mid) (server_run now) bytes (so_far body asked)
           (subst (λ r. TakesStep (server_run mid) (server_run now) (send_of (under (id_of numbered.session) number) body) r) is (exchanges.exchanges.steps _ (exchanges.reads body asked)))
 
       lost_sends : (fault : LinkFault) (labels : List (List ℕ)) → result ≡ Err (Fault fault labels) → (body : SendBody) → AsksFor spec batch body
-          → SentTimes link (server_run now) (send_of (under (id_of numbered.session) number) body) (suc course.count)
-      lost_sends fault labels is body asked = sent_lost link (send_of (under (id_of numbered.session) number) body) course.count (server_run mid) (server_run now) fault labels (so_far body asked)
+          → SentTimes spec.paged link (server_run now) (send_of (under (id_of numbered.session) number) body) (suc course.count)
+      lost_sends fault labels is body asked = sent_lost spec.paged link (send_of (under (id_of numbered.session) number) body) course.count (server_run mid) (server_run now) fault labels (so_far body asked)
           (subst (λ r. TakesStep (server_run mid) (server_run now) (send_of (under (id_of numbered.session) number) body) r) is (exchanges.exchanges.steps _ (exchanges.reads body asked)))
 
       pub answered_course : (bytes : List ℕ) → result ≡ Ok bytes → Course (suc most) store_now (server_run now) (held_after result held).session (held_after result held).sent
@@ -329,7 +372,7 @@ module _ {A : Type 0} (spec : OperationSpec A) (batch : Batch) (store : StoreTel
         sends = λ body asked.
             let send = send_of (under (id_of numbered.session) number) body in
             let fits = fits_more ready.sent number course.count goes course.fits is_drawn.again in
-            elim (sent_maybe link send course.count (server_run mid) (server_run now) (so_far body asked)
+            elim (sent_maybe spec.paged link send course.count (server_run mid) (server_run now) (so_far body asked)
             (subst (λ r. TakesStep (server_run mid) (server_run now) send r) is (exchanges.exchanges.steps _ (exchanges.reads body asked)))) [
               | inl same ↦ record {
                 count = course.count;
@@ -365,13 +408,13 @@ module _ {A : Type 0} (spec : OperationSpec A) (batch : Batch) (store : StoreTel
       abbrev send_now : SendBody → Send
       send_now body = send_of (under (id_of (held_after result held).session) (number_of (held_after result held).sent)) body
 
-      pub answered_now : (bytes : List ℕ) → result ≡ Ok bytes → (body : SendBody) → AsksFor spec batch body → AnsweredLast link (server_run now) (send_now body) course.count bytes
+      pub answered_now : (bytes : List ℕ) → result ≡ Ok bytes → (body : SendBody) → AsksFor spec batch body → AnsweredLast spec batch.statements link (server_run now) (send_now body) course.count bytes []
       answered_now bytes is body asked =
           let send = send_of (under (id_of numbered.session) number) body in
-          let last = answered_last link send course.count (server_run mid) (server_run now) bytes (so_far body asked)
+          let last = answered_last spec batch.statements link send course.count (server_run mid) (server_run now) bytes (so_far body asked)
           (subst (λ r. TakesStep (server_run mid) (server_run now) send r) is (exchanges.exchanges.steps _ (exchanges.reads body asked))) in
-          subst (λ id. AnsweredLast link (server_run now) (send_of (under id (number_of (held_after result held).sent)) body) course.count bytes) (sym kept.id)
-          (subst (λ sent. AnsweredLast link (server_run now) (send_of (under (id_of numbered.session) (number_of sent)) body) course.count bytes) (sym kept.sent) last)
+          subst (λ id. AnsweredLast spec batch.statements link (server_run now) (send_of (under id (number_of (held_after result held).sent)) body) course.count bytes []) (sym kept.id)
+          (subst (λ sent. AnsweredLast spec batch.statements link (server_run now) (send_of (under (id_of numbered.session) (number_of sent)) body) course.count bytes []) (sym kept.sent) last)
 
       -- it is one send more
       pub fits_now : CountFits (held_after result held).sent (suc course.count)

@@ -14,7 +14,8 @@ use Rattle.driver_exec.specs.declared.attempt_end.AttemptEnd.TheVariants.{Failed
 use Rattle.driver_exec.specs.declared.failure.AttemptFailure.{AttemptFailure}
 use Rattle.driver_exec.specs.declared.failure.FailurePhase.{FailurePhase}
 use Rattle.driver_exec.specs.declared.failure.FailurePhase.TheVariants.{ConnectionEstablishment, Execution}
-use Rattle.driver_exec.specs.Attempting.{AttemptState, AttemptedOperation, FailsIn, MakesAttempt, Readies, Sends, asks_session, builds_again, held_after}
+use Rattle.driver_exec.specs.AttemptExchanges.{PageAsked, held_after, held_after_answer, held_after_pages}
+use Rattle.driver_exec.specs.Attempting.{AttemptState, AttemptedOperation, FailsIn, MakesAttempt, Readies, ReadsOn, Sends, asks_session, builds_again}
 use Rattle.driver_exec.specs.Executing.{AttemptsFail}
 use Rattle.driver_exec.specs.Holding.{ExecutionSession, HoldsSession, dirty_session_held, needs_session}
 use Rattle.driver_exec.specs.OperationCauses.{TakesFirst}
@@ -41,6 +42,18 @@ after_sent (Err (Fault fault labels)) held = by_network (is_network fault)
     by_network false = refl
 after_sent (Err Memory) held = refl
 
+after_answer : (answered : Option (Result (List ℕ) LinkError)) (held : ExecutionSession) → (held_after_answer answered held).sent ≡ held.sent
+after_answer None held = refl
+after_answer (Some result) held = after_sent result held
+
+-- nor do further pages
+pub pages_sent : (asked : List PageAsked) (held : ExecutionSession) → (held_after_pages asked held).sent ≡ held.sent
+pages_sent [] held = refl
+pages_sent (last ∷ earlier) held = after_answer last.answered held
+
+pub read_sent : {A : Type 0} {op : AttemptedOperation A} {conn : Conn} {reply : List ℕ} {answer : Result A Error} (behind now : AttemptState) → ReadsOn op conn reply behind now answer → now.held.sent ≡ behind.held.sent
+read_sent behind now reads = ap (λ h. h.sent) reads.exchanges.held_is ∙ pages_sent reads.exchanges.asked behind.held
+
 -- the number that is fixed is as it was when the operation began, or the command went out with so many statements, as a first
 -- build takes them
 abbrev pub MayBeFixed : {A : Type 0} → OperationSpec A → Option ℕ → Option Setup → ℕ → Option ℕ → Type 0
@@ -66,7 +79,7 @@ module _ {A : Type 0} (op : AttemptedOperation A) where
   fails_unsent kept before now address ConnectionEstablishment error fails none = (fails.rest.fixed, sym (ap (λ h. h.sent) fails.rest.held) ∙ none)
   fails_unsent kept before now address Execution error fails none = elim fails [
     | inl lost ↦ absurd (sends_some kept before now address lost.conn (Err (Fault lost.fault lost.labels)) lost.sends none)
-    | inr spelled ↦ absurd (sends_some kept before now address spelled.conn (Ok spelled.reply) spelled.sends none)
+    | inr spelled ↦ absurd (sends_some kept before spelled.behind address spelled.conn (Ok spelled.reply) spelled.sends (sym (read_sent spelled.behind now spelled.reads) ∙ none))
   ]
 
   -- the same of the attempt as a whole

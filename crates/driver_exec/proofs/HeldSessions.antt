@@ -23,7 +23,8 @@ use Rattle.driver_session.specs.declared.retryability.Retryability.TheVariants a
 use Rattle.driver_session.specs.Pool.{Pool, session_out}
 use Rattle.driver_session.specs.StoreTells.{LendsFrom, LendsSession, StoreTells}
 use Rattle.driver_session.specs.Session.{IsAtItsEnd, Numbers, Session, last_number, number_at_its_end}
-use Rattle.driver_exec.specs.Attempting.{asks_session, held_after, on_connection}
+use Rattle.driver_exec.specs.AttemptExchanges.{PageAsked, held_after, held_after_answer, held_after_pages}
+use Rattle.driver_exec.specs.Attempting.{asks_session, on_connection}
 use Rattle.driver_exec.specs.Causes.{IsLast, MayBeLast, lent_number, next_number, number_in}
 use Rattle.driver_exec.specs.Holding.{DrawsNumber, DrawsSession, GivesNumber, ExecutionSession, HoldsSession, dirty_session, needs_session}
 use Rattle.driver_exec.specs.OperationCauses.{DrawsNumbers}
@@ -187,6 +188,15 @@ module _ (store : StoreTells) (setup : Option Setup) where
           × ((if network then record held { session = option_map dirty_session held.session } else held).sent ≡ held.sent)
       by_network true = (dirty_some held.session, refl)
       by_network false = (refl, refl)
+
+  -- and after further pages
+  answer_holds : (answered : Option (Result (List ℕ) LinkError)) (held : ExecutionSession) → is_some (held_after_answer answered held).session ≡ is_some held.session
+  answer_holds None held = refl
+  answer_holds (Some result) held = (exchange_holds result held).0
+
+  pub pages_hold : (asked : List PageAsked) (held : ExecutionSession) → is_some (held_after_pages asked held).session ≡ is_some held.session
+  pages_hold [] held = refl
+  pages_hold (last ∷ earlier) held = answer_holds last.answered held
 
   -- what is held after a send
   pub sent_held : (now : StoreTells) (session after : Option Session) (sent : Option (Option ℤ)) (number : Option ℤ) → is_some after ≡ is_some session

@@ -23,9 +23,11 @@ pub mod OneAttempt
 pub mod OneCommand
 pub mod OperationCauses
 pub mod OperationMoments
+pub mod PassesBy
 pub mod Progress
 pub mod ReadFailures
 pub mod ReadReplies
+pub mod ReadingPages
 pub mod RetryFold
 pub mod Rewording
 pub mod Sameness

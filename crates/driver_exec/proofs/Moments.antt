@@ -1,6 +1,6 @@
 -- The moments of a link that tells its server, in order: each call leads to one that is not before it.
-use Rattle.std.proofs.Common.{◌≡◌, ℕ, ◌+◌, ◌-◌, ◌^◌, ◌≤◌, min, false, List, [], ◌∷◌, length, refl, sym, ap, subst, ◌∙◌, inl, inr, arith, length-append}
-use Rattle.std.specs.Prelude.{Option, None, Some, Result, Ok, Err}
+use Rattle.std.proofs.Common.{◌≡◌, ℕ, ◌+◌, ◌-◌, ◌^◌, ◌≤◌, min, true, false, List, [], ◌∷◌, length, refl, sym, ap, subst, ◌∙◌, inl, inr, arith, length-append}
+use Rattle.std.specs.Prelude.{Bool, Option, None, Some, Result, Ok, Err}
 use Rattle.driver_error.specs.declared.error.Error.{Error}
 use Rattle.driver_error.specs.declared.kind.IoKind.TheVariants.{ConnectionRefused}
 use Rattle.driver_link.specs.declared.fault.LinkCall.{LinkCall}
@@ -12,6 +12,7 @@ use Rattle.driver_link.specs.declared.fault.LinkFault.TheVariants.{Io, Selection
 use Rattle.driver_link.specs.declared.keys.TheConstants.{SELECTION_FAILURE}
 use Rattle.driver_link.specs.declared.machine.Send.{Send}
 use Rattle.driver_link.specs.declared.machine.SendBody.{SendBody}
+use Rattle.driver_link.specs.declared.machine.SendBody.TheVariants.{Kill, More}
 use Rattle.driver_link.specs.declared.machine.Item.{Item}
 use Rattle.driver_link.specs.declared.options.Address.{Address}
 use Rattle.driver_link.specs.declared.options.Conn.{Conn}
@@ -22,13 +23,16 @@ use Rattle.driver_link.specs.LinkState.{LinkState, server_run, setup_of}
 use Rattle.driver_link.specs.ServerRun.{ServerRun, TakesStep, run_after}
 use Rattle.driver_link.proofs.Lists.{none_is_some}
 use Rattle.driver_link.proofs.Replays.{exchanged_trace}
-use Rattle.driver_ops.specs.Fields.{under}
-use Rattle.driver_ops.specs.Operations.{AsksFor, send_of}
+use Rattle.driver_ops.specs.Fields.{SendContext, under}
+use Rattle.driver_ops.specs.GetMores.{AsksCursor, at_namespace, kill_spec, more_spec}
+use Rattle.driver_ops.specs.Operations.{AsksFor, OperationSpec, send_of}
+use Rattle.driver_ops.specs.SendKinds.{SendKind}
 use Rattle.driver_exec.specs.declared.failure.FailurePhase.{FailurePhase}
 use Rattle.driver_exec.specs.declared.failure.FailurePhase.TheVariants.{ConnectionEstablishment, Execution}
-use Rattle.driver_exec.specs.Attempting.{AttemptState, AttemptedOperation, Connects, FailsIn, NotConnected, Sends}
+use Rattle.driver_exec.specs.AttemptExchanges.{AsksPage, AsksPages, AttemptExchanges, EndsCursor, EndsCursorWhere, EndsPages, Exchanges, PageAsked, ends_cursor, no_statements}
+use Rattle.driver_exec.specs.Attempting.{AttemptState, AttemptedOperation, Connects, FailsIn, MayReadOn, NotConnected, ReadsOn, Sends}
 use Rattle.driver_exec.specs.Gentle.{IsCounted, IsGentlePart}
-use Rattle.driver_exec.specs.Holding.{held_id}
+use Rattle.driver_exec.specs.Holding.{ExecutionSession, held_id}
 use Rattle.driver_exec.specs.Retry.{RetryState}
 
 -- a moment is not after another: the schedule is the same, and neither the trace nor a count became less
@@ -185,16 +189,79 @@ steps_lead a before now send result setup steps = by_result result steps
     by_result (Err (Fault found labels)) steps = moved steps.0
     by_result (Err Memory) steps = elim steps [ inl same ↦ stayed same | inr more ↦ moved more ]
 
+-- the exchanges behind that of a command
+is_asked : (body : SendBody) → AsksCursor body 0 [] body
+is_asked body = record { none = refl; alone = refl; is = refl }
+
+exchange_leads : {B : Type 0} {which : SendKind} (spec : OperationSpec B) (body : SendBody) → spec.bodies 0 [] body → (a : ServerRun) (before now : LinkState) (conn : Conn) (context : SendContext) (result : Result (List ℕ) LinkError)
+    → server_run before ≡ Some a → Exchanges spec which no_statements before now conn context result → Leads a before now
+exchange_leads spec body asks a before now conn context result is exchanges =
+    let send = send_of context body in
+    steps_lead a before now send result exchanges.exchanges.setup (subst (λ s. TakesStep s (server_run now) send result) is (exchanges.exchanges.steps send (exchanges.reads body asks)))
+
+stays_lead : (a : ServerRun) (before now : LinkState) → server_run before ≡ Some a → now ≡ before → Leads a before now
+stays_lead a before now is same = subst (λ l. Leads a before l) (sym same) (leads_same a before is)
+
+asked_leads : (a : ServerRun) (before now : LinkState) (conn : Conn) (session : Option (List ℕ)) (asked : PageAsked) → server_run before ≡ Some a → AsksPage conn session before now asked → Leads a before now
+asked_leads a before now conn session asked is asks = elim asks [
+  | inl out ↦ exchange_leads (more_spec (at_namespace asked.namespace) asked.cursor) (More asked.cursor) (is_asked (More asked.cursor)) a before now conn (under session None) out.result is out.exchanges
+  | inr lacks ↦ stays_lead a before now is lacks.same
+]
+
+cursor_leads : (a : ServerRun) (before now : LinkState) (conn : Conn) (asked : PageAsked) → server_run before ≡ Some a → EndsCursor conn before now asked → Leads a before now
+cursor_leads a before now conn asked is ends = elim ends [
+  | inl out ↦ exchange_leads (kill_spec (at_namespace asked.namespace) asked.cursor) (Kill asked.cursor) (is_asked (Kill asked.cursor)) a before now conn (under None None) out.result is out.exchanges
+  | inr lacks ↦ stays_lead a before now is lacks.same
+]
+
+where_leads : (ended : Bool) (a : ServerRun) (before now : LinkState) (conn : Conn) (asked : PageAsked) → server_run before ≡ Some a → EndsCursorWhere ended conn before now asked → Leads a before now
+where_leads true a before now conn asked is ends = cursor_leads a before now conn asked is ends
+where_leads false a before now conn asked is same = stays_lead a before now is same
+
+module _ {A : Type 0} (spec : OperationSpec A) (statements : ℕ) (bytes : List ℕ) (conn : Conn) where
+  pages_lead : (session : Option (List ℕ)) (a : ServerRun) (before : LinkState) → server_run before ≡ Some a → (asked : List PageAsked) (mid : LinkState) → AsksPages spec statements bytes conn session before asked mid → Leads a before mid
+  pages_lead session a before is [] mid same = stays_lead a before mid is same
+  pages_lead session a before is (last ∷ earlier) mid asks =
+      let leads = pages_lead session a before is earlier asks.0 asks.1.0 in
+      leads_twice a before asks.0 mid leads (asked_leads leads.moment asks.0 mid conn session last leads.is asks.1.2)
+
+  pages_end_leads : (a : ServerRun) (before now : LinkState) → server_run before ≡ Some a → (asked : List PageAsked) (answer : Result A Error) → EndsPages spec statements bytes conn before now asked answer → Leads a before now
+  pages_end_leads a before now is [] answer ends = stays_lead a before now is ends.1
+  pages_end_leads a before now is (last ∷ earlier) (Ok output) ends = stays_lead a before now is ends.1
+  pages_end_leads a before now is (last ∷ earlier) (Err error) ends = elim ends [
+    | inl fails ↦ where_leads (ends_cursor last.page error) a before now conn last is fails.ends
+    | inr lacks ↦ elim lacks.may [ inl same ↦ stays_lead a before now is same | inr ended ↦ where_leads (ends_cursor last.page lacks.bare) a before now conn last is ended ]
+  ]
+
+  behind_lead : (session : Option (List ℕ)) (a : ServerRun) (before now : LinkState) (held held_now : ExecutionSession) (answer : Result A Error) → server_run before ≡ Some a
+      → AttemptExchanges spec statements bytes conn session before now held held_now answer → Leads a before now
+  behind_lead session a before now held held_now answer is exchanges =
+      let leads = pages_lead session a before is exchanges.asked exchanges.mid exchanges.asks in
+      leads_twice a before exchanges.mid now leads (pages_end_leads leads.moment exchanges.mid now leads.is exchanges.asked answer exchanges.ends)
+
 -- an attempt that failed
 module _ {A : Type 0} (op : AttemptedOperation A) (past : Option RetryState) (body : SendBody) (asked : AsksFor op.spec op.batch body) (a : ServerRun) (mid now : AttemptState) (is : server_run mid.link ≡ Some a) where
   -- its command went out
-  pub sends_lead : (address : Address) (conn : Conn) (result : Result (List ℕ) LinkError) → Sends op past mid now address conn result → Leads a mid.link now.link
-  sends_lead address conn result sends =
+  pub sends_lead : (behind : AttemptState) (address : Address) (conn : Conn) (result : Result (List ℕ) LinkError) → Sends op past mid behind address conn result → Leads a mid.link behind.link
+  sends_lead behind address conn result sends =
       let ready = sends.ready in
       let first = (connects_lead a mid.link ready.link address conn is sends.readies.connects).leads in
       let send = send_of (under (held_id sends.numbered) sends.number) body in
-      let steps = subst (λ s. TakesStep s (server_run now.link) send result) first.is (sends.exchanges.exchanges.steps send (sends.exchanges.reads body asked)) in
-      leads_twice a mid.link ready.link now.link first (steps_lead first.moment ready.link now.link send result sends.exchanges.exchanges.setup steps)
+      let steps = subst (λ s. TakesStep s (server_run behind.link) send result) first.is (sends.exchanges.exchanges.steps send (sends.exchanges.reads body asked)) in
+      leads_twice a mid.link ready.link behind.link first (steps_lead first.moment ready.link behind.link send result sends.exchanges.exchanges.setup steps)
+
+  -- and its answer was read
+  pub read_leads : (behind : AttemptState) (address : Address) (conn : Conn) (reply : List ℕ) (answer : Result A Error) → Sends op past mid behind address conn (Ok reply) → ReadsOn op conn reply behind now answer
+      → Leads a mid.link now.link
+  read_leads behind address conn reply answer sends reads =
+      let leads = sends_lead behind address conn (Ok reply) sends in
+      leads_twice a mid.link behind.link now.link leads
+      (behind_lead op.spec op.batch.statements reply conn (held_id behind.held) leads.moment behind.link now.link behind.held now.held answer leads.is reads.exchanges)
+
+  pub may_read_leads : (behind : AttemptState) (address : Address) (conn : Conn) (result : Result (List ℕ) LinkError) → Sends op past mid behind address conn result → MayReadOn op conn result behind now
+      → Leads a mid.link now.link
+  may_read_leads behind address conn (Ok reply) sends reads = read_leads behind address conn reply reads.answer sends reads.reads
+  may_read_leads behind address conn (Err failure) sends same = subst (λ s. Leads a mid.link s.link) (sym same) (sends_lead behind address conn (Err failure) sends)
 
   -- it had no connection
   pub unconnected_leads : (address : Address) (error : Error) → NotConnected op past mid now address error → Leads a mid.link now.link
@@ -207,8 +274,8 @@ module _ {A : Type 0} (op : AttemptedOperation A) (past : Option RetryState) (bo
   pub fails_lead : (address : Address) (phase : FailurePhase) (error : Error) → FailsIn op past mid now address phase error → Leads a mid.link now.link
   fails_lead address ConnectionEstablishment error fails = unconnected_leads address error fails
   fails_lead address Execution error fails = elim fails [
-    | inl lost ↦ sends_lead address lost.conn (Err (Fault lost.fault lost.labels)) lost.sends
-    | inr spelled ↦ sends_lead address spelled.conn (Ok spelled.reply) spelled.sends
+    | inl lost ↦ sends_lead now address lost.conn (Err (Fault lost.fault lost.labels)) lost.sends
+    | inr spelled ↦ read_leads spelled.behind address spelled.conn spelled.reply (Err spelled.bare) spelled.sends spelled.reads
   ]
 
 -- in a gentle part no call fails that is counted

@@ -1,7 +1,7 @@
 -- What the sends of an operation make of a link that tells its server: its setup and its schedule stay, and its server is
 -- the fold of the exchanges over its trace.
 use Rattle.std.proofs.Common.{◌≡◌, ℕ, zero, suc, ◌≤◌, List, length, sym, ap, subst, ◌∙◌, inl, inr}
-use Rattle.std.specs.Prelude.{Some, slice_get}
+use Rattle.std.specs.Prelude.{false, Some, slice_get}
 use Rattle.driver_link.specs.declared.machine.Schedule.{Schedule}
 use Rattle.driver_link.specs.declared.machine.Send.{Send}
 use Rattle.driver_link.specs.declared.machine.Server.{Server}
@@ -25,14 +25,14 @@ fold_after schedule server send folds =
 
 module _ (told : ServerRun) (send : Send) where
   -- what was made with the server stays
-  pub keeps_making : (count : ℕ) (now : ServerRun) → SendsWhereTold told now send count → (now.setup ≡ told.setup) × (now.schedule ≡ told.schedule)
+  pub keeps_making : (count : ℕ) (now : ServerRun) → SendsWhereTold false told now send count → (now.setup ≡ told.setup) × (now.schedule ≡ told.schedule)
   keeps_making zero now sends = (sends.setup, sends.schedule)
   keeps_making (suc count) now sends =
       let before = keeps_making count sends.0 sends.1.0 in
       (sends.1.1.setup ∙ before.0, sends.1.1.schedule ∙ before.1)
 
   -- the server stays the fold over its trace
-  pub keeps_fold : (count : ℕ) (now : ServerRun) → SendsWhereTold told now send count → IsFold told.schedule told.server → IsFold told.schedule now.server
+  pub keeps_fold : (count : ℕ) (now : ServerRun) → SendsWhereTold false told now send count → IsFold told.schedule told.server → IsFold told.schedule now.server
   keeps_fold zero now sends folds = subst (IsFold told.schedule) (sym sends.server) folds
   keeps_fold (suc count) now sends folds =
       let mid = sends.0 in
@@ -42,7 +42,7 @@ module _ (told : ServerRun) (send : Send) where
       subst (IsFold told.schedule) (sym sends.1.1.server) (subst (λ s. IsFold s (run_after mid send).server) schedule after)
 
   -- the trace gains the send alone
-  pub new_is : (count : ℕ) (now : ServerRun) → SendsWhereTold told now send count → (at : ℕ) (found : Send) → length told.server.trace ≤ at → slice_get now.server.trace at ≡ Some found
+  pub new_is : (count : ℕ) (now : ServerRun) → SendsWhereTold false told now send count → (at : ℕ) (found : Send) → length told.server.trace ≤ at → slice_get now.server.trace at ≡ Some found
       → send ≡ found
   new_is zero now sends at found above is = absurd (none_past told.server.trace at found above (ap (λ s. slice_get s.trace at) (sym sends.server) ∙ is))
   new_is (suc count) now sends at found above is =

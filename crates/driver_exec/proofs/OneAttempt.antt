@@ -1,10 +1,11 @@
 -- One attempt of an operation, from the calls in which it was made.
-use Rattle.std.proofs.Common.{◌≡◌, ℕ, ◌≤◌, List, [], ◌∷◌, refl, sym, ap, subst, ◌∙◌, inl, inr, arith}
+use Rattle.std.proofs.Common.{◌≡◌, ℕ, ◌+◌, ◌≤◌, List, [], ◌∷◌, ◌++◌, refl, sym, ap, subst, ◌∙◌, inl, inr, arith}
 use Rattle.std.specs.Prelude.{ℤ, Bool, true, false, Option, None, Some, is_some, Result, Ok, Err}
 use Rattle.std.proofs.lemmas.Bool.{and_parts}
+use Rattle.bson_lite.specs.declared.namespace.Namespace.{Namespace}
 use Rattle.driver_error.specs.declared.error.Error.{Error}
 use Rattle.driver_error.specs.declared.kind.ErrorKind.TheVariants as kind
-use Rattle.driver_error.specs.Error.{IsAlone}
+use Rattle.driver_error.specs.Error.{IsAlone, kind_of}
 use Rattle.driver_error.specs.LabelTexts.{no_labels}
 use Rattle.driver_link.specs.Clock.{ClockTells, ReadsClock}
 use Rattle.driver_link.specs.declared.fault.Answered.{Answered}
@@ -29,16 +30,17 @@ use Rattle.driver_session.specs.Session.{Session}
 use Rattle.driver_session.specs.StoreTells.{LendsSession, StoreTells, TakesSession}
 use Rattle.driver_ops.specs.declared.command.Command.{Command}
 use Rattle.driver_ops.specs.declared.operation.Reading.TheVariants as read
-use Rattle.driver_ops.specs.Fields.{SendContext}
-use Rattle.driver_ops.specs.Operations.{Batch, IsBuilt, IsFramed, IsUnframed, OperationSpec, ReadsAnswer, Refuses, SameSpec}
+use Rattle.driver_ops.specs.Fields.{SendContext, in_context}
+use Rattle.driver_ops.specs.Operations.{Batch, IsBuilt, IsFramed, IsUnframed, LeavesCursor, OperationSpec, Page, ReadsPages, ReadsPagesError, ReadsPagesOutput, Refuses, SameSpec}
 use Rattle.driver_ops.specs.SendKinds.{SendKind}
 use Rattle.driver_exec.specs.declared.attempt_end.AttemptEnd.{AttemptEnd}
 use Rattle.driver_exec.specs.declared.attempt_end.AttemptEnd.TheVariants.{Ended, Failed, Stopped, Unselected}
-use Rattle.driver_exec.specs.Attempting.{AsksEarly, AttemptState, AttemptedOperation, Connects, FailsIn, LosesExchange, MakesAttempt, NotConnected, Readies, Selects, Sends, SpellsFailure, asked_for, asks_session, attempted_operation, avoided, besides_out, is_nothing, may_use, on_connection, stops}
+use Rattle.driver_exec.specs.AttemptExchanges.{AsksPages, AttemptExchanges, EndsPages, Exchanges, PageAsked, held_after, pages_of}
+use Rattle.driver_exec.specs.Attempting.{AsksEarly, AttemptState, AttemptedOperation, Connects, FailsIn, LosesExchange, MakesAttempt, NotConnected, Readies, ReadsOn, Selects, Sends, SpellsFailure, asked_for, asks_session, attempted_operation, avoided, besides_out, is_nothing, may_use, on_connection, stops}
 use Rattle.driver_exec.specs.Causes.{AllEarly}
-use Rattle.driver_exec.specs.Holding.{ExecutionSession, needs_session, number_before}
+use Rattle.driver_exec.specs.Holding.{DrawsNumber, ExecutionSession, held_id, needs_session, number_before}
 use Rattle.driver_exec.specs.Retry.{RetryState}
-use Rattle.driver_exec.proofs.Attempts.{check_out_counts, counts_twice, select_counts, sent_number}
+use Rattle.driver_exec.proofs.Attempts.{check_out_counts, counts_twice, number_after_pages, select_counts, sent_number}
 use Rattle.driver_exec.proofs.Causes.{notes_since}
 use Rattle.driver_exec.specs.inside.Attempting.{Comes, Sending, attempt_state}
 use Rattle.driver_exec.specs.inside.Holding.{GivesBackAt, HoldsAt}
@@ -195,6 +197,7 @@ same_back old now same = record {
   retryability = λ options. sym (same.retryability options);
   backpressure = λ options. sym (same.backpressure options);
   after_cluster_time = sym same.after_cluster_time;
+  paged = sym same.paged;
   reads = λ statements pages result. ((same.reads statements pages result).1, (same.reads statements pages result).0);
   output = λ entries output. ((same.output entries output).1, (same.output entries output).0);
 }
@@ -235,29 +238,89 @@ module _ {A : Type 0} (old now : OperationSpec A) (same : SameSpec old now) wher
         is = unframed.is;
       }
 
-  -- and a reply that was read
-  pub answers_same : (statements : ℕ) (reply : List ℕ) (answer : Result A Error) → ReadsAnswer now statements reply answer → ReadsAnswer old statements reply answer
-  answers_same statements reply (Ok output) reads =
-      record { response = reads.response; done = reads.done; reads = (same.reads statements (Ok reads.response.body ∷ []) (Ok (read.Done output))).1 reads.reads }
-  answers_same statements reply (Err error) reads = elim reads [
+  -- and an error that was read in a reply and the pages behind it
+  pages_error_same : (statements : ℕ) (bytes : List ℕ) (pages : List Page) (error : Error) → ReadsPagesError now statements bytes pages error → ReadsPagesError old statements bytes pages error
+  pages_error_same statements bytes pages error reads = record {
+    response = reads.response;
+    done = reads.done;
+    bare = reads.bare;
+    reads = (same.reads statements (pages ++ Ok reads.response.body ∷ []) (Err reads.bare)).1 reads.reads;
+    kept = reads.kept;
+  }
+
+  pages_output_same : (statements : ℕ) (bytes : List ℕ) (pages : List Page) (output : A) → ReadsPagesOutput now statements bytes pages output → ReadsPagesOutput old statements bytes pages output
+  pages_output_same statements bytes pages output reads = record {
+    response = reads.response;
+    done = reads.done;
+    reads = (same.reads statements (pages ++ Ok reads.response.body ∷ []) (Ok (read.Done output))).1 reads.reads;
+  }
+
+  -- and a cursor that they left open
+  leaves_same : (statements : ℕ) (bytes : List ℕ) (pages : List Page) (cursor : ℤ) (namespace : Namespace) → LeavesCursor now statements bytes pages cursor namespace → LeavesCursor old statements bytes pages cursor namespace
+  leaves_same statements bytes pages cursor namespace leaves = record {
+    response = leaves.response;
+    done = leaves.done;
+    reads = (same.reads statements (pages ++ Ok leaves.response.body ∷ []) (Ok (read.Page cursor namespace))).1 leaves.reads;
+  }
+
+  answers_same : (statements : ℕ) (bytes : List ℕ) (answer : Result A Error) → ReadsPages now statements bytes [] answer → ReadsPages old statements bytes [] answer
+  answers_same statements bytes (Ok output) reads = pages_output_same statements bytes [] output reads
+  answers_same statements bytes (Err error) reads = elim reads [
     | inl spelled ↦ inl spelled
     | inr other ↦ elim other [
-      | inl found ↦ inr (inl (record {
-        response = found.response;
-        done = found.done;
-        bare = found.bare;
-        reads = (same.reads statements (Ok found.response.body ∷ []) (Err found.bare)).1 found.reads;
-        kept = found.kept;
-      }))
+      | inl found ↦ inr (inl (pages_error_same statements bytes [] error found))
       | inr memory ↦ inr (inr memory)
     ]
   ]
 
-  pub comes_same : (statements : ℕ) (connection_retryability : Retryability) (version : Option ℤ) (address : Address) (number : Option ℤ) (result : Result (List ℕ) LinkError) (attempt : AttemptEnd A)
-      → Comes now statements connection_retryability version address number result attempt → Comes old statements connection_retryability version address number result attempt
-  comes_same statements connection_retryability version address number (Ok reply) attempt comes =
-      record { answer = comes.answer; reads = answers_same statements reply comes.answer comes.reads; ends = comes.ends }
-  comes_same statements connection_retryability version address number (Err failure) attempt comes = comes
+  asks_same : (statements : ℕ) (bytes : List ℕ) (conn : Conn) (session : Option (List ℕ)) (link : LinkState) (asked : List PageAsked) (mid : LinkState)
+      → AsksPages now statements bytes conn session link asked mid → AsksPages old statements bytes conn session link asked mid
+  asks_same statements bytes conn session link [] mid asks = asks
+  asks_same statements bytes conn session link (last ∷ earlier) mid asks = (
+    asks.0,
+    (
+      asks_same statements bytes conn session link earlier asks.0 asks.1.0,
+      leaves_same statements bytes (pages_of earlier) last.cursor last.namespace asks.1.1,
+      asks.1.2,
+    ),
+  )
+
+  ends_pages_same : (statements : ℕ) (bytes : List ℕ) (conn : Conn) (link link_now : LinkState) (asked : List PageAsked) (answer : Result A Error)
+      → EndsPages now statements bytes conn link link_now asked answer → EndsPages old statements bytes conn link link_now asked answer
+  ends_pages_same statements bytes conn link link_now [] answer ends = (answers_same statements bytes answer ends.0, ends.1)
+  ends_pages_same statements bytes conn link link_now (last ∷ earlier) (Ok output) ends =
+      (pages_output_same statements bytes (pages_of (last ∷ earlier)) output ends.0, ends.1)
+  ends_pages_same statements bytes conn link link_now (last ∷ earlier) (Err error) ends = elim ends [
+    | inl fails ↦ inl (record { reads = pages_error_same statements bytes (pages_of (last ∷ earlier)) error fails.reads; ends = fails.ends })
+    | inr lacks ↦ inr (record {
+      why = lacks.why;
+      response = lacks.response;
+      done = lacks.done;
+      bare = lacks.bare;
+      reads = (same.reads statements (pages_of (last ∷ earlier) ++ Ok lacks.response.body ∷ []) (Err lacks.bare)).1 lacks.reads;
+      may = lacks.may;
+    })
+  ]
+
+  -- so are the exchanges behind that of the command
+  pub behind_same : (statements : ℕ) (bytes : List ℕ) (conn : Conn) (session : Option (List ℕ)) (link link_now : LinkState) (held held_now : ExecutionSession) (answer : Result A Error)
+      → AttemptExchanges now statements bytes conn session link link_now held held_now answer → AttemptExchanges old statements bytes conn session link link_now held held_now answer
+  behind_same statements bytes conn session link link_now held held_now answer exchanges = record {
+    asked = exchanges.asked;
+    mid = exchanges.mid;
+    asks = asks_same statements bytes conn session link exchanges.asked exchanges.mid exchanges.asks;
+    ends = ends_pages_same statements bytes conn exchanges.mid link_now exchanges.asked answer exchanges.ends;
+    held_is = exchanges.held_is;
+  }
+
+  pub comes_same : (statements : ℕ) (link link_now : LinkState) (connection_retryability : Retryability) (conn : Conn) (address : Address) (held held_now : ExecutionSession) (result : Result (List ℕ) LinkError) (attempt : AttemptEnd A)
+      → Comes now statements link link_now connection_retryability conn address held held_now result attempt → Comes old statements link link_now connection_retryability conn address held held_now result attempt
+  comes_same statements link link_now connection_retryability conn address held held_now (Ok reply) attempt comes = record {
+    answer = comes.answer;
+    exchanges = behind_same statements reply conn (held_id held) link link_now held held_now comes.answer comes.exchanges;
+    ends = comes.ends;
+  }
+  comes_same statements link link_now connection_retryability conn address held held_now (Err failure) attempt comes = comes
 
 -- a session that was lent where one was needed, at a reading of the clock
 pub holds_lent : (needed : Bool) → needed ≡ true → (store now : StoreTells) (clock clock_now : ClockTells) (held held_now : ExecutionSession) (session : Session) (at : ℕ)
@@ -372,33 +435,59 @@ module _ {A : Type 0} (spec : OperationSpec A) (batch : Batch) (which : SendKind
         abbrev came : AttemptState
         came = attempt_state store_now link_now clock_now held_now count_now fixed_now
 
-        -- the command's reply was read
-        read_attempt_made : (reply : List ℕ) (answer : Result A Error) (attempt : AttemptEnd A) (sends : Sends op past began came address conn (Ok reply)) → ReadsAnswer spec batch.statements reply answer
-            → EndsRead connection_retryability version address sends.number answer attempt → MakesAttempt op past began came attempt
-        read_attempt_made reply (Ok output) attempt sends reads ends =
-            subst (λ a. MakesAttempt op past began came a) (sym ends) (record { address = address; conn = conn; reply = reply; sends = sends; reads = reads })
-        read_attempt_made reply (Err read) (Failed attempt_failure) sends reads ends = (
-          subst (λ phase. FailsIn op past began came attempt_failure.address phase attempt_failure.error) (sym ends.phase_is)
-              (inr (subst (λ at. SpellsFailure op past began came at attempt_failure.error) (sym ends.address_is) (record {
-                conn = conn;
-                reply = reply;
-                sends = sends;
-                is = record {
-                  bare = ends.error.bare;
-                  is = record { bare = read; reads = reads; labelled = ends.error.is };
-                  versioned = ends.error.versioned;
-                };
-              }))),
-          ends.number_is ∙ sym (sent_number (Ok reply) sends),
-        )
-        read_attempt_made reply (Err read) (Ended error) sends reads memory =
-            inr (inr (record { address = address; conn = conn; result = Ok reply; sends = sends; why = memory }))
-        read_attempt_made reply (Err read) _ sends reads ends = absurd ends
+        -- what was told behind the exchange of the command
+        abbrev behind_at : LinkState → ExecutionSession → AttemptState
+        behind_at told_link told_held = record { store = store_now; link = told_link; clock = clock_now; held = told_held; count = count_now; fixed = fixed_now }
+
+        module _ (told_link : LinkState) (sent : ExecutionSession) (reply : List ℕ) (sends : Sends op past began (behind_at told_link sent) address conn (Ok reply)) where
+          abbrev behind : AttemptState
+          behind = behind_at told_link sent
+
+          module _ (answer : Result A Error) (exchanges : AttemptExchanges spec batch.statements reply conn (held_id sent) told_link (besides_out link_now) sent held_now answer) where
+            reads_on : ReadsOn op conn reply behind came answer
+            reads_on = record { exchanges = exchanges; store = refl; clock = refl; count = refl; fixed = refl }
+
+            -- the number of the send stays
+            number_stays : number_before held_now ≡ number_before sent
+            number_stays = ap number_before exchanges.held_is ∙ number_after_pages exchanges.asked sent
+
+            -- there was no memory behind a reply
+            memory_attempt_made : (error : Error) → kind_of error ≡ kind.Memory → MakesAttempt op past began came (Ended error)
+            memory_attempt_made error memory = inr (inr (record {
+              address = address;
+              conn = conn;
+              result = Ok reply;
+              behind = behind;
+              sends = sends;
+              reads = record { answer = answer; reads = reads_on };
+              why = memory;
+            }))
+
+          -- the answer to the command was read
+          read_attempt_made : (answer : Result A Error) (attempt : AttemptEnd A) → AttemptExchanges spec batch.statements reply conn (held_id sent) told_link (besides_out link_now) sent held_now answer
+              → EndsRead connection_retryability version address (number_before sent) answer attempt → MakesAttempt op past began came attempt
+          read_attempt_made (Ok output) attempt exchanges ends =
+              subst (λ a. MakesAttempt op past began came a) (sym ends) (record { address = address; conn = conn; reply = reply; behind = behind; sends = sends; reads = reads_on (Ok output) exchanges })
+          read_attempt_made (Err spelled) (Failed attempt_failure) exchanges ends = (
+            subst (λ phase. FailsIn op past began came attempt_failure.address phase attempt_failure.error) (sym ends.phase_is)
+                (inr (subst (λ at. SpellsFailure op past began came at attempt_failure.error) (sym ends.address_is) (record {
+                  conn = conn;
+                  reply = reply;
+                  behind = behind;
+                  sends = sends;
+                  bare = spelled;
+                  reads = reads_on (Err spelled) exchanges;
+                  is = ends.error;
+                }))),
+            ends.number_is ∙ sym (number_stays (Err spelled) exchanges),
+          )
+          read_attempt_made (Err spelled) (Ended error) exchanges memory = memory_attempt_made (Err spelled) exchanges error memory
+          read_attempt_made (Err spelled) _ exchanges ends = absurd ends
 
         -- its exchange failed
-        lost_attempt_made : (failure : LinkError) (attempt : AttemptEnd A) (sends : Sends op past began came address conn (Err failure)) → EndsLost connection_retryability version address sends.number failure attempt
-            → MakesAttempt op past began came attempt
-        lost_attempt_made (Fault fault labels) (Failed attempt_failure) sends ends = (
+        lost_attempt_made : (failure : LinkError) (attempt : AttemptEnd A) (number : Option ℤ) → number_before held_now ≡ number → Sends op past began came address conn (Err failure)
+            → EndsLost connection_retryability version address number failure attempt → MakesAttempt op past began came attempt
+        lost_attempt_made (Fault fault labels) (Failed attempt_failure) number number_is sends ends = (
           subst (λ phase. FailsIn op past began came attempt_failure.address phase attempt_failure.error) (sym ends.phase_is)
               (inl (subst (λ at. LosesExchange op past began came at attempt_failure.error) (sym ends.address_is) (record {
                 conn = conn;
@@ -407,18 +496,52 @@ module _ {A : Type 0} (spec : OperationSpec A) (batch : Batch) (which : SendKind
                 sends = sends;
                 is = ends.error;
               }))),
-          ends.number_is ∙ sym (sent_number (Err (Fault fault labels)) sends),
+          ends.number_is ∙ sym number_is,
         )
-        lost_attempt_made (Fault fault labels) (Ended error) sends memory =
-            inr (inr (record { address = address; conn = conn; result = Err (Fault fault labels); sends = sends; why = memory }))
-        lost_attempt_made Memory (Ended error) sends memory = inr (inr (record { address = address; conn = conn; result = Err Memory; sends = sends; why = memory }))
-        lost_attempt_made (Fault fault labels) _ sends ends = absurd ends
-        lost_attempt_made Memory _ sends ends = absurd ends
+        lost_attempt_made (Fault fault labels) (Ended error) number number_is sends memory =
+            inr (inr (record { address = address; conn = conn; result = Err (Fault fault labels); behind = came; sends = sends; reads = refl; why = memory }))
+        lost_attempt_made Memory (Ended error) number number_is sends memory =
+            inr (inr (record { address = address; conn = conn; result = Err Memory; behind = came; sends = sends; reads = refl; why = memory }))
+        lost_attempt_made (Fault fault labels) _ number number_is sends ends = absurd ends
+        lost_attempt_made Memory _ number number_is sends ends = absurd ends
 
-        came_attempt_made : (result : Result (List ℕ) LinkError) (attempt : AttemptEnd A) (sends : Sends op past began came address conn result) → Comes spec batch.statements connection_retryability version address sends.number result attempt
-            → MakesAttempt op past began came attempt
-        came_attempt_made (Ok reply) attempt sends comes = read_attempt_made reply comes.answer attempt sends comes.reads comes.ends
-        came_attempt_made (Err failure) attempt sends comes = lost_attempt_made failure attempt sends comes
+        -- the command went out, and this came of it
+        module _ (numbered : ExecutionSession) (number : Option ℤ) (draws : DrawsNumber ready.sent connection_retryability ready numbered (Ok number)) (takes : spec.takes fixed conn.description batch.statements)
+            (counted : count_now ≡ count + 1) (fixed_is : fixed_now ≡ Some batch.statements) where
+          -- what is held as it goes out
+          abbrev sent : ExecutionSession
+          sent = record numbered { sent = Some number }
+
+          sends_at : (told_link : LinkState) (told_held : ExecutionSession) (result : Result (List ℕ) LinkError)
+              → Exchanges spec which batch (besides_out link) told_link conn (in_context (held_id numbered) number concern) result → told_held ≡ held_after result sent
+              → Sends op past began (behind_at told_link told_held) address conn result
+          sends_at told_link told_held result exchanges held_is = record {
+            ready = attempt_state store_now link clock_now ready count fixed;
+            readies = readied;
+            allowed = allowed;
+            goes = goes;
+            numbered = numbered;
+            number = number;
+            draws = draws;
+            takes = takes;
+            exchanges = exchanges;
+            store_is = refl;
+            clock_is = refl;
+            held_is = held_is;
+            counted = counted;
+            fixed_is = fixed_is;
+          }
+
+          came_attempt_made : (told_link : LinkState) (result : Result (List ℕ) LinkError) (attempt : AttemptEnd A)
+              → Exchanges spec which batch (besides_out link) told_link conn (in_context (held_id numbered) number concern) result
+              → Comes spec batch.statements told_link (besides_out link_now) connection_retryability conn address sent held_now result attempt → MakesAttempt op past began came attempt
+          unfolding sends_at
+          came_attempt_made told_link (Ok reply) attempt exchanges comes =
+              read_attempt_made told_link sent reply (sends_at told_link sent (Ok reply) exchanges refl) comes.answer attempt comes.exchanges comes.ends
+          came_attempt_made told_link (Err failure) attempt exchanges comes =
+              let here = subst (λ l. Exchanges spec which batch (besides_out link) l conn (in_context (held_id numbered) number concern) (Err failure)) (sym comes.same) exchanges in
+              let sends = sends_at (besides_out link_now) held_now (Err failure) here comes.held_is in
+              lost_attempt_made failure attempt number (sent_number (Err failure) sends) sends comes.ends
 
         sending_attempt_made : (attempt : AttemptEnd A) → Sending spec which concern batch (is_some past) (besides_out link) (besides_out link_now) connection_retryability conn address ready held_now count count_now fixed fixed_now attempt → MakesAttempt op past began came attempt
         sending_attempt_made attempt sending = elim sending [
@@ -467,22 +590,7 @@ module _ {A : Type 0} (spec : OperationSpec A) (batch : Batch) (which : SendKind
                   refused = unfit.refused;
                 },
               )
-              | inr out ↦ came_attempt_made out.exchanging.result attempt (record {
-                ready = attempt_state store_now link clock_now ready count fixed;
-                readies = readied;
-                allowed = allowed;
-                goes = goes;
-                numbered = out.numbered;
-                number = out.number;
-                draws = out.draws;
-                takes = out.takes;
-                exchanges = out.exchanging.exchanges;
-                store_is = refl;
-                clock_is = refl;
-                held_is = out.exchanging.held_is;
-                counted = out.counted;
-                fixed_is = out.fixed_is;
-              }) out.exchanging.comes
+              | inr out ↦ came_attempt_made out.numbered out.number out.draws out.takes out.counted out.fixed_is out.exchanging.behind out.exchanging.result attempt out.exchanging.exchanges out.exchanging.comes
             ]
           ]
         ]

@@ -1,6 +1,6 @@
 -- The sends of an operation are one and the same, at most two, and the session that they are under was borrowed.
 use Rattle.std.proofs.Common.{◌≡◌, ℕ, suc, ◌+◌, ◌≤◌, List, [], ◌∷◌, length, refl, sym, ap, subst, ◌∙◌, inl, inr, arith}
-use Rattle.std.specs.Prelude.{ℤ, Bool, true, Option, None, Some, Result, Ok, Err}
+use Rattle.std.specs.Prelude.{ℤ, Bool, true, false, Option, None, Some, Result, Ok, Err}
 use Rattle.driver_error.specs.declared.error.Error.{Error}
 use Rattle.driver_link.specs.Clock.{ClockTells}
 use Rattle.driver_link.specs.declared.fault.LinkError.TheVariants.{Fault}
@@ -13,6 +13,7 @@ use Rattle.driver_session.specs.Session.{MayRaise, Numbers, Session}
 use Rattle.driver_session.proofs.IdDraws.{draws_lending, draws_staying, draws_taking, draws_twice}
 use Rattle.driver_session.proofs.LentSessions.{lends_staying, lends_turning}
 use Rattle.driver_ops.specs.Fields.{under}
+use Rattle.driver_ops.specs.OperationLaw.{NeverOpen}
 use Rattle.driver_ops.specs.Operations.{Batch, OperationSpec, send_of}
 use Rattle.driver_ops.specs.SendKinds.{SendKind}
 use Rattle.driver_exec.specs.declared.attempt_end.AttemptEnd.{AttemptEnd}
@@ -38,39 +39,9 @@ use Rattle.driver_exec.proofs.SendRelations.{none_sent}
 use Rattle.driver_exec.proofs.BorrowedSession.{CountFits, HoldsFrom, HoldsLast, MayGoOn, NumberFits, id_of, number_of}
 use Rattle.driver_exec.proofs.Courses.{Course, Drawn, Over, counted, course_over, drawn, one_more, starts, store_stays}
 use Rattle.driver_exec.proofs.Unnumbered.{ended_bare}
-use Rattle.driver_exec.proofs.Progress.{CourseAt, OverAt, failed_course, goes_phase, only_link, over_at, reads_at, ready_course}
+use Rattle.driver_exec.proofs.Progress.{CourseAt, OverAt, answered_over, failed_course, goes_phase, only_link, reads_last, ready_course, sent_ends}
 
 module _ {A : Type 0} (op : AttemptedOperation A) (sharded : Bool) (store : StoreTells) (link : LinkState) where
-  -- where an operation has come so far
-  reaches_course : (clock : ClockTells) (count : ℕ) (fixed : Option ℕ) (failures : List AttemptFailure) (kept : Option RetryState) (now : AttemptState) → Reaches op sharded (first_state store link clock count fixed) failures kept now
-      → CourseAt op store link (length failures) now × MayGoOn now.held.sent
-  reaches_course clock count fixed [] kept now reaches =
-      subst (λ s. CourseAt op store link 0 s × MayGoOn s.held.sent) (sym reaches.1) (starts op.spec op.batch store (server_run link), tt)
-  reaches_course clock count fixed (failure ∷ failures) kept now reaches =
-      let mid = reaches.1.1.0 in
-      let rest = reaches.1.1.1 in
-      let earlier = rest.0 in
-      let came = reaches_course clock count fixed failures earlier mid rest.1.0 in
-      let fails = rest.1.1 in (
-        failed_course op store link earlier (length failures) mid came.1 came.0 now failure fails.makes,
-        goes_phase op store link earlier (length failures) mid came.1 came.0 now failure.address failure.phase failure.error fails.makes.0
-            (subst (λ n. may_be_sent failure.phase n ≡ true) fails.makes.1 (decided_sent earlier failure op.retryability sharded reaches.0 fails.decides)),
-      )
-
-  -- the failure that is kept, where only a reply spells it, was read by then
-  reaches_read : (clock : ClockTells) (count : ℕ) (fixed : Option ℕ) (failures : List AttemptFailure) (kept : Option RetryState) (now : AttemptState) → Reaches op sharded (first_state store link clock count fixed) failures kept now
-      → KeptHas (FailureAt op link (length failures) now) kept
-  reaches_read clock count fixed [] kept now reaches = subst (KeptHas (FailureAt op link 0 now)) (sym reaches.0) tt
-  reaches_read clock count fixed (failure ∷ failures) kept now reaches =
-      let mid = reaches.1.1.0 in
-      let rest = reaches.1.1.1 in
-      let earlier = rest.0 in
-      let came = reaches_course clock count fixed failures earlier mid rest.1.0 in
-      let has = reaches_read clock count fixed failures earlier mid rest.1.0 in
-      let fails = rest.1.1 in
-      subst (KeptHas (FailureAt op link (suc (length failures)) now)) (sym reaches.1.0)
-      (decided_read op store link earlier (length failures) mid came.1 came.0 sharded earlier now failure (Ok reaches.0) fails.makes has fails.decides)
-
   -- how many attempts there were
   pub record Few (failures : List AttemptFailure) (kept : Option RetryState) : Type 0 where
     pub once : AtMostOne kept
@@ -86,6 +57,37 @@ module _ {A : Type 0} (op : AttemptedOperation A) (sharded : Bool) (store : Stor
       let fails = rest.1.1 in
       let fewer = decided_fewer failure op.retryability sharded earlier reaches.0 few.once fails.goes_on fails.decides in
       subst (Few (failure ∷ failures)) (sym reaches.1.0) (record { once = fewer.once; left = omega (arith, few.left, fewer.fewer) })
+
+module _ {A : Type 0} (op : AttemptedOperation A) (sharded : Bool) (store : StoreTells) (link : LinkState) (alone : op.spec.paged ≡ false → NeverOpen op.spec) where
+  -- where an operation has come so far
+  reaches_course : (clock : ClockTells) (count : ℕ) (fixed : Option ℕ) (failures : List AttemptFailure) (kept : Option RetryState) (now : AttemptState) → Reaches op sharded (first_state store link clock count fixed) failures kept now
+      → CourseAt op store link (length failures) now × MayGoOn now.held.sent
+  reaches_course clock count fixed [] kept now reaches =
+      subst (λ s. CourseAt op store link 0 s × MayGoOn s.held.sent) (sym reaches.1) (starts op.spec op.batch store (server_run link), tt)
+  reaches_course clock count fixed (failure ∷ failures) kept now reaches =
+      let mid = reaches.1.1.0 in
+      let rest = reaches.1.1.1 in
+      let earlier = rest.0 in
+      let came = reaches_course clock count fixed failures earlier mid rest.1.0 in
+      let fails = rest.1.1 in (
+        failed_course op store link alone earlier (length failures) mid came.1 came.0 now failure fails.makes,
+        goes_phase op store link alone earlier (length failures) mid came.1 came.0 now failure.address failure.phase failure.error fails.makes.0
+            (subst (λ n. may_be_sent failure.phase n ≡ true) fails.makes.1 (decided_sent earlier failure op.retryability sharded reaches.0 fails.decides)),
+      )
+
+  -- the failure that is kept, where only a reply spells it, was read by then
+  reaches_read : (clock : ClockTells) (count : ℕ) (fixed : Option ℕ) (failures : List AttemptFailure) (kept : Option RetryState) (now : AttemptState) → Reaches op sharded (first_state store link clock count fixed) failures kept now
+      → KeptHas (FailureAt op link (length failures) now) kept
+  reaches_read clock count fixed [] kept now reaches = subst (KeptHas (FailureAt op link 0 now)) (sym reaches.0) tt
+  reaches_read clock count fixed (failure ∷ failures) kept now reaches =
+      let mid = reaches.1.1.0 in
+      let rest = reaches.1.1.1 in
+      let earlier = rest.0 in
+      let came = reaches_course clock count fixed failures earlier mid rest.1.0 in
+      let has = reaches_read clock count fixed failures earlier mid rest.1.0 in
+      let fails = rest.1.1 in
+      subst (KeptHas (FailureAt op link (suc (length failures)) now)) (sym reaches.1.0)
+      (decided_read op store link alone earlier (length failures) mid came.1 came.0 sharded earlier now failure (Ok reaches.0) fails.makes has fails.decides)
 
   -- the last attempt
   module _ (most : ℕ) (few : most ≤ 1) (kept : Option RetryState) (mid now : AttemptState) (goes : MayGoOn mid.held.sent) (course : CourseAt op store link most mid)
@@ -166,7 +168,7 @@ module _ {A : Type 0} (op : AttemptedOperation A) (sharded : Bool) (store : Stor
             count = 0;
             within = omega arith;
             once = λ none. omega arith;
-            sends = none_sent (server_run link) (server_run ready.link) (send_of (under (id_of ready.held.session) (number_of ready.held.sent)) body) (send_of (under (id_of numbered.session) None) body)
+            sends = none_sent op.spec.paged (server_run link) (server_run ready.link) (send_of (under (id_of ready.held.session) (number_of ready.held.sent)) body) (send_of (under (id_of numbered.session) None) body)
                 done.count (subst (λ s. CountFits s done.count) is done.fits) (done.sends body asked);
           };
           holds = any_number ready.store number numbered.session is_drawn.holds;
@@ -205,7 +207,7 @@ module _ {A : Type 0} (op : AttemptedOperation A) (sharded : Bool) (store : Stor
           (counted op.spec op.batch store (server_run link) most mid.store (server_run mid.link) (server_run now.link) mid.held.session mid.held.sent (early_counted mid.link now.link unready.asks).server course)))
       | inr other ↦ elim other [
         | inl refused ↦ more_over (refused_over past error refused)
-        | inr sent ↦ over_at op store link past most mid goes course now sent.address sent.conn sent.result sent.sends
+        | inr sent ↦ sent_ends op store link alone past most mid goes course now error sent
       ]
     ]
 
@@ -229,8 +231,8 @@ module _ {A : Type 0} (op : AttemptedOperation A) (sharded : Bool) (store : Stor
     attempt_last : (past : Option RetryState) (attempt : AttemptEnd A) (result : Result A Error) → MakesAttempt op past mid now attempt → EndsWith kept attempt result → LastAt result
     attempt_last past (Done output) result makes ends =
         subst LastAt (sym ends) (
-          over_at op store link past most mid goes course now makes.address makes.conn (Ok makes.reply) makes.sends,
-          reads_at op store link past most mid goes course now makes.address makes.conn (Ok makes.reply) makes.sends few makes.reply output refl makes.reads,
+          answered_over op store link alone past most mid goes course now output makes,
+          reads_last op store link alone past most mid goes course few now output makes,
         )
     attempt_last past (Failed failure) result makes ends = absurd ends
     attempt_last past (Unselected error) result makes ends = by_kept kept refl ends
@@ -266,7 +268,7 @@ module _ {A : Type 0} (op : AttemptedOperation A) (sharded : Bool) (store : Stor
   refused_read : (most : ℕ) (kept : Option RetryState) (mid now : AttemptState) (result : Result A Error) → MayGoOn mid.held.sent → CourseAt op store link most mid
       → KeptHas (FailureAt op link most mid) kept → (refused : EndsNotAllowed op sharded kept mid now result) → FailureAt op link (suc most) now refused.error
   refused_read most kept mid now result goes course has refused = elim refused.refused [
-    | inl is ↦ decided_read op store link kept most mid goes course sharded kept now refused.failure (Err refused.error) refused.makes has is
+    | inl is ↦ decided_read op store link alone kept most mid goes course sharded kept now refused.failure (Err refused.error) refused.makes has is
     | inr memory ↦ λ read. absurd (subst IsReadFailure memory read)
   ]
 
@@ -282,7 +284,7 @@ module _ {A : Type 0} (op : AttemptedOperation A) (sharded : Bool) (store : Stor
   finishes clock count fixed failures kept mid now result reaches ends =
       let came = reaches_course clock count fixed failures kept mid reaches in
       let has = reaches_read clock count fixed failures kept mid reaches in
-      let few = reaches_few clock count fixed failures kept mid reaches in
+      let few = reaches_few op sharded store link clock count fixed failures kept mid reaches in
       elim ends [
         | inl last ↦
             let left = one_left kept few.once last.goes_on in
@@ -306,7 +308,7 @@ module _ {A : Type 0} (op : AttemptedOperation A) (sharded : Bool) (store : Stor
           | inr refused ↦
               let left = one_left kept few.once refused.goes_on in
               let one : length failures ≤ 1 = omega (arith, few.left, left) in
-              let done = failed_course op store link kept (length failures) mid came.1 came.0 now refused.failure refused.makes in
+              let done = failed_course op store link alone kept (length failures) mid came.1 came.0 now refused.failure refused.makes in
               let two : suc (length failures) ≤ 2 = omega (arith, one) in
               let reads : FailureAt op link (suc (length failures)) now refused.error
               = refused_read (length failures) kept mid now result came.1 came.0 has refused in
@@ -352,7 +354,7 @@ borrows_draws store now (Some id) number borrows =
 
 -- an operation as a whole, which is not refused for its concern
 module _ {A : Type 0} (spec : OperationSpec A) (batch : Batch) (which : SendKind) (before now : Moment) (count count_now : ℕ) (fixed fixed_now : Option ℕ) (result : Result A Error)
-    (executes : Proceeds spec batch which before now count count_now fixed fixed_now result) where
+    (alone : spec.paged ≡ false → NeverOpen spec) (executes : Proceeds spec batch which before now count count_now fixed fixed_now result) where
   abbrev op : AttemptedOperation A
   op = attempted_operation spec batch which (spec.retryability before.client.options) (concern_of spec which before.client.options)
 
@@ -361,8 +363,8 @@ module _ {A : Type 0} (spec : OperationSpec A) (batch : Batch) (which : SendKind
   came = came_of op executes.sharded (first_state before.store (besides_out before.link) before.clock count fixed) executes.last result executes.attempts
 
   -- so it is over
-  done : Finished op executes.sharded before.store (besides_out before.link) executes.last result
-  done = finishes op executes.sharded before.store (besides_out before.link) before.clock count fixed came.0 executes.attempts.kept executes.attempts.mid executes.last result came.1 executes.attempts.ends
+  done : Finished op executes.sharded before.store (besides_out before.link) alone executes.last result
+  done = finishes op executes.sharded before.store (besides_out before.link) alone before.clock count fixed came.0 executes.attempts.kept executes.attempts.mid executes.last result came.1 executes.attempts.ends
 
   -- the server is that of the last attempt
   server_is : server_run now.link ≡ server_run executes.last.link
@@ -375,10 +377,10 @@ module _ {A : Type 0} (spec : OperationSpec A) (batch : Batch) (which : SendKind
     unnumbered = λ nothing.
         ended_bare op executes.sharded nothing (first_state before.store (besides_out before.link) before.clock count fixed) refl came.0 executes.attempts.kept executes.attempts.mid executes.last result came.1
         executes.attempts.ends;
-    borrows = borrows op executes.sharded before.store (besides_out before.link) executes.last.store now.store (number_of executes.last.held.sent) executes.last.held.session done.over.holds executes.comes_back;
+    borrows = borrows op executes.sharded before.store (besides_out before.link) alone executes.last.store now.store (number_of executes.last.held.sent) executes.last.held.session done.over.holds executes.comes_back;
     sends = λ body asked.
         let sent = done.over.sends body asked in
-        subst (λ server. SentWithin 2 (server_run before.link) server (send_of (under (id_of executes.last.held.session) (number_of executes.last.held.sent)) body)) (sym server_is)
+        subst (λ server. SentWithin spec.paged 2 (server_run before.link) server (send_of (under (id_of executes.last.held.session) (number_of executes.last.held.sent)) body)) (sym server_is)
         (record { count = sent.count; within = omega (arith, sent.within, done.few); once = sent.once; sends = sent.sends });
     ends = subst (λ server. EndsWithReading spec batch (server_run before.link) server (id_of executes.last.held.session) (number_of executes.last.held.sent) result) (sym server_is) done.ends;
   }

@@ -1,10 +1,13 @@
 -- Why an operation ended as it did, from its attempts and from what was decided after each.
 use Rattle.std.proofs.Common.{◌≡◌, ℕ, ◌≤◌, List, [], ◌∷◌, ◌++◌, refl, sym, ap, subst, ◌∙◌, inl, inr, arith}
 use Rattle.std.specs.Prelude.{ℤ, Bool, true, false, ◌&&◌, Option, None, Some, is_some, ◌⊎◌, Result, Ok, Err, if◌then◌else◌}
+use Rattle.bson_lite.specs.declared.bson.Bson.{Bson}
+use Rattle.bson_lite.specs.declared.document.Pair.{Pair}
+use Rattle.bson_lite.specs.Spelling.{Spells}
 use Rattle.driver_error.specs.declared.error.Error.{Error, out-Error, out-roll-Error}
 use Rattle.driver_error.specs.declared.kind.ErrorKind.TheVariants as kind
 use Rattle.driver_error.specs.declared.labels.TheConstants.{RETRYABLE_WRITE_ERROR}
-use Rattle.driver_error.specs.Error.{IsAlone, kind_of, labels_of, with_kind}
+use Rattle.driver_error.specs.Error.{IsAlone, kind_of, labels_of, source_of, with_kind}
 use Rattle.driver_error.specs.LabelTexts.{LabelSet, label_set, no_labels, with_label}
 use Rattle.driver_error.specs.Predicates.{of_network}
 use Rattle.driver_link.specs.Clock.{ClockTells}
@@ -14,7 +17,7 @@ use Rattle.driver_link.specs.declared.fault.Answered.TheVariants as answer
 use Rattle.driver_link.specs.declared.fault.LinkCall.{LinkCall}
 use Rattle.driver_link.specs.declared.fault.LinkCall.TheVariants.{CheckOut, Exchange, Select}
 use Rattle.driver_link.specs.declared.fault.LinkError.{LinkError}
-use Rattle.driver_link.specs.declared.fault.LinkError.TheVariants.{Fault}
+use Rattle.driver_link.specs.declared.fault.LinkError.TheVariants.{Fault, Memory}
 use Rattle.driver_link.specs.declared.fault.LinkFault.{LinkFault}
 use Rattle.driver_link.specs.declared.fault.LinkFault.TheVariants as fault
 use Rattle.driver_link.specs.declared.machine.Place.{Place}
@@ -24,7 +27,7 @@ use Rattle.driver_link.specs.declared.options.Conn.{Conn}
 use Rattle.driver_link.specs.declared.options.Description.{Description}
 use Rattle.driver_link.specs.Counting.{Listed}
 use Rattle.driver_link.specs.Failures.{fault_kind, is_network}
-use Rattle.driver_link.specs.Faults.{Rose}
+use Rattle.driver_link.specs.Faults.{HasLinkCause, Rose}
 use Rattle.driver_link.specs.Framed.{Framed}
 use Rattle.driver_link.specs.LinkCalls.{CallsLink, ExchangesFrame}
 use Rattle.driver_link.specs.LinkState.{GainsAll, LinkState, noted, nothing_noted, reply_noted, setup_of}
@@ -32,33 +35,36 @@ use Rattle.driver_link.specs.ServerRun.{ServerRun}
 use Rattle.driver_session.specs.declared.retryability.Retryability.{Retryability}
 use Rattle.driver_session.specs.declared.retryability.Retryability.TheVariants as may
 use Rattle.driver_session.specs.StoreTells.{StoreTells}
-use Rattle.driver_ops.specs.Fields.{SendContext, in_context}
-use Rattle.driver_ops.specs.Operations.{Batch, IsUnframed, OperationSpec, Refuses, front}
+use Rattle.driver_ops.specs.Fields.{SendContext, in_context, under}
+use Rattle.driver_ops.specs.OperationLaw.{NeverOpen}
+use Rattle.driver_ops.specs.Operations.{Batch, IsUnframed, LeavesCursor, OperationSpec, Page, Refuses, front}
 use Rattle.driver_ops.specs.SendKinds.{SendKind}
 use Rattle.driver_exec.specs.declared.attempt_end.AttemptEnd.{AttemptEnd}
 use Rattle.driver_exec.specs.declared.attempt_end.AttemptEnd.TheVariants.{Done, Ended, Failed, Stopped, Unfit, Unselected}
 use Rattle.driver_exec.specs.declared.failure.AttemptFailure.{AttemptFailure}
 use Rattle.driver_exec.specs.declared.failure.FailurePhase.{FailurePhase}
 use Rattle.driver_exec.specs.declared.failure.FailurePhase.TheVariants.{ConnectionEstablishment, Execution}
-use Rattle.driver_exec.specs.Attempting.{Connects, EndsAtOnce, EndsRefused, EndsSent, EndsUnready, FailsIn, IsAnswered, LosesExchange, NoFrame, NoNumber, NoSessions, NotConnected, NotSelected, Readies, AttemptState, Sends, SpellsFailure, AttemptedOperation, MakesAttempt, besides_out, builds_again, on_connection, attempted_operation}
+use Rattle.driver_exec.specs.AttemptExchanges.{AsksPage, AsksPages, AttemptExchanges, EndsCursor, EndsCursorWhere, EndsPages, PageAsked, PageCame, ends_cursor, no_statements, pages_of}
+use Rattle.driver_exec.specs.Attempting.{Connects, EndsAtOnce, EndsRefused, EndsSent, EndsUnready, FailsIn, IsAnswered, LosesExchange, MayReadOn, NoFrame, NoNumber, NoSessions, NotConnected, NotSelected, Readies, ReadsOn, AttemptState, Sends, SpellsFailure, AttemptedOperation, MakesAttempt, besides_out, builds_again, on_connection, attempted_operation}
 use Rattle.driver_exec.specs.Causes as causes
 use Rattle.driver_exec.specs.Causes.{AllEarly, IsLast, KindAtLast, end_of, outline_of, next_number}
 use Rattle.driver_exec.specs.Executing.{Ends, EndsWith, Proceeds, first_state}
 use Rattle.driver_exec.specs.Concerns.{concern_of}
-use Rattle.driver_exec.specs.Failures.{IsFaultOf}
+use Rattle.driver_exec.specs.Failures.{IsFaultOf, is_memory}
 use Rattle.driver_exec.specs.Holding.{DrawsNumber, ExecutionSession, held_id}
 use Rattle.driver_exec.specs.LabelTable.{labels_outside_transactions}
 use Rattle.driver_exec.specs.Moment.{Moment}
 use Rattle.driver_exec.specs.OldDeployment.{reworded, reworded_kind}
-use Rattle.driver_exec.specs.OperationCauses.{Caused, DrawsNumbers, EndAtLast, EndNeeds, EndsCaused, FaultLabels, Grounds, IsRead, KindNeeds, SpellsEnd, TakesFirst, grounds, labels_after}
+use Rattle.driver_exec.specs.OperationCauses.{Caused, DrawsNumbers, EndAtLast, EndNeeds, EndsCaused, FaultLabels, Grounds, IsRead, KindNeeds, PageNeeds, PagesNeed, SpellsEnd, TakesFirst, grounds, labels_after}
 use Rattle.driver_exec.specs.Retry.{RetryState, after, after_further, avoiding, decide, in_phase, may_be_retried, reworded_failure, stays}
 use Rattle.driver_exec.specs.inside.Executing.{Reaches}
 use Rattle.driver_exec.proofs.RetryFold.{came_of}
 use Rattle.driver_exec.proofs.Causes.{notes_nothing}
-use Rattle.driver_exec.proofs.HeldSessions.{AtEnd, HeldSoFar, IsOf, draw_holds, draws_on, exchange_holds, held_at_first, is_of, is_told, last_draws_none, none_draws, ready_held, ready_holds, sent_held, sessionless, unnumbered_at_end}
-use Rattle.driver_exec.proofs.EndNeeds.{early_twice, end_after, end_before, last_after, notes_twice}
-use Rattle.driver_exec.proofs.FixedNumbers.{MayBeFixed, first_fixed, ready_sent, sends_first}
+use Rattle.driver_exec.proofs.HeldSessions.{AtEnd, HeldSoFar, IsOf, draw_holds, draws_on, exchange_holds, held_at_first, is_of, is_told, last_draws_none, none_draws, pages_hold, ready_held, ready_holds, sent_held, sessionless, unnumbered_at_end}
+use Rattle.driver_exec.proofs.EndNeeds.{early_twice, end_after, end_before, last_after, notes_twice, page_after, pages_before, pages_since}
+use Rattle.driver_exec.proofs.FixedNumbers.{MayBeFixed, first_fixed, read_sent, ready_sent, sends_first}
 use Rattle.driver_exec.proofs.OneAttempt.{early_counted, later_of}
+use Rattle.driver_exec.proofs.PassesBy.{no_pages, reads_error, reads_output}
 
 -- a link noted these; its count of faults did not fall, and its setup stays
 pub record Adds (link now : LinkState) (items : List Answered) : Type 0 where
@@ -118,6 +124,10 @@ fault_error found labels retryability error is = (
   is.labelled.labels ∙ table_labels retryability found labels is.bare is.is.kind_is is.is.labels_are,
 )
 
+-- it has no source
+pub fault_source : (found : LinkFault) (labels : List (List ℕ)) (retryability : Retryability) (error : Error) → IsFaultOf found labels retryability error → source_of error ≡ None
+fault_source found labels retryability error is = is.labelled.rest.source ∙ is.is.no_source
+
 -- those of an exchange's fault are by the connection
 exchange_labels : (retryability : Retryability) (setup : Option Setup) (description : Description) (found : LinkFault) (given : List (List ℕ)) (labels : LabelSet) → IsOf setup description
     → labels ≡ labels_after (on_connection retryability description) found given → FaultLabels Exchange retryability setup found given labels
@@ -145,10 +155,12 @@ module _ {A : Type 0} (on : Grounds A) (before now : ℕ) (which : LinkCall) (gi
   fault_needs (fault.Authentication message) labels is = (rose, inl (refl, is))
 
   -- what an end by it needs
-  fault_end : (found : LinkFault) (error : Error) → kind_of error ≡ fault_kind found → FaultLabels which on.retryability on.setup found given (labels_of error)
+  fault_end : (found : LinkFault) (error : Error) → kind_of error ≡ fault_kind found → FaultLabels which on.retryability on.setup found given (labels_of error) → source_of error ≡ None
       → EndNeeds on before now (answer.Fault which found given ∷ []) (Some (outline_of error))
-  fault_end found error is labels =
-      inl (subst (KindNeeds on before now (answer.Fault which found given ∷ []) (labels_of error)) (sym is) (fault_needs found (labels_of error) labels))
+  fault_end found error is labels none = inl (record {
+    needs = subst (KindNeeds on before now (answer.Fault which found given ∷ []) (labels_of error)) (sym is) (fault_needs found (labels_of error) labels);
+    no_source = λ told. none;
+  })
 
 -- a fault may be found where the numbers are at their end
 fault_at_last : (found : LinkFault) → KindAtLast (fault_kind found)
@@ -164,6 +176,10 @@ reworded_is error = (
   ap (λ layer. layer.kind) (out-roll-Error (record (out-Error error) { kind = reworded_kind (kind_of error) })),
   ap (λ layer. layer.labels) (out-roll-Error (record (out-Error error) { kind = reworded_kind (kind_of error) })),
 )
+
+pub reworded_source : (error : Error) → source_of (reworded error) ≡ source_of error
+unfolding reworded with_kind
+reworded_source error = ap (λ layer. layer.source) (out-roll-Error (record (out-Error error) { kind = reworded_kind (kind_of error) }))
 
 -- the kind of a fault stays as it is
 reworded_fault : (found : LinkFault) → reworded_kind (fault_kind found) ≡ fault_kind found
@@ -227,11 +243,106 @@ module _ (P : Error → Type 0) where
       → P (reworded failure.error) → decide kept failure op.retryability sharded ≡ result → ResultHas P result
   decided_has op sharded kept failure result has new is = subst (ResultHas P) is (decide_has kept failure op.retryability sharded has new)
 
+-- what the exchanges behind a command noted, with the reply before it: each page has its needs
+pub record BehindNoted {A : Type 0} (spec : OperationSpec A) (statements : ℕ) (reply : List ℕ) (link now : LinkState) (pages : List Page) : Type 0 where
+  pub more : List Answered
+  pub adds : Adds link now more
+  pub told : PagesNeed spec statements reply link.faults now.faults (answer.Reply reply ∷ more) pages
+
+-- what one question for a page noted
+record PageNoted {A : Type 0} (spec : OperationSpec A) (statements : ℕ) (reply : List ℕ) (pages : List Page) (link now : LinkState) (page : Page) : Type 0 where
+  more : List Answered
+  adds : Adds link now more
+  needs : (before : ℕ) (items : List Answered) → before ≤ link.faults → PageNeeds spec statements reply pages before now.faults (answer.Reply reply ∷ items ++ more) page
+
+-- want of memory is spelled by any reply
+memory_page : {A : Type 0} (spec : OperationSpec A) (statements : ℕ) (pages : List Page) (before now : ℕ) (reply : List ℕ) (items : List Answered) (failure : Error) → kind_of failure ≡ kind.Memory
+    → PageNeeds spec statements reply pages before now (answer.Reply reply ∷ items) (Err failure)
+memory_page spec statements pages before now reply items failure memory = inl (inl (inl memory))
+
+page_noted : {A : Type 0} (spec : OperationSpec A) (statements : ℕ) (conn : Conn) (session : Option (List ℕ)) (reply : List ℕ) (pages : List Page) (link now : LinkState) (asked : PageAsked)
+    → LeavesCursor spec statements reply pages asked.cursor asked.namespace → AsksPage conn session link now asked → PageNoted spec statements reply pages link now asked.page
+page_noted spec statements conn session reply pages link now asked left asks = elim asks [
+  | inl out ↦
+      let adds = exchange_adds link now conn out.exchanges.frame (front no_statements) out.result out.exchanges.exchanges in record {
+        more = noted Exchange reply_noted out.result;
+        adds = adds;
+        needs = λ before items later. of_came out.result asked.page out.came before items later (out.exchanges.exchanges.cause);
+      }
+  | inr lacks ↦ record {
+    more = [];
+    adds = subst (λ l. Adds link l []) (sym lacks.same) (adds_nothing link);
+    needs = λ before items later. subst (PageNeeds spec statements reply pages before now.faults (answer.Reply reply ∷ items ++ [])) (sym lacks.page_is) (elim lacks.why [
+      | inl none ↦ inr (inr (record { namespace = asked.namespace; cursor = asked.cursor; left = left; context = under session None; is = none }))
+      | inr memory ↦ memory_page spec statements pages before now.faults reply (items ++ []) lacks.failure memory
+    ]);
+  }
+]
+  where
+    of_came : (result : Result (List ℕ) LinkError) (page : Page) → PageCame result page → (before : ℕ) (items : List Answered) → before ≤ link.faults → HasLinkCause link.faults now.faults result
+        → PageNeeds spec statements reply pages before now.faults (answer.Reply reply ∷ items ++ noted Exchange reply_noted result) page
+    of_came (Ok bytes) (Ok page) came before items later cause =
+        page_after spec statements reply before link.faults now.faults (answer.Reply reply ∷ items) (answer.Reply bytes ∷ []) later pages (Ok page) (inl (subst (λ (d : List (Pair Bson)). Spells d bytes) (sym came.1.1) came.1.0.spelled))
+    of_came (Ok bytes) (Err failure) came before items later cause =
+        page_after spec statements reply before link.faults now.faults (answer.Reply reply ∷ items) (answer.Reply bytes ∷ []) later pages (Err failure) (inl (inl came))
+    of_came (Err failed) (Ok page) came before items later cause = absurd came
+    of_came (Err (Fault found labels)) (Err failure) came before items later cause = elim came [
+      | inl is ↦ page_after spec statements reply before link.faults now.faults (answer.Reply reply ∷ items) (answer.Fault Exchange found labels ∷ []) later pages (Err failure) (inr (inl (cause.0, inl is)))
+      | inr memory ↦ memory_page spec statements pages before now.faults reply (items ++ answer.Fault Exchange found labels ∷ []) failure memory
+    ]
+    of_came (Err Memory) (Err failure) came before items later cause = memory_page spec statements pages before now.faults reply (items ++ []) failure came
+
+-- the end of a cursor notes its answer
+ended_adds : (conn : Conn) (link now : LinkState) (asked : PageAsked) → EndsCursor conn link now asked → (items : List Answered) × Adds link now items
+ended_adds conn link now asked ends = elim ends [
+  | inl out ↦ (noted Exchange reply_noted out.result, exchange_adds link now conn out.exchanges.frame (front no_statements) out.result out.exchanges.exchanges)
+  | inr lacks ↦ ([], subst (λ l. Adds link l []) (sym lacks.same) (adds_nothing link))
+]
+
+where_adds : (is : Bool) (conn : Conn) (link now : LinkState) (asked : PageAsked) → EndsCursorWhere is conn link now asked → (items : List Answered) × Adds link now items
+where_adds true conn link now asked ends = ended_adds conn link now asked ends
+where_adds false conn link now asked same = ([], subst (λ l. Adds link l []) (sym same) (adds_nothing link))
+
+module _ {A : Type 0} (spec : OperationSpec A) (statements : ℕ) (reply : List ℕ) (conn : Conn) where
+  asks_noted : (session : Option (List ℕ)) (link : LinkState) (asked : List PageAsked) (mid : LinkState) → AsksPages spec statements reply conn session link asked mid → BehindNoted spec statements reply link mid (pages_of asked)
+  asks_noted session link [] mid same = record { more = []; adds = subst (λ l. Adds link l []) (sym same) (adds_nothing link); told = tt }
+  asks_noted session link (last ∷ earlier) mid asks =
+      let before = asks_noted session link earlier asks.0 asks.1.0 in
+      let page = page_noted spec statements conn session reply (pages_of earlier) asks.0 mid last asks.1.1 asks.1.2 in record {
+        more = before.more ++ page.more;
+        adds = adds_twice link asks.0 mid before.more page.more before.adds page.adds;
+        told = (
+          page.needs link.faults before.more before.adds.later,
+          pages_before spec statements reply link.faults asks.0.faults mid.faults (answer.Reply reply ∷ before.more) page.more page.adds.later (pages_of earlier) before.told,
+        );
+      }
+
+  end_adds : (link now : LinkState) (asked : List PageAsked) (given : Result A Error) → EndsPages spec statements reply conn link now asked given → (items : List Answered) × Adds link now items
+  end_adds link now [] given ends = ([], subst (λ l. Adds link l []) (sym ends.1) (adds_nothing link))
+  end_adds link now (last ∷ earlier) (Ok output) ends = ([], subst (λ l. Adds link l []) (sym ends.1) (adds_nothing link))
+  end_adds link now (last ∷ earlier) (Err error) ends = elim ends [
+    | inl fails ↦ where_adds (ends_cursor last.page error) conn link now last fails.ends
+    | inr lacks ↦ elim lacks.may [ inl same ↦ ([], subst (λ l. Adds link l []) (sym same) (adds_nothing link)) | inr ended ↦ where_adds (ends_cursor last.page lacks.bare) conn link now last ended ]
+  ]
+
+  behind_noted : (session : Option (List ℕ)) (link now : LinkState) (held held_now : ExecutionSession) (given : Result A Error)
+      (exchanges : AttemptExchanges spec statements reply conn session link now held held_now given) → BehindNoted spec statements reply link now (pages_of exchanges.asked)
+  behind_noted session link now held held_now given exchanges =
+      let asked = asks_noted session link exchanges.asked exchanges.mid exchanges.asks in
+      let ended = end_adds exchanges.mid now exchanges.asked given exchanges.ends in record {
+        more = asked.more ++ ended.0;
+        adds = adds_twice link exchanges.mid now asked.more ended.0 asked.adds ended.1;
+        told = pages_before spec statements reply link.faults exchanges.mid.faults now.faults (answer.Reply reply ∷ asked.more) ended.0 ended.1.later (pages_of exchanges.asked) asked.told;
+      }
+
 -- what each end of an attempt needs
 module _ {A : Type 0} (on : Grounds A) (before now : ℕ) (items : List Answered) (error : Error) where
   -- want of memory
   memory_needs : kind_of error ≡ kind.Memory → EndNeeds on before now items (Some (outline_of error))
-  memory_needs is = inl (subst (KindNeeds on before now items (labels_of error)) (sym is) tt)
+  memory_needs is = inl (record {
+    needs = subst (KindNeeds on before now items (labels_of error)) (sym is) tt;
+    no_source = λ told. absurd (let e : true ≡ false = sym (ap is_memory is) ∙ told in cc);
+  })
 
   -- want of memory, where the numbers are at their end
   memory_at_last : kind_of error ≡ kind.Memory → KindAtLast (kind_of error)
@@ -239,12 +350,16 @@ module _ {A : Type 0} (on : Grounds A) (before now : ℕ) (items : List Answered
 
   -- a session that a connection does not take
   sessions_needs : on.setup ≡ None → IsAlone kind.SessionsNotSupported no_labels error → EndNeeds on before now items (Some (outline_of error))
-  sessions_needs none is = inl (subst (KindNeeds on before now items (labels_of error)) (sym is.kind_is) (none, is.labels_are))
+  sessions_needs none is =
+      inl (record { needs = subst (KindNeeds on before now items (labels_of error)) (sym is.kind_is) (none, is.labels_are); no_source = λ told. is.no_source })
 
   -- a built command without a frame
   unspelled_needs : (context : SendContext) → context.concern ≡ on.concern → (IsUnframed on.spec context error ⊎ (kind_of error ≡ kind.Memory)) → EndNeeds on before now items (Some (outline_of error))
   unspelled_needs context goes why = elim why [
-    | inl none ↦ inl (subst (KindNeeds on before now items (labels_of error)) (sym none.is.kind_is) (record { context = context; goes_with = goes; is = none.none }, none.is.labels_are))
+    | inl none ↦ inl (record {
+      needs = subst (KindNeeds on before now items (labels_of error)) (sym none.is.kind_is) (record { context = context; goes_with = goes; is = none.none }, none.is.labels_are);
+      no_source = λ told. none.is.no_source;
+    })
     | inr memory ↦ memory_needs memory
   ]
 
@@ -256,7 +371,10 @@ module _ {A : Type 0} (on : Grounds A) (before now : ℕ) (items : List Answered
   end_needs : AtEnd on.number error → EndNeeds on before now items (Some (outline_of error))
   end_needs tells = elim tells [
     | inl memory ↦ memory_needs memory
-    | inr ends ↦ inl (subst (KindNeeds on before now items (labels_of error)) (sym ends.is.kind_is) (ends.may, refl, ends.is.labels_are))
+    | inr ends ↦ inl (record {
+      needs = subst (KindNeeds on before now items (labels_of error)) (sym ends.is.kind_is) (ends.may, refl, ends.is.labels_are);
+      no_source = λ told. ends.is.no_source;
+    })
   ]
 
   -- no number was left, where the numbers are at their end
@@ -266,7 +384,8 @@ module _ {A : Type 0} (on : Grounds A) (before now : ℕ) (items : List Answered
     | inr ends ↦ subst (KindAtLast) (sym ends.is.kind_is) tt
   ]
 
-module _ {A : Type 0} (spec : OperationSpec A) (batch : Batch) (which : SendKind) (retryability : Retryability) (concern : Option WriteConcern) (store : StoreTells) (link : LinkState) (fixed : Option ℕ) where
+module _ {A : Type 0} (spec : OperationSpec A) (batch : Batch) (which : SendKind) (retryability : Retryability) (concern : Option WriteConcern) (store : StoreTells) (link : LinkState) (fixed : Option ℕ)
+    (alone : spec.paged ≡ false → NeverOpen spec) where
   -- the operation as its attempts see it
   abbrev op : AttemptedOperation A
   op = attempted_operation spec batch which retryability concern
@@ -384,7 +503,7 @@ module _ {A : Type 0} (spec : OperationSpec A) (batch : Batch) (which : SendKind
               (subst (λ h. HeldSoFar store (setup_of link) mid.store h.session h.sent) (sym fails.rest.held) held_so_far);
           fixed_now = subst (MayBeFixed spec fixed (setup_of link) batch.statements) (sym fails.rest.fixed) fixed_so_far;
           needs = fault_end on mid.link.faults now.link.faults CheckOut fails.labels (let cause = fails.checks_out.calls.cause in let later = first.later in omega (arith, cause.0, later)) fails.fault
-              (reworded error) kind_is labels;
+              (reworded error) kind_is labels (reworded_source error ∙ fault_source fails.fault fails.labels retryability error fails.is);
           early = λ at unsent. (
             tt,
             ap (λ h. h.sent) fails.rest.held ∙ unsent,
@@ -409,31 +528,67 @@ module _ {A : Type 0} (spec : OperationSpec A) (batch : Batch) (which : SendKind
           held_now = held_sent now address conn result sends;
           fixed_now = fixed_sent now address conn result sends;
           needs = fault_end on mid.link.faults now.link.faults Exchange fails.labels (let cause = sends.exchanges.exchanges.cause in let later = first.later in omega (arith, cause.0, later)) fails.fault
-              (reworded error) kind_is (exchange_labels retryability (setup_of link) conn.description fails.fault fails.labels (labels_of (reworded error)) description labels);
+              (reworded error) kind_is (exchange_labels retryability (setup_of link) conn.description fails.fault fails.labels (labels_of (reworded error)) description labels)
+              (reworded_source error ∙ fails.is.versioned.source ∙ fault_source fails.fault fails.labels connection_retryability fails.is.bare fails.is.is);
           early = λ at unsent. absurd (sends_not_at_last now address conn result sends at unsent);
         }
 
-    -- the reply spelled an error
+    -- what is read behind a command that went out
+    module _ (behind now : AttemptState) (address : Address) (conn : Conn) (reply : List ℕ) (given : Result A Error) (sends : Sends op past mid behind address conn (Ok reply)) (reads : ReadsOn op conn reply behind now given) where
+      read_noted : BehindNoted spec batch.statements reply behind.link now.link (pages_of reads.exchanges.asked)
+      read_noted = behind_noted spec batch.statements reply conn (held_id behind.held) behind.link now.link behind.held now.held given reads.exchanges
+
+      read_adds : Adds mid.link now.link (answer.Reply reply ∷ read_noted.more)
+      read_adds = adds_twice mid.link behind.link now.link (answer.Reply reply ∷ []) read_noted.more (sends_add behind address conn (Ok reply) sends) read_noted.adds
+
+      -- each page has its needs since the attempt began
+      read_told : PagesNeed spec batch.statements reply mid.link.faults now.link.faults (answer.Reply reply ∷ read_noted.more) (pages_of reads.exchanges.asked)
+      read_told = pages_since spec batch.statements reply mid.link.faults behind.link.faults now.link.faults (answer.Reply reply ∷ read_noted.more) (sends_add behind address conn (Ok reply) sends).later (pages_of reads.exchanges.asked) read_noted.told
+
+      -- an operation with one page has none behind its reply
+      read_alone : spec.paged ≡ false → pages_of reads.exchanges.asked ≡ []
+      read_alone = no_pages spec batch.statements reply conn alone (held_id behind.held) behind.link now.link behind.held now.held given reads.exchanges
+
+      read_held : HeldAt now
+      read_held =
+          let sent_so = held_sent behind address conn (Ok reply) sends in
+          let same : is_some now.held.session ≡ is_some behind.held.session = ap (λ h. is_some h.session) reads.exchanges.held_is ∙ pages_hold store (setup_of link) reads.exchanges.asked behind.held in
+          let sent : behind.held.sent ≡ Some sends.number = ap (λ h. h.sent) sends.held_is in
+          subst (λ s. HeldSoFar store (setup_of link) now.store now.held.session s) (sym (read_sent behind now reads ∙ sent))
+          (subst (λ s. HeldSoFar store (setup_of link) s now.held.session (Some sends.number)) (sym reads.store)
+          (sent_held store (setup_of link) behind.store behind.held.session now.held.session behind.held.sent sends.number same sent_so))
+
+      read_fixed : FixedAt now
+      read_fixed = subst (MayBeFixed spec fixed (setup_of link) batch.statements) (sym reads.fixed) (fixed_sent behind address conn (Ok reply) sends)
+
+    -- the answer to the command spelled an error
     spells_failure : (now : AttemptState) (address : Address) (error : Error) → SpellsFailure op past mid now address error → Fails now (reworded error)
     spells_failure now address error fails =
         let conn = fails.conn in
+        let behind = fails.behind in
         let sends = fails.sends in
-        let read = fails.is.is in
-        let spells : SpellsEnd on (outline_of (reworded error)) fails.reply = record {
+        let exchanges = fails.reads.exchanges in
+        let labelled = fails.is.is.labelled in
+        let noted = read_noted behind now address conn fails.reply (Err fails.bare) sends fails.reads in
+        let spells : SpellsEnd on mid.link.faults now.link.faults (answer.Reply fails.reply ∷ noted.more) (outline_of (reworded error)) fails.reply = record {
           statements = batch.statements;
-          first = first_sent now address conn (Ok fails.reply) sends;
-          bare = read.bare;
-          reads = read.reads;
+          first = first_sent behind address conn (Ok fails.reply) sends;
+          pages = pages_of exchanges.asked;
+          alone = read_alone behind now address conn fails.reply (Err fails.bare) sends fails.reads;
+          told = read_told behind now address conn fails.reply (Err fails.bare) sends fails.reads;
+          bare = fails.bare;
+          reads = reads_error spec batch.statements fails.reply conn exchanges.mid now.link exchanges.asked fails.bare exchanges.ends;
           connection_retryability = on_connection retryability conn.description;
-          kind_is = (reworded_is error).0 ∙ ap reworded_kind (fails.is.versioned.kind ∙ read.labelled.labelled.rest.kind);
-          labels_are = (reworded_is error).1 ∙ fails.is.versioned.labels ∙ read.labelled.labelled.labels;
+          kind_is = (reworded_is error).0 ∙ ap reworded_kind (fails.is.versioned.kind ∙ labelled.rest.kind);
+          labels_are = (reworded_is error).1 ∙ fails.is.versioned.labels ∙ labelled.labels;
+          source_is = reworded_source error ∙ fails.is.versioned.source ∙ labelled.rest.source;
         } in record {
-          more = answer.Reply fails.reply ∷ [];
-          adds = sends_add now address conn (Ok fails.reply) sends;
-          held_now = held_sent now address conn (Ok fails.reply) sends;
-          fixed_now = fixed_sent now address conn (Ok fails.reply) sends;
+          more = answer.Reply fails.reply ∷ noted.more;
+          adds = read_adds behind now address conn fails.reply (Err fails.bare) sends fails.reads;
+          held_now = read_held behind now address conn fails.reply (Err fails.bare) sends fails.reads;
+          fixed_now = read_fixed behind now address conn fails.reply (Err fails.bare) sends fails.reads;
           needs = inr (inl (inl spells));
-          early = λ at unsent. absurd (sends_not_at_last now address conn (Ok fails.reply) sends at unsent);
+          early = λ at unsent. absurd (sends_not_at_last behind address conn (Ok fails.reply) sends at unsent);
         }
 
     -- an attempt that failed in a phase
@@ -459,19 +614,25 @@ module _ {A : Type 0} (spec : OperationSpec A) (batch : Batch) (which : SendKind
       early = λ at unsent. let early = fails.early at unsent in (early.0, early.2);
     }
 
-    -- the reply was read
+    -- the answer was read
     finishes_done : (now : AttemptState) (output : A) → IsAnswered op past mid now output → Finishes now None
     finishes_done now output answered =
-        let read : IsRead on answered.reply = record {
+        let behind = answered.behind in
+        let exchanges = answered.reads.exchanges in
+        let noted = read_noted behind now answered.address answered.conn answered.reply (Ok output) answered.sends answered.reads in
+        let read : IsRead on mid.link.faults now.link.faults (answer.Reply answered.reply ∷ noted.more) answered.reply = record {
           statements = batch.statements;
-          first = first_sent now answered.address answered.conn (Ok answered.reply) answered.sends;
+          first = first_sent behind answered.address answered.conn (Ok answered.reply) answered.sends;
+          pages = pages_of exchanges.asked;
+          alone = read_alone behind now answered.address answered.conn answered.reply (Ok output) answered.sends answered.reads;
+          told = read_told behind now answered.address answered.conn answered.reply (Ok output) answered.sends answered.reads;
           output = output;
-          reads = answered.reads;
+          reads = (reads_output spec batch.statements answered.reply answered.conn exchanges.mid now.link exchanges.asked output exchanges.ends).0;
         } in record {
-          more = answer.Reply answered.reply ∷ [];
-          adds = sends_add now answered.address answered.conn (Ok answered.reply) answered.sends;
+          more = answer.Reply answered.reply ∷ noted.more;
+          adds = read_adds behind now answered.address answered.conn answered.reply (Ok output) answered.sends answered.reads;
           needs = inl read;
-          early = λ at unsent. absurd (sends_not_at_last now answered.address answered.conn (Ok answered.reply) answered.sends at unsent);
+          early = λ at unsent. absurd (sends_not_at_last behind answered.address answered.conn (Ok answered.reply) answered.sends at unsent);
         }
 
     -- what a selection that failed noted
@@ -484,7 +645,7 @@ module _ {A : Type 0} (spec : OperationSpec A) (batch : Batch) (which : SendKind
         let is = fault_error selected.fault selected.labels may.None error selected.is in record {
           more = answer.Fault Select selected.fault selected.labels ∷ [];
           adds = selection_adds now error selected;
-          needs = fault_end on mid.link.faults now.link.faults Select selected.labels selected.selects.calls.cause.0 selected.fault error is.0 is.1;
+          needs = fault_end on mid.link.faults now.link.faults Select selected.labels selected.selects.calls.cause.0 selected.fault error is.0 is.1 (fault_source selected.fault selected.labels may.None error selected.is);
           early = λ at unsent. (tt, subst (KindAtLast) (sym is.0) (fault_at_last selected.fault));
         }
 
@@ -500,12 +661,23 @@ module _ {A : Type 0} (spec : OperationSpec A) (batch : Batch) (which : SendKind
 
     -- there was no memory after the command went out
     finishes_sent : (now : AttemptState) (error : Error) → EndsSent op past mid now error → Finishes now (Some (outline_of error))
-    finishes_sent now error ends = record {
-      more = noted Exchange reply_noted ends.result;
-      adds = sends_add now ends.address ends.conn ends.result ends.sends;
-      needs = memory_needs on mid.link.faults now.link.faults (noted Exchange reply_noted ends.result) error ends.why;
-      early = λ at unsent. absurd (sends_not_at_last now ends.address ends.conn ends.result ends.sends at unsent);
-    }
+    finishes_sent now error ends = by_result ends.result ends.sends ends.reads
+      where
+        by_result : (result : Result (List ℕ) LinkError) → Sends op past mid ends.behind ends.address ends.conn result → MayReadOn op ends.conn result ends.behind now → Finishes now (Some (outline_of error))
+        by_result (Ok reply) sends reads =
+            let more = answer.Reply reply ∷ (read_noted ends.behind now ends.address ends.conn reply reads.answer sends reads.reads).more in record {
+              more = more;
+              adds = read_adds ends.behind now ends.address ends.conn reply reads.answer sends reads.reads;
+              needs = memory_needs on mid.link.faults now.link.faults more error ends.why;
+              early = λ at unsent. absurd (sends_not_at_last ends.behind ends.address ends.conn (Ok reply) sends at unsent);
+            }
+        by_result (Err failure) sends same =
+            let more = noted Exchange reply_noted (Err failure) in record {
+              more = more;
+              adds = subst (λ s. Adds mid.link s.link more) (sym same) (sends_add ends.behind ends.address ends.conn (Err failure) sends);
+              needs = memory_needs on mid.link.faults now.link.faults more error ends.why;
+              early = λ at unsent. absurd (sends_not_at_last ends.behind ends.address ends.conn (Err failure) sends at unsent);
+            }
 
     module _ (now ready : AttemptState) (address : Address) (conn : Conn) (readies : Readies op past mid ready address conn) (same : now.link ≡ ready.link) (error : Error) where
       -- the link noted nothing until a command was refused
@@ -771,8 +943,8 @@ module _ {A : Type 0} (spec : OperationSpec A) (batch : Batch) (which : SendKind
 
 -- an operation that is not refused for its concern has its cause
 pub proceeds_caused : {A : Type 0} (spec : OperationSpec A) (batch : Batch) (which : SendKind) (before now : Moment) (count count_now : ℕ) (fixed fixed_now : Option ℕ) (result : Result A Error)
-    → Proceeds spec batch which before now count count_now fixed fixed_now result → Caused spec which fixed before now (end_of result)
-proceeds_caused spec batch which before now count count_now fixed fixed_now result executes =
+    → (spec.paged ≡ false → NeverOpen spec) → Proceeds spec batch which before now count count_now fixed fixed_now result → Caused spec which fixed before now (end_of result)
+proceeds_caused spec batch which before now count count_now fixed fixed_now result alone executes =
     let retryability = spec.retryability before.client.options in
     let concern = concern_of spec which before.client.options in
     let link = besides_out before.link in
@@ -780,8 +952,8 @@ proceeds_caused spec batch which before now count count_now fixed fixed_now resu
     let attempted = attempted_operation spec batch which retryability concern in
     let first = first_state before.store link before.clock count fixed in
     let came = came_of attempted executes.sharded first executes.last result attempts in
-    let far = reaches_far spec batch which retryability concern before.store link fixed before.clock count executes.sharded came.0 attempts.kept attempts.mid came.1 in
+    let far = reaches_far spec batch which retryability concern before.store link fixed alone before.clock count executes.sharded came.0 attempts.kept attempts.mid came.1 in
     let begun = first_fixed attempted executes.sharded first attempts.mid attempts.failures came.0 attempts.kept attempts.fails came.1 in
-    let caused = caused_ends spec batch which retryability concern before.store link fixed executes.sharded attempts.kept attempts.mid executes.last far begun result attempts.ends in
+    let caused = caused_ends spec batch which retryability concern before.store link fixed alone executes.sharded attempts.kept attempts.mid executes.last far begun result attempts.ends in
     let ends = subst (λ l. EndsCaused (grounds spec which fixed before) link l (end_of result)) (sym executes.link_is) caused in
     record { items = ends.items; noted = ends.noted; never_falls = ends.never_falls; needs = ends.needs; at_last = ends.at_last }

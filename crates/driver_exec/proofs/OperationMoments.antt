@@ -17,7 +17,7 @@ use Rattle.driver_exec.specs.Concerns.{concern_of}
 use Rattle.driver_exec.specs.Executing.{AttemptsFail, Ends, Executes, Proceeds, first_state}
 use Rattle.driver_exec.specs.Moment.{Moment}
 use Rattle.driver_exec.specs.Retry.{RetryState}
-use Rattle.driver_exec.proofs.Moments.{IsBefore, Leads, before_refl, calling_twice, checks_lead, connects_lead, fails_lead, leads_same, leads_twice, one_moment, selects_lead, sends_lead}
+use Rattle.driver_exec.proofs.Moments.{IsBefore, Leads, before_refl, calling_twice, checks_lead, connects_lead, fails_lead, leads_same, leads_twice, may_read_leads, one_moment, read_leads, selects_lead}
 
 module _ {A : Type 0} (op : AttemptedOperation A) (body : SendBody) (asked : AsksFor op.spec op.batch body) where
   -- attempts that failed one after another
@@ -41,7 +41,8 @@ module _ {A : Type 0} (op : AttemptedOperation A) (body : SendBody) (asked : Ask
 
   -- any attempt
   attempt_leads : (kept : Option RetryState) (mid now : AttemptState) (a : ServerRun) → server_run mid.link ≡ Some a → (attempt : AttemptEnd A) → MakesAttempt op kept mid now attempt → Leads a mid.link now.link
-  attempt_leads kept mid now a is (Done output) makes = sends_lead op kept body asked a mid now is makes.address makes.conn (Ok makes.reply) makes.sends
+  attempt_leads kept mid now a is (Done output) makes =
+      read_leads op kept body asked a mid now is makes.behind makes.address makes.conn makes.reply (Ok output) makes.sends makes.reads
   attempt_leads kept mid now a is (Failed failure) makes = fails_lead op kept body asked a mid now is failure.address failure.phase failure.error makes.0
   attempt_leads kept mid now a is (Unselected error) makes = (selects_lead a mid.link now.link (Err (Fault makes.fault makes.labels)) is makes.selects.calls).leads
   attempt_leads kept mid now a is Stopped makes = (connects_lead a mid.link now.link makes.1.address makes.1.conn is makes.1.readies.connects).leads
@@ -51,7 +52,7 @@ module _ {A : Type 0} (op : AttemptedOperation A) (body : SendBody) (asked : Ask
     | inl unready ↦ early_lead kept mid.link now.link a is unready.asks
     | inr other ↦ elim other [
       | inl refused ↦ subst (Leads a mid.link) (sym refused.link) (connects_lead a mid.link refused.ready.link refused.address refused.conn is refused.readies.connects).leads
-      | inr sent ↦ sends_lead op kept body asked a mid now is sent.address sent.conn sent.result sent.sends
+      | inr sent ↦ may_read_leads op kept body asked a mid now is sent.behind sent.address sent.conn sent.result sent.sends sent.reads
     ]
   ]
 

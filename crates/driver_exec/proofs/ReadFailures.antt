@@ -10,7 +10,7 @@ use Rattle.driver_link.specs.declared.fault.LinkFault.TheVariants as fault
 use Rattle.driver_link.specs.Failures.{fault_kind}
 use Rattle.driver_session.specs.declared.retryability.Retryability.{Retryability}
 use Rattle.driver_session.specs.Session.{Session}
-use Rattle.driver_ops.specs.Operations.{MayRefuse, OperationSpec, ReadsAnswer, ReadsError}
+use Rattle.driver_ops.specs.Operations.{MayRefuse, OperationSpec, Page, ReadsPages, ReadsPagesError}
 use Rattle.driver_ops.specs.Responses.{Said, SpellsError, TellsResponse, breaks, done, fails, said}
 use Rattle.driver_exec.specs.Attempting.{AttemptState, AttemptedOperation, EndsAtOnce, EndsRefused, on_connection}
 use Rattle.driver_exec.specs.Concerns.{IsConcernError}
@@ -120,9 +120,9 @@ response_unread bytes error tells read = elim tells [
 ]
 
 -- so an operation reads such an error in a reply which says that its command was done
-pub read_when_done : {A : Type 0} (spec : OperationSpec A) (statements : ℕ) (bytes : List ℕ) (error : Error) → ReadsAnswer spec statements bytes (Err error) → IsReadFailure (kind_of error)
-    → ReadsError spec statements bytes error
-read_when_done spec statements bytes error reads read = elim reads [
+pub read_when_done : {A : Type 0} (spec : OperationSpec A) (statements : ℕ) (bytes : List ℕ) (pages : List Page) (error : Error) → ReadsPages spec statements bytes pages (Err error) → IsReadFailure (kind_of error)
+    → ReadsPagesError spec statements bytes pages error
+read_when_done spec statements bytes pages error reads read = elim reads [
   | inl response ↦ absurd (response_unread bytes error response read)
   | inr other ↦ elim other [
     | inl found ↦ found

@@ -1,10 +1,10 @@
 -- An error that was read in the reply to one of an operation's sends, and what the operation did after it.
-use Rattle.std.proofs.Common.{◌≡◌, ℕ, suc, ◌+◌, ◌≤◌, List, refl, sym, subst, ◌∙◌, arith}
+use Rattle.std.proofs.Common.{◌≡◌, ℕ, suc, ◌+◌, ◌≤◌, List, [], ◌∷◌, refl, sym, ap, subst, ◌∙◌, arith}
 use Rattle.std.specs.Prelude.{ℤ, Bool, true, false, ◌&&◌, Option, None, Some, is_none, Result, Ok, Err, if◌then◌else◌}
 use Rattle.std.specs.Option.{option_map}
 use Rattle.std.proofs.lemmas.Bool.{and_parts}
 use Rattle.driver_error.specs.declared.error.Error.{Error}
-use Rattle.driver_error.specs.Error.{kind_of}
+use Rattle.driver_error.specs.Error.{kind_of, source_of}
 use Rattle.driver_link.specs.declared.concerns.WriteConcern.{WriteConcern}
 use Rattle.driver_link.specs.declared.fault.LinkError.{LinkError}
 use Rattle.driver_link.specs.declared.fault.LinkError.TheVariants.{Fault, Memory}
@@ -20,17 +20,19 @@ use Rattle.driver_session.specs.declared.retryability.Retryability.{Retryability
 use Rattle.driver_session.specs.Session.{Session}
 use Rattle.driver_session.specs.StoreTells.{StoreTells}
 use Rattle.driver_ops.specs.Fields.{in_context, under}
-use Rattle.driver_ops.specs.Operations.{AsksFor, Batch, OperationSpec, ReadsAnswer, send_of}
+use Rattle.driver_ops.specs.Operations.{AsksFor, Batch, OperationSpec, Page, ReadsPages, send_of}
 use Rattle.driver_ops.specs.SendKinds.{SendKind}
-use Rattle.driver_exec.specs.Attempting.{Exchanges, held_after}
+use Rattle.driver_exec.specs.AttemptExchanges.{Exchanges, PageAsked, held_after, held_after_answer, held_after_pages}
+use Rattle.driver_exec.specs.Attempting.{AttemptState, AttemptedOperation, ReadsOn}
 use Rattle.driver_exec.specs.Holding.{DrawsNumber, ExecutionSession, HoldsSession, dirty_session, held_id, needs_session}
 use Rattle.driver_exec.specs.Resending.{AnsweredAmong, ReadsOne}
 use Rattle.driver_exec.proofs.BorrowedSession.{CountFits, MayGoOn, id_of, number_of, one_at_most}
-use Rattle.driver_exec.proofs.FixedNumbers.{after_sent}
-use Rattle.driver_exec.proofs.SendRelations.{among_answered, among_counted, among_lost}
+use Rattle.driver_exec.proofs.FixedNumbers.{after_sent, pages_sent}
+use Rattle.driver_exec.proofs.PassesBy.{PassesLink, link_counted}
+use Rattle.driver_exec.proofs.SendRelations.{among_answered, among_lost, among_passed}
 
 -- what is held after an exchange has the same id
-after_id : (result : Result (List ℕ) LinkError) (held : ExecutionSession) → id_of (held_after result held).session ≡ id_of held.session
+pub after_id : (result : Result (List ℕ) LinkError) (held : ExecutionSession) → id_of (held_after result held).session ≡ id_of held.session
 after_id (Ok reply) held = refl
 after_id (Err Memory) held = refl
 after_id (Err (Fault fault labels)) held = by_network (is_network fault)
@@ -42,6 +44,18 @@ after_id (Err (Fault fault labels)) held = by_network (is_network fault)
     by_network : (network : Bool) → id_of (if network then record held { session = option_map dirty_session held.session } else held).session ≡ id_of held.session
     by_network true = dirty_id held.session
     by_network false = refl
+
+answer_id : (answered : Option (Result (List ℕ) LinkError)) (held : ExecutionSession) → id_of (held_after_answer answered held).session ≡ id_of held.session
+answer_id None held = refl
+answer_id (Some result) held = after_id result held
+
+-- so has what is held after further pages
+pages_id : (asked : List PageAsked) (held : ExecutionSession) → id_of (held_after_pages asked held).session ≡ id_of held.session
+pages_id [] held = refl
+pages_id (last ∷ earlier) held = answer_id last.answered held
+
+pub read_id : {A : Type 0} {op : AttemptedOperation A} {conn : Conn} {reply : List ℕ} {answer : Result A Error} (behind now : AttemptState) → ReadsOn op conn reply behind now answer → id_of now.held.session ≡ id_of behind.held.session
+read_id behind now reads = ap (λ h. id_of h.session) reads.exchanges.held_is ∙ pages_id reads.exchanges.asked behind.held
 
 -- where something was sent there was a send
 sent_once : (count earlier later : ℕ) → count ≡ 0 → count ≡ suc (earlier + later) → ⊥
@@ -61,28 +75,36 @@ fits_again None count goes = absurd goes
 fits_again (Some number) count goes = omega arith
 
 module _ {A : Type 0} (spec : OperationSpec A) (batch : Batch) (link : Option ServerRun) where
-  -- the kind of an error was read in the reply to one of the sends so far; there were so many, in at most so many attempts
+  -- the kind and the source of an error were read in the reply to one of the sends so far, and in the pages behind it; there were so
+  -- many, in at most so many attempts
   pub record ReadSoFar (most : ℕ) (link_now : Option ServerRun) (session : Option Session) (sent : Option (Option ℤ)) (error : Error) : Type 0 where
     pub bytes : List ℕ
+    pub pages : List Page
+    pub alone : spec.paged ≡ false → pages ≡ []
     pub bare : Error
-    pub reads : ReadsAnswer spec batch.statements bytes (Err bare)
+    pub reads : ReadsPages spec batch.statements bytes pages (Err bare)
     pub same_kind : kind_of error ≡ kind_of bare
+    pub same_source : source_of error ≡ source_of bare
     pub earlier : ℕ
     pub later : ℕ
     pub count : ℕ
     pub count_is : count ≡ suc (earlier + later)
     pub within : count ≤ most
     pub fits : CountFits sent count
-    pub answered : (body : SendBody) → AsksFor spec batch body → AnsweredAmong link link_now (send_of (under (id_of session) (number_of sent)) body) earlier later bytes
+    pub answered : (body : SendBody) → AsksFor spec batch body
+        → AnsweredAmong spec batch.statements link link_now (send_of (under (id_of session) (number_of sent)) body) earlier later bytes pages
 
   -- another error of that kind
-  pub read_as : (most : ℕ) (link_now : Option ServerRun) (session : Option Session) (sent : Option (Option ℤ)) (error other : Error) → kind_of other ≡ kind_of error
+  pub read_as : (most : ℕ) (link_now : Option ServerRun) (session : Option Session) (sent : Option (Option ℤ)) (error other : Error) → kind_of other ≡ kind_of error → source_of other ≡ source_of error
       → ReadSoFar most link_now session sent error → ReadSoFar most link_now session sent other
-  read_as most link_now session sent error other same read = record {
+  read_as most link_now session sent error other same same_source read = record {
     bytes = read.bytes;
+    pages = read.pages;
+    alone = read.alone;
     bare = read.bare;
     reads = read.reads;
     same_kind = same ∙ read.same_kind;
+    same_source = same_source ∙ read.same_source;
     earlier = read.earlier;
     later = read.later;
     count = read.count;
@@ -92,14 +114,17 @@ module _ {A : Type 0} (spec : OperationSpec A) (batch : Batch) (link : Option Se
     answered = read.answered;
   }
 
-  -- calls that were only counted
-  pub read_counted : (most : ℕ) (mid now : Option ServerRun) (session : Option Session) (sent : Option (Option ℤ)) (error : Error) → OnlyCounts mid now
+  -- what passed by, of which are calls that were only counted
+  pub read_passed : (most : ℕ) (mid now : Option ServerRun) (session : Option Session) (sent : Option (Option ℤ)) (error : Error) → PassesLink spec.paged mid now
       → ReadSoFar most mid session sent error → ReadSoFar most now session sent error
-  read_counted most mid now session sent error counts read = record {
+  read_passed most mid now session sent error passes read = record {
     bytes = read.bytes;
+    pages = read.pages;
+    alone = read.alone;
     bare = read.bare;
     reads = read.reads;
     same_kind = read.same_kind;
+    same_source = read.same_source;
     earlier = read.earlier;
     later = read.later;
     count = read.count;
@@ -107,17 +132,46 @@ module _ {A : Type 0} (spec : OperationSpec A) (batch : Batch) (link : Option Se
     within = read.within;
     fits = read.fits;
     answered = λ body asked.
-        among_counted link (send_of (under (id_of session) (number_of sent)) body) read.earlier read.later read.bytes mid now (read.answered body asked) counts;
+        among_passed spec batch.statements link (send_of (under (id_of session) (number_of sent)) body) read.earlier read.later read.bytes read.pages mid now (read.answered body asked) passes;
   }
+
+  pub read_counted : (most : ℕ) (mid now : Option ServerRun) (session : Option Session) (sent : Option (Option ℤ)) (error : Error) → OnlyCounts mid now
+      → ReadSoFar most mid session sent error → ReadSoFar most now session sent error
+  read_counted most mid now session sent error counts read = read_passed most mid now session sent error (link_counted spec.paged mid now counts) read
+
+  -- further pages of a later answer
+  pub pages_read : (most : ℕ) (link_now : Option ServerRun) (held : ExecutionSession) (asked : List PageAsked) (error : Error) → ReadSoFar most link_now held.session held.sent error
+      → ReadSoFar most link_now (held_after_pages asked held).session (held_after_pages asked held).sent error
+  pages_read most link_now held asked error read =
+      subst (λ s. ReadSoFar most link_now (held_after_pages asked held).session s error) (sym (pages_sent asked held)) (record {
+        bytes = read.bytes;
+        pages = read.pages;
+        alone = read.alone;
+        bare = read.bare;
+        reads = read.reads;
+        same_kind = read.same_kind;
+        same_source = read.same_source;
+        earlier = read.earlier;
+        later = read.later;
+        count = read.count;
+        count_is = read.count_is;
+        within = read.within;
+        fits = read.fits;
+        answered = λ body asks.
+            subst (λ id. AnsweredAmong spec batch.statements link link_now (send_of (under id (number_of held.sent)) body) read.earlier read.later read.bytes read.pages) (sym (pages_id asked held)) (read.answered body asks);
+      })
 
   -- one attempt more
   pub read_more : (most : ℕ) (link_now : Option ServerRun) (session : Option Session) (sent : Option (Option ℤ)) (error : Error)
       → ReadSoFar most link_now session sent error → ReadSoFar (suc most) link_now session sent error
   read_more most link_now session sent error read = record {
     bytes = read.bytes;
+    pages = read.pages;
+    alone = read.alone;
     bare = read.bare;
     reads = read.reads;
     same_kind = read.same_kind;
+    same_source = read.same_source;
     earlier = read.earlier;
     later = read.later;
     count = read.count;
@@ -191,32 +245,35 @@ module _ {A : Type 0} (spec : OperationSpec A) (batch : Batch) (link : Option Se
         (exchanges : Exchanges spec which batch mid now conn (in_context (held_id numbered) number concern) result) where
       -- so it is one more behind the one that was answered so
       read_behind : ((body : SendBody) → AsksFor spec batch body
-          → AnsweredAmong link (server_run now) (send_of (under (id_of numbered.session) number) body) at_send.earlier (suc at_send.later) at_send.bytes)
+          → AnsweredAmong spec batch.statements link (server_run now) (send_of (under (id_of numbered.session) number) body) at_send.earlier (suc at_send.later) at_send.bytes at_send.pages)
           → ReadSoFar (suc most) (server_run now) (held_after result held).session (held_after result held).sent error
       read_behind sends = subst (λ s. ReadSoFar (suc most) (server_run now) (held_after result held).session s error) (sym (after_sent result held)) (record {
         bytes = at_send.bytes;
+        pages = at_send.pages;
+        alone = at_send.alone;
         bare = at_send.bare;
         reads = at_send.reads;
         same_kind = at_send.same_kind;
+        same_source = at_send.same_source;
         earlier = at_send.earlier;
         later = suc at_send.later;
         count = suc at_send.count;
         count_is = omega (arith, at_send.count_is);
         within = omega (arith, at_send.within);
         fits = fits_again number at_send.count goes_on;
-        answered = λ body asked. subst (λ id. AnsweredAmong link (server_run now) (send_of (under id number) body) at_send.earlier (suc at_send.later) at_send.bytes)
+        answered = λ body asked. subst (λ id. AnsweredAmong spec batch.statements link (server_run now) (send_of (under id number) body) at_send.earlier (suc at_send.later) at_send.bytes at_send.pages)
             (sym (after_id result held)) (sends body asked);
       })
 
       pub read_answered : (bytes : List ℕ) → result ≡ Ok bytes → ReadSoFar (suc most) (server_run now) (held_after result held).session (held_after result held).sent error
       read_answered bytes is = read_behind (λ body asked.
-          among_answered link (send_of (under (id_of numbered.session) number) body) at_send.earlier at_send.later at_send.bytes (server_run mid) (server_run now) bytes (at_send.answered body asked)
+          among_answered spec batch.statements link (send_of (under (id_of numbered.session) number) body) at_send.earlier at_send.later at_send.bytes at_send.pages (server_run mid) (server_run now) bytes (at_send.answered body asked)
           (subst (λ r. TakesStep (server_run mid) (server_run now) (send_of (under (id_of numbered.session) number) body) r) is (exchanges.exchanges.steps _ (exchanges.reads body asked))))
 
       pub read_lost : (fault : LinkFault) (labels : List (List ℕ)) → result ≡ Err (Fault fault labels)
           → ReadSoFar (suc most) (server_run now) (held_after result held).session (held_after result held).sent error
       read_lost fault labels is = read_behind (λ body asked.
-          among_lost link (send_of (under (id_of numbered.session) number) body) at_send.earlier at_send.later at_send.bytes (server_run mid) (server_run now) fault labels (at_send.answered body asked)
+          among_lost spec batch.statements link (send_of (under (id_of numbered.session) number) body) at_send.earlier at_send.later at_send.bytes at_send.pages (server_run mid) (server_run now) fault labels (at_send.answered body asked)
           (subst (λ r. TakesStep (server_run mid) (server_run now) (send_of (under (id_of numbered.session) number) body) r) is (exchanges.exchanges.steps _ (exchanges.reads body asked))))
 
   -- so the failure was read in the reply to one of at most two sends
@@ -224,9 +281,12 @@ module _ {A : Type 0} (spec : OperationSpec A) (batch : Batch) (link : Option Se
       → ReadSoFar most link_now session sent error → ReadsOne spec batch link link_now (id_of session) (number_of sent) error
   reads_one most link_now session sent error few read = record {
     bytes = read.bytes;
+    pages = read.pages;
+    alone = read.alone;
     bare = read.bare;
     reads = read.reads;
     same_kind = read.same_kind;
+    same_source = read.same_source;
     earlier = read.earlier;
     later = read.later;
     within = one_other read.count read.earlier read.later most read.within few read.count_is;

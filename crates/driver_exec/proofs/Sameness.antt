@@ -15,11 +15,12 @@ use Rattle.driver_exec.specs.declared.attempt_end.AttemptEnd.{AttemptEnd}
 use Rattle.driver_exec.specs.declared.attempt_end.AttemptEnd.TheVariants.{Done, Ended, Failed, Stopped, Unfit, Unselected}
 use Rattle.driver_exec.specs.declared.failure.FailurePhase.{FailurePhase}
 use Rattle.driver_exec.specs.declared.failure.FailurePhase.TheVariants.{ConnectionEstablishment, Execution}
-use Rattle.driver_exec.specs.Attempting.{EndsAtOnce, Exchanges, FailsIn, Readies, AttemptState, Sends, AttemptedOperation, MakesAttempt, asks_session, attempted_operation}
-use Rattle.driver_exec.specs.Holding.{needs_session}
+use Rattle.driver_exec.specs.AttemptExchanges.{Exchanges}
+use Rattle.driver_exec.specs.Attempting.{EndsAtOnce, FailsIn, MayReadOn, Readies, ReadsOn, AttemptState, Sends, AttemptedOperation, MakesAttempt, asks_session, attempted_operation}
+use Rattle.driver_exec.specs.Holding.{held_id, needs_session}
 use Rattle.driver_exec.specs.inside.Holding.{HoldsAt}
 use Rattle.driver_exec.specs.Retry.{RetryState}
-use Rattle.driver_exec.proofs.OneAttempt.{answers_same, framed_same, refuses_same, unspelled_same}
+use Rattle.driver_exec.proofs.OneAttempt.{behind_same, framed_same, refuses_same, unspelled_same}
 
 module _ {A : Type 0} (old now : OperationSpec A) (same : SameSpec old now) (batch : Batch) (which : SendKind) (retryability : Retryability) (concern : Option WriteConcern) where
   abbrev told : AttemptedOperation A
@@ -62,6 +63,20 @@ module _ {A : Type 0} (old now : OperationSpec A) (same : SameSpec old now) (bat
     fixed_is = sends.fixed_is;
   }
 
+  -- what was read behind the exchange
+  reads_same : (conn : Conn) (reply : List ℕ) (behind after : AttemptState) (answer : Result A Error) → ReadsOn told conn reply behind after answer → ReadsOn was conn reply behind after answer
+  reads_same conn reply behind after answer reads = record {
+    exchanges = behind_same old now same batch.statements reply conn (held_id behind.held) behind.link after.link behind.held after.held answer reads.exchanges;
+    store = reads.store;
+    clock = reads.clock;
+    count = reads.count;
+    fixed = reads.fixed;
+  }
+
+  may_read_same : (conn : Conn) (result : Result (List ℕ) LinkError) (behind after : AttemptState) → MayReadOn told conn result behind after → MayReadOn was conn result behind after
+  may_read_same conn (Err failure) behind after reads = reads
+  may_read_same conn (Ok reply) behind after reads = record { answer = reads.answer; reads = reads_same conn reply behind after reads.answer reads.reads }
+
   fails_same : (past : Option RetryState) (before after : AttemptState) (address : Address) (phase : FailurePhase) (error : Error) → FailsIn told past before after address phase error
       → FailsIn was past before after address phase error
   fails_same past before after address ConnectionEstablishment error fails = record {
@@ -84,16 +99,11 @@ module _ {A : Type 0} (old now : OperationSpec A) (same : SameSpec old now) (bat
     | inr spelled ↦ inr (record {
       conn = spelled.conn;
       reply = spelled.reply;
-      sends = sends_same past before after address spelled.conn _ spelled.sends;
-      is = record {
-        bare = spelled.is.bare;
-        is = record {
-          bare = spelled.is.is.bare;
-          reads = answers_same old now same batch.statements spelled.reply (Err spelled.is.is.bare) spelled.is.is.reads;
-          labelled = spelled.is.is.labelled;
-        };
-        versioned = spelled.is.versioned;
-      };
+      behind = spelled.behind;
+      sends = sends_same past before spelled.behind address spelled.conn _ spelled.sends;
+      bare = spelled.bare;
+      reads = reads_same spelled.conn spelled.reply spelled.behind after (Err spelled.bare) spelled.reads;
+      is = spelled.is;
     })
   ]
 
@@ -134,7 +144,9 @@ module _ {A : Type 0} (old now : OperationSpec A) (same : SameSpec old now) (bat
         address = sent.address;
         conn = sent.conn;
         result = sent.result;
-        sends = sends_same past before after sent.address sent.conn sent.result sent.sends;
+        behind = sent.behind;
+        sends = sends_same past before sent.behind sent.address sent.conn sent.result sent.sends;
+        reads = may_read_same sent.conn sent.result sent.behind after sent.reads;
         why = sent.why;
       }))
     ]
@@ -145,8 +157,9 @@ module _ {A : Type 0} (old now : OperationSpec A) (same : SameSpec old now) (bat
     address = makes.address;
     conn = makes.conn;
     reply = makes.reply;
-    sends = sends_same past before after makes.address makes.conn (Ok makes.reply) makes.sends;
-    reads = answers_same old now same batch.statements makes.reply (Ok output) makes.reads;
+    behind = makes.behind;
+    sends = sends_same past before makes.behind makes.address makes.conn (Ok makes.reply) makes.sends;
+    reads = reads_same makes.conn makes.reply makes.behind after (Ok output) makes.reads;
   }
   attempt_same past before after (Failed failure) makes = (fails_same past before after failure.address failure.phase failure.error makes.0, makes.1)
   attempt_same past before after (Unselected error) makes = makes

@@ -1,5 +1,5 @@
 -- How many sends an operation counts: at most one an attempt, and at most two in all.
-use Rattle.std.proofs.Common.{◌≡◌, ℕ, ◌+◌, ◌≤◌, List, [], ◌∷◌, length, ap, ◌∙◌, inl, inr, arith}
+use Rattle.std.proofs.Common.{◌≡◌, ℕ, ◌+◌, ◌≤◌, List, [], ◌∷◌, length, refl, ap, ◌∙◌, inl, inr, arith}
 use Rattle.std.specs.Prelude.{Bool, Option, Result, Ok, Err}
 use Rattle.driver_error.specs.declared.error.Error.{Error}
 use Rattle.driver_link.specs.Clock.{ClockTells}
@@ -23,6 +23,7 @@ use Rattle.driver_exec.specs.Executing.{Ends, Proceeds, first_state}
 use Rattle.driver_exec.specs.Moment.{Moment}
 use Rattle.driver_exec.specs.Retry.{RetryState}
 use Rattle.driver_exec.specs.inside.Executing.{Reaches}
+use Rattle.driver_exec.proofs.Attempts.{may_read_leaves}
 use Rattle.driver_exec.proofs.AttemptSequence.{one_left}
 use Rattle.driver_exec.proofs.RetryFold.{came_of}
 use Rattle.driver_exec.proofs.OneCommand.{reaches_few}
@@ -33,14 +34,14 @@ module _ {A : Type 0} (op : AttemptedOperation A) (kept : Option RetryState) (be
   none_counted : now.count ≡ before.count → now.count ≤ before.count + 1
   none_counted same = omega (arith, same)
 
-  one_counted : (address : Address) (conn : Conn) (result : Result (List ℕ) LinkError) → Sends op kept before now address conn result → now.count ≤ before.count + 1
-  one_counted address conn result sends = omega (arith, sends.counted, sends.readies.count)
+  one_counted : (behind : AttemptState) → now.count ≡ behind.count → (address : Address) (conn : Conn) (result : Result (List ℕ) LinkError) → Sends op kept before behind address conn result → now.count ≤ before.count + 1
+  one_counted behind same address conn result sends = omega (arith, same, sends.counted, sends.readies.count)
 
   failed_counted : (address : Address) (phase : FailurePhase) (error : Error) → FailsIn op kept before now address phase error → now.count ≤ before.count + 1
   failed_counted address ConnectionEstablishment error fails = none_counted fails.rest.count
   failed_counted address Execution error fails = elim fails [
-    | inl lost ↦ one_counted address lost.conn (Err (Fault lost.fault lost.labels)) lost.sends
-    | inr spelled ↦ one_counted address spelled.conn (Ok spelled.reply) spelled.sends
+    | inl lost ↦ one_counted now refl address lost.conn (Err (Fault lost.fault lost.labels)) lost.sends
+    | inr spelled ↦ one_counted spelled.behind spelled.reads.count address spelled.conn (Ok spelled.reply) spelled.sends
   ]
 
   ended_counted : (error : Error) → EndsAtOnce op kept before now error → now.count ≤ before.count + 1
@@ -48,12 +49,12 @@ module _ {A : Type 0} (op : AttemptedOperation A) (kept : Option RetryState) (be
     | inl unready ↦ none_counted unready.count
     | inr other ↦ elim other [
       | inl refused ↦ none_counted (refused.count ∙ refused.readies.count)
-      | inr sent ↦ one_counted sent.address sent.conn sent.result sent.sends
+      | inr sent ↦ one_counted sent.behind (may_read_leaves op sent.conn sent.result sent.behind now sent.reads).count sent.address sent.conn sent.result sent.sends
     ]
   ]
 
   attempt_counted : (attempt : AttemptEnd A) → MakesAttempt op kept before now attempt → now.count ≤ before.count + 1
-  attempt_counted (Done output) makes = one_counted makes.address makes.conn (Ok makes.reply) makes.sends
+  attempt_counted (Done output) makes = one_counted makes.behind makes.reads.count makes.address makes.conn (Ok makes.reply) makes.sends
   attempt_counted (Failed failure) makes = failed_counted failure.address failure.phase failure.error makes.0
   attempt_counted (Unselected error) makes = none_counted makes.rest.count
   attempt_counted Stopped makes = none_counted makes.1.readies.count

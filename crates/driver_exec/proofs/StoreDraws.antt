@@ -1,5 +1,5 @@
 -- What the attempts of an operation draw from a store: the ids that it drew grow, so where the last are apart all were.
-use Rattle.std.proofs.Common.{ℕ, sym, subst, inl, inr}
+use Rattle.std.proofs.Common.{◌≡◌, ℕ, refl, sym, subst, ◌∙◌, inl, inr}
 use Rattle.std.specs.Prelude.{Bool, true, false, List, Option, None, Some, Result, Ok}
 use Rattle.driver_error.specs.declared.error.Error.{Error}
 use Rattle.driver_link.specs.declared.fault.LinkError.{LinkError}
@@ -16,6 +16,7 @@ use Rattle.driver_exec.specs.Attempting.{FailsIn, Readies, AttemptState, Sends, 
 use Rattle.driver_exec.specs.Executing.{Ends}
 use Rattle.driver_exec.specs.Holding.{GivesBack, ExecutionSession, HoldsSession, needs_session}
 use Rattle.driver_exec.specs.Retry.{RetryState}
+use Rattle.driver_exec.proofs.Attempts.{may_read_leaves}
 
 -- a session is lent where one is needed
 holds_draws : (needed : Bool) (store now : StoreTells) (held held_now : ExecutionSession) → HoldsSession needed store now held held_now (Ok tt) → Draws store now
@@ -28,18 +29,18 @@ module _ {A : Type 0} (op : AttemptedOperation A) (mid now : AttemptState) where
       holds_draws (needs_session (asks_session op.spec.sessions conn.description) mid.held) mid.store now.store mid.held now.held readies.holds
 
 module _ {A : Type 0} (op : AttemptedOperation A) (past : Option RetryState) (mid now : AttemptState) where
-  sends_draws : (address : Address) (conn : Conn) (result : Result (List ℕ) LinkError) → Sends op past mid now address conn result → Draws mid.store now.store
-  sends_draws address conn result sends = subst (Draws mid.store) (sym sends.store_is) (readies_draws op mid sends.ready address conn sends.readies)
+  sends_draws : (behind : AttemptState) → now.store ≡ behind.store → (address : Address) (conn : Conn) (result : Result (List ℕ) LinkError) → Sends op past mid behind address conn result → Draws mid.store now.store
+  sends_draws behind same address conn result sends = subst (Draws mid.store) (sym (same ∙ sends.store_is)) (readies_draws op mid sends.ready address conn sends.readies)
 
   fails_draws : (address : Address) (phase : FailurePhase) (error : Error) → FailsIn op past mid now address phase error → Draws mid.store now.store
   fails_draws address ConnectionEstablishment error fails = draws_staying mid.store now.store fails.rest.store
   fails_draws address Execution error fails = elim fails [
-    | inl lost ↦ sends_draws address lost.conn _ lost.sends
-    | inr says ↦ sends_draws address says.conn _ says.sends
+    | inl lost ↦ sends_draws now refl address lost.conn _ lost.sends
+    | inr says ↦ sends_draws says.behind says.reads.store address says.conn _ says.sends
   ]
 
   pub attempt_draws : (attempt : AttemptEnd A) → MakesAttempt op past mid now attempt → Draws mid.store now.store
-  attempt_draws (Done output) makes = sends_draws makes.address makes.conn _ makes.sends
+  attempt_draws (Done output) makes = sends_draws makes.behind makes.reads.store makes.address makes.conn _ makes.sends
   attempt_draws (Failed failure) makes = fails_draws failure.address failure.phase failure.error makes.0
   attempt_draws (Unselected error) makes = draws_staying mid.store now.store makes.rest.store
   attempt_draws Stopped makes = readies_draws op mid now makes.1.address makes.1.conn makes.1.readies
@@ -48,7 +49,7 @@ module _ {A : Type 0} (op : AttemptedOperation A) (past : Option RetryState) (mi
     | inl unready ↦ draws_staying mid.store now.store unready.store
     | inr other ↦ elim other [
       | inl refused ↦ subst (Draws mid.store) (sym refused.store) (readies_draws op mid refused.ready refused.address refused.conn refused.readies)
-      | inr sent ↦ sends_draws sent.address sent.conn sent.result sent.sends
+      | inr sent ↦ sends_draws sent.behind (may_read_leaves op sent.conn sent.result sent.behind now sent.reads).store sent.address sent.conn sent.result sent.sends
     ]
   ]
 

@@ -20,7 +20,7 @@ use Rattle.driver_exec.specs.Executing.{Ends}
 use Rattle.driver_exec.specs.Holding.{DrawsNumber, ExecutionSession, HoldsSession, needs_session, number_before}
 use Rattle.driver_exec.specs.Retry.{RetryState, after, decide, may_be_retried, reworded_failure}
 use Rattle.driver_exec.specs.inside.Executing.{Reaches}
-use Rattle.driver_exec.proofs.Attempts.{sent_number}
+use Rattle.driver_exec.proofs.Attempts.{may_read_leaves, reads_leave, sent_number}
 
 -- nothing may be repeated on a connection either
 on_connection_none : (retryability : Retryability) (description : Description) → retryability ≡ may.None → on_connection retryability description ≡ may.None
@@ -52,8 +52,8 @@ module _ {A : Type 0} (op : AttemptedOperation A) (nothing : op.retryability ≡
   readied_bare ready address conn readies =
       by_need (needs_session (asks_session op.spec.sessions conn.description) before.held) before.store ready.store ready.held readies.holds
 
-  sent_bare : (address : Address) (conn : Conn) (result : Result (List ℕ) LinkError) → Sends op kept before now address conn result → number_before now.held ≡ None
-  sent_bare address conn result sends =
+  sent_bare : (behind : AttemptState) (address : Address) (conn : Conn) (result : Result (List ℕ) LinkError) → Sends op kept before behind address conn result → number_before behind.held ≡ None
+  sent_bare behind address conn result sends =
       sent_number result sends
       ∙ drawn_none (on_connection op.retryability conn.description) (on_connection_none op.retryability conn.description nothing) sends.ready.held sends.numbered sends.number
       (readied_bare sends.ready address conn sends.readies) sends.draws
@@ -61,8 +61,8 @@ module _ {A : Type 0} (op : AttemptedOperation A) (nothing : op.retryability ≡
   failed_bare : (address : Address) (phase : FailurePhase) (error : Error) → FailsIn op kept before now address phase error → number_before now.held ≡ None
   failed_bare address ConnectionEstablishment error fails = ap number_before fails.rest.held ∙ bare
   failed_bare address Execution error fails = elim fails [
-    | inl lost ↦ sent_bare address lost.conn (Err (Fault lost.fault lost.labels)) lost.sends
-    | inr spelled ↦ sent_bare address spelled.conn (Ok spelled.reply) spelled.sends
+    | inl lost ↦ sent_bare now address lost.conn (Err (Fault lost.fault lost.labels)) lost.sends
+    | inr spelled ↦ (reads_leave spelled.behind now spelled.reads).number ∙ sent_bare spelled.behind address spelled.conn (Ok spelled.reply) spelled.sends
   ]
 
   refused_bare : (error : Error) → EndsRefused op kept before now error → number_before now.held ≡ None
@@ -79,7 +79,8 @@ module _ {A : Type 0} (op : AttemptedOperation A) (nothing : op.retryability ≡
 
   -- has none after it
   attempt_bare : (attempt : AttemptEnd A) → MakesAttempt op kept before now attempt → number_before now.held ≡ None
-  attempt_bare (Done output) makes = sent_bare makes.address makes.conn (Ok makes.reply) makes.sends
+  attempt_bare (Done output) makes =
+      (reads_leave makes.behind now makes.reads).number ∙ sent_bare makes.behind makes.address makes.conn (Ok makes.reply) makes.sends
   attempt_bare (Failed failure) makes = failed_bare failure.address failure.phase failure.error makes.0
   attempt_bare (Unselected error) makes = ap number_before makes.rest.held ∙ bare
   attempt_bare Stopped makes = readied_bare now makes.1.address makes.1.conn makes.1.readies
@@ -90,7 +91,7 @@ module _ {A : Type 0} (op : AttemptedOperation A) (nothing : op.retryability ≡
     | inl unready ↦ ap number_before unready.held ∙ bare
     | inr other ↦ elim other [
       | inl refuses ↦ refused_bare error refuses
-      | inr ends ↦ sent_bare ends.address ends.conn ends.result ends.sends
+      | inr ends ↦ (may_read_leaves op ends.conn ends.result ends.behind now ends.reads).number ∙ sent_bare ends.behind ends.address ends.conn ends.result ends.sends
     ]
   ]
 

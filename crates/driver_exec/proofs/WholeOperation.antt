@@ -1,6 +1,6 @@
 -- An operation as a whole: where it is refused for its concern all is as it was, else it goes its way.
 use Rattle.std.proofs.Common.{◌≡◌, ℕ, ◌+◌, ◌≤◌, List, [], refl, sym, ap, subst, ◌∙◌, inl, inr, arith}
-use Rattle.std.specs.Prelude.{Option, None, Some, Result}
+use Rattle.std.specs.Prelude.{false, Option, None, Some, Result}
 use Rattle.driver_error.specs.declared.error.Error.{Error}
 use Rattle.driver_error.specs.Error.{labels_of}
 use Rattle.driver_link.specs.LinkState.{server_run}
@@ -9,6 +9,7 @@ use Rattle.driver_session.specs.StoreTells.{Draws, LendsAsBefore}
 use Rattle.driver_session.proofs.IdDraws.{draws_staying}
 use Rattle.driver_session.proofs.LentSessions.{lends_staying}
 use Rattle.driver_ops.specs.Fields.{under}
+use Rattle.driver_ops.specs.OperationLaw.{NeverOpen}
 use Rattle.driver_ops.specs.Operations.{Batch, OperationSpec, send_of}
 use Rattle.driver_ops.specs.SendKinds.{SendKind}
 use Rattle.driver_exec.specs.Causes.{end_of}
@@ -38,8 +39,8 @@ module _ {A : Type 0} (spec : OperationSpec A) (batch : Batch) (which : SendKind
       count = 0;
       within = omega arith;
       once = λ none. omega arith;
-      sends = subst (λ moment. SentTimes (server_run before.link) (server_run moment.link) (send_of (under None None) body) 0) (sym refuses.same)
-          (begins_unsent (server_run before.link) (send_of (under None None) body));
+      sends = subst (λ moment. SentTimes spec.paged (server_run before.link) (server_run moment.link) (send_of (under None None) body) 0) (sym refuses.same)
+          (begins_unsent spec.paged (server_run before.link) (send_of (under None None) body));
     };
     ends = subst (EndsWithReading spec batch (server_run before.link) (server_run now.link) None None) (sym refuses.result_is)
         (λ read. absurd (concern_unread (concern_of spec which before.client.options) refuses.error refuses.is read));
@@ -53,10 +54,13 @@ module _ {A : Type 0} (spec : OperationSpec A) (batch : Batch) (which : SendKind
         items = [];
         noted = notes_nothing before.link.answers;
         never_falls = omega arith;
-        needs = inl (elim refuses.is.is [
-          | inl alone ↦ subst (KindNeeds on before.link.faults before.link.faults [] (labels_of refuses.error)) (sym alone.kind_is) (refuses.is.refused, alone.labels_are)
-          | inr memory ↦ subst (KindNeeds on before.link.faults before.link.faults [] (labels_of refuses.error)) (sym memory.kind_is) tt
-        ]);
+        needs = inl (record {
+          needs = elim refuses.is.is [
+            | inl alone ↦ subst (KindNeeds on before.link.faults before.link.faults [] (labels_of refuses.error)) (sym alone.kind_is) (refuses.is.refused, alone.labels_are)
+            | inr memory ↦ subst (KindNeeds on before.link.faults before.link.faults [] (labels_of refuses.error)) (sym memory.kind_is) tt
+          ];
+          no_source = λ told. elim refuses.is.is [ inl alone ↦ alone.no_source | inr memory ↦ memory.no_source ];
+        });
         at_last = λ accepted draws last. absurd (let e : ◌≡◌ {A = Option (List ℕ)} None (Some refuses.is.text) = sym accepted ∙ refuses.is.refused in cc);
       }))
     where
@@ -64,31 +68,31 @@ module _ {A : Type 0} (spec : OperationSpec A) (batch : Batch) (which : SendKind
       on = grounds spec which fixed before
 
   -- an operation has its cause
-  pub executes_caused : Executes spec batch which before now count count_now fixed fixed_now result → Caused spec which fixed before now (end_of result)
-  executes_caused executes = elim executes [
+  pub executes_caused : (spec.paged ≡ false → NeverOpen spec) → Executes spec batch which before now count count_now fixed fixed_now result → Caused spec which fixed before now (end_of result)
+  executes_caused alone executes = elim executes [
     | inl refuses ↦ refused_caused refuses
-    | inr proceeds ↦ proceeds_caused spec batch which before now count count_now fixed fixed_now result proceeds
+    | inr proceeds ↦ proceeds_caused spec batch which before now count count_now fixed fixed_now result alone proceeds
   ]
 
   -- its sends are one command
-  pub executes_sends_one_command : Executes spec batch which before now count count_now fixed fixed_now result → SendsOneCommand spec batch before now result
-  executes_sends_one_command executes = elim executes [
+  pub executes_sends_one_command : (spec.paged ≡ false → NeverOpen spec) → Executes spec batch which before now count count_now fixed fixed_now result → SendsOneCommand spec batch before now result
+  executes_sends_one_command alone executes = elim executes [
     | inl refuses ↦ refused_sends_one_command refuses
-    | inr proceeds ↦ proceeds_sends_one_command spec batch which before now count count_now fixed fixed_now result proceeds
+    | inr proceeds ↦ proceeds_sends_one_command spec batch which before now count count_now fixed fixed_now result alone proceeds
   ]
 
   -- each session is lent as often as before
-  pub executes_lends : Executes spec batch which before now count count_now fixed fixed_now result → LendsAsBefore before.store now.store
-  executes_lends executes = elim executes [
+  pub executes_lends : (spec.paged ≡ false → NeverOpen spec) → Executes spec batch which before now count count_now fixed fixed_now result → LendsAsBefore before.store now.store
+  executes_lends alone executes = elim executes [
     | inl refuses ↦ lends_staying before.store now.store (ap (λ moment. moment.store) refuses.same)
-    | inr proceeds ↦ proceeds_lends spec batch which before now count count_now fixed fixed_now result proceeds
+    | inr proceeds ↦ proceeds_lends spec batch which before now count count_now fixed fixed_now result alone proceeds
   ]
 
   -- the ids that were drawn are the next ones
-  pub executes_draws : Executes spec batch which before now count count_now fixed fixed_now result → Draws before.store now.store
-  executes_draws executes = elim executes [
+  pub executes_draws : (spec.paged ≡ false → NeverOpen spec) → Executes spec batch which before now count count_now fixed fixed_now result → Draws before.store now.store
+  executes_draws alone executes = elim executes [
     | inl refuses ↦ draws_staying before.store now.store (ap (λ moment. moment.store) refuses.same)
-    | inr proceeds ↦ proceeds_draws spec batch which before now count count_now fixed fixed_now result proceeds
+    | inr proceeds ↦ proceeds_draws spec batch which before now count count_now fixed fixed_now result alone proceeds
   ]
 
   -- two sends are counted at most

@@ -1,5 +1,6 @@
 -- One attempt of an operation outside transactions, over any link: a server is selected and a connection checked out,
--- a session is lent where none is held, and one command goes out under the number of the send before, or a first one.
+-- a session is lent where none is held, one command goes out under the number of the send before, or a first one, and its answer is
+-- read, page by page.
 use Rattle.std.specs.Prelude.{◌≡◌, ℕ, ◌+◌, ℤ, Bool, true, false, ◌&&◌, List, [], Option, None, Some, is_some, ◌⊎◌, Result, Ok, Err, if◌then◌else◌}
 use Rattle.driver_error.specs.declared.error.Error.{Error}
 use Rattle.driver_error.specs.declared.kind.ErrorKind.TheVariants as kind
@@ -14,21 +15,21 @@ use Rattle.driver_link.specs.declared.options.Asked.{Asked}
 use Rattle.driver_link.specs.declared.options.Conn.{Conn}
 use Rattle.driver_link.specs.declared.options.Description.{Description}
 use Rattle.driver_link.specs.Clock.{ClockTells}
-use Rattle.driver_link.specs.Framed.{Framed}
-use Rattle.driver_link.specs.LinkCalls.{ChecksOutConnection, ExchangesFrame, SelectsServer}
+use Rattle.driver_link.specs.LinkCalls.{ChecksOutConnection, SelectsServer}
 use Rattle.driver_link.specs.LinkState.{LinkState}
 use Rattle.driver_session.specs.declared.retryability.Retryability.{Retryability}
 use Rattle.driver_session.specs.declared.retryability.Retryability.TheVariants as may
 use Rattle.driver_session.specs.StoreTells.{StoreTells}
-use Rattle.driver_ops.specs.Fields.{SendContext, in_context}
-use Rattle.driver_ops.specs.Operations.{Batch, IsFramed, IsUnframed, OperationSpec, ReadsAnswer, ReadsAsAsked, Refuses, front}
+use Rattle.driver_ops.specs.Fields.{in_context}
+use Rattle.driver_ops.specs.Operations.{Batch, IsUnframed, OperationSpec, Refuses}
 use Rattle.driver_ops.specs.SendKinds.{SendKind}
 use Rattle.driver_exec.specs.declared.attempt_end.AttemptEnd.{AttemptEnd}
 use Rattle.driver_exec.specs.declared.attempt_end.AttemptEnd.TheVariants.{Done, Ended, Failed, Stopped, Unfit, Unselected}
 use Rattle.driver_exec.specs.declared.failure.FailurePhase.{FailurePhase}
 use Rattle.driver_exec.specs.declared.failure.FailurePhase.TheVariants.{ConnectionEstablishment, Execution}
+use Rattle.driver_exec.specs.AttemptExchanges.{AttemptExchanges, Exchanges, held_after}
 use Rattle.driver_exec.specs.Failures.{IsFaultOf, IsLabelledRead, IsVersioned}
-use Rattle.driver_exec.specs.Holding.{DrawsNumber, ExecutionSession, HoldsSession, IsLentAt, held_after_failure, held_id, needs_session, number_before}
+use Rattle.driver_exec.specs.Holding.{DrawsNumber, ExecutionSession, HoldsSession, IsLentAt, held_id, needs_session, number_before}
 use Rattle.driver_exec.specs.Readings.{MayRead}
 use Rattle.driver_exec.specs.Retry.{RetryState}
 
@@ -135,19 +136,6 @@ pub record Readies {A : Type 0} (op : AttemptedOperation A) (kept : Option Retry
   pub count : now.count ≡ before.count
   pub fixed : now.fixed ≡ before.fixed
 
--- a command went out over a connection with the front of the places, and this came of the exchange: the frame was the built
--- command with the executor's fields, and it reads as the send of what was asked
-pub record Exchanges {A : Type 0} (spec : OperationSpec A) (which : SendKind) (batch : Batch) (link now : LinkState) (conn : Conn) (context : SendContext) (result : Result (List ℕ) LinkError) : Type 0 where
-  pub frame : Framed
-  pub framed : IsFramed spec which batch.statements context frame
-  pub reads : ReadsAsAsked spec batch context frame
-  pub exchanges : ExchangesFrame link now conn frame (front batch) result
-
--- what is held after an exchange
-abbrev pub held_after : Result (List ℕ) LinkError → ExecutionSession → ExecutionSession
-held_after (Ok reply) held = held
-held_after (Err failure) held = held_after_failure failure held
-
 -- the command went out on a connection, under the number of the send before or a first one, and was counted; it has as many
 -- statements as a build for the connection takes, which are fixed then; a further attempt sends it only where it may be
 -- repeated there
@@ -167,13 +155,23 @@ pub record Sends {A : Type 0} (op : AttemptedOperation A) (kept : Option RetrySt
   pub counted : now.count ≡ ready.count + 1
   pub fixed_is : now.fixed ≡ Some op.batch.statements
 
--- the attempt's reply was read, as one to a command of so many statements
+-- behind the exchange of the attempt's command the answer was read, as one to a command of so many statements, further pages of it
+-- on the same connection; store, clock, count and number of statements stay
+pub record ReadsOn {A : Type 0} (op : AttemptedOperation A) (conn : Conn) (reply : List ℕ) (behind now : AttemptState) (answer : Result A Error) : Type 0 where
+  pub exchanges : AttemptExchanges op.spec op.batch.statements reply conn (held_id behind.held) behind.link now.link behind.held now.held answer
+  pub store : now.store ≡ behind.store
+  pub clock : now.clock ≡ behind.clock
+  pub count : now.count ≡ behind.count
+  pub fixed : now.fixed ≡ behind.fixed
+
+-- the attempt's answer was read
 pub record IsAnswered {A : Type 0} (op : AttemptedOperation A) (kept : Option RetryState) (before now : AttemptState) (output : A) : Type 0 where
   pub address : Address
   pub conn : Conn
   pub reply : List ℕ
-  pub sends : Sends op kept before now address conn (Ok reply)
-  pub reads : ReadsAnswer op.spec op.batch.statements reply (Ok output)
+  pub behind : AttemptState
+  pub sends : Sends op kept before behind address conn (Ok reply)
+  pub reads : ReadsOn op conn reply behind now (Ok output)
 
 -- the exchange of the attempt's command failed
 pub record LosesExchange {A : Type 0} (op : AttemptedOperation A) (kept : Option RetryState) (before now : AttemptState) (address : Address) (error : Error) : Type 0 where
@@ -183,18 +181,16 @@ pub record LosesExchange {A : Type 0} (op : AttemptedOperation A) (kept : Option
   pub sends : Sends op kept before now address conn (Err (Fault fault labels))
   pub is : IsVersioned (IsFaultOf fault labels (on_connection op.retryability conn.description)) conn.description.max_wire_version error
 
--- an error that was read in a reply to a command of so many statements, with the labels of the table
-pub record IsReadIn {A : Type 0} (spec : OperationSpec A) (statements : ℕ) (bytes : List ℕ) (connection_retryability : Retryability) (error : Error) : Type 0 where
-  pub bare : Error
-  pub reads : ReadsAnswer spec statements bytes (Err bare)
-  pub labelled : IsLabelledRead connection_retryability bare error
-
--- the reply to the attempt's command spelled an error
+-- the answer to the attempt's command spelled an error, which has the labels of the table: that is said of the error alone, and of
+-- no page that is its source
 pub record SpellsFailure {A : Type 0} (op : AttemptedOperation A) (kept : Option RetryState) (before now : AttemptState) (address : Address) (error : Error) : Type 0 where
   pub conn : Conn
   pub reply : List ℕ
-  pub sends : Sends op kept before now address conn (Ok reply)
-  pub is : IsVersioned (IsReadIn op.spec op.batch.statements reply (on_connection op.retryability conn.description)) conn.description.max_wire_version error
+  pub behind : AttemptState
+  pub sends : Sends op kept before behind address conn (Ok reply)
+  pub bare : Error
+  pub reads : ReadsOn op conn reply behind now (Err bare)
+  pub is : IsVersioned (IsLabelledRead (on_connection op.retryability conn.description) bare) conn.description.max_wire_version error
 
 -- an attempt failed in a phase
 abbrev pub FailsIn : {A : Type 0} → AttemptedOperation A → Option RetryState → AttemptState → AttemptState → Address → FailurePhase → Error → Type 0
@@ -297,12 +293,24 @@ pub record RefusedAgain {A : Type 0} (op : AttemptedOperation A) (kept : Option 
   pub error : Error
   pub refused : Refuses op.spec ready.fixed conn.description error
 
+-- some answer was read
+pub record ReadsSome {A : Type 0} (op : AttemptedOperation A) (conn : Conn) (reply : List ℕ) (behind now : AttemptState) : Type 0 where
+  pub answer : Result A Error
+  pub reads : ReadsOn op conn reply behind now answer
+
+-- nothing came behind an exchange that failed; behind a reply some answer was read
+abbrev pub MayReadOn : {A : Type 0} → AttemptedOperation A → Conn → Result (List ℕ) LinkError → AttemptState → AttemptState → Type 0
+MayReadOn op conn (Err failure) behind now = now ≡ behind
+MayReadOn op conn (Ok reply) behind now = ReadsSome op conn reply behind now
+
 -- the command went out, and there was no memory for what came of it
 pub record EndsSent {A : Type 0} (op : AttemptedOperation A) (kept : Option RetryState) (before now : AttemptState) (error : Error) : Type 0 where
   pub address : Address
   pub conn : Conn
   pub result : Result (List ℕ) LinkError
-  pub sends : Sends op kept before now address conn result
+  pub behind : AttemptState
+  pub sends : Sends op kept before behind address conn result
+  pub reads : MayReadOn op conn result behind now
   pub why : kind_of error ≡ kind.Memory
 
 -- the operation ends at once

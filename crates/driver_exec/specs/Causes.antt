@@ -2,11 +2,12 @@
 use Rattle.std.specs.Prelude.{◌≡◌, ℕ, ℤ, pos, List, [], ◌∷◌, Option, None, Some, ◌⊎◌, Result, Ok, Err}
 use Rattle.driver_error.specs.declared.error.Error.{Error}
 use Rattle.driver_error.specs.declared.kind.ErrorKind.TheVariants as kind
-use Rattle.driver_error.specs.Error.{ErrorKind, kind_of, labels_of}
+use Rattle.driver_error.specs.Error.{ErrorKind, kind_of, labels_of, source_of}
 use Rattle.driver_error.specs.LabelTexts.{LabelSet}
 use Rattle.driver_link.specs.declared.fault.Answered.{Answered}
 use Rattle.driver_link.specs.declared.fault.Answered.TheVariants as answer
 use Rattle.driver_link.specs.declared.fault.LinkCall.TheVariants.{Exchange}
+use Rattle.driver_link.specs.declared.fault.LinkFault.{LinkFault}
 use Rattle.driver_session.specs.declared.pool.IdleSession.{IdleSession}
 use Rattle.driver_session.specs.Session.{last_number}
 use Rattle.driver_session.specs.Pool.{Pool}
@@ -17,6 +18,13 @@ abbrev pub HasReply : (List ℕ → Type 0) → List Answered → Type 0
 HasReply P [] = ⊥
 HasReply P (answer.Reply bytes ∷ items) = P bytes ⊎ HasReply P items
 HasReply P (answer.Fault call fault labels ∷ items) = HasReply P items
+
+-- one of the faults of exchanges has a property
+abbrev pub HasExchangeFault : (LinkFault → List (List ℕ) → Type 0) → List Answered → Type 0
+HasExchangeFault P [] = ⊥
+HasExchangeFault P (answer.Reply bytes ∷ items) = HasExchangeFault P items
+HasExchangeFault P (answer.Fault Exchange fault labels ∷ items) = P fault labels ⊎ HasExchangeFault P items
+HasExchangeFault P (answer.Fault call fault labels ∷ items) = HasExchangeFault P items
 
 -- nothing was exchanged: all that was answered is a fault of an earlier call
 abbrev pub AllEarly : List Answered → Type 0
@@ -35,14 +43,15 @@ abbrev pub IsLast : Option ℤ → Type 0
 IsLast None = ⊥
 IsLast (Some number) = number ≡ last_number
 
--- what an error tells of itself: its kind and its own labels
+-- what an error tells of itself: its kind, its own labels, and the error that caused it
 pub record ErrorOutline : Type 0 where
   pub kind : ErrorKind
   pub labels : LabelSet
+  pub source : Option Error
 
 -- what an error tells of itself
 abbrev pub outline_of : Error → ErrorOutline
-outline_of error = record { kind = kind_of error; labels = labels_of error }
+outline_of error = record { kind = kind_of error; labels = labels_of error; source = source_of error }
 
 -- how a call ended: nothing after an Ok, else what its error tells
 abbrev pub end_of : {A : Type 0} → Result A Error → Option ErrorOutline

@@ -1,3 +1,4 @@
+pub mod AttemptExchanges
 pub mod Attempting
 pub mod BetweenCalls
 pub mod Causes

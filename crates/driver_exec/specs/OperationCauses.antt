@@ -1,10 +1,12 @@
 -- Why an operation outside transactions ended as it did, by what the link answered in it, over any link and any store.
-use Rattle.std.specs.Prelude.{◌≡◌, ℕ, ◌≤◌, ℤ, Bool, true, List, [], ◌∷◌, Option, None, Some, IfSome, ◌⊎◌, Ok, Err, if◌then◌else◌}
+use Rattle.std.specs.Prelude.{◌≡◌, ℕ, ◌≤◌, ℤ, Bool, true, false, List, [], ◌∷◌, Option, None, Some, IfSome, ◌⊎◌, Ok, Err, if◌then◌else◌}
 use Rattle.bson_lite.specs.declared.fault.EncodeFault.{EncodeFault}
+use Rattle.bson_lite.specs.declared.namespace.Namespace.{Namespace}
+use Rattle.bson_lite.specs.Spelling.{Spells}
 use Rattle.driver_error.specs.declared.error.Error.{Error}
 use Rattle.driver_error.specs.declared.kind.ErrorKind.TheVariants as kind
 use Rattle.driver_error.specs.declared.labels.TheConstants.{RETRYABLE_WRITE_ERROR}
-use Rattle.driver_error.specs.Error.{ErrorKind, kind_of}
+use Rattle.driver_error.specs.Error.{ErrorKind, kind_of, source_of}
 use Rattle.driver_error.specs.LabelTexts.{LabelSet, label_set, no_labels, with_label}
 use Rattle.driver_link.specs.declared.concerns.WriteConcern.{WriteConcern}
 use Rattle.driver_link.specs.declared.fault.Answered.{Answered}
@@ -22,11 +24,14 @@ use Rattle.driver_session.specs.declared.retryability.Retryability.TheVariants a
 use Rattle.driver_session.specs.Session.{number_at_its_end}
 use Rattle.driver_link.specs.declared.options.Description.{Description}
 use Rattle.driver_ops.specs.Fields.{SendContext}
-use Rattle.driver_ops.specs.Operations.{HasNoSpelling, OperationSpec, ReadsAnswer, Refuses}
+use Rattle.driver_ops.specs.GetMores.{at_namespace, more_spec}
+use Rattle.driver_ops.specs.Operations.{HasNoSpelling, IsUnframed, LeavesCursor, OperationSpec, Page, ReadsPages, Refuses}
+use Rattle.driver_ops.specs.Responses.{ReadsResponse}
 use Rattle.driver_ops.specs.SendKinds.{SendKind}
 use Rattle.driver_exec.specs.Attempting.{on_connection}
-use Rattle.driver_exec.specs.Causes.{AllEarly, ErrorOutline, HasReply, IsLast, KindAtLast, MayBeLast, next_number, outline_of}
+use Rattle.driver_exec.specs.Causes.{AllEarly, ErrorOutline, HasExchangeFault, HasReply, IsLast, KindAtLast, MayBeLast, next_number, outline_of}
 use Rattle.driver_exec.specs.Concerns.{concern_of, concern_refusal}
+use Rattle.driver_exec.specs.Failures.{IsFaultOf, is_memory}
 use Rattle.driver_exec.specs.LabelTable.{labels_outside_transactions}
 use Rattle.driver_exec.specs.OldDeployment.{reworded_kind}
 use Rattle.driver_exec.specs.Moment.{Moment}
@@ -44,6 +49,15 @@ FaultLabels CheckOut retryability setup found labels now = now ≡ labels_after 
 FaultLabels Exchange retryability None found labels now = (now ≡ labels_after retryability found labels) ⊎ (now ≡ label_set labels)
 FaultLabels Exchange retryability (Some setup) found labels now = now ≡ labels_after (on_connection retryability setup.description) found labels
 FaultLabels call retryability setup found labels now = now ≡ label_set labels
+
+-- the question for the page behind these has no spelling, which a text of more bytes than a document has brings about: it is for the
+-- cursor and the namespace that they left open behind the reply in these bytes
+pub record LacksQuestion {A : Type 0} (spec : OperationSpec A) (statements : ℕ) (bytes : List ℕ) (pages : List Page) (failure : Error) : Type 0 where
+  pub namespace : Namespace
+  pub cursor : ℤ
+  pub left : LeavesCursor spec statements bytes pages cursor namespace
+  pub context : SendContext
+  pub is : IsUnframed (more_spec (at_namespace namespace) cursor) context failure
 
 -- this is one of the faults that were answered, and its error has these labels
 abbrev pub HasFault : Retryability → Option Setup → LinkFault → LabelSet → List Answered → Type 0
@@ -96,24 +110,46 @@ grounds spec which fixed before = record {
   number = next_number before.store;
 }
 
--- a reply spells this error for an operation, which reads it by the number of statements that a first build takes: its kind is
--- the one that is read, in words for the caller, and its labels are those of what is read, with that of the table where the
--- network failed
-pub record SpellsEnd {A : Type 0} (on : Grounds A) (why : ErrorOutline) (bytes : List ℕ) : Type 0 where
+-- a page that came is a reply that the link answered; one that did not was spelled by a reply, or is a fault of an exchange, which
+-- raised the count, with the link's own labels; or the question for it, behind the pages before it, has no spelling
+abbrev pub PageNeeds : {A : Type 0} → OperationSpec A → ℕ → List ℕ → List Page → ℕ → ℕ → List Answered → Page → Type 0
+PageNeeds spec statements reply pages before now items (Ok page) = HasReply (λ bytes. Spells page bytes) items
+PageNeeds spec statements reply pages before now items (Err failure) =
+    HasReply (λ bytes. ReadsResponse bytes (Err failure)) items
+    ⊎ ((Rose before now × HasExchangeFault (λ fault labels. IsFaultOf fault labels may.None failure) items)
+    ⊎ LacksQuestion spec statements reply pages failure)
+
+-- so does each page, the newest first
+abbrev pub PagesNeed : {A : Type 0} → OperationSpec A → ℕ → List ℕ → ℕ → ℕ → List Answered → List Page → Type 0
+PagesNeed spec statements reply before now items [] = Unit {0}
+PagesNeed spec statements reply before now items (page ∷ pages) =
+    PageNeeds spec statements reply pages before now items page × PagesNeed spec statements reply before now items pages
+
+-- a reply spells this error for an operation, which reads it by the number of statements that a first build takes, with pages behind
+-- it: its kind is the one that is read, in words for the caller, its labels are those of what is read, with that of the table where
+-- the network failed, and its source is the one that is read
+pub record SpellsEnd {A : Type 0} (on : Grounds A) (before now : ℕ) (items : List Answered) (why : ErrorOutline) (bytes : List ℕ) : Type 0 where
   pub statements : ℕ
   pub first : TakesFirst on.spec on.fixed on.setup statements
+  pub pages : List Page
+  pub alone : on.spec.paged ≡ false → pages ≡ []
+  pub told : PagesNeed on.spec statements bytes before now items pages
   pub bare : Error
-  pub reads : ReadsAnswer on.spec statements bytes (Err bare)
+  pub reads : ReadsPages on.spec statements bytes pages (Err bare)
   pub connection_retryability : Retryability
   pub kind_is : why.kind ≡ reworded_kind (kind_of bare)
   pub labels_are : why.labels ≡ labels_outside_transactions connection_retryability bare
+  pub source_is : why.source ≡ source_of bare
 
--- an operation reads a reply, by the number of statements that a first build takes
-pub record IsRead {A : Type 0} (on : Grounds A) (bytes : List ℕ) : Type 0 where
+-- an operation reads a reply with pages behind it, by the number of statements that a first build takes
+pub record IsRead {A : Type 0} (on : Grounds A) (before now : ℕ) (items : List Answered) (bytes : List ℕ) : Type 0 where
   pub statements : ℕ
   pub first : TakesFirst on.spec on.fixed on.setup statements
+  pub pages : List Page
+  pub alone : on.spec.paged ≡ false → pages ≡ []
+  pub told : PagesNeed on.spec statements bytes before now items pages
   pub output : A
-  pub reads : ReadsAnswer on.spec statements bytes (Ok output)
+  pub reads : ReadsPages on.spec statements bytes pages (Ok output)
 
 -- what an error of each kind needs; want of memory needs nothing. That of a refusal before a send has no labels
 abbrev pub KindNeeds : {A : Type 0} → Grounds A → ℕ → ℕ → List Answered → LabelSet → ErrorKind → Type 0
@@ -128,11 +164,17 @@ KindNeeds on before now items labels kind.SessionsNotSupported = (on.setup ≡ N
 KindNeeds on before now items labels kind.Memory = Unit {0}
 KindNeeds on before now items labels _ = ⊥
 
+-- what an error needs that no reply spells: it has its kind's cause, and no source
+pub record NeedsByKind {A : Type 0} (on : Grounds A) (before now : ℕ) (items : List Answered) (why : ErrorOutline) : Type 0 where
+  pub needs : KindNeeds on before now items why.labels why.kind
+  pub no_source : is_memory why.kind ≡ false → why.source ≡ None
+
 -- what an end needs: an Ok comes only after a reply that the operation reads, and an error by its kind, after a reply that
 -- spells it, or where a build is refused so
 abbrev pub EndNeeds : {A : Type 0} → Grounds A → ℕ → ℕ → List Answered → Option ErrorOutline → Type 0
-EndNeeds on before now items None = HasReply (IsRead on) items
-EndNeeds on before now items (Some why) = KindNeeds on before now items why.labels why.kind ⊎ (HasReply (SpellsEnd on why) items ⊎ RefusesBuild on.spec on.fixed on.setup why)
+EndNeeds on before now items None = HasReply (IsRead on before now items) items
+EndNeeds on before now items (Some why) =
+    NeedsByKind on before now items why ⊎ (HasReply (SpellsEnd on before now items why) items ⊎ RefusesBuild on.spec on.fixed on.setup why)
 
 -- each send has a number: the operation takes a session and may repeat its write, and the link tells that its connections
 -- take sessions and retryable writes

@@ -1,9 +1,9 @@
 -- What is told of a failure that only the reply to a command spells: the reply is the model server's own, the entries of the
 -- statements that did not fail stand, and the command was built.
-use Rattle.std.specs.Prelude.{◌≡◌, ℕ, List, Option, Some, IfSome, Result, Ok, Err}
+use Rattle.std.specs.Prelude.{◌≡◌, ℕ, false, List, [], Option, Some, IfSome, Result, Ok, Err}
 use Rattle.bson_lite.specs.Spelling.{Spells}
 use Rattle.driver_error.specs.declared.error.Error.{Error}
-use Rattle.driver_error.specs.Error.{kind_of}
+use Rattle.driver_error.specs.Error.{kind_of, source_of}
 use Rattle.driver_link.specs.declared.machine.Entry.{Entry}
 use Rattle.driver_link.specs.declared.machine.SendBody.{SendBody}
 use Rattle.driver_link.specs.declared.machine.Statement.{Statement}
@@ -17,7 +17,7 @@ use Rattle.driver_link.specs.Settled.{Has}
 use Rattle.driver_session.specs.Pool.{Pool}
 use Rattle.driver_ops.specs.declared.command.Command.{Command}
 use Rattle.driver_ops.specs.Fields.{SendContext}
-use Rattle.driver_ops.specs.Operations.{Batch, OperationSpec, ReadsAnswer, send_of}
+use Rattle.driver_ops.specs.Operations.{Batch, OperationSpec, Page, ReadsPages, send_of}
 use Rattle.driver_ops.specs.SendKinds.{SendKind}
 use Rattle.driver_ops.specs.Served.{entries_counted, statements_in}
 use Rattle.driver_exec.specs.Keeping.{StandsBefore}
@@ -25,20 +25,23 @@ use Rattle.driver_exec.specs.Moment.{Moment}
 use Rattle.driver_exec.specs.Resending.{AmongAnswers, IsReadFailure}
 
 -- between two moments of a told server an error was read in its own reply to one of the sends of this body, as one to a command of
--- so many statements; the executor may have added labels, the wire version and the reply, so the kind is the same. The entries of
--- the statements that ran then, or had their kept results, stand in the log afterwards
+-- so many statements, and in the pages behind it; the executor may have added labels, the wire version and the reply, so kind and
+-- source are the same. The entries of the statements that ran then, or had their kept results, stand in the log afterwards
 pub record IsToldBy {A : Type 0} (spec : OperationSpec A) (statements : ℕ) (body : SendBody) (run run_now : ServerRun) (error : Error) : Type 0 where
   pub context : SendContext
   pub earlier : ℕ
   pub later : ℕ
   pub bytes : List ℕ
-  pub among : AmongAnswers run run_now (send_of context body) earlier later bytes
+  pub pages : List Page
+  pub alone : spec.paged ≡ false → pages ≡ []
+  pub among : AmongAnswers spec statements run run_now (send_of context body) earlier later bytes pages
   pub reply : Reply
   pub answer : run_answer among.mid (send_of context body) ≡ Some reply
   pub spelled : Spells reply bytes
   pub bare : Error
-  pub reads : ReadsAnswer spec statements bytes (Err bare)
+  pub reads : ReadsPages spec statements bytes pages (Err bare)
   pub same_kind : kind_of error ≡ kind_of bare
+  pub same_source : source_of error ≡ source_of bare
   pub done : List Statement
   pub told : statements_in among.mid.server (send_of context body) (next_step among.mid.schedule among.mid.server) ≡ Some done
   pub stand : (entry : Entry) → Has (entries_counted context.session context.number (body_writes body) done) entry → Has run_now.server.log entry

@@ -1,4 +1,5 @@
 -- What the functions that no other crate calls say of themselves.
+pub mod AttemptExchanges
 pub mod Attempting
 pub mod Executing
 pub mod Failures

@@ -64,6 +64,7 @@ pub fn execute_operation<O: Operation, S: SessionStore, L: Link, K: Clock, R: Rn
         result }
     ensures keeps { (statements : ℕ) → IsFixed (O.built op.new) statements → (body : SendBody) →
         AsksFor (O.spec op.old) (batch_of places.now statements) body → KeepsInvariant
+        (O.spec op.old).paged
         (moment_of S.tells L.tells K.tells R.stream client.old outside.old)
         (moment_of S.tells L.tells K.tells R.stream client.new outside.new)
         body }

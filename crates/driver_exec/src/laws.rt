@@ -19,7 +19,7 @@ pub fn one_command_keeps_what_stands<O: Operation>()
     ensures { (op : O) (batch : Batch) (before now : Moment) (result : Result O.Output Error)
         (body : SendBody) → AsksFor (O.spec op) batch body →
         SendsOneCommand (O.spec op) batch before now result →
-        KeepsInvariant before now body }
+        KeepsInvariant (O.spec op).paged before now body }
 {}
 
 /// And where it is Ok each of its writes has its entry, and these entries tell the output.

@@ -15,6 +15,7 @@ mod labels;
 pub mod laws;
 mod old_deployment;
 mod outside;
+mod pages;
 mod retry;
 mod sending;
 mod steps;

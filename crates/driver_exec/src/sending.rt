@@ -1,5 +1,4 @@
-//! The command of an attempt on its connection: its number, its frame, one exchange, and what comes of the
-//! reply.
+//! The command of an attempt on its connection: its number, its frame, one exchange, and what comes of it.
 ghost use Rattle.std.specs.Prelude.{◌≡◌, ◌≤◌, ◌+◌, ◌⊎◌, ℕ, IsSome, Some, length, take};
 ghost use Rattle.driver_link.specs.declared.machine.Send.{Send as Sent};
 ghost use Rattle.driver_link.specs.Reads.{Reads};
@@ -12,9 +11,10 @@ use crate::attempt_end::{AttemptEnd, lost, read, unbuilt};
 use crate::concern::effective_concern;
 use crate::execution_session::{ExecutionSession, draw_number};
 use crate::framing::frame_of;
+use crate::pages::read_exchanges;
 use crate::steps::Steps;
 use driver_link::{Address, ClientOptions, Conn, Frame, Link, Place};
-use driver_ops::{Operation, read_answer};
+use driver_ops::Operation;
 use driver_session::Retryability;
 use std::alloc::Global;
 use std::sync::ledger::Ledger;
@@ -87,8 +87,8 @@ fn front(places: &[Place], statements: usize) -> &[Place]
     &places[..statements]
 }
 
-/// One exchange of a frame, with the places of its writes, and what comes of it: the reply is read as one to a
-/// command of so many statements as were built last.
+/// One exchange of a frame, with the places of its writes, and what comes of it: the answer that begins with its
+/// reply is read as one to a command of so many statements as were built last.
 fn exchange<O: Operation, L: Link, Q: Ledger>(
     alloc: Global,
     link: &mut L,
@@ -116,7 +116,7 @@ fn exchange<O: Operation, L: Link, Q: Ledger>(
     sends.tick();
     match link.exchange(alloc, on.conn, frame, places) {
         Ok(reply) => {
-            let answer = read_answer(alloc, op, reply.as_slice());
+            let (held, answer) = read_exchanges(alloc, link, op, held, on.conn, reply.as_slice());
             (
                 held,
                 read(

@@ -27,6 +27,7 @@ use Rattle.driver_link.specs.Serving.{Plan, usual, served, served_in}
 use Rattle.driver_link.specs.Sessions.{is_below}
 use Rattle.driver_link.specs.Settled.{IsEither, IsOrderly, IsPlain, IsSettled, IsUnnumbered, MayJoin}
 use Rattle.driver_link.specs.Statements.{Results, code_at, counts_by_plan, front_to_run, kept_with, planned_at, statement_of, statements, usual_modified}
+use Rattle.driver_link.proofs.CursorSends.{interrupted_aside, refused_aside, served_aside}
 use Rattle.driver_link.proofs.KeptStatements.{kept_from}
 use Rattle.driver_link.proofs.Lists.{has_last, none_is_some, some_is_some}
 use Rattle.driver_link.proofs.OrderlyTraces.{last_or}
@@ -158,19 +159,28 @@ module _ (does : WriteKind) (id : List ℕ) (number : ℤ) where
     served_keep : (plan : Plan) → CountsFirst does plan.results → KeepsWell does id number (served plan server send)
     served_keep plan one = elim is_either [
       | inl plain ↦ served_plain_keep send plain server trace settled keeps plan one
-      | inr free ↦ served_free_keep send free server keeps plan
+      | inr other ↦ elim other [
+        | inl free ↦ served_free_keep send free server keeps plan
+        | inr aside ↦ same_keep server (served plan server send) (served_aside send aside server plan).sessions keeps
+      ]
     ]
 
     interrupted_keep : (most : ℕ) (labels : List (List ℕ)) → KeepsWell does id number (interrupted most labels server send)
     interrupted_keep most labels = elim is_either [
       | inl plain ↦ interrupted_plain_keep send plain server trace settled keeps most labels
-      | inr free ↦ interrupted_free_keep send free server keeps most labels
+      | inr other ↦ elim other [
+        | inl free ↦ interrupted_free_keep send free server keeps most labels
+        | inr aside ↦ same_keep server (interrupted most labels server send) (interrupted_aside send aside server most labels).sessions keeps
+      ]
     ]
 
     refused_keep : (labels : List (List ℕ)) → KeepsWell does id number (told_of_error labels server send)
     refused_keep labels = elim is_either [
       | inl plain ↦ subst (KeepsWell does id number) (sym (error_nothing send plain server labels server)) keeps
-      | inr free ↦ subst (KeepsWell does id number) (sym (error_free send free server labels server)) keeps
+      | inr other ↦ elim other [
+        | inl free ↦ subst (KeepsWell does id number) (sym (error_free send free server labels server)) keeps
+        | inr aside ↦ same_keep server (told_of_error labels server send) (refused_aside send aside server labels).sessions keeps
+      ]
     ]
 
     met_keep : (item : Item) → CountsBy does item → KeepsWell does id number (met server send item)

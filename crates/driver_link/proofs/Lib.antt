@@ -7,6 +7,7 @@ pub mod OrderlyTraces
 pub mod ServedSends
 pub mod Plain
 pub mod Unnumbered
+pub mod CursorSends
 pub mod SettledExchanges
 pub mod LogGrowth
 pub mod ConnectionsOut

@@ -16,6 +16,7 @@ use Rattle.driver_link.specs.Serving.{Plan, usual, served, served_in}
 use Rattle.driver_link.specs.Sessions.{is_below}
 use Rattle.driver_link.specs.Settled.{IsEither, IsOrderly, IsPlain, IsSettled, IsUnnumbered}
 use Rattle.driver_link.specs.Statements.{entries_of}
+use Rattle.driver_link.proofs.CursorSends.{OnlyCursors, interrupted_aside, refused_aside, served_aside}
 use Rattle.driver_link.proofs.Lists.{has_last}
 use Rattle.driver_link.proofs.Plain.{begun_done, below_nothing, error_nothing, interrupted_above, interrupted_below, planned, served_above}
 use Rattle.driver_link.proofs.SettledExchanges.{after_settled, orderly_front}
@@ -29,6 +30,10 @@ pub record KeepsEntries (old now : Server) : Type 0 where
 
 keeps_same : (server : Server) → KeepsEntries server server
 keeps_same server = record { more = []; log = sym (append-nil server.log); trace = refl }
+
+-- so it is where cursors alone change
+keeps_beside_cursors : (old now : Server) → OnlyCursors old now → KeepsEntries old now
+keeps_beside_cursors old now same = record { more = []; log = same.log ∙ sym (append-nil old.log); trace = same.trace }
 
 keeps_entries_twice : (a b c : Server) → KeepsEntries a b → KeepsEntries b c → KeepsEntries a c
 keeps_entries_twice a b c first second = record {
@@ -84,18 +89,30 @@ module _ (send : Send) (free : IsUnnumbered send) (server : Server) where
 -- with one or without
 module _ (send : Send) (is_either : IsEither send) (server : Server) where
   served_keeps : (plan : Plan) → KeepsEntries server (served plan server send)
-  served_keeps plan = elim is_either [ inl plain ↦ served_plain_keeps send plain server plan | inr free ↦ served_free_keeps send free server plan ]
+  served_keeps plan = elim is_either [
+    | inl plain ↦ served_plain_keeps send plain server plan
+    | inr other ↦ elim other [
+      | inl free ↦ served_free_keeps send free server plan
+      | inr aside ↦ keeps_beside_cursors server (served plan server send) (served_aside send aside server plan)
+    ]
+  ]
 
   interrupted_keeps : (most : ℕ) (labels : List (List ℕ)) → KeepsEntries server (interrupted most labels server send)
   interrupted_keeps most labels = elim is_either [
     | inl plain ↦ interrupted_plain_keeps send plain server most labels
-    | inr free ↦ interrupted_free_keeps send free server most labels
+    | inr other ↦ elim other [
+      | inl free ↦ interrupted_free_keeps send free server most labels
+      | inr aside ↦ keeps_beside_cursors server (interrupted most labels server send) (interrupted_aside send aside server most labels)
+    ]
   ]
 
   refused_keeps : (labels : List (List ℕ)) → KeepsEntries server (told_of_error labels server send)
   refused_keeps labels = elim is_either [
     | inl plain ↦ subst (KeepsEntries server) (sym (error_nothing send plain server labels server)) (keeps_same server)
-    | inr free ↦ subst (KeepsEntries server) (sym (error_free send free server labels server)) (keeps_same server)
+    | inr other ↦ elim other [
+      | inl free ↦ subst (KeepsEntries server) (sym (error_free send free server labels server)) (keeps_same server)
+      | inr aside ↦ keeps_beside_cursors server (told_of_error labels server send) (refused_aside send aside server labels)
+    ]
   ]
 
   met_keeps : (item : Item) → KeepsEntries server (met server send item)

@@ -4,7 +4,7 @@ use Rattle.std.specs.Prelude.{ℤ, Option, None, Some, ◌⊎◌, slice_get}
 use Rattle.driver_link.specs.declared.machine.PlacedWrite.{PlacedWrite}
 use Rattle.driver_link.specs.declared.machine.Send.{Send}
 use Rattle.driver_link.specs.Cases.{writes_of}
-use Rattle.driver_link.specs.Settled.{Has, IsEither, IsOneNumber, IsOrderly, IsPlain, IsSamePlace, IsUnder, IsUnnumbered, MayJoin, PlacesApart, SharePlace}
+use Rattle.driver_link.specs.Settled.{Has, IsAside, IsEither, IsOneNumber, IsOrderly, IsPlain, IsSamePlace, IsUnder, IsUnnumbered, MayJoin, PlacesApart, SharePlace}
 use Rattle.driver_link.proofs.Lists.{earlier_or_last, get_last, get_left, has_at, has_either, none_beyond, none_is_some, position_of, some_is_some}
 
 -- a number is no lack of one
@@ -50,11 +50,16 @@ alike trace orderly a b i j v w left right at_i at_j same =
 pub all_places : (trace : List Send) → IsOrderly trace → (send : Send) → Has trace send → PlacesApart (writes_of send)
 all_places trace orderly send sent = λ i j v w at_i at_j same. (alike trace orderly send send i j v w sent sent at_i at_j same).position
 
+-- a send that is not plain has no number
+lacks_number : (send : Send) → IsUnnumbered send ⊎ IsAside send → send.number ≡ None
+lacks_number send (inl free) = free.none
+lacks_number send (inr aside) = aside.none
+
 -- a send under a number is plain
 pub plain_under : (trace : List Send) → IsOrderly trace → (send : Send) → Has trace send → (id : List ℕ) (number : ℤ) → IsUnder id number send → IsPlain send
 plain_under trace orderly send sent id number under = elim (orderly.either send sent) [
   | inl plain ↦ plain
-  | inr free ↦ absurd (numbered_or_not send.number number under.numbered free.none)
+  | inr other ↦ absurd (numbered_or_not send.number number under.numbered (lacks_number send other))
 ]
 
 -- a send without a number shares no place with one under a number
@@ -100,7 +105,7 @@ module _ (trace : List Send) (send : Send) (is_either : IsEither send) (apart : 
   other_number : (earlier : Send) → Has trace earlier → IsPlain earlier → earlier.session ≡ send.session → earlier.number ≡ send.number → ⊥
   other_number earlier before plain session number = elim is_either [
     | inl here ↦ new_number earlier before here session number
-    | inr free ↦ numbered_or_not earlier.number plain.number plain.numbered (number ∙ free.none)
+    | inr other ↦ numbered_or_not earlier.number plain.number plain.numbered (number ∙ lacks_number send other)
   ]
 
   new_list : (a b : Send) → IsPlain a → Has (trace ++ send ∷ []) a → Has (trace ++ send ∷ []) b → a.session ≡ b.session → a.number ≡ b.number → writes_of a ≡ writes_of b

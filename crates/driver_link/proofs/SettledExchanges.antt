@@ -16,6 +16,7 @@ use Rattle.driver_link.specs.Interrupting.{told_of_error}
 use Rattle.driver_link.specs.Serving.{Plan, usual, served}
 use Rattle.driver_link.specs.Settled.{Has, HasFreeOrigin, HasOrigin, IsFrom, IsOrderly, IsSettled, IsSettledSession, IsUnnumbered, IsUnserved, SharePlace}
 use Rattle.driver_link.specs.Statements.{entry_of}
+use Rattle.driver_link.proofs.CursorSends.{cursors_settled, interrupted_aside, refused_aside, served_aside}
 use Rattle.driver_link.proofs.Lists.{earlier_or_last, get_left, has_last, has_left, none_is_some, set_gone, set_none}
 use Rattle.driver_link.proofs.OrderlyTraces.{new_apart, share_back}
 use Rattle.driver_link.proofs.Plain.{interrupted_settled, refused_settled, served_settled}
@@ -90,7 +91,11 @@ module _ (trace : List Send) (server : Server) (at : ℕ) (send : Send) (orderly
       let rest = less_settled trace server at settled in
       elim (orderly.either send sent) [
         | inl plain ↦ served_settled send plain (without_waiting server at) trace orderly sent rest usual
-        | inr free ↦ served_free_settled send free (without_waiting server at) trace orderly sent (settled.unserved at send is free) (others_apart free) rest usual
+        | inr other ↦ elim other [
+          | inl free ↦ served_free_settled send free (without_waiting server at) trace orderly sent (settled.unserved at send is free) (others_apart free) rest usual
+          | inr aside ↦
+              cursors_settled trace (without_waiting server at) (served usual (without_waiting server at) send) (served_aside send aside (without_waiting server at) usual) rest
+        ]
       ]
 
 arrives : (trace : List Send) (server : Server) (at : ℕ) (found : Option (Option Send)) → IsOrderly trace → slice_get server.waiting at ≡ found → IsSettled trace server
@@ -214,19 +219,29 @@ module _ (trace : List Send) (send : Send) (orderly : IsOrderly (trace ++ send �
     serves : (plan : Plan) → IsSettled (trace ++ send ∷ []) (served plan server send)
     serves plan = elim (orderly.either send sent) [
       | inl plain ↦ served_settled send plain server (trace ++ send ∷ []) orderly sent settled plan
-      | inr free ↦ served_free_settled send free server (trace ++ send ∷ []) orderly sent (new.unserved free) (apart_here free) settled plan
+      | inr other ↦ elim other [
+        | inl free ↦ served_free_settled send free server (trace ++ send ∷ []) orderly sent (new.unserved free) (apart_here free) settled plan
+        | inr aside ↦ cursors_settled (trace ++ send ∷ []) server (served plan server send) (served_aside send aside server plan) settled
+      ]
     ]
 
     interrupts : (most : ℕ) (labels : List (List ℕ)) → IsSettled (trace ++ send ∷ []) (interrupted most labels server send)
     interrupts most labels = elim (orderly.either send sent) [
       | inl plain ↦ interrupted_settled send plain server (trace ++ send ∷ []) orderly sent settled most labels
-      | inr free ↦ interrupted_free_settled send free server (trace ++ send ∷ []) orderly sent (new.unserved free) (apart_here free) settled most labels
+      | inr other ↦ elim other [
+        | inl free ↦ interrupted_free_settled send free server (trace ++ send ∷ []) orderly sent (new.unserved free) (apart_here free) settled most labels
+        | inr aside ↦
+            cursors_settled (trace ++ send ∷ []) server (interrupted most labels server send) (interrupted_aside send aside server most labels) settled
+      ]
     ]
 
     refuses : (labels : List (List ℕ)) → IsSettled (trace ++ send ∷ []) (told_of_error labels server send)
     refuses labels = elim (orderly.either send sent) [
       | inl plain ↦ refused_settled send plain server (trace ++ send ∷ []) orderly sent settled labels
-      | inr free ↦ refused_free_settled send free server (trace ++ send ∷ []) settled labels
+      | inr other ↦ elim other [
+        | inl free ↦ refused_free_settled send free server (trace ++ send ∷ []) settled labels
+        | inr aside ↦ cursors_settled (trace ++ send ∷ []) server (told_of_error labels server send) (refused_aside send aside server labels) settled
+      ]
     ]
 
     met_settled : (item : Item) → IsSettled (trace ++ send ∷ []) (met server send item)

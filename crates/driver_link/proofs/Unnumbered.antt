@@ -125,7 +125,7 @@ module _ (trace : List Send) (send : Send) (done : List Statement) (old now : Se
   }
 
 -- without a number a write is served outside transactions, and nothing is known of a session
-case_without : (session : Option (List ℕ)) (server : Server) (send : Send) → case_as session None server send ≡ unnumbered_case send.body
+pub case_without : (session : Option (List ℕ)) (server : Server) (send : Send) → case_as session None server send ≡ unnumbered_case send.body
 unfolding case_as
 case_without None server send = refl
 case_without (Some id) server send = refl
@@ -147,7 +147,7 @@ sessions_without : (session : Option (List ℕ)) (change : KnownSession → Know
 sessions_without None change server send = refl
 sessions_without (Some id) change server send = refl
 
-transient_without : (session : Option (List ℕ)) (server : Server) (send : Send) → transient_as session None server send ≡ server
+pub transient_without : (session : Option (List ℕ)) (server : Server) (send : Send) → transient_as session None server send ≡ server
 unfolding transient_as
 transient_without None server send = refl
 transient_without (Some id) server send = refl

@@ -1,5 +1,5 @@
 -- The invariant of one client's writes outside transactions: sends that carry a list of writes under a session
--- and a number, any number of times, and sends without a number, each of them once.
+-- and a number, any number of times, sends without a number, each of them once, and commands of cursors among them.
 use Rattle.std.specs.Prelude.{◌≡◌, ◌≢◌, ℕ, ◌<ℤ◌, ℤ, false, List, [], ◌∷◌, ◌++◌, None, Some, IsSome, ◌⊎◌, slice_get}
 use Rattle.std.specs.FinMap as finite
 use Rattle.driver_link.specs.declared.machine.Counted.{Counted}
@@ -8,7 +8,7 @@ use Rattle.driver_link.specs.declared.machine.KnownSession.{KnownSession}
 use Rattle.driver_link.specs.declared.machine.PlacedWrite.{PlacedWrite}
 use Rattle.driver_link.specs.declared.machine.Send.{Send}
 use Rattle.driver_link.specs.declared.machine.SendBody.{SendBody}
-use Rattle.driver_link.specs.declared.machine.SendBody.TheVariants.{Write}
+use Rattle.driver_link.specs.declared.machine.SendBody.TheVariants.{Kill, More, Write}
 use Rattle.driver_link.specs.declared.machine.Server.{Server}
 use Rattle.driver_link.specs.declared.machine.ServerTransaction.TheVariants as transaction
 use Rattle.driver_link.specs.Once.{Once}
@@ -40,9 +40,21 @@ pub record IsUnnumbered (send : Send) : Type 0 where
   pub outside : send.in_transaction ≡ false
   pub writes : IsWrite send.body
 
--- a send of writes with a number or without one
+-- a command of a cursor, which carries no writes: a question for its next page, or its end
+abbrev pub IsOfCursor : SendBody → Type 0
+IsOfCursor (More cursor) = Unit {0}
+IsOfCursor (Kill cursor) = Unit {0}
+IsOfCursor other = ⊥
+
+-- a send of a command of a cursor, without a number and outside transactions
+pub record IsAside (send : Send) : Type 0 where
+  pub none : send.number ≡ None
+  pub outside : send.in_transaction ≡ false
+  pub cursor : IsOfCursor send.body
+
+-- a send of writes with a number or without one, or one of a command of a cursor
 abbrev pub IsEither : Send → Type 0
-IsEither send = IsPlain send ⊎ IsUnnumbered send
+IsEither send = IsPlain send ⊎ (IsUnnumbered send ⊎ IsAside send)
 
 -- a send is under this session and number
 pub record IsUnder (id : List ℕ) (number : ℤ) (send : Send) : Type 0 where
@@ -76,8 +88,8 @@ pub record IsSamePlace (p q : ℕ) (a b : Send) (i j : ℕ) : Type 0 where
   pub position : i ≡ j
   pub sends : IsOneNumber a b ⊎ (p ≡ q)
 
--- the sends of a trace: each carries writes, one number has one list of writes, and a place stands at one
--- position, under one number or in one send
+-- the sends of a trace: each carries writes or is of a cursor, one number has one list of writes, and a place stands
+-- at one position, under one number or in one send
 pub record IsOrderly (trace : List Send) : Type 0 where
   pub either : (send : Send) → Has trace send → IsEither send
   pub one_list : (a b : Send) → IsPlain a → Has trace a → Has trace b → a.session ≡ b.session → a.number ≡ b.number → writes_of a ≡ writes_of b

@@ -12,6 +12,7 @@ use Rattle.bson_lite.specs.declared.document.Pair.{Pair}
 use Rattle.bson_lite.specs.declared.namespace.Namespace.{Namespace}
 use Rattle.bson_lite.specs.Namespace.{dotted}
 use Rattle.bson_lite.specs.Spelling.{Spells}
+use Rattle.driver_error.specs.BulkResults.{ResultSpec}
 use Rattle.driver_link.specs.declared.command.CommandName.TheVariants as name
 use Rattle.driver_link.specs.declared.keys.TheConstants.{ADMIN, BULK_WRITE, DELETE, DOCUMENT, INSERT, NAMESPACES, OPS, ORDERED, UPDATE}
 use Rattle.driver_link.specs.declared.machine.Place.{Place}
@@ -40,7 +41,7 @@ use Rattle.driver_ops.specs.declared.own_op.OwnOp.{OwnOp}
 use Rattle.driver_ops.specs.declared.target.OperationTarget.{OperationTarget}
 use Rattle.driver_ops.specs.BulkFronts.{AreNumbered}
 use Rattle.driver_ops.specs.BulkOps.{AreOps, IsUndotted, delete_fields, model_writes, model_written, namespace_document, numbered, op_document, op_fields, replace_one_fields, update_many_fields, update_one_fields}
-use Rattle.driver_ops.specs.BulkSpec.{AsksBulk, bulk_spec}
+use Rattle.driver_ops.specs.BulkSpec.{AsksBulk, bulk_spec, is_verbose}
 use Rattle.driver_ops.specs.BulkWrites.{AreDescribed, IsBulkCommand, bulk_command, bulk_is_ordered, described, numbered_ops, op_namespaces}
 use Rattle.driver_ops.specs.Distinct.{distinct_with, number_in, number_of, with_text, with_text_by}
 use Rattle.driver_ops.specs.Fields.{IsPlain}
@@ -281,8 +282,8 @@ fronts_each : (models : List WriteModel) (own : List OwnOp) (places : List Place
 fronts_each models own places count are each =
     length-take count places ∙ ap (min count) (each ∙ sym (ops_length models own are)) ∙ sym (length-take count models)
 
-module _ (target : OperationTarget) (first : ℕ) (own : List OwnOp) (options : BulkWriteOptions) (verbose : Bool) (count : ℕ) (made : Command)
-    (is : IsBulkCommand own options verbose count made) (few : AreNumbered (take count own)) where
+module _ (target : OperationTarget) (first : ℕ) (own : List OwnOp) (options : BulkWriteOptions) {R : Type 0} (tells : ResultSpec R) (count : ℕ) (made : Command)
+    (is : IsBulkCommand own options (is_verbose tells) count made) (few : AreNumbered (take count own)) where
   abbrev texts : List (List ℕ)
   texts = op_namespaces (take count own)
 
@@ -299,26 +300,26 @@ module _ (target : OperationTarget) (first : ℕ) (own : List OwnOp) (options : 
             (sym is.sequences)
             (record { name = refl; documents = texts_spelled texts is.spelled }, (record { name = refl; documents = ops_spelled texts models (take count own) are known few }, tt));
         asks = λ fields common. rw (is.database, is.body, asked.is)
-            (asks_is options verbose fields texts (op_documents texts models (take count own)) cut_so.namespaces models (take count places)
+            (asks_is options (is_verbose tells) fields texts (op_documents texts models (take count own)) cut_so.namespaces models (take count places)
             (namespaces_read texts cut_so.namespaces cut_so.cuts)
             (ops_read texts cut_so.namespaces models (take count own) cut_so.cuts are plain known)
             (fronts_each asked.models own places count asked.are_ops asked.each_placed));
       }
 
   -- such a command is a bulk write's
-  pub built_bulk : (which : SendKind) → made.name ≡ name.BulkWrite → IsBuilt (bulk_spec target first own options verbose) which count made
+  pub built_bulk : (which : SendKind) → made.name ≡ name.BulkWrite → IsBuilt (bulk_spec tells target first own options) which count made
   built_bulk which is_name = record {
     name = is_name;
     is = is;
-    plain = subst IsPlain (sym is.body) (plain_is options verbose);
+    plain = subst IsPlain (sym is.body) (plain_is options (is_verbose tells));
     asks = asks_for;
     within = λ places body asked. subst (λ long. count ≤ long) (sym asked.each_placed) is.within;
   }
 
 -- for each command that it may build the bulk write asks for something, where each op has a place
-pub bulk_bodies_of : (target : OperationTarget) (first : ℕ) (own : List OwnOp) (options : BulkWriteOptions) (verbose : Bool) (models : List WriteModel) (places : List Place)
-    → AreOps models own → AllByRecursion IsUndotted models → length places ≡ length own → HasBodies (bulk_spec target first own options verbose) places
-bulk_bodies_of target first own options verbose models places are plain each = λ which statements made is. (
+pub bulk_bodies_of : (target : OperationTarget) (first : ℕ) (own : List OwnOp) (options : BulkWriteOptions) {R : Type 0} (tells : ResultSpec R) (models : List WriteModel) (places : List Place)
+    → AreOps models own → AllByRecursion IsUndotted models → length places ≡ length own → HasBodies (bulk_spec tells target first own options) places
+bulk_bodies_of target first own options tells models places are plain each = λ which statements made is. (
   Write command.BulkWrite (bulk_is_ordered options) (model_writes (take statements models) (take statements places)),
   record { models = models; are_ops = are; undotted = plain; each_placed = each; is = refl },
 )

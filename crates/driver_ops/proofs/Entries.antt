@@ -21,6 +21,7 @@ use Rattle.driver_link.specs.Serving.{Plan, done_in, served, served_in}
 use Rattle.driver_link.specs.Sessions.{is_below}
 use Rattle.driver_link.specs.Settled.{Has, IsEither, IsOrderly, IsPlain, IsSettled, IsUnnumbered, MayJoin}
 use Rattle.driver_link.specs.Statements.{Results, entry_of, has_failed, is_failed, no_results, statement_at, statements}
+use Rattle.driver_link.proofs.CursorSends.{no_writes}
 use Rattle.driver_link.proofs.KeptStatements.{FitsKept, Follows, entry_there, follows_statements}
 use Rattle.driver_link.proofs.Lists.{has_last, has_right, none_is_some, some_is_some}
 use Rattle.driver_link.proofs.Plain.{case_below, known, none_known, planned, results_here, served_above, served_runs}
@@ -235,15 +236,17 @@ module _ (trace : List Send) (send : Send) (orderly : IsOrderly trace) (sent : H
           | inr kept ↦ absurd (none_kept told.at told.result kept)
         ])
 
-  -- with a number or without one
+  -- with a number, without one, or of a cursor, which has no writes
   either_stands : IsEither send → (done : List Statement) → done ≡ done_in outside plan (results_of (known_of server send)) send.body → (entry : Entry)
       → Has (entries_counted send.session send.number (writes_of send) done) entry → Has (served plan server send).log entry
   either_stands (inl plain) done is entry has =
       plain_stands plain entry (subst (λ d. IsToldOf send.session send.number (writes_of send) d entry) (is ∙ all_is plain)
       (told_from send.session send.number (writes_of send) done entry has))
-  either_stands (inr free) done is entry has =
+  either_stands (inr (inl free)) done is entry has =
       free_stands free entry (subst (λ d. IsToldOf send.session send.number (writes_of send) d entry) (is ∙ only_is free)
       (told_from send.session send.number (writes_of send) done entry has))
+  either_stands (inr (inr aside)) done is entry has =
+      absurd (subst (λ writes. Has (entries_counted send.session send.number writes done) entry) (no_writes send.body aside.cursor) has)
 
 -- where the statements of a send are told the entries of those that ran now or had their kept results stand in the log
 pub told_entries_stand : (trace : List Send) (server : Server) (send : Send) (step : Scheduled) (done : List Statement) → IsEither send → MayJoin trace send

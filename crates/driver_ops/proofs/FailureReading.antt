@@ -14,7 +14,7 @@ use Rattle.driver_link.specs.Exchange.{after_picks, answered, traced}
 use Rattle.driver_link.specs.Settled.{IsWrite}
 use Rattle.driver_ops.specs.Fields.{SendContext}
 use Rattle.driver_ops.specs.Inserts.{int_at, is_one}
-use Rattle.driver_ops.specs.Operations.{OperationSpec, ReadsError, send_of}
+use Rattle.driver_ops.specs.Operations.{OperationSpec, Page, ReadsPagesError, send_of}
 use Rattle.driver_ops.specs.Served.{statements_in}
 use Rattle.driver_ops.specs.lawful.CountReplies.{error_not_one}
 use Rattle.driver_ops.specs.lawful.InsertRead.{differ, ok_is_one, spells_one}
@@ -35,11 +35,11 @@ done_told server send step found out writes answer one =
       | inr tells ↦ record { done = tells.done; told = tells.told }
     ]
 
--- so they are where an operation reads an error of its own in it
-pub failure_told : {A : Type 0} (spec : OperationSpec A) (statements : ℕ) (body : SendBody) (context : SendContext) (server : Server) (step : Scheduled) (found : Reply) (bytes : List ℕ) (error : Error)
-    → IsWrite body → answered server (send_of context body) step ≡ Some found → Spells found bytes → ReadsError spec statements bytes error
+-- so they are where an operation reads an error of its own in it and in the pages behind it
+pub failure_told : {A : Type 0} (spec : OperationSpec A) (statements : ℕ) (body : SendBody) (context : SendContext) (server : Server) (step : Scheduled) (found : Reply) (bytes : List ℕ) (pages : List Page) (error : Error)
+    → IsWrite body → answered server (send_of context body) step ≡ Some found → Spells found bytes → ReadsPagesError spec statements bytes pages error
     → AreTold server (send_of context body) step
-failure_told spec statements body context server step found bytes error writes answer spelled reads =
+failure_told spec statements body context server step found bytes pages error writes answer spelled reads =
     let same = spells_one reads.response.body found bytes reads.done.spelled spelled in
     let one = subst (λ (reply : Reply). is_one (int_at OK.now reply) ≡ true) same (ok_is_one reads.response.body reads.done.is) in
     done_told server (send_of context body) step found refl writes answer one

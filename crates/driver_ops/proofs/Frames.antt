@@ -31,7 +31,7 @@ use Rattle.driver_ops.specs.Operations.{Batch, IsBuilt, IsUnframed, OperationSpe
 use Rattle.driver_ops.specs.SendKinds.{SendKind}
 
 -- what values are as the fields of a command
-int_is : (number : ℤ) → int64_of (bson.Int64 number) ≡ Some number
+pub int_is : (number : ℤ) → int64_of (bson.Int64 number) ≡ Some number
 unfolding bson.out-Bson out
 int_is number = refl
 

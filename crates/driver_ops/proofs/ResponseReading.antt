@@ -12,8 +12,8 @@ use Rattle.driver_error.specs.declared.kind.ErrorKind.TheVariants as kind
 use Rattle.driver_error.specs.Conversions.{IsMade}
 use Rattle.driver_error.specs.Error.{ErrorKind, HasResponse, kind_of}
 use Rattle.driver_error.specs.LabelTexts.{LabelSet, no_labels, label_set}
-use Rattle.driver_ops.specs.Responses.{IsNoDocument, IsSpelledBy, Said, done, fails, breaks, SaysError, SpellsError, TellsResponse, no_document_text, said}
-use Rattle.driver_ops.specs.inside.Responses.{IsSaid, KeepsReply}
+use Rattle.driver_ops.specs.Responses.{IsNoDocument, IsSpelledBy, KeepsReply, Said, done, fails, breaks, SaysError, SpellsError, TellsResponse, no_document_text, said}
+use Rattle.driver_ops.specs.inside.Responses.{IsSaid}
 
 -- bytes that decode to none spell no document
 pub spells_nothing : (bytes : List ℕ) (fault : DecodeFault) (offset : ℕ) → fault ≡ At offset

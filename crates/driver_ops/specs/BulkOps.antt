@@ -1,9 +1,11 @@
 -- The ops of a bulk write, field by field: what each model comes to in a command, and which write it is.
-use Rattle.std.specs.Prelude.{◌≡◌, ℕ, pos, Bool, true, false, List, [], ◌∷◌, ◌++◌, drop, take, Option, None, Some, ◌⊎◌, Result, Ok, Err}
+use Rattle.std.specs.Prelude.{◌≡◌, ℕ, pos, Bool, true, false, List, [], ◌∷◌, ◌++◌, drop, take, Option, None, Some, unwrap_or, ◌⊎◌, Result, Ok, Err}
 use Rattle.std.specs.List.{list_any}
 use Rattle.bson_lite.specs.declared.bson.Bson.{Bson}
 use Rattle.bson_lite.specs.declared.bson.Bson as bson
 use Rattle.bson_lite.specs.declared.document.Pair.{Pair}
+use Rattle.bson_lite.specs.declared.fields.TheConstants.{ID_KEY}
+use Rattle.bson_lite.specs.Fields.{value_of}
 use Rattle.bson_lite.specs.Namespace.{dotted}
 use Rattle.bson_lite.specs.Spelling.{Spells, four}
 use Rattle.driver_error.specs.declared.error.Error.{Error}
@@ -27,6 +29,8 @@ use Rattle.driver_link.specs.Models.{is_multi, namespace_of, operation_of}
 use Rattle.driver_link.specs.Numbers.{field}
 use Rattle.driver_link.specs.Writes.{is_dot, write_on}
 use Rattle.driver_ops.specs.declared.keys.TheConstants.{ARRAY_FILTERS, COLLATION, FILTER, HINT, MULTI, SORT, UPDATE_MODIFICATIONS, UPSERT}
+use Rattle.driver_ops.specs.declared.own_op.OpWork.{OpWork}
+use Rattle.driver_ops.specs.declared.own_op.OpWork.TheVariants as work
 use Rattle.driver_ops.specs.declared.own_op.OwnOp.{OwnOp}
 use Rattle.driver_ops.specs.Encoding.{IsUnspelled}
 use Rattle.driver_ops.specs.OptionFields.{document_in, documents_value, flag_of, option_field}
@@ -118,12 +122,26 @@ model_writes (model ∷ models) (place ∷ places) = record { place = place; wri
 abbrev pub IsUndotted : WriteModel → Type 0
 IsUndotted model = list_any is_dot (namespace_of model).db ≡ false
 
--- an op as it is sent is that of a model: the text of its namespace, its spelling on the namespace of number 0, and whether it is
--- of all documents found
+-- the id of an inserted document, which each that is sent has
+abbrev pub id_told : List (Pair Bson) → Bson
+id_told document = unwrap_or (value_of ID_KEY.now document) bson.Null
+
+-- what the op of a model does
+abbrev pub work_of : WriteModel → OpWork
+work_of (InsertOne model) = work.Insert (id_told model.document)
+work_of (UpdateOne model) = work.Update
+work_of (UpdateMany model) = work.Update
+work_of (ReplaceOne model) = work.Update
+work_of (DeleteOne model) = work.Delete
+work_of (DeleteMany model) = work.Delete
+
+-- an op as it is sent is that of a model: the text of its namespace, its spelling on the namespace of number 0, whether it is
+-- of all documents found, and what it does
 pub record IsOpOf (model : WriteModel) (own : OwnOp) : Type 0 where
   pub namespace : own.namespace ≡ dotted (namespace_of model)
   pub spelled : Spells (op_document 0 model) own.bytes
   pub multi : own.multi ≡ is_multi model
+  pub work : own.work ≡ work_of model
 
 -- each op is that of the model at its place
 abbrev pub AreOps : List WriteModel → List OwnOp → Type 0

@@ -1,7 +1,7 @@
 -- What a bulk write tells as an operation.
-use Rattle.std.specs.Prelude.{◌≡◌, ℕ, Bool, true, List, length, take}
+use Rattle.std.specs.Prelude.{◌≡◌, ℕ, Bool, true, not, List, length, take}
 use Rattle.std.specs.List.{AllByRecursion}
-use Rattle.driver_error.specs.declared.results.SummaryBulkWriteResult.{SummaryBulkWriteResult}
+use Rattle.driver_error.specs.BulkResults.{ResultSpec}
 use Rattle.driver_link.specs.declared.command.CommandName.TheVariants as name
 use Rattle.driver_link.specs.declared.keys.TheConstants.{ADMIN}
 use Rattle.driver_link.specs.declared.machine.Place.{Place}
@@ -14,12 +14,12 @@ use Rattle.driver_ops.specs.declared.feature.Feature.TheVariants.{Inherit, NotSu
 use Rattle.driver_ops.specs.declared.own_op.OwnOp.{OwnOp}
 use Rattle.driver_ops.specs.declared.target.OperationTarget.{OperationTarget}
 use Rattle.driver_ops.specs.declared.target.OperationTarget.TheVariants.{Database}
-use Rattle.driver_ops.specs.BulkAnswers.{ReadsBulk, TellsCounts}
+use Rattle.driver_ops.specs.BulkAnswers.{BulkBatch, ReadsBulk}
+use Rattle.driver_ops.specs.BulkEntries.{TellsBulk}
 use Rattle.driver_ops.specs.BulkFronts.{RefusesBulk, TakesBulk}
 use Rattle.driver_ops.specs.BulkOps.{AreOps, IsUndotted, has_multi, model_writes}
 use Rattle.driver_ops.specs.BulkWrites.{IsBulkCommand, bulk_is_ordered}
 use Rattle.driver_ops.specs.Features.{feature_of}
-use Rattle.driver_ops.specs.InsertSpec.{ReadsAlone}
 use Rattle.driver_ops.specs.Operations.{OperationSpec}
 use Rattle.driver_ops.specs.StatementSpec.{own_of_statement, under_backpressure}
 
@@ -36,17 +36,26 @@ pub record AsksBulk (own : List OwnOp) (options : BulkWriteOptions) (statements 
   pub each_placed : length places ≡ length own
   pub is : body ≡ Write command.BulkWrite (bulk_is_ordered options) (model_writes (take statements models) (take statements places))
 
--- a build takes the longest front of the ops that the connection takes, each send has the same command, and the reply is the whole
--- answer. The ops are those of the caller's models from an index on; nothing of them may be repeated where one of them, in this
+-- the batch of so many of the ops, which are those of the caller's models from an index on
+abbrev pub batch_read : {R : Type 0} → ResultSpec R → ℕ → List OwnOp → BulkWriteOptions → ℕ → BulkBatch R
+batch_read tells first own options statements =
+    record { ops = take statements own; first = first; ordered = bulk_is_ordered options; tells = tells }
+
+-- results of this kind are asked for op by op
+abbrev pub is_verbose : {R : Type 0} → ResultSpec R → Bool
+is_verbose tells = not tells.only_errors
+
+-- a build takes the longest front of the ops that the connection takes, each send has the same command, and the answer comes in
+-- pages. The ops are those of the caller's models from an index on; nothing of them may be repeated where one of them, in this
 -- batch or later, is of all documents found
-abbrev pub bulk_spec : OperationTarget → ℕ → List OwnOp → BulkWriteOptions → Bool → OperationSpec SummaryBulkWriteResult
-bulk_spec target first own options verbose = record {
+abbrev pub bulk_spec : {R : Type 0} → ResultSpec R → OperationTarget → ℕ → List OwnOp → BulkWriteOptions → OperationSpec R
+bulk_spec tells target first own options = record {
   name = name.BulkWrite;
   target = target;
-  commands = λ which. IsBulkCommand own options verbose;
+  commands = λ which. IsBulkCommand own options (is_verbose tells);
   bodies = AsksBulk own options;
-  takes = TakesBulk options verbose own;
-  refused = RefusesBulk options verbose first own;
+  takes = TakesBulk options (is_verbose tells) own;
+  refused = RefusesBulk options (is_verbose tells) first own;
   write_concern = λ which. feature_of options.write_concern;
   read_concern = NotSupported;
   selection_criteria = λ which. Inherit;
@@ -54,6 +63,7 @@ bulk_spec target first own options verbose = record {
   retryability = own_of_statement (has_multi own);
   backpressure = under_backpressure;
   after_cluster_time = true;
-  reads = λ statements. ReadsAlone ReadsBulk;
-  output = TellsCounts;
+  paged = true;
+  reads = λ statements. ReadsBulk (batch_read tells first own options statements);
+  output = TellsBulk tells first;
 }

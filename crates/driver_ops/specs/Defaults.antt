@@ -1,5 +1,5 @@
 -- What an operation answers where it has nothing of its own to say.
-use Rattle.std.specs.Prelude.{Bool, true, false, Option, Some}
+use Rattle.std.specs.Prelude.{ℕ, Bool, true, false, List, codes, Option, Some}
 use Rattle.driver_session.specs.declared.retryability.Retryability.{Retryability}
 use Rattle.driver_session.specs.declared.retryability.Retryability.TheVariants as may
 
@@ -7,6 +7,10 @@ use Rattle.driver_session.specs.declared.retryability.Retryability.TheVariants a
 abbrev pub is_repeatable : Retryability → Bool
 is_repeatable may.None = false
 is_repeatable other = true
+
+-- the message about a further page of an answer that has one
+unfoldable pub one_page_text : List ℕ
+one_page_text = codes "the answer has one page"
 
 -- a write may be repeated, unless the client's options forbid it
 abbrev pub repeated_where : Option Bool → Retryability

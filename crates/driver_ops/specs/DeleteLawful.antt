@@ -6,11 +6,12 @@ use Rattle.driver_link.specs.declared.machine.SendCommand.TheVariants as command
 use Rattle.driver_link.specs.declared.machine.WriteKind.TheVariants as kind
 use Rattle.driver_link.specs.declared.write_options.DeleteOptions.{DeleteOptions}
 use Rattle.driver_ops.specs.declared.target.OperationTarget.{OperationTarget}
-use Rattle.driver_ops.specs.CountAnswers.{deleted_by}
+use Rattle.driver_ops.specs.CountAnswers.{ReadsDelete, deleted_by}
 use Rattle.driver_ops.specs.Deleting.{delete_statement}
 use Rattle.driver_ops.specs.OperationLaw.{IsLawful}
 use Rattle.driver_ops.specs.StatementSpec.{delete_spec, statement_write}
 use Rattle.driver_ops.specs.Targets.{namespace_of}
+use Rattle.driver_ops.specs.lawful.AlonePages.{never_open, none_failed}
 use Rattle.driver_ops.specs.lawful.CountReplies.{IsDeleteRead, delete_by, delete_counts, delete_read}
 use Rattle.driver_ops.specs.lawful.StatementReading.{ReadsStatement, statement_lawful}
 
@@ -19,6 +20,8 @@ pub delete_reading : (target : OperationTarget) (filter : List (Pair Bson)) (mul
     → ReadsStatement command.Delete (delete_spec target filter multi options) IsDeleteRead deleted_by
 delete_reading target filter multi options = record {
   asks = λ statements places body asked. (statement_write kind.Delete (namespace_of target) (delete_statement filter multi options) asked.place, asked.is);
+  never = λ statements. never_open ReadsDelete;
+  failed = λ statements. none_failed ReadsDelete;
   reads = λ statements reply output answers. delete_read reply output answers;
   has_result = λ plan server write statement output read. delete_counts plan server write statement read.failed read.failed_is read.none;
   counts = delete_by;

@@ -20,13 +20,14 @@ use Rattle.driver_link.specs.Replies.{result_of}
 use Rattle.driver_link.specs.Statements.{has_failed, is_failed}
 use Rattle.driver_ops.specs.declared.own_document.OwnDocument.{OwnDocument}
 use Rattle.driver_ops.specs.declared.target.OperationTarget.{OperationTarget}
-use Rattle.driver_ops.specs.InsertAnswers.{ids_where}
+use Rattle.driver_ops.specs.InsertAnswers.{ReadsInsert, ids_where}
 use Rattle.driver_ops.specs.InsertSpec.{AreOwn, id_beside, ids_from, insert_spec}
 use Rattle.driver_ops.specs.Inserts.{insert_is_ordered, insert_write, insert_writes}
 use Rattle.driver_ops.specs.OperationLaw.{IsLawful}
 use Rattle.driver_ops.specs.Operations.{send_of}
 use Rattle.driver_ops.specs.Served.{entries_counted, entry_counted}
 use Rattle.driver_ops.specs.Targets.{namespace_of}
+use Rattle.driver_ops.specs.lawful.AlonePages.{never_open, none_failed, none_further}
 use Rattle.driver_ops.specs.lawful.InsertRead.{differ}
 use Rattle.driver_ops.specs.lawful.InsertReplies.{EndAs, IsInsertSend, goes_on, told_by_reading, unfailed_told}
 
@@ -85,6 +86,8 @@ output_of ids = record { inserted_ids = ids }
 -- over the machine's own reply its output is told by the entries of its writes
 pub insert_lawful : (target : OperationTarget) (first : ℕ) (own : List OwnDocument) (options : InsertManyOptions) → IsLawful (insert_spec target first own options)
 insert_lawful target first own options = record {
+  alone = λ one count. never_open (ReadsInsert (insert_is_ordered options) (take count own));
+  failed = λ count. none_failed (ReadsInsert (insert_is_ordered options) (take count own));
   reads_own = λ statements places body asks is_write context server step reply answer came spelled output reads.
       let send = send_of context body in
       let namespace = namespace_of target in
@@ -103,4 +106,7 @@ insert_lawful target first own options = record {
         };
         told = is.answers.2 ∙ ap output_of (sym ids);
       };
+  reads_further = λ statements places body asks is_write context server step reply answer came spelled page pages last further output reads.
+      absurd (none_further (insert_spec target first own options) (λ count. never_open (ReadsInsert (insert_is_ordered options) (take count own)))
+      statements reply _ last page pages further);
 }

@@ -1,5 +1,5 @@
 -- What an insert tells as an operation.
-use Rattle.std.specs.Prelude.{◌≡◌, ℕ, ◌+◌, ◌<◌, ◌≤◌, true, List, [], ◌∷◌, length, map, take, Option, None, Some, Result, Ok, Err}
+use Rattle.std.specs.Prelude.{◌≡◌, ℕ, ◌+◌, ◌<◌, ◌≤◌, true, false, List, [], ◌∷◌, length, map, take, Option, None, Some, Result, Ok, Err}
 use Rattle.std.specs.FinMap as finite
 use Rattle.std.specs.Ordering.{nat_cmp}
 use Rattle.bson_lite.specs.declared.bson.Bson.{Bson}
@@ -102,6 +102,7 @@ insert_spec target first own options = record {
   retryability = own_of_insert;
   backpressure = λ options. is_repeatable (own_of_insert options);
   after_cluster_time = true;
+  paged = false;
   reads = λ statements. ReadsAlone (ReadsInsert (insert_is_ordered options) (take statements own));
   output = TellsIds;
 }

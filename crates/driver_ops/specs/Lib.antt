@@ -1,7 +1,10 @@
 pub mod BulkAnswers
+pub mod BulkEntries
 pub mod BulkFronts
 pub mod BulkLawful
 pub mod BulkOps
+pub mod BulkPages
+pub mod BulkRules
 pub mod BulkSpec
 pub mod BulkWrites
 pub mod ConcernFields
@@ -16,6 +19,8 @@ pub mod Fields
 pub mod FindLawful
 pub mod FindingAndModifying
 pub mod FoundAnswers
+pub mod GetMoreLawful
+pub mod GetMores
 pub mod InsertAnswers
 pub mod InsertFronts
 pub mod InsertLaw
@@ -30,6 +35,7 @@ pub mod Readings
 pub mod Responses
 pub mod SendKinds
 pub mod Served
+pub mod SingleCursor
 pub mod StatementLaw
 pub mod StatementSpec
 pub mod Targets

@@ -1,8 +1,10 @@
 -- What an operation tells of its command, what building it comes to, and what a reply to it comes to.
-use Rattle.std.specs.Prelude.{◌≡◌, ◌↔◌, ℕ, ◌≤◌, Bool, false, List, [], ◌∷◌, length, take, ◌++◌, Option, None, Some, ◌⊎◌, Result, Ok, Err}
+use denote.Ref.{Bor}
+use Rattle.std.specs.Prelude.{◌≡◌, ◌↔◌, ℕ, ◌≤◌, ℤ, Bool, false, List, [], ◌∷◌, length, take, ◌++◌, Option, None, Some, ◌⊎◌, Result, Ok, Err}
 use Rattle.bson_lite.specs.declared.bson.Bson.{Bson}
 use Rattle.bson_lite.specs.declared.document.Pair.{Pair}
 use Rattle.bson_lite.specs.declared.fault.EncodeFault.{EncodeFault}
+use Rattle.bson_lite.specs.declared.namespace.Namespace.{Namespace}
 use Rattle.bson_lite.specs.Spelling.{refusal}
 use Rattle.driver_error.specs.declared.error.Error.{Error}
 use Rattle.driver_error.specs.declared.kind.ErrorKind.TheVariants as kind
@@ -26,7 +28,7 @@ use Rattle.driver_session.specs.declared.retryability.Retryability.{Retryability
 use Rattle.driver_ops.specs.declared.command.Command.{Command}
 use Rattle.driver_ops.specs.declared.feature.Feature.{Feature}
 use Rattle.driver_ops.specs.declared.operation.Reading.{Reading}
-use Rattle.driver_ops.specs.declared.operation.Reading.TheVariants.{Done}
+use Rattle.driver_ops.specs.declared.operation.Reading.TheVariants.{Done, Page as Further}
 use Rattle.driver_ops.specs.declared.response.CommandResponse.{CommandResponse}
 use Rattle.driver_ops.specs.declared.target.OperationTarget.{OperationTarget}
 use Rattle.driver_ops.specs.Fields.{AreCommon, IsFrameOf, IsPlain, IsSixteen, SendContext, with_fields}
@@ -37,11 +39,21 @@ use Rattle.driver_ops.specs.SendKinds.{SendKind}
 abbrev pub Page : Type 0
 Page = Result (List (Pair Bson)) Error
 
+-- the page behind a reference
+abbrev pub page_told : Result (Bor (List (Pair Bson))) Error → Page
+page_told (Ok reply) = Ok reply.now
+page_told (Err failure) = Err failure
+
+-- where what was read leaves its cursor open
+abbrev pub OnPage : {A : Type 0} → Result (Reading A) Error → Type 0 → Type 0
+OnPage (Ok (Further cursor namespace)) claim = claim
+OnPage result claim = Unit {0}
+
 -- what an operation tells: the name of its command and what it goes to; which commands it builds, by the kind of the send and
 -- the number of statements; what a command of so many statements asks for, with the places of all its remaining writes; how many
 -- statements a build takes for a connection that is described so, and what it is refused with, beside want of memory, both by the
--- number that earlier builds fixed; its options, of which some are by the kind of the send; what of it may be repeated; what the
--- pages of an answer to a command of so many statements come to, the newest first; and what its output is by the entries of its
+-- number that earlier builds fixed; its options, of which some are by the kind of the send; what of it may be repeated; whether its
+-- answer may have more pages than one; what the pages of an answer to a command of so many statements come to, the newest first; and what its output is by the entries of its
 -- writes, in order
 pub record OperationSpec (A : Type 0) : Type 1 where
   pub name : CommandName
@@ -57,6 +69,7 @@ pub record OperationSpec (A : Type 0) : Type 1 where
   pub retryability : ClientOptions → Retryability
   pub backpressure : ClientOptions → Bool
   pub after_cluster_time : Bool
+  pub paged : Bool
   pub reads : ℕ → List Page → Result (Reading A) Error → Type 0
   pub output : List Entry → A → Type 0
 
@@ -75,6 +88,7 @@ pub record SameSpec {A : Type 0} (old now : OperationSpec A) : Type 0 where
   pub retryability : (options : ClientOptions) → now.retryability options ≡ old.retryability options
   pub backpressure : (options : ClientOptions) → now.backpressure options ≡ old.backpressure options
   pub after_cluster_time : now.after_cluster_time ≡ old.after_cluster_time
+  pub paged : now.paged ≡ old.paged
   pub reads : (statements : ℕ) (pages : List Page) (result : Result (Reading A) Error) → old.reads statements pages result ↔ now.reads statements pages result
   pub output : (entries : List Entry) (output : A) → old.output entries output ↔ now.output entries output
 
@@ -193,22 +207,40 @@ takes_one fixed description statements = statements ≡ 1
 abbrev pub never : Option ℕ → Description → Error → Type 0
 never fixed description error = ⊥
 
--- the error that an operation reads in a reply to a command of so many statements that was done, with the reply in it
-pub record ReadsError {A : Type 0} (spec : OperationSpec A) (statements : ℕ) (bytes : List ℕ) (error : Error) : Type 0 where
+-- the error that an operation reads in a reply to a command of so many statements that was done and in the pages behind it, the
+-- newest first, with the reply in it
+pub record ReadsPagesError {A : Type 0} (spec : OperationSpec A) (statements : ℕ) (bytes : List ℕ) (pages : List Page) (error : Error) : Type 0 where
   pub response : CommandResponse
   pub done : ReadsResponse bytes (Ok response)
   pub bare : Error
-  pub reads : spec.reads statements (Ok response.body ∷ []) (Err bare)
+  pub reads : spec.reads statements (pages ++ Ok response.body ∷ []) (Err bare)
   pub kept : HasResponse (Some bytes) bare error
 
--- the output that an operation reads in a reply to a command of so many statements that was done
-pub record ReadsOutput {A : Type 0} (spec : OperationSpec A) (statements : ℕ) (bytes : List ℕ) (output : A) : Type 0 where
+-- the output that it reads in them
+pub record ReadsPagesOutput {A : Type 0} (spec : OperationSpec A) (statements : ℕ) (bytes : List ℕ) (pages : List Page) (output : A) : Type 0 where
   pub response : CommandResponse
   pub done : ReadsResponse bytes (Ok response)
-  pub reads : spec.reads statements (Ok response.body ∷ []) (Ok (Done output))
+  pub reads : spec.reads statements (pages ++ Ok response.body ∷ []) (Ok (Done output))
 
--- what a reply to a command of so many statements comes to: the output that the operation reads in it, the error that the reply
--- or the operation spells, or want of memory
+-- what is read in the reply and these pages leaves this cursor open, which is asked for under a namespace
+pub record LeavesCursor {A : Type 0} (spec : OperationSpec A) (statements : ℕ) (bytes : List ℕ) (pages : List Page) (cursor : ℤ) (namespace : Namespace) : Type 0 where
+  pub response : CommandResponse
+  pub done : ReadsResponse bytes (Ok response)
+  pub reads : spec.reads statements (pages ++ Ok response.body ∷ []) (Ok (Further cursor namespace))
+
+-- the same of the reply alone
+abbrev pub ReadsError : {A : Type 0} → OperationSpec A → ℕ → List ℕ → Error → Type 0
+ReadsError spec statements bytes error = ReadsPagesError spec statements bytes [] error
+
+abbrev pub ReadsOutput : {A : Type 0} → OperationSpec A → ℕ → List ℕ → A → Type 0
+ReadsOutput spec statements bytes output = ReadsPagesOutput spec statements bytes [] output
+
+-- what a reply to a command of so many statements and the pages behind it come to: the output that the operation reads in them,
+-- the error that the reply or the operation spells, or want of memory
+abbrev pub ReadsPages : {A : Type 0} → OperationSpec A → ℕ → List ℕ → List Page → Result A Error → Type 0
+ReadsPages spec statements bytes pages (Ok output) = ReadsPagesOutput spec statements bytes pages output
+ReadsPages spec statements bytes pages (Err error) = ReadsResponse bytes (Err error) ⊎ (ReadsPagesError spec statements bytes pages error ⊎ (kind_of error ≡ kind.Memory))
+
+-- the same of a reply alone, which is the whole answer
 abbrev pub ReadsAnswer : {A : Type 0} → OperationSpec A → ℕ → List ℕ → Result A Error → Type 0
-ReadsAnswer spec statements bytes (Ok output) = ReadsOutput spec statements bytes output
-ReadsAnswer spec statements bytes (Err error) = ReadsResponse bytes (Err error) ⊎ (ReadsError spec statements bytes error ⊎ (kind_of error ≡ kind.Memory))
+ReadsAnswer spec statements bytes result = ReadsPages spec statements bytes [] result

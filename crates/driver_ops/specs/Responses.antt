@@ -10,7 +10,7 @@ use Rattle.bson_lite.specs.Spelling.{Spells}
 use Rattle.driver_error.specs.declared.command.CommandErrorBody.{CommandErrorBody}
 use Rattle.driver_error.specs.declared.error.Error.{Error}
 use Rattle.driver_error.specs.declared.kind.ErrorKind.TheVariants as kind
-use Rattle.driver_error.specs.Error.{ErrorKind, IsAlone, kind_of, labels_of, source_of, response_of, wire_version_of}
+use Rattle.driver_error.specs.Error.{ErrorKind, HasResponse, IsAlone, kind_of, labels_of, source_of, response_of, wire_version_of}
 use Rattle.driver_error.specs.LabelTexts.{LabelSet, no_labels, label_set}
 use Rattle.driver_link.specs.declared.keys.TheConstants.{CLUSTER_TIME, OK}
 use Rattle.driver_ops.specs.declared.response.CommandResponse.{CommandResponse}
@@ -121,6 +121,10 @@ pub record SaysError (bytes : List ℕ) (error : Error) : Type 0 where
   pub reply : List (Pair Bson)
   pub spelled : Spells reply bytes
   pub is : SpellsError bytes (said reply) error
+
+-- the same error with the reply in these bytes, or want of memory
+abbrev pub KeepsReply : List ℕ → Error → Error → Type 0
+KeepsReply bytes old now = (kind_of now ≡ kind.Memory) ⊎ HasResponse (Some bytes) old now
 
 -- the error of a reply, or want of memory
 abbrev pub TellsResponse : List ℕ → Error → Type 0

@@ -80,6 +80,7 @@ update_spec target filter change multi options = record {
   retryability = own_of_statement multi;
   backpressure = under_backpressure;
   after_cluster_time = true;
+  paged = false;
   reads = λ statements. ReadsAlone ReadsUpdate;
   output = TellsUpdate;
 }
@@ -100,6 +101,7 @@ delete_spec target filter multi options = record {
   retryability = own_of_statement multi;
   backpressure = under_backpressure;
   after_cluster_time = true;
+  paged = false;
   reads = λ statements. ReadsAlone ReadsDelete;
   output = TellsDelete;
 }
@@ -120,6 +122,7 @@ find_spec target filter modification options = record {
   retryability = own_of_statement false;
   backpressure = under_backpressure;
   after_cluster_time = true;
+  paged = false;
   reads = λ statements. ReadsAlone ReadsFind;
   output = TellsFound;
 }

@@ -7,11 +7,12 @@ use Rattle.driver_link.specs.declared.machine.WriteKind.TheVariants as kind
 use Rattle.driver_link.specs.declared.updates.UpdateOrReplace.{UpdateOrReplace}
 use Rattle.driver_link.specs.declared.write_options.UpdateOptions.{UpdateOptions}
 use Rattle.driver_ops.specs.declared.target.OperationTarget.{OperationTarget}
-use Rattle.driver_ops.specs.CountAnswers.{updated_by}
+use Rattle.driver_ops.specs.CountAnswers.{ReadsUpdate, updated_by}
 use Rattle.driver_ops.specs.OperationLaw.{IsLawful}
 use Rattle.driver_ops.specs.StatementSpec.{statement_write, update_spec}
 use Rattle.driver_ops.specs.Targets.{namespace_of}
 use Rattle.driver_ops.specs.Updating.{update_statement}
+use Rattle.driver_ops.specs.lawful.AlonePages.{never_open, none_failed}
 use Rattle.driver_ops.specs.lawful.CountReplies.{IsUpdateRead, update_by, update_counts, update_read}
 use Rattle.driver_ops.specs.lawful.StatementReading.{ReadsStatement, statement_lawful}
 
@@ -20,6 +21,8 @@ pub update_reading : (target : OperationTarget) (filter : List (Pair Bson)) (cha
     → ReadsStatement command.Update (update_spec target filter change multi options) IsUpdateRead updated_by
 update_reading target filter change multi options = record {
   asks = λ statements places body asked. (statement_write kind.Update (namespace_of target) (update_statement filter change multi options) asked.place, asked.is);
+  never = λ statements. never_open ReadsUpdate;
+  failed = λ statements. none_failed ReadsUpdate;
   reads = λ statements reply output answers. update_read reply output answers;
   has_result = λ plan server write statement output read. update_counts plan server write statement read.failed read.failed_is read.none;
   counts = update_by;

@@ -1,16 +1,18 @@
-//! The bulk write: its command, and what the reply to it says in counts.
-ghost use Rattle.std.specs.Prelude.{◌≡◌, ◌&&◌, ◌++◌, ◌∷◌, [], None, Some, IfOk, IfSome, OnOk, ⊤};
-ghost use Rattle.driver_error.specs.declared.kind.ErrorKind.TheVariants.{InvalidResponse};
-ghost use Rattle.driver_error.specs.Conversions.{IsMade};
-ghost use Rattle.driver_error.specs.LabelTexts.{no_labels};
+//! The bulk write: its command, and what the answer to it tells, page by page.
+ghost use Rattle.std.specs.Prelude.{◌≡◌, ◌+◌, ◌≤◌, ◌++◌, ◌∷◌, [], true, List as Listed, None, Ok, Some, drop, length, min, IfOk, IfSome, OnOk};
+ghost use Rattle.bson_lite.specs.declared.bson.Bson.{Bson as Valued};
+ghost use Rattle.bson_lite.specs.declared.document.Pair.{Pair as Paired};
 ghost use Rattle.driver_link.specs.declared.command.CommandName.TheVariants.{BulkWrite as Bulk};
-ghost use Rattle.driver_ops.specs.BulkAnswers.{AnswersBulk, ReadsBulk, are_counts, bulk_reply, is_count, odd_bulk_text, tells_success};
+ghost use Rattle.driver_ops.specs.declared.bulk_reply.BulkReply.{BulkReply as Replied};
+ghost use Rattle.driver_ops.specs.declared.bulk_reply.ResultsPage.{ResultsPage as Found};
 ghost use Rattle.driver_ops.specs.BulkLawful.{bulk_lawful};
-ghost use Rattle.driver_ops.specs.BulkSpec.{admin_target, bulk_spec};
+ghost use Rattle.driver_ops.specs.BulkPages.{bulk_reply, next_page};
+ghost use Rattle.driver_ops.specs.BulkSpec.{admin_target, batch_read, bulk_spec, is_verbose};
 ghost use Rattle.driver_ops.specs.BulkWrites.{bulk_command, bulk_is_ordered};
 ghost use Rattle.driver_ops.specs.inside.BulkFronts.{HasFront};
+ghost use Rattle.driver_ops.specs.inside.BulkResults.{AnswersPages, FewerUnseen, HasReadBulk, HasReadPages, ReadsBehind, ReadsPage, batch_told, begun, left_unseen, ops_in};
 ghost use Rattle.driver_ops.specs.inside.InsertFronts.{built_count};
-ghost use Rattle.driver_ops.specs.inside.Readings.{Gives};
+ghost use Rattle.driver_ops.specs.Operations.{OnPage, Page};
 ghost use Rattle.driver_ops.specs.SendKinds.{first as first_send};
 ghost use Rattle.driver_ops.specs.Targets.{database_of};
 
@@ -19,23 +21,25 @@ use crate::bulk_front::{
     OpFront, Taken, fixed_count, has_multi, is_numbered, old_server, oversized_op, past_numbers,
     serves_bulk, take_ops,
 };
+use crate::bulk_reply::{BulkReply, ResultsPage, bulk_reply, next_page};
+use crate::bulk_results::{BulkProgress, Paged, odd_page};
 use crate::command::Command;
 use crate::defaults::{
-    lacks_option, repeats_nothing, repeats_under_backpressure, repeats_unless_forbidden,
-    stays_for_retry, takes_sessions, writes_after_cluster_time,
+    lacks_option, reads_one_page, repeats_nothing, repeats_under_backpressure,
+    repeats_unless_forbidden, stays_for_retry, takes_sessions, writes_after_cluster_time,
 };
 use crate::feature::Feature;
 use crate::insert_front::limits_beside;
 use crate::keys::{BYPASS_DOCUMENT_VALIDATION, COMMENT, ERRORS_ONLY, LET};
+use crate::op_batch::OpBatch;
 use crate::operation::{Operation, Reading};
 use crate::option_fields::{push_document, push_flag, push_value};
 use crate::own_op::OwnOp;
-use crate::reply_fields::{Unread, int_at};
+use crate::reply_fields::Unread;
 use crate::response::odd_reply;
 use crate::target::{Database, OperationTarget};
-use crate::write_reply::reply_concern_error;
 use bson_lite::{Bson, Bytes, Document, List, Text};
-use driver_error::{Error, ErrorKind, Result, SummaryBulkWriteResult, WriteConcernError};
+use driver_error::{BulkWriteResult, Error, ErrorKind, Result};
 use driver_link::{
     BulkWriteOptions, ClientOptions, CommandName, Description, ReadConcern, SelectionCriteria,
     Sequence, WriteConcern, keys,
@@ -43,60 +47,85 @@ use driver_link::{
 use driver_session::Retryability;
 use std::alloc::{AllocError, Global};
 
-/// A reply tells of failed writes, or of none.
-const ODD_BULK: &str = "the reply does not tell of writes that were done";
+/// A reply has not its form.
+const ODD_BULK: &str = "the reply does not tell of a bulk write";
+
+/// A page behind it has not.
+const ODD_PAGE: &str = "the page does not tell of the results of a bulk write";
 
 /// A bulk write of ops: those of a caller's models from an index on. The first build takes the longest front of them
-/// that its connection takes, and later ones take the same ops.
+/// that its connection takes, and later ones take the same ops. Its results are of the kind `R`, and stand under the
+/// caller's indexes.
 #[derive(Drop)]
-pub struct BulkWriteOp<'a> {
+pub struct BulkWriteOp<'a, R> {
     target: OperationTarget,
     first: usize,
     ops: &'a [OwnOp],
     options: &'a BulkWriteOptions,
-    verbose: bool,
     fixed: Option<BuiltFront>,
+    progress: Option<BulkProgress<R>>,
+    ghost within: { first + length ops.now ≤ 18446744073709551615 },
 }
 
-impl<'a> BulkWriteOp<'a> {
-    /// The bulk write of ops, with the result of each op asked for where it is `verbose`. The first of them is that of
-    /// the model at the index `first` of the caller's list. It answers want of memory alone.
+impl<'a, R: BulkWriteResult> BulkWriteOp<'a, R> {
+    /// The bulk write of a caller's ops from the index `first` on, of none where that is past the last. The result of
+    /// each op is asked for unless results of the kind are counts alone. It answers want of memory alone.
     pub fn new(
         alloc: Global,
-        first: usize,
         ops: &'a [OwnOp],
+        first: usize,
         options: &'a BulkWriteOptions,
-        verbose: bool,
-    ) -> std::result::Result<BulkWriteOp<'a>, AllocError>
+    ) -> std::result::Result<BulkWriteOp<'a, R>, AllocError>
         ensures target { IfOk result (λ op. op.target ≡ admin_target) }
-        ensures first { IfOk result (λ op. op.first ≡ first) }
-        ensures ops { IfOk result (λ op. op.ops.now ≡ ops.now) }
+        ensures first { IfOk result (λ op. op.first ≡ min first (length ops.now)) }
+        ensures ops { IfOk result (λ op. op.ops.now ≡ drop first ops.now) }
         ensures options { IfOk result (λ op. op.options.now ≡ options.now) }
-        ensures verbose { IfOk result (λ op. op.verbose ≡ verbose) }
         ensures fixed { IfOk result (λ op. op.fixed ≡ None) }
+        ensures progress { IfOk result (λ op. op.progress ≡ None) }
     {
         let name = Text::from_str(alloc, keys::ADMIN)?;
+        let first = first.min(ops.len());
         Ok(BulkWriteOp {
             target: OperationTarget::Database(Database { name }),
             first,
-            ops,
+            ops: &ops[first..],
             options,
-            verbose,
             fixed: None,
+            progress: None,
         })
+    }
+
+    /// The batch of so many ops as are fixed, of all where none are.
+    fn batch(&self) -> OpBatch<'a>
+        ensures { batch_told R.tells result
+            ≡ batch_read R.tells self.now.first self.now.ops.now self.now.options.now
+            (ops_in (built_count self.now.fixed) self.now.ops.now) }
+    {
+        let count = match fixed_count(&self.fixed) {
+            Some(count) if count < self.ops.len() => count,
+            _ => self.ops.len(),
+        };
+        OpBatch {
+            ops: &self.ops[..count],
+            first: self.first,
+            ordered: bulk_is_ordered(self.options),
+        }
     }
 }
 
-impl Operation for BulkWriteOp<'_> {
-    type Output = SummaryBulkWriteResult;
+impl<R: BulkWriteResult> Operation for BulkWriteOp<'_, R> {
+    type Output = R;
 
-    ghost spec = { λ op. bulk_spec op.target op.first op.ops.now op.options.now op.verbose };
+    ghost spec = { λ op. bulk_spec R.tells op.target op.first op.ops.now op.options.now };
 
     ghost built = { λ op. built_count op.fixed };
 
     ghost next = { λ op. first_send };
 
-    ghost has_read = { λ op pages. ⊤ };
+    ghost has_read = { λ op pages.
+        HasReadBulk R.tells op.first op.ops.now op.options.now (built_count op.fixed) op.progress pages };
+
+    ghost left = { λ op. left_unseen op.ops.now (built_count op.fixed) op.progress };
 
     #[tactic(auto, unfolding(driver_link::specs::CommandNames::command_named))]
     fn name(&self) -> &'static str {
@@ -112,7 +141,7 @@ impl Operation for BulkWriteOp<'_> {
         if !serves {
             return Err(old_server(alloc));
         }
-        let body = bulk_body(alloc, self.options, self.verbose)?;
+        let body = bulk_body(alloc, self.options, is_verbose::<R>())?;
         let limits = limits_beside(description, &body);
         let fixed = fixed_count(&self.fixed);
         let found = take_ops(alloc, self.ops, fixed, &limits)?;
@@ -135,12 +164,30 @@ impl Operation for BulkWriteOp<'_> {
         statements_of(fixed_count(&self.fixed))
     }
 
-    fn read_reply(
+    fn read_reply(&mut self, alloc: Global, reply: &Document) -> Result<Reading<R>> {
+        let batch = self.batch();
+        let (progress, reading) = open_answer(alloc, batch, reply);
+        self.progress = progress;
+        reading
+    }
+
+    fn read_page(
         &mut self,
         alloc: Global,
-        reply: &Document,
-    ) -> Result<Reading<SummaryBulkWriteResult>> {
-        Ok(Reading::Done(read_bulk_answer(alloc, reply)?))
+        page: std::result::Result<&Document, Error>,
+    ) -> Result<Reading<R>> {
+        let Some(progress) = self.progress.take() else {
+            return reads_one_page(alloc, page);
+        };
+        let batch = self.batch();
+        match page {
+            Ok(page) => {
+                let (progress, reading) = next_answer(alloc, batch, progress, page);
+                self.progress = progress;
+                reading
+            }
+            Err(failure) => Err(progress.into_page_error(alloc, batch, failure)),
+        }
     }
 
     fn write_concern(&self) -> Feature<&WriteConcern> {
@@ -178,7 +225,14 @@ impl Operation for BulkWriteOp<'_> {
         stays_for_retry()
     }
 
-    ghost law = { λ op. bulk_lawful op.target op.first op.ops.now op.options.now op.verbose };
+    ghost law = { λ op. bulk_lawful R.tells op.target op.first op.ops.now op.options.now };
+}
+
+/// Whether the result of each op is asked for.
+fn is_verbose<R: BulkWriteResult>() -> bool
+    ensures { result ≡ is_verbose R.tells }
+{
+    !R::errors_only()
 }
 
 /// A bulk write stops at the first write that fails, unless its options say that it goes on.
@@ -258,100 +312,141 @@ fn push_sequence(
     sequences.push(Sequence { name, documents })
 }
 
-/// The fields of a reply: how many writes failed, the counts of the others, and the write concern error.
-#[derive(Drop)]
-pub(crate) struct BulkReply {
-    errors: i64,
-    counts: SummaryBulkWriteResult,
-    concern: Option<WriteConcernError>,
-}
-
-/// What the reply to a bulk write comes to: the counts where nothing failed, else that it does not tell of such.
-fn read_bulk_answer(alloc: Global, reply: &Document) -> Result<SummaryBulkWriteResult>
-    ensures { ReadsBulk reply.now result }
+/// What the reply to a bulk write of a batch comes to, and what was read of it where another page is behind it.
+#[tactic(auto, using(crate::proofs::BulkAnswered::opened_wrong, crate::proofs::BulkAnswered::answered_memory))]
+fn open_answer<R: BulkWriteResult>(
+    alloc: Global,
+    batch: OpBatch<'_>,
+    reply: &Document,
+) -> (Option<BulkProgress<R>>, Result<Reading<R>>)
+    ensures { AnswersPages (batch_told R.tells batch.entry) (Ok reply.now ∷ []) result.0 result.1 }
 {
     match bulk_reply(alloc, reply) {
-        Ok(found) => answer_of_bulk(alloc, found),
-        Err(Unread::Wrong) => Err(odd_bulk(alloc)),
-        Err(Unread::Memory) => Err(Error::from_kind(ErrorKind::Memory)),
+        Ok(found) => opened(alloc, batch, found),
+        Err(Unread::Wrong) => (None, Err(odd_reply(alloc, ODD_BULK))),
+        Err(Unread::Memory) => (None, Err(Error::from_kind(ErrorKind::Memory))),
     }
 }
 
-/// The fields, each in its form.
-#[tactic(auto, unfolding(crate::specs::BulkAnswers::bulk_reply))]
-fn bulk_reply(alloc: Global, reply: &Document) -> std::result::Result<BulkReply, Unread>
-    ensures { Gives result (bulk_reply reply.now) }
+/// The same by its fields.
+#[tactic(auto, using(crate::proofs::BulkAnswered::answered_memory))]
+fn opened<R: BulkWriteResult>(
+    alloc: Global,
+    batch: OpBatch<'_>,
+    reply: BulkReply,
+) -> (Option<BulkProgress<R>>, Result<Reading<R>>)
+    ensures { (page : Listed (Paired Valued)) → bulk_reply page ≡ Some reply →
+        AnswersPages (batch_told R.tells batch.entry) (Ok page ∷ []) result.0 result.1 }
 {
-    let errors = int_at(reply, keys::N_ERRORS)?;
-    let inserted_count = int_at(reply, keys::N_INSERTED)?;
-    let matched_count = int_at(reply, keys::N_MATCHED)?;
-    let modified_count = int_at(reply, keys::N_MODIFIED)?;
-    let upserted_count = int_at(reply, keys::N_UPSERTED)?;
-    let deleted_count = int_at(reply, keys::N_DELETED)?;
-    let concern = reply_concern_error(alloc, reply)?;
-    let counts = SummaryBulkWriteResult {
-        inserted_count,
-        matched_count,
-        modified_count,
-        upserted_count,
-        deleted_count,
-    };
-    Ok(BulkReply {
-        errors,
-        counts,
-        concern,
-    })
-}
-
-/// The answer of a reply by its fields.
-fn answer_of_bulk(alloc: Global, found: BulkReply) -> Result<SummaryBulkWriteResult>
-    ensures { AnswersBulk (Some found) result }
-{
-    let done = tells_success(&found);
-    let counts = found.counts;
-    drop(found);
-    if done {
-        Ok(counts)
-    } else {
-        Err(odd_bulk(alloc))
+    match BulkProgress::open(alloc, batch, reply) {
+        Ok(made) => {
+            let (progress, paged) = made;
+            first_answer(alloc, batch, progress, paged)
+        }
+        Err(error) => (None, Err(error)),
     }
 }
 
-/// Whether a reply tells of writes of which none failed, and whose concern was met.
-fn tells_success(found: &BulkReply) -> bool
-    ensures { result ≡ tells_success found.now }
+/// The same by what its first page comes to.
+#[tactic(auto, using(crate::proofs::BulkAnswered::first_open, crate::proofs::BulkAnswered::first_last, crate::proofs::BulkAnswered::first_breaks))]
+fn first_answer<R: BulkWriteResult>(
+    alloc: Global,
+    batch: OpBatch<'_>,
+    progress: BulkProgress<R>,
+    paged: Paged,
+) -> (Option<BulkProgress<R>>, Result<Reading<R>>)
+    ensures { (page : Listed (Paired Valued)) (reply : Replied) → bulk_reply page ≡ Some reply →
+        ReadsPage (batch_told R.tells batch.entry) (begun reply) true reply.page paged progress →
+        AnswersPages (batch_told R.tells batch.entry) (Ok page ∷ []) result.0 result.1 }
 {
-    found.errors == 0 && are_counts(&found.counts) && found.concern.is_none()
+    match paged {
+        Paged::Open(cursor, namespace) => {
+            (Some(progress), Ok(Reading::Page { cursor, namespace }))
+        }
+        Paged::Last => (None, progress.end(alloc, batch)),
+        Paged::Breaks(fault) => {
+            drop(progress);
+            (None, Err(odd_reply(alloc, fault.text())))
+        }
+    }
 }
 
-/// Whether no count is negative.
-fn are_counts(counts: &SummaryBulkWriteResult) -> bool
-    ensures { result ≡ are_counts counts.now }
+/// What a page comes to behind what was read, and what was read then where another page is behind it.
+#[tactic(auto, using(crate::proofs::BulkAnswered::further_wrong, crate::proofs::BulkAnswered::answered_memory))]
+fn next_answer<R: BulkWriteResult>(
+    alloc: Global,
+    batch: OpBatch<'_>,
+    progress: BulkProgress<R>,
+    page: &Document,
+) -> (Option<BulkProgress<R>>, Result<Reading<R>>)
+    ensures answers { (pages : Listed Page) → HasReadPages (batch_told R.tells batch.entry) progress pages →
+        AnswersPages (batch_told R.tells batch.entry) (Ok page.now ∷ pages) result.0 result.1 }
+    ensures fewer { (pages : Listed Page) → HasReadPages (batch_told R.tells batch.entry) progress pages →
+        OnPage result.1 (FewerUnseen (length batch.entry.ops.now) progress result.0) }
 {
-    are_first_counts(counts) && is_count(counts.upserted_count) && is_count(counts.deleted_count)
+    match next_page(alloc, page) {
+        Ok(found) => further(alloc, batch, progress, page, found),
+        Err(Unread::Wrong) => {
+            let source = odd_page(alloc, ODD_PAGE, page);
+            (None, Err(progress.into_page_error(alloc, batch, source)))
+        }
+        Err(Unread::Memory) => {
+            drop(progress);
+            (None, Err(Error::from_kind(ErrorKind::Memory)))
+        }
+    }
 }
 
-/// Whether none of the first three is.
-fn are_first_counts(counts: &SummaryBulkWriteResult) -> bool
-    ensures { result ≡ (is_count counts.now.inserted_count && is_count counts.now.matched_count
-        && is_count counts.now.modified_count) }
+/// The same by its fields.
+#[tactic(auto, using(crate::proofs::BulkAnswered::answered_memory))]
+fn further<R: BulkWriteResult>(
+    alloc: Global,
+    batch: OpBatch<'_>,
+    mut progress: BulkProgress<R>,
+    page: &Document,
+    found: ResultsPage,
+) -> (Option<BulkProgress<R>>, Result<Reading<R>>)
+    requires { next_page page.now ≡ Some found }
+    ensures answers { (pages : Listed Page) → HasReadPages (batch_told R.tells batch.entry) progress pages →
+        AnswersPages (batch_told R.tells batch.entry) (Ok page.now ∷ pages) result.0 result.1 }
+    ensures fewer { (pages : Listed Page) → HasReadPages (batch_told R.tells batch.entry) progress pages →
+        OnPage result.1 (FewerUnseen (length batch.entry.ops.now) progress result.0) }
 {
-    is_count(counts.inserted_count)
-        && is_count(counts.matched_count)
-        && is_count(counts.modified_count)
+    match progress.read(alloc, batch, false, found) {
+        Ok(paged) => further_answer(alloc, batch, progress, page, paged),
+        Err(error) => {
+            drop(progress);
+            (None, Err(error))
+        }
+    }
 }
 
-/// Whether a number is not negative.
-fn is_count(number: i64) -> bool
-    ensures { result ≡ is_count number }
+/// The same by what the page comes to, which what was read has in it where it breaks no rule.
+#[tactic(auto, using(crate::proofs::BulkAnswered::further_open, crate::proofs::BulkAnswered::further_last, crate::proofs::BulkAnswered::further_breaks))]
+fn further_answer<R: BulkWriteResult>(
+    alloc: Global,
+    batch: OpBatch<'_>,
+    progress: BulkProgress<R>,
+    page: &Document,
+    paged: Paged,
+) -> (Option<BulkProgress<R>>, Result<Reading<R>>)
+    ensures answers { (old : BulkProgress R) (found : Found) → next_page page.now ≡ Some found →
+        ReadsBehind (batch_told R.tells batch.entry) old progress found paged →
+        (pages : Listed Page) → HasReadPages (batch_told R.tells batch.entry) old pages →
+        AnswersPages (batch_told R.tells batch.entry) (Ok page.now ∷ pages) result.0 result.1 }
+    ensures fewer { (old : BulkProgress R) (found : Found) → next_page page.now ≡ Some found →
+        ReadsBehind (batch_told R.tells batch.entry) old progress found paged →
+        (pages : Listed Page) → HasReadPages (batch_told R.tells batch.entry) old pages →
+        OnPage result.1 (FewerUnseen (length batch.entry.ops.now) old result.0) }
 {
-    number >= 0
-}
-
-/// The error of a reply that does not tell of writes that were done.
-#[tactic(auto, unfolding(crate::specs::BulkAnswers::odd_bulk_text))]
-fn odd_bulk(alloc: Global) -> Error
-    ensures { IsMade (InvalidResponse odd_bulk_text) no_labels result }
-{
-    odd_reply(alloc, ODD_BULK)
+    match paged {
+        Paged::Open(cursor, namespace) => {
+            (Some(progress), Ok(Reading::Page { cursor, namespace }))
+        }
+        Paged::Last => (None, progress.end(alloc, batch)),
+        Paged::Breaks(fault) => {
+            let source = odd_page(alloc, fault.text(), page);
+            (None, Err(progress.into_page_error(alloc, batch, source)))
+        }
+    }
 }

@@ -1,5 +1,5 @@
 //! The findAndModify: its command, and what the reply to it says.
-ghost use Rattle.std.specs.Prelude.{◌≡◌, ◌++◌, ◌∷◌, [], ℕ, List as Listed, IfOk, OnOk, Some, ⊤};
+ghost use Rattle.std.specs.Prelude.{◌≡◌, ◌++◌, ◌∷◌, [], ℕ, List as Listed, IfOk, OnOk, Some};
 ghost use Rattle.driver_error.specs.declared.kind.ErrorKind.TheVariants.{InvalidResponse};
 ghost use Rattle.driver_error.specs.Conversions.{IsMade};
 ghost use Rattle.driver_error.specs.LabelTexts.{no_labels};
@@ -15,8 +15,8 @@ ghost use Rattle.driver_ops.specs.inside.Readings.{Gives};
 use crate::command::Command;
 use crate::concern::push_number;
 use crate::defaults::{
-    lacks_option, repeats_under_backpressure, repeats_unless_forbidden, stays_for_retry,
-    takes_sessions, writes_after_cluster_time,
+    lacks_option, reads_one_page, repeats_under_backpressure, repeats_unless_forbidden,
+    stays_for_retry, takes_sessions, writes_after_cluster_time,
 };
 use crate::failed_write::{FailedWrite, answer_of, failed_write_in};
 use crate::feature::Feature;
@@ -83,7 +83,9 @@ impl Operation for FindAndModify {
 
     ghost next = { λ find. first };
 
-    ghost has_read = { λ find pages. ⊤ };
+    ghost has_read = { λ find pages. ⊥ };
+
+    ghost left = { λ find. 0 };
 
     #[tactic(auto, unfolding(driver_link::specs::CommandNames::command_named))]
     fn name(&self) -> &'static str {
@@ -115,6 +117,14 @@ impl Operation for FindAndModify {
 
     fn read_reply(&mut self, alloc: Global, reply: &Document) -> Result<Reading<Option<Document>>> {
         Ok(Reading::Done(read_find_answer(alloc, reply)?))
+    }
+
+    fn read_page(
+        &mut self,
+        alloc: Global,
+        page: std::result::Result<&Document, Error>,
+    ) -> Result<Reading<Option<Document>>> {
+        reads_one_page(alloc, page)
     }
 
     fn write_concern(&self) -> Feature<&WriteConcern> {

@@ -1,5 +1,5 @@
 //! The insert of documents: its command, and what the reply to it says.
-ghost use Rattle.std.specs.Prelude.{◌≡◌, ◌&&◌, ◌+ℤ◌, ℕ, ◌∷◌, [], List as Listed, Ok, Some, pos, length, map, take, IfErr, IfOk, IfSome, ⊤};
+ghost use Rattle.std.specs.Prelude.{◌≡◌, ◌&&◌, ◌+ℤ◌, ℕ, ◌∷◌, [], List as Listed, Ok, Some, pos, length, map, take, IfErr, IfOk, IfSome};
 ghost use Rattle.std.specs.List.{list_all};
 ghost use Rattle.std.specs.Ordering.{int_eq};
 ghost use Rattle.driver_error.specs.declared.kind.ErrorKind.TheVariants.{InsertMany, InvalidResponse, Memory};
@@ -14,6 +14,7 @@ ghost use Rattle.driver_ops.specs.inside.InsertFronts.{built_count};
 ghost use Rattle.driver_ops.specs.inside.Readings.{Gives};
 ghost use Rattle.driver_ops.specs.InsertLawful.{insert_lawful};
 ghost use Rattle.driver_ops.specs.InsertSpec.{ReadsAlone, insert_spec, statements_fixed};
+ghost use Rattle.driver_ops.specs.Operations.{OnPage};
 ghost use Rattle.driver_ops.specs.SendKinds.{first as first_send};
 ghost use Rattle.driver_ops.specs.Targets.{database_of};
 ghost use Rattle.driver_ops.specs.declared.target.OperationTarget.TheVariants.{Collection as Within};
@@ -21,8 +22,8 @@ ghost use Rattle.driver_ops.specs.declared.target.OperationTarget.TheVariants.{C
 use crate::built_front::BuiltFront;
 use crate::command::Command;
 use crate::defaults::{
-    lacks_option, repeats_under_backpressure, repeats_unless_forbidden, stays_for_retry,
-    takes_sessions, writes_after_cluster_time,
+    lacks_option, reads_one_page, repeats_under_backpressure, repeats_unless_forbidden,
+    stays_for_retry, takes_sessions, writes_after_cluster_time,
 };
 use crate::feature::Feature;
 use crate::insert_front::{front, limits_beside, oversized, statements_fixed, taken};
@@ -94,7 +95,9 @@ impl Operation for Insert<'_> {
 
     ghost next = { λ insert. first_send };
 
-    ghost has_read = { λ insert pages. ⊤ };
+    ghost has_read = { λ insert pages. ⊥ };
+
+    ghost left = { λ insert. 0 };
 
     #[tactic(auto, unfolding(driver_link::specs::CommandNames::command_named))]
     fn name(&self) -> &'static str {
@@ -131,6 +134,14 @@ impl Operation for Insert<'_> {
             self.documents,
             fixed,
         )
+    }
+
+    fn read_page(
+        &mut self,
+        alloc: Global,
+        page: std::result::Result<&Document, Error>,
+    ) -> Result<Reading<InsertManyResult>> {
+        reads_one_page(alloc, page)
     }
 
     fn write_concern(&self) -> Feature<&WriteConcern> {
@@ -276,8 +287,9 @@ fn read_front(
     documents: &[OwnDocument],
     fixed: Option<usize>,
 ) -> Result<Reading<InsertManyResult>>
-    ensures { IfSome fixed (λ statements.
+    ensures reads { IfSome fixed (λ statements.
         ReadsAlone (ReadsInsert ordered (take statements documents.now)) (Ok reply.now ∷ []) result) }
+    ensures alone { OnPage result ⊥ }
 {
     match fixed {
         Some(statements) => read_done(alloc, reply, ordered, front(documents, statements)),
@@ -292,7 +304,8 @@ fn read_done(
     ordered: bool,
     documents: &[OwnDocument],
 ) -> Result<Reading<InsertManyResult>>
-    ensures { ReadsAlone (ReadsInsert ordered documents.now) (Ok reply.now ∷ []) result }
+    ensures reads { ReadsAlone (ReadsInsert ordered documents.now) (Ok reply.now ∷ []) result }
+    ensures alone { OnPage result ⊥ }
 {
     let output = read_insert_answer(alloc, reply, ordered, documents)?;
     Ok(Reading::Done(output))

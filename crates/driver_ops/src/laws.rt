@@ -1,7 +1,8 @@
 //! Laws of operations over the model server, and of the constants that definitions name.
-ghost use Rattle.std.specs.Prelude.{ℕ, ◌<◌, Bool, List};
+ghost use Rattle.std.specs.Prelude.{ℕ, ◌+◌, ◌<◌, ◌≤◌, ℤ, Bool, List, Ok, length};
 ghost use Rattle.bson_lite.specs.declared.bson.Bson.{Bson};
 ghost use Rattle.bson_lite.specs.declared.document.Pair.{Pair};
+ghost use Rattle.bson_lite.specs.declared.namespace.Namespace.{Namespace};
 ghost use Rattle.bson_lite.specs.Spelling.{Spells};
 ghost use Rattle.driver_batches.specs.Batches.{LongestFrontsAreFewest};
 ghost use Rattle.driver_batches.specs.Fronts.{KeepsFitting};
@@ -19,7 +20,9 @@ ghost use Rattle.driver_link.specs.declared.write_options.DeleteOptions.{DeleteO
 ghost use Rattle.driver_link.specs.declared.write_options.InsertManyOptions.{InsertManyOptions};
 ghost use Rattle.driver_link.specs.declared.write_options.UpdateOptions.{UpdateOptions};
 ghost use Rattle.driver_ops.specs.declared.own_document.OwnDocument.{OwnDocument};
+ghost use Rattle.driver_ops.specs.declared.operation.Reading.TheVariants.{Page as Further};
 ghost use Rattle.driver_ops.specs.declared.target.OperationTarget.{OperationTarget};
+ghost use Rattle.driver_ops.specs.BulkAnswers.{AnswersBulk, BulkBatch};
 ghost use Rattle.driver_ops.specs.BulkFronts.{FitsOps};
 ghost use Rattle.driver_ops.specs.BulkOps.{numbered, op_document};
 ghost use Rattle.driver_ops.specs.CountAnswers.{deleted_by, updated_by};
@@ -29,6 +32,7 @@ ghost use Rattle.driver_ops.specs.FindingAndModifying.{find_command};
 ghost use Rattle.driver_ops.specs.FoundAnswers.{found_by};
 ghost use Rattle.driver_ops.specs.InsertLaw.{ExchangesInsert, IsReadExactly};
 ghost use Rattle.driver_ops.specs.Keys.{HaveTexts};
+ghost use Rattle.driver_ops.specs.Operations.{Page};
 ghost use Rattle.driver_ops.specs.StatementLaw.{ExchangesStatement, IsReadAsCounted};
 ghost use Rattle.driver_ops.specs.StatementSpec.{delete_spec, find_spec, update_spec};
 ghost use Rattle.driver_ops.specs.Targets.{namespace_of};
@@ -73,6 +77,13 @@ pub fn each_namespace_is_described_once()
 pub fn an_op_is_sent_on_its_namespace()
     ensures { (number : ℕ) (model : WriteModel) (bytes : List ℕ) → number < 2147483648
         → Spells (op_document 0 model) bytes → Spells (op_document number model) (numbered number bytes) }
+{}
+
+/// The pages of the answer to a bulk write behind which there is another one are at most one more than its ops: each
+/// but the first has a result, and no op has two.
+pub fn a_bulk_write_has_no_more_pages_than_ops<R>()
+    ensures { (batch : BulkBatch R) (pages : List Page) (cursor : ℤ) (namespace : Namespace) →
+        AnswersBulk batch pages (Ok (Further cursor namespace)) → length pages ≤ length batch.ops + 1 }
 {}
 
 /// Over the model server's own reply to its send, the insert of the front of some documents is read as done exactly

@@ -1,27 +1,29 @@
-//! What is sent: an operation builds its command and reads the reply to it.
-ghost use Rattle.std.specs.Prelude.{◌≡◌, ℕ, ◌∷◌, [], List, Option, Some, Ok, IfErr, IfSome, OnErr, OnOk};
+//! What is sent: an operation builds its command and reads the answer to it, page by page.
+ghost use Rattle.std.specs.Prelude.{◌≡◌, ℕ, ◌<◌, ◌∷◌, [], List, Option, Some, Ok, IfErr, IfSome, OnErr, OnOk};
 ghost use Rattle.driver_error.specs.declared.kind.ErrorKind.TheVariants.{Memory};
 ghost use Rattle.driver_error.specs.Error.{kind_of};
 ghost use Rattle.driver_link.specs.CommandNames.{command_named};
 ghost use Rattle.driver_ops.specs.Features.{feature_told};
 ghost use Rattle.driver_ops.specs.OperationLaw.{IsLawful};
-ghost use Rattle.driver_ops.specs.Operations.{Builds, OperationSpec, Page, SameAt, SameSpec};
+ghost use Rattle.driver_ops.specs.Operations.{Builds, OnPage, OperationSpec, Page, SameAt, SameSpec, page_told};
 ghost use Rattle.driver_ops.specs.SendKinds.{SendKind, kind_after};
 
 use crate::command::Command;
 use crate::feature::Feature;
 use crate::target::OperationTarget;
-use bson_lite::Document;
-use driver_error::Result;
+use bson_lite::{Document, Namespace};
+use driver_error::{Error, Result};
 use driver_link::{ClientOptions, Description, ReadConcern, SelectionCriteria, WriteConcern};
 use driver_session::Retryability;
 use std::alloc::Global;
 
-/// What an operation read in a reply.
+/// What an operation read in the pages of its answer.
 #[derive(Debug, Drop)]
 pub enum Reading<O> {
     /// All that it wants: this is its output.
     Done(O),
+    /// A page behind which there is another one: that of this cursor, which is asked for under this namespace.
+    Page { cursor: i64, namespace: Namespace },
 }
 
 /// An operation that is sent as a command. What it tells is for contracts alone.
@@ -38,8 +40,12 @@ pub trait Operation {
     // Which kind of send comes next.
     ghost next: { Self → SendKind };
 
-    // The pages of an answer that it may have read, the newest first: a relation, so that it need keep none.
+    // The pages of an answer that it may have read, the newest first, behind which there is another one: a relation,
+    // so that it need keep none.
     ghost has_read: { Self → List Page → Type 0 };
+
+    // How many pages it may yet read behind which there is another one.
+    ghost left: { Self → ℕ };
 
     /// The name of its command.
     fn name(&self) -> &'static str
@@ -66,7 +72,24 @@ pub trait Operation {
     fn read_reply(&mut self, alloc: Global, reply: &Document) -> Result<Reading<Self::Output>>
         ensures reads { IfSome (built self.old)
             (λ statements. (spec self.old).reads statements (Ok reply.now ∷ []) result) }
-        ensures read { OnOk result (has_read self.new (Ok reply.now ∷ [])) }
+        ensures read { OnPage result (has_read self.new (Ok reply.now ∷ [])) }
+        ensures spec { SameSpec (spec self.old) (spec self.new) }
+        ensures built { built self.new ≡ built self.old }
+        ensures next { next self.new ≡ next self.old };
+
+    /// What one more page comes to, behind those that were read, or why it did not come. Where none was read that has
+    /// another one behind it, it tells nothing.
+    fn read_page(
+        &mut self,
+        alloc: Global,
+        page: std::result::Result<&Document, Error>,
+    ) -> Result<Reading<Self::Output>>
+        ensures reads { (pages : List Page) → has_read self.old pages → IfSome (built self.old)
+            (λ statements. (spec self.old).reads statements (page_told page.entry ∷ pages) result) }
+        ensures read { (pages : List Page) → has_read self.old pages →
+            OnPage result (has_read self.new (page_told page.entry ∷ pages)) }
+        ensures left { (pages : List Page) → has_read self.old pages →
+            OnPage result (left self.new < left self.old) }
         ensures spec { SameSpec (spec self.old) (spec self.new) }
         ensures built { built self.new ≡ built self.old }
         ensures next { next self.new ≡ next self.old };
@@ -109,6 +132,7 @@ pub trait Operation {
         ensures spec { SameSpec (spec self.old) (spec self.new) }
         ensures built { built self.new ≡ built self.old };
 
-    // What it reads as its output in the model server's own reply to its send is told by the entries of its writes.
+    // What it reads as its output in the model server's own reply to its send, and in its pages, is told by the
+    // entries of its writes.
     ghost law: { (op : Self) → IsLawful (spec op) };
 }

@@ -4,7 +4,7 @@ ghost use Rattle.bson_lite.specs.Fields.{with_id};
 ghost use Rattle.bson_lite.specs.Namespace.{dotted};
 ghost use Rattle.driver_link.specs.declared.models.WriteModel.TheVariants.{InsertOne as Inserts, ReplaceOne as Replaces, UpdateMany as UpdatesAll, UpdateOne as Updates};
 ghost use Rattle.driver_link.specs.Models.{is_multi};
-ghost use Rattle.driver_ops.specs.BulkOps.{SpellsOp, modifications_value, op_document, values_of};
+ghost use Rattle.driver_ops.specs.BulkOps.{SpellsOp, id_told, modifications_value, op_document, values_of, work_of};
 ghost use Rattle.driver_ops.specs.inside.BulkOps.{SpellsParts, delete_op, finding_fields, insert_op};
 ghost use Rattle.driver_ops.specs.OptionFields.{option_field};
 
@@ -14,7 +14,8 @@ use crate::keys::{
 use crate::option_fields::{documents_value, push_document, push_flag, push_value};
 use crate::spelling::encode_document;
 use bson_lite::{
-    Bson, Bytes, Document, List, Namespace, ObjectId, Text, TryClone, get_or_prepend_id_field,
+    Bson, Bytes, Document, ID_KEY, List, Namespace, ObjectId, Text, TryClone,
+    get_or_prepend_id_field,
 };
 use driver_error::Result;
 use driver_link::{
@@ -22,13 +23,24 @@ use driver_link::{
 };
 use std::alloc::{AllocError, Global};
 
+/// What an op does.
+#[derive(Drop)]
+pub enum OpWork {
+    /// It inserts a document with this id.
+    Insert { id: Bson },
+    /// It updates documents, or replaces one.
+    Update,
+    Delete,
+}
+
 /// An op as it is sent, at resends too: the text of its namespace, its spelling on the namespace of number 0, into
-/// which a build writes the number, and whether it is of all documents found.
+/// which a build writes the number, whether it is of all documents found, and what it does.
 #[derive(Drop)]
 pub struct OwnOp {
     pub namespace: Text,
     pub bytes: Bytes,
     pub multi: bool,
+    pub work: OpWork,
 }
 
 /// An op by the text of its namespace and its size in bytes, for laws on batches.
@@ -43,9 +55,10 @@ pub struct SizedOp {
 pub fn model_op(alloc: Global, model: &WriteModel) -> Result<OwnOp>
     ensures { SpellsOp model.now result }
 {
+    let work = work_of(alloc, model)?;
     let op = op_document(alloc, model)?;
     let namespace = dotted_text(alloc, model.namespace())?;
-    spelled_op(alloc, &op, namespace, is_multi(model))
+    spelled_op(alloc, &op, namespace, is_multi(model), work)
 }
 
 /// The op of the insert of a copy of a document, which has its id already, as it is sent.
@@ -79,23 +92,57 @@ pub fn insert_op_with_id(
 fn spelled_insert(alloc: Global, namespace: &Namespace, document: Document) -> Result<OwnOp>
     ensures { SpellsOp (Inserts (record { namespace = namespace.now; document = document })) result }
 {
+    let id = id_told(alloc, &document)?;
     let text = dotted_text(alloc, namespace)?;
     let mut op = Document::with_capacity(alloc, 2)?;
     op.push(keys::INSERT, Bson::Int32(0))?;
     op.push(keys::DOCUMENT, Bson::Document(document))?;
-    spelled_op(alloc, &op, text, false)
+    spelled_op(alloc, &op, text, false, OpWork::Insert { id })
 }
 
 /// An op in bytes.
-fn spelled_op(alloc: Global, op: &Document, namespace: Text, multi: bool) -> Result<OwnOp>
-    ensures { SpellsParts op.now namespace multi result }
+fn spelled_op(
+    alloc: Global,
+    op: &Document,
+    namespace: Text,
+    multi: bool,
+    work: OpWork,
+) -> Result<OwnOp>
+    ensures { SpellsParts op.now namespace multi work result }
 {
     let bytes = encode_document(alloc, op)?;
     Ok(OwnOp {
         namespace,
         bytes,
         multi,
+        work,
     })
+}
+
+/// A copy of the id of a document that is inserted. Each that is sent has one.
+fn id_told(alloc: Global, document: &Document) -> std::result::Result<Bson, AllocError>
+    ensures { IfOk result (λ id. id ≡ id_told document.now) }
+{
+    match document.get(ID_KEY) {
+        Some(id) => Ok(id.try_clone(alloc)?),
+        None => Ok(Bson::Null),
+    }
+}
+
+/// What the op of a model does.
+fn work_of(alloc: Global, model: &WriteModel) -> std::result::Result<OpWork, AllocError>
+    ensures { IfOk result (λ work. work ≡ work_of model.now) }
+{
+    match model {
+        WriteModel::InsertOne(model) => {
+            let id = id_told(alloc, &model.document)?;
+            Ok(OpWork::Insert { id })
+        }
+        WriteModel::UpdateOne(_) | WriteModel::UpdateMany(_) | WriteModel::ReplaceOne(_) => {
+            Ok(OpWork::Update)
+        }
+        WriteModel::DeleteOne(_) | WriteModel::DeleteMany(_) => Ok(OpWork::Delete),
+    }
 }
 
 /// Whether a model is of all documents found.

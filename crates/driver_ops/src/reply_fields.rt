@@ -100,7 +100,7 @@ pub(crate) fn count_at(document: &Document, key: &str) -> Result<u64, Unread>
 
 /// A number that is not negative, which may be missing.
 #[tactic(auto, unfolding(driver_link::specs::Commands::optional_value))]
-fn natural_at(document: &Document, key: &str) -> Result<Option<u64>, Unread>
+pub(crate) fn natural_at(document: &Document, key: &str) -> Result<Option<u64>, Unread>
     ensures { Gives result (optional natural_of key.now document.now) }
 {
     let Some(value) = document.get(key) else {

@@ -5,9 +5,9 @@ ghost use Rattle.bson_lite.specs.Spelling.{Spells};
 ghost use Rattle.driver_error.specs.declared.kind.ErrorKind.TheVariants.{InvalidResponse};
 ghost use Rattle.driver_error.specs.Conversions.{IsMade};
 ghost use Rattle.driver_error.specs.LabelTexts.{no_labels};
-ghost use Rattle.driver_ops.specs.Responses.{ReadsResponse, failed_with, has_time_form, is_document, is_time_in, is_timestamp, said, said_by, said_in_form};
+ghost use Rattle.driver_ops.specs.Responses.{KeepsReply, ReadsResponse, failed_with, has_time_form, is_document, is_time_in, is_timestamp, said, said_by, said_in_form};
 ghost use Rattle.driver_ops.specs.Readings.{command_error_in};
-ghost use Rattle.driver_ops.specs.inside.Responses.{IsSaid, KeepsReply, ReadsDocument};
+ghost use Rattle.driver_ops.specs.inside.Responses.{IsSaid, ReadsDocument};
 
 use crate::reply_fields::{Unread, command_error};
 use bson_lite::{Bson, Bytes, DecodeFault, Document, RawDocumentBuf, Text, decode, get_int};
@@ -165,7 +165,7 @@ pub(crate) fn odd_reply(alloc: Global, text: &str) -> Error
 }
 
 /// The error as the reply in these bytes spelled it.
-pub(crate) fn with_reply(alloc: Global, error: Error, bytes: &[u8], reply: &Document) -> Error
+pub fn with_reply(alloc: Global, error: Error, bytes: &[u8], reply: &Document) -> Error
     requires { Spells reply.now bytes.now }
     ensures { KeepsReply bytes.now error result }
 {

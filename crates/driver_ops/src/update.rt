@@ -1,5 +1,5 @@
 //! The update: its command of one statement, and what the reply to it says.
-ghost use Rattle.std.specs.Prelude.{◌≡◌, ℕ, List as Listed, IfOk, Some, ⊤};
+ghost use Rattle.std.specs.Prelude.{◌≡◌, ℕ, List as Listed, IfOk, Some};
 ghost use Rattle.driver_error.specs.declared.kind.ErrorKind.TheVariants.{InvalidResponse};
 ghost use Rattle.driver_error.specs.Conversions.{IsMade};
 ghost use Rattle.driver_error.specs.LabelTexts.{no_labels};
@@ -13,8 +13,8 @@ ghost use Rattle.driver_ops.specs.inside.Readings.{Gives};
 
 use crate::command::Command;
 use crate::defaults::{
-    lacks_option, repeats_nothing, repeats_under_backpressure, repeats_unless_forbidden,
-    stays_for_retry, takes_sessions, writes_after_cluster_time,
+    lacks_option, reads_one_page, repeats_nothing, repeats_under_backpressure,
+    repeats_unless_forbidden, stays_for_retry, takes_sessions, writes_after_cluster_time,
 };
 use crate::failed_write::{FailedWrite, answer_of, failed_write_in, upserted_in};
 use crate::feature::Feature;
@@ -86,7 +86,9 @@ impl Operation for Update {
 
     ghost next = { λ update. first };
 
-    ghost has_read = { λ update pages. ⊤ };
+    ghost has_read = { λ update pages. ⊥ };
+
+    ghost left = { λ update. 0 };
 
     #[tactic(auto, unfolding(driver_link::specs::CommandNames::command_named))]
     fn name(&self) -> &'static str {
@@ -119,6 +121,14 @@ impl Operation for Update {
 
     fn read_reply(&mut self, alloc: Global, reply: &Document) -> Result<Reading<UpdateResult>> {
         Ok(Reading::Done(read_update_answer(alloc, reply)?))
+    }
+
+    fn read_page(
+        &mut self,
+        alloc: Global,
+        page: std::result::Result<&Document, Error>,
+    ) -> Result<Reading<UpdateResult>> {
+        reads_one_page(alloc, page)
     }
 
     fn write_concern(&self) -> Feature<&WriteConcern> {

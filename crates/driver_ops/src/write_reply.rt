@@ -25,7 +25,11 @@ fn document_of(value: &Bson) -> Option<&Document>
 
 /// A document under a key, which may be missing.
 #[tactic(auto, unfolding(driver_link::specs::Commands::optional_value))]
-fn document_at(alloc: Global, document: &Document, key: &str) -> Result<Option<Document>, Unread>
+pub(crate) fn document_at(
+    alloc: Global,
+    document: &Document,
+    key: &str,
+) -> Result<Option<Document>, Unread>
     ensures { Gives result (optional document_of key.now document.now) }
 {
     match document.get(key) {
@@ -37,7 +41,11 @@ fn document_at(alloc: Global, document: &Document, key: &str) -> Result<Option<D
 
 /// A text under a key, which may be missing.
 #[tactic(auto, unfolding(driver_link::specs::Commands::optional_value))]
-fn optional_text_at(alloc: Global, document: &Document, key: &str) -> Result<Option<Text>, Unread>
+pub(crate) fn optional_text_at(
+    alloc: Global,
+    document: &Document,
+    key: &str,
+) -> Result<Option<Text>, Unread>
     ensures { Gives result (optional text_of key.now document.now) }
 {
     match document.get(key) {

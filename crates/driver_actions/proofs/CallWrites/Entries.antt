@@ -1,6 +1,6 @@
 -- What a single write does to what stands between operations, and the entry of one that was done.
 use Rattle.std.proofs.Common.{◌≡◌, ℕ, ◌<◌, arith, List, [], ◌∷◌, refl, sym, ap, subst, ◌∙◌, inl, inr}
-use Rattle.std.specs.Prelude.{ℤ, Option, None, Some, Result, Ok, Err, slice_get}
+use Rattle.std.specs.Prelude.{ℤ, false, Option, None, Some, Result, Ok, Err, slice_get}
 use Rattle.std.specs.Option.{option_map}
 use Rattle.bson_lite.specs.Fields.{id_key, value_of}
 use Rattle.driver_error.specs.declared.error.Error.{Error}
@@ -62,15 +62,17 @@ new_place made trace below = λ earlier at write has stands is.
     let same : write.place.call ≡ made = ap (λ place. place.call) is in absurd (omega arith)
 
 -- what stands after a write
-written_after : (pool_now : Pool) (run run_now : ServerRun) (form : WriteForm) (place : Place) (sent : Written) → StandsAfter pool_now run run_now (asked_in form place sent)
+written_after : (pool_now : Pool) (run run_now : ServerRun) (form : WriteForm) (place : Place) (sent : Written) → StandsAfter false pool_now run run_now (asked_in form place sent)
     → HasWritten pool_now run run_now place
 written_after pool_now run run_now form place sent after = record {
   between = after.between;
   sound = after.sound;
   which = λ send has. elim (after.which send has) [
     | inl earlier ↦ inl earlier
-    | inr same ↦ inr (λ at found stands.
-        ap (λ w. w.place) (only_write (placed_at place sent) at found (ap (λ body. slice_get (body_writes body) at) (sym same) ∙ stands)).1)
+    | inr later ↦ inr (λ at found stands. elim later [
+      | inl same ↦ ap (λ w. w.place) (only_write (placed_at place sent) at found (ap (λ body. slice_get (body_writes body) at) (sym same) ∙ stands)).1
+      | inr aside ↦ absurd aside
+    ])
   ];
 }
 
@@ -131,7 +133,7 @@ module _ (before now : Moment) (place : Place) where
       (subst (λ r. KeepsSingleWhereTold mid.store.pool now.store.pool r (server_run now.link) place) (mid_run before mid drew)
       (of_told mid.store.pool now.store.pool (server_run mid.link) (server_run now.link) (made_left form made).keeps))
     where
-      of_told : (pool pool_now : Option Pool) (run run_now : Option ServerRun) → KeepsWhereTold pool pool_now run run_now (asked_in form place made.sent)
+      of_told : (pool pool_now : Option Pool) (run run_now : Option ServerRun) → KeepsWhereTold false pool pool_now run run_now (asked_in form place made.sent)
           → KeepsSingleWhereTold pool pool_now run run_now place
       of_told (Some pool) (Some pool_now) (Some run) (Some run_now) keeps = λ may.
           written_after pool_now run run_now form place made.sent (keeps (may_stand pool pool_now run form place made.sent may))

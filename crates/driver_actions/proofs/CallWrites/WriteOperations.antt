@@ -1,6 +1,6 @@
 -- The operation of a single write: what it asks for, what it was made with, and what it came to.
 use Rattle.std.proofs.Common.{◌≡◌, ℕ, suc, ◌+◌, ◌≤◌, List, [], ◌∷◌, refl, sym, ap, subst, arith}
-use Rattle.std.specs.Prelude.{Bool, Option, None, Some, Result}
+use Rattle.std.specs.Prelude.{Bool, false, Option, None, Some, Result}
 use Rattle.bson_lite.specs.declared.bson.Bson.{Bson}
 use Rattle.bson_lite.specs.declared.document.Pair.{Pair}
 use Rattle.bson_lite.specs.declared.namespace.Namespace.{Namespace}
@@ -21,6 +21,7 @@ use Rattle.driver_link.specs.declared.write_options.UpdateOptions.{UpdateOptions
 use Rattle.driver_ops.specs.declared.own_document.OwnDocument.{OwnDocument}
 use Rattle.driver_ops.specs.declared.target.OperationTarget.{OperationTarget}
 use Rattle.driver_ops.specs.InsertSpec.{AsksInsert, insert_spec}
+use Rattle.driver_ops.specs.OperationLaw.{NeverOpen}
 use Rattle.driver_ops.specs.Operations.{AsksFor, HasBodies, IsFixed, OperationSpec, StaysFixed, batch_of}
 use Rattle.driver_ops.specs.SendKinds.{SendKind, first}
 use Rattle.driver_ops.specs.StatementSpec.{delete_spec, find_spec, update_spec}
@@ -58,11 +59,11 @@ two_at_most from count none within = omega (arith, none, within)
 
 -- an operation of one statement was run where it was executed, and this is its result in a single write's form
 pub executed_runs : {A : Type 0} (spec : OperationSpec A) (which : SendKind) (asked : SendBody) (place : Place) (before now : Moment) (from count : ℕ) (fixed fixed_now : Option ℕ) (executed found ended : Result A Error)
-    → which ≡ first → from ≡ 0 → fixed ≡ Some 1 → fixed_now ≡ Some 1 → AsksFor spec (batch_of (place ∷ []) 1) asked
+    → which ≡ first → from ≡ 0 → fixed ≡ Some 1 → fixed_now ≡ Some 1 → AsksFor spec (batch_of (place ∷ []) 1) asked → (spec.paged ≡ false → NeverOpen spec)
     → Executes spec (batch_of (place ∷ []) 1) which before now from count fixed fixed_now executed
-    → SendsOneCommand spec (batch_of (place ∷ []) 1) before now executed → Caused spec which fixed before now (end_of executed) → KeepsInvariant before now asked
+    → SendsOneCommand spec (batch_of (place ∷ []) 1) before now executed → Caused spec which fixed before now (end_of executed) → KeepsInvariant spec.paged before now asked
     → OkHasEntries spec asked before now executed → executed ≡ found → BecomesSingle found ended → Runs spec asked place before now ended
-executed_runs spec which asked place before now from count fixed fixed_now executed found ended kind none one still asks executes one_command caused keeps entries is becomes = record {
+executed_runs spec which asked place before now from count fixed fixed_now executed found ended kind none one still asks alone executes one_command caused keeps entries is becomes = record {
   asks = asks;
   executed = executed;
   count = count;
@@ -76,8 +77,8 @@ executed_runs spec which asked place before now from count fixed fixed_now execu
   becomes = subst (λ r. BecomesSingle r ended) (sym is) becomes;
   keeps = keeps;
   entries = entries;
-  lent = executes_lends spec (batch_of (place ∷ []) 1) which before now from count fixed fixed_now executed executes;
-  drawn = executes_draws spec (batch_of (place ∷ []) 1) which before now from count fixed fixed_now executed executes;
+  lent = executes_lends spec (batch_of (place ∷ []) 1) which before now from count fixed fixed_now executed alone executes;
+  drawn = executes_draws spec (batch_of (place ∷ []) 1) which before now from count fixed fixed_now executed alone executes;
 }
 
 -- what holds of the parts that an insert was made with holds of those that it was made from

@@ -1,6 +1,6 @@
 -- What each single write that was made left, whatever it does.
 use Rattle.std.proofs.Common.{◌≡◌, ℕ, List, [], ◌∷◌, refl, sym, ap, subst, inl}
-use Rattle.std.specs.Prelude.{ℤ, Option, Some, Result}
+use Rattle.std.specs.Prelude.{ℤ, false, Option, Some, Result}
 use Rattle.driver_error.specs.declared.error.Error.{Error}
 use Rattle.driver_link.specs.declared.machine.Place.{Place}
 use Rattle.driver_link.specs.declared.machine.SendBody.{SendBody}
@@ -25,21 +25,21 @@ pub record LeftBy (before now : Moment) (asked : SendBody) : Type 0 where
   pub session : Option (List ℕ)
   pub number : Option ℤ
   pub borrows : Borrows before.store now.store session number
-  pub sends : SentWithin 2 (server_run before.link) (server_run now.link) (send_of (under session number) asked)
-  pub keeps : KeepsInvariant before now asked
+  pub sends : SentWithin false 2 (server_run before.link) (server_run now.link) (send_of (under session number) asked)
+  pub keeps : KeepsInvariant false before now asked
   pub lent : LendsAsBefore before.store now.store
   pub drawn : Draws before.store now.store
   pub read : OnlyRead before.clock now.clock
   pub words : now.words ≡ before.words
 
 -- an operation that was executed left this
-pub runs_left : {A : Type 0} {spec : OperationSpec A} {asked : SendBody} {place : Place} {before now : Moment} {ended : Result A Error} → Runs spec asked place before now ended → LeftBy before now asked
-runs_left {spec = spec} {asked = asked} {place = place} {before = before} {now = now} runs = record {
+pub runs_left : {A : Type 0} {spec : OperationSpec A} {asked : SendBody} {place : Place} {before now : Moment} {ended : Result A Error} → spec.paged ≡ false → Runs spec asked place before now ended → LeftBy before now asked
+runs_left {spec = spec} {asked = asked} {place = place} {before = before} {now = now} alone runs = record {
   session = runs.one_command.session;
   number = runs.one_command.number;
   borrows = runs.one_command.borrows;
-  sends = runs.one_command.sends asked runs.asks;
-  keeps = runs.keeps;
+  sends = subst (λ paged. SentWithin paged 2 (server_run before.link) (server_run now.link) (send_of (under runs.one_command.session runs.one_command.number) asked)) alone (runs.one_command.sends asked runs.asks);
+  keeps = subst (λ paged. KeepsInvariant paged before now asked) alone runs.keeps;
   lent = runs.lent;
   drawn = runs.drawn;
   read = executes_read spec (batch_of (place ∷ []) 1) first before now 0 runs.count (Some 1) (Some 1) runs.executed runs.executes;
@@ -61,10 +61,10 @@ module _ {before now : Moment} {place : Place} {result : Result SingleAnswer Err
 
   -- what its operation left
   pub made_left : (form : WriteForm) (made : Made before now form place result) → LeftBy made.mid now (asked_in form place made.sent)
-  made_left (inserts namespace document options) made = runs_left made.runs.runs
-  made_left (updates namespace filter change multi options) made = runs_left made.runs.runs
-  made_left (deletes namespace filter multi options) made = runs_left made.runs.runs
-  made_left (finds namespace filter modification options) made = runs_left made.runs.runs
+  made_left (inserts namespace document options) made = runs_left refl made.runs.runs
+  made_left (updates namespace filter change multi options) made = runs_left refl made.runs.runs
+  made_left (deletes namespace filter multi options) made = runs_left refl made.runs.runs
+  made_left (finds namespace filter modification options) made = runs_left refl made.runs.runs
 
   -- the write that is sent is the caller's own
   pub made_own : (form : WriteForm) (made : Made before now form place result) → IsOwn (written_in form) made.sent

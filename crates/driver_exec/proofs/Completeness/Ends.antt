@@ -31,7 +31,7 @@ use Rattle.driver_ops.specs.Operations.{OperationSpec, ReadsAnswer}
 use Rattle.driver_exec.specs.declared.failure.AttemptFailure.{AttemptFailure}
 use Rattle.driver_exec.specs.declared.failure.FailurePhase.{FailurePhase}
 use Rattle.driver_exec.specs.declared.failure.FailurePhase.TheVariants.{ConnectionEstablishment, Execution}
-use Rattle.driver_exec.specs.Attempting.{held_after}
+use Rattle.driver_exec.specs.AttemptExchanges.{held_after}
 use Rattle.driver_exec.specs.Gentle.{IsLossy}
 use Rattle.driver_exec.specs.Holding.{DrawsSession, ExecutionSession, HoldsSession, dirty_session, dirty_session_held, needs_session}
 use Rattle.driver_exec.specs.OldDeployment.{reworded}

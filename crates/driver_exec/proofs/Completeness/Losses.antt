@@ -1,5 +1,5 @@
 -- An attempt of an operation whose part of the schedule is gentle fails only where its exchange was lost.
-use Rattle.std.proofs.Common.{◌≡◌, ℕ, ◌<◌, ◌≤◌, true, List, length, refl, sym, ap, subst, ◌∙◌, inl, inr, arith}
+use Rattle.std.proofs.Common.{◌≡◌, ℕ, ◌<◌, ◌≤◌, true, List, [], length, refl, sym, ap, subst, ◌∙◌, inl, inr, arith}
 use Rattle.std.specs.Prelude.{ℤ, Option, None, Some, Result, Ok, Err}
 use Rattle.bson_lite.specs.Spelling.{Spells}
 use Rattle.driver_error.specs.declared.error.Error.{Error}
@@ -25,7 +25,8 @@ use Rattle.driver_ops.specs.Fields.{under}
 use Rattle.driver_ops.specs.Operations.{send_of}
 use Rattle.driver_exec.specs.declared.failure.FailurePhase.{FailurePhase}
 use Rattle.driver_exec.specs.declared.failure.FailurePhase.TheVariants.{ConnectionEstablishment, Execution}
-use Rattle.driver_exec.specs.Attempting.{AttemptState, FailsIn, LosesExchange, NotConnected, NotSelected, Sends, SpellsFailure, asks_session, held_after, on_connection}
+use Rattle.driver_exec.specs.AttemptExchanges.{AsksPages, EndsPages, held_after}
+use Rattle.driver_exec.specs.Attempting.{AttemptState, FailsIn, LosesExchange, NotConnected, NotSelected, Sends, SpellsFailure, asks_session, on_connection}
 use Rattle.driver_exec.specs.Failures.{is_memory}
 use Rattle.driver_exec.specs.Gentle.{IsGentlePart, IsLossy, IsOfPart}
 use Rattle.driver_exec.specs.Holding.{HoldsSession, dirty_session, held_id, needs_session}
@@ -36,6 +37,7 @@ use Rattle.driver_exec.proofs.FixedNumbers.{MayBeFixed, sends_first}
 use Rattle.driver_exec.proofs.HeldSessions.{draws_on, not_both}
 use Rattle.driver_exec.proofs.Moments.{IsBefore, LeadsCalling, after_before, before_twice, checks_well, longer_after, one_moment, selects_lead, selects_well}
 use Rattle.driver_exec.proofs.OperationCauses.{fault_error, reworded_is}
+use Rattle.driver_exec.proofs.PassesBy.{none_asked}
 use Rattle.driver_exec.proofs.Completeness.Ends.{ReadsPlainly, lossy_none, has_own_label, HasNumber, lost_held, held_again, same_again}
 use Rattle.driver_exec.proofs.Completeness.Sessions.{KnownCommand, attempted, MayGo, IsReadied, IsPrepared, again_readied, is_conn, reached_at, readied_at}
 
@@ -209,13 +211,23 @@ module _ {A : Type 0} (known : KnownCommand A) where
             since_after : IsBefore told (run_after before send)
             since_after = before_twice told before (run_after before send) since_told (after_before before send)
 
-      -- a reply spells no failure
+    -- how it fails
+    module _ (past : Option RetryState) (moment : ServerRun) (mid : AttemptState) (prepared : IsPrepared known moment mid) (now : AttemptState) (last : ServerRun) (now_is : server_run now.link ≡ Some last) (later : IsBefore last told_now)
+        (apart : DrawnApart now.store) where
+      -- the answer to its command spells no failure: it is one reply
       spelled_none : (address : Address) (error : Error) → SpellsFailure (attempted known) past mid now address error → ⊥
       spelled_none address error fails =
-          let bare = fails.is.is in
-          let plain = plain_reply address fails.conn (Ok fails.reply) fails.sends fails.reply (steps address fails.conn (Ok fails.reply) fails.sends) in
-          let memory = plain.plain fails.reply plain.spells bare.bare bare.reads in
-          not_both (sym (ap is_memory memory) ∙ bare.labelled.told)
+          let behind = fails.behind in
+          let exchanges = fails.reads.exchanges in
+          let none : exchanges.asked ≡ [] = none_asked spec batch.statements fails.reply fails.conn known.alone (held_id behind.held) behind.link exchanges.asked exchanges.mid exchanges.asks in
+          let mid_is : exchanges.mid ≡ behind.link = subst (λ asked. AsksPages spec batch.statements fails.reply fails.conn (held_id behind.held) behind.link asked exchanges.mid) none exchanges.asks in
+          let ends = subst (λ asked. EndsPages spec batch.statements fails.reply fails.conn exchanges.mid now.link asked (Err fails.bare)) none exchanges.ends in
+          let behind_is : server_run behind.link ≡ Some last = ap server_run (sym (ends.1 ∙ mid_is)) ∙ now_is in
+          let behind_apart = subst DrawnApart fails.reads.store apart in
+          let stepped = steps past moment mid prepared behind last behind_is later behind_apart address fails.conn (Ok fails.reply) fails.sends in
+          let plain = plain_reply past moment mid prepared behind last behind_is later behind_apart address fails.conn (Ok fails.reply) fails.sends fails.reply stepped in
+          let memory = plain.plain fails.reply plain.spells fails.bare ends.0 in
+          not_both (sym (ap is_memory memory) ∙ fails.is.is.told)
 
       -- an exchange that was lost leaves an error that lets the write be tried again
       pub record LosesWell (error : Error) : Type 0 where
@@ -227,9 +239,9 @@ module _ {A : Type 0} (known : KnownCommand A) where
       loses_well address error fails =
           let result = Err (Fault fails.fault fails.labels) in
           let connection_retryability = on_connection retryability fails.conn.description in
-          let stepped = steps address fails.conn result fails.sends in
-          let lost = lost_now address fails.conn result fails.sends fails.fault fails.labels stepped refl in
-          let takes = on_connection_write address fails.conn result fails.sends lost.draws in
+          let stepped = steps past moment mid prepared now last now_is later apart address fails.conn result fails.sends in
+          let lost = lost_now past moment mid prepared now last now_is later apart address fails.conn result fails.sends fails.fault fails.labels stepped refl in
+          let takes = on_connection_write past moment mid prepared now last now_is later apart address fails.conn result fails.sends lost.draws in
           let is = fault_error fails.fault fails.labels connection_retryability fails.is.bare fails.is.is in
           let labels : labels_of (reworded error) ≡ with_label (label_set fails.labels) RETRYABLE_WRITE_ERROR.now
           = (reworded_is error).1 ∙ fails.is.versioned.labels ∙ is.1 ∙ ap (λ t. labels_after t fails.fault fails.labels) takes.1
@@ -240,7 +252,7 @@ module _ {A : Type 0} (known : KnownCommand A) where
 
       -- an attempt of the part fails only so
       pub fails_well : (address : Address) (phase : FailurePhase) (error : Error) → FailsIn (attempted known) past mid now address phase error → LosesWell error
-      fails_well address ConnectionEstablishment error fails = absurd (unconnected_none address error fails)
+      fails_well address ConnectionEstablishment error fails = absurd (unconnected_none past moment mid prepared now last now_is later apart address error fails)
       fails_well address Execution error fails = elim fails [
         | inl lost ↦ loses_well address error lost
         | inr says ↦ absurd (spelled_none address error says)

@@ -24,6 +24,7 @@ use Rattle.driver_session.specs.Session.{IsAtItsEnd, Numbers, Session, last_numb
 use Rattle.driver_session.specs.StoreTells.{DrawnApart, LendsSession, StoreTells}
 use Rattle.driver_ops.specs.declared.command.Command.{Command}
 use Rattle.driver_ops.specs.Fields.{SendContext, under}
+use Rattle.driver_ops.specs.OperationLaw.{NeverOpen}
 use Rattle.driver_ops.specs.Operations.{AsksFor, Batch, HasNoSpelling, OperationSpec, Refuses, send_of}
 use Rattle.driver_ops.specs.SendKinds.{SendKind}
 use Rattle.driver_exec.specs.Attempting.{AttemptState, AttemptedOperation, EndsRefused, Readies, asks_session, attempted_operation, may_use, on_connection}
@@ -50,6 +51,8 @@ pub record KnownCommand (A : Type 0) : Type 1 where
   -- an item serves its command as usual
   pub Serves : Item → Type 0
   pub asked : AsksFor spec batch body
+  -- its answer has one page
+  pub alone : NeverOpen spec
   -- what of it may be repeated by its own rules
   pub retryability : Retryability
   -- the concern that it goes out with, which is not refused

@@ -1,7 +1,7 @@
 -- What an operation outside transactions leaves of a told pool and a told server: whatever was answered, all that stood before
 -- it stands, and its last send could be sent.
 use Rattle.std.proofs.Common.{◌≡◌, ℕ, ◌≤◌, List, [], ◌∷◌, ◌++◌, refl, sym, ap, subst, ◌∙◌, inl, inr, arith}
-use Rattle.std.specs.Prelude.{ℤ, pos, ◌+ℤ◌, ◌<ℤ◌, ◌≤ℤ◌, Option, None, Some, ◌⊎◌}
+use Rattle.std.specs.Prelude.{ℤ, pos, ◌+ℤ◌, ◌<ℤ◌, ◌≤ℤ◌, Bool, true, Option, None, Some, ◌⊎◌}
 use Rattle.std.proofs.lemmas.Int.{ints}
 use Rattle.driver_link.specs.declared.machine.Entry.{Entry}
 use Rattle.driver_link.specs.declared.machine.Send.{Send}
@@ -9,7 +9,7 @@ use Rattle.driver_link.specs.declared.machine.SendBody.{SendBody}
 use Rattle.driver_link.specs.declared.machine.Server.{Server}
 use Rattle.driver_link.specs.Apart.{AllApart}
 use Rattle.driver_link.specs.LinkState.{server_run}
-use Rattle.driver_link.specs.Settled.{Has, IsEither, IsPlain, IsSettled, IsUnder, MayJoin}
+use Rattle.driver_link.specs.Settled.{Has, IsAside, IsEither, IsPlain, IsSettled, IsUnder, MayJoin}
 use Rattle.driver_link.specs.ServerRun.{ServerRun, run_after}
 use Rattle.driver_session.specs.Pool.{Pool, taken_back}
 use Rattle.driver_session.specs.Session.{Session}
@@ -18,19 +18,19 @@ use Rattle.driver_session.proofs.PoolTells.{TurnsPool, same_told, turns_told}
 use Rattle.driver_ops.specs.Fields.{under}
 use Rattle.driver_ops.specs.Operations.{send_of}
 use Rattle.driver_exec.specs.BetweenCalls.{Between, SentUpTo, Sound}
-use Rattle.driver_exec.specs.Keeping.{StandsBefore}
+use Rattle.driver_exec.specs.Keeping.{MayPass, StandsBefore}
 use Rattle.driver_exec.specs.Moment.{Moment}
-use Rattle.driver_exec.specs.Resending.{Borrowed, Borrows, SendsWhereTold, SentTimes}
+use Rattle.driver_exec.specs.Resending.{Borrowed, Borrows, LeavesAside, SendsWhereTold, SentTimes}
 use Rattle.driver_exec.proofs.TraceSessions.{Holding, joined_holds, lends_holds, number_raised, taken_between}
-use Rattle.driver_exec.proofs.InvariantSteps.Sends.{Going, begins, between_free, holding_free, numbered_goes, numbered_joins, numbered_new, numbered_onward, numbered_send, unnumbered_goes, unnumbered_new, unnumbered_send}
+use Rattle.driver_exec.proofs.InvariantSteps.Sends.{Going, begins, between_free, holding_free, numbered_goes, numbered_joins, numbered_new, numbered_onward, numbered_send, unnumbered_goes, unnumbered_joins, unnumbered_new, unnumbered_onward, unnumbered_send}
 
 -- what sends of a command leave of a told pool and a told server
-pub record Left (session : Option (List ℕ)) (number : Option ℤ) (body : SendBody) (pool_now : Pool) (old now : Server) : Type 0 where
+pub record Left (paged : Bool) (session : Option (List ℕ)) (number : Option ℤ) (body : SendBody) (pool_now : Pool) (old now : Server) : Type 0 where
   pub between : Between pool_now now.trace
   pub sound : Sound now
   pub more : List Entry
   pub log : now.log ≡ old.log ++ more
-  pub which : (other : Send) → Has now.trace other → Has old.trace other ⊎ (send_of (under session number) body ≡ other)
+  pub which : (other : Send) → Has now.trace other → Has old.trace other ⊎ ((send_of (under session number) body ≡ other) ⊎ MayPass paged other)
 
 -- a send may go out to a server that is settled
 pub record MayGo (send : Send) (server : Server) : Type 0 where
@@ -66,10 +66,10 @@ came_back now old trace session back lent holds =
     subst P (sym lent.now_is) (taken_between lent.caller back lent.moment lent.pool trace holds)
 
 -- the sends of told servers
-sends_told : (link link_now : Option ServerRun) (run run_now : ServerRun) (send : Send) (count : ℕ) → link ≡ Some run → link_now ≡ Some run_now
-    → SentTimes link link_now send count → SendsWhereTold run run_now send count
-sends_told link link_now run run_now send count is now_is sends =
-    subst (λ now. SentTimes (Some run) now send count) now_is (subst (λ old. SentTimes old link_now send count) is sends)
+sends_told : (paged : Bool) (link link_now : Option ServerRun) (run run_now : ServerRun) (send : Send) (count : ℕ) → link ≡ Some run → link_now ≡ Some run_now
+    → SentTimes paged link link_now send count → SendsWhereTold paged run run_now send count
+sends_told paged link link_now run run_now send count is now_is sends =
+    subst (λ now. SentTimes paged (Some run) now send count) now_is (subst (λ old. SentTimes paged old link_now send count) is sends)
 
 -- one more is more
 grows : (number more : ℤ) → more ≡ (number +ℤ pos 1) → number <ℤ more
@@ -79,7 +79,7 @@ grows number more is = omega (arith, ints)
 no_less : (number more : ℤ) → more ≡ (number +ℤ pos 1) → number ≤ℤ more
 no_less number more is = omega (arith, ints)
 
-module _ (before now : Moment) (pool pool_now : Pool) (run run_now : ServerRun) (pool_is : before.store.pool ≡ Some pool) (pool_now_is : now.store.pool ≡ Some pool_now)
+module _ (paged : Bool) (before now : Moment) (pool pool_now : Pool) (run run_now : ServerRun) (pool_is : before.store.pool ≡ Some pool) (pool_now_is : now.store.pool ≡ Some pool_now)
     (run_is : server_run before.link ≡ Some run) (run_now_is : server_run now.link ≡ Some run_now) (body : SendBody) (stands : StandsBefore pool pool_now run body) where
   open stands use {between, sound, may_send, apart}
 
@@ -99,10 +99,16 @@ module _ (before now : Moment) (pool pool_now : Pool) (run run_now : ServerRun) 
     HoldsBack : List Send → Type 0
     HoldsBack trace = Holding lent.pool trace borrowed.back
 
-    left_by : (keep : (trace : List Send) → HoldsBack trace → HoldsBack (trace ++ send ∷ []))
-        → Going (Some id) number body HoldsBack keep run.server run_now.server → Left (Some id) number body pool_now run.server run_now.server
+    -- a send without a number says nothing of it
+    keep_aside : (trace : List Send) (aside : Send) → IsAside aside → HoldsBack trace → HoldsBack (trace ++ aside ∷ [])
     unfolding HoldsBack
-    left_by keep going = record {
+    keep_aside trace aside is holds = holding_free trace aside is.none lent.pool borrowed.back holds
+
+    left_by : (keep : (trace : List Send) → HoldsBack trace → HoldsBack (trace ++ send ∷ []))
+        (stays : (trace : List Send) (aside : Send) → IsAside aside → HoldsBack trace → HoldsBack (trace ++ aside ∷ []))
+        → Going paged (Some id) number body HoldsBack keep stays run.server run_now.server → Left paged (Some id) number body pool_now run.server run_now.server
+    unfolding HoldsBack
+    left_by keep stays going = record {
       between = came_back pool_now run.server.trace run_now.server.trace borrowed.session borrowed.back lent going.holds;
       sound = record { orderly = going.orderly; settled = going.settled };
       more = going.more;
@@ -125,6 +131,10 @@ module _ (before now : Moment) (pool pool_now : Pool) (run run_now : ServerRun) 
     unfolding HoldsNumbered HoldsBack
     keep_numbered trace holds = joined_holds (lent id (Some number) borrowed).pool trace borrowed.back own_send back_under holds
 
+    aside_numbered : (trace : List Send) (aside : Send) → IsAside aside → HoldsNumbered trace → HoldsNumbered (trace ++ aside ∷ [])
+    unfolding HoldsNumbered
+    aside_numbered trace aside is holds = keep_aside id (Some number) borrowed trace aside is holds
+
     start_numbered : HoldsNumbered run.server.trace
     unfolding HoldsNumbered HoldsBack
     start_numbered =
@@ -141,26 +151,27 @@ module _ (before now : Moment) (pool pool_now : Pool) (run run_now : ServerRun) 
     plain : IsPlain own_send
     plain = numbered_send id number body may_send.writes
 
-    start_going : Going (Some id) (Some number) body HoldsNumbered keep_numbered run.server run.server
-    start_going = begins (Some id) (Some number) body HoldsNumbered keep_numbered run.server sound start_numbered
+    start_going : (shown : Bool) → Going shown (Some id) (Some number) body HoldsNumbered keep_numbered aside_numbered run.server run.server
+    start_going shown = begins shown (Some id) (Some number) body HoldsNumbered keep_numbered aside_numbered run.server sound start_numbered
 
-    numbered_left : (count : ℕ) → SendsWhereTold run run_now own_send count → Left (Some id) (Some number) body pool_now run.server run_now.server
+    numbered_left : (count : ℕ) → SendsWhereTold paged run run_now own_send count → Left paged (Some id) (Some number) body pool_now run.server run_now.server
     unfolding HoldsNumbered
-    numbered_left count sends = left_by id (Some number) borrowed keep_numbered
-        (numbered_goes (Some id) (Some number) body HoldsNumbered keep_numbered run start_going join_numbered plain count run_now sends)
+    numbered_left count sends = left_by id (Some number) borrowed keep_numbered aside_numbered
+        (numbered_goes paged (Some id) (Some number) body HoldsNumbered keep_numbered aside_numbered paged (λ is. is) run (start_going paged) join_numbered plain count run_now sends)
 
-    numbered_may : (earlier : ℕ) (mid : ServerRun) → SendsWhereTold run mid own_send earlier → MayGo own_send mid.server
+    numbered_may : (earlier : ℕ) (mid : ServerRun) → SendsWhereTold paged run mid own_send earlier → MayGo own_send mid.server
     numbered_may earlier mid sends = record {
       either = inl plain;
-      joins = numbered_joins (Some id) (Some number) body HoldsNumbered keep_numbered run start_going join_numbered plain earlier mid sends;
-      settled = (numbered_goes (Some id) (Some number) body HoldsNumbered keep_numbered run start_going join_numbered plain earlier mid sends).settled;
+      joins = numbered_joins true (Some id) (Some number) body HoldsNumbered keep_numbered aside_numbered paged (λ is. refl) run (start_going true) join_numbered plain earlier mid sends;
+      settled = (numbered_goes true (Some id) (Some number) body HoldsNumbered keep_numbered aside_numbered paged (λ is. refl) run (start_going true) join_numbered plain earlier mid sends).settled;
     }
 
     -- the sends behind one that is answered keep each entry
-    numbered_further : (earlier later : ℕ) (mid : ServerRun) → SendsWhereTold run mid own_send earlier → SendsWhereTold (run_after mid own_send) run_now own_send later
+    numbered_further : (earlier later : ℕ) (mid : ServerRun) → SendsWhereTold paged run mid own_send earlier
+        → (behind : ServerRun) → LeavesAside (run_after mid own_send) behind → SendsWhereTold paged behind run_now own_send later
         → (entry : Entry) → Has (run_after mid own_send).server.log entry → Has run_now.server.log entry
-    numbered_further earlier later mid sends rest entry has =
-        numbered_onward (Some id) (Some number) body HoldsNumbered keep_numbered run start_going join_numbered plain earlier mid sends later run_now rest entry has
+    numbered_further earlier later mid sends behind leaves rest entry has =
+        numbered_onward true (Some id) (Some number) body HoldsNumbered keep_numbered aside_numbered paged (λ is. refl) run (start_going true) join_numbered refl plain earlier mid sends behind leaves later run_now rest entry has
 
   -- its sends have none
   module _ (id : List ℕ) (borrowed : Borrowed before.store now.store id None) where
@@ -174,17 +185,21 @@ module _ (before now : Moment) (pool pool_now : Pool) (run run_now : ServerRun) 
     unfolding HoldsFree HoldsBack
     keep_free trace holds = holding_free trace free_send refl (lent id None borrowed).pool borrowed.back holds
 
+    aside_free : (trace : List Send) (aside : Send) → IsAside aside → HoldsFree trace → HoldsFree (trace ++ aside ∷ [])
+    unfolding HoldsFree
+    aside_free trace aside is holds = keep_aside id None borrowed trace aside is holds
+
     start_free : HoldsFree run.server.trace
     unfolding HoldsFree HoldsBack
     start_free =
         let held = lent id None borrowed in
         number_raised held.pool run.server.trace borrowed.session borrowed.back borrowed.same borrowed.numbered.0 held.holds
 
-    free_left : (count : ℕ) → count ≤ 1 → SendsWhereTold run run_now free_send count → Left (Some id) None body pool_now run.server run_now.server
+    free_left : (count : ℕ) → count ≤ 1 → SendsWhereTold paged run run_now free_send count → Left paged (Some id) None body pool_now run.server run_now.server
     unfolding HoldsFree
-    free_left count one sends = left_by id None borrowed keep_free
-        (unnumbered_goes (Some id) None body HoldsFree keep_free run
-        (begins (Some id) None body HoldsFree keep_free run.server sound start_free)
+    free_left count one sends = left_by id None borrowed keep_free aside_free
+        (unnumbered_goes paged (Some id) None body HoldsFree keep_free aside_free paged (λ is. is) run
+        (begins paged (Some id) None body HoldsFree keep_free aside_free run.server sound start_free)
         (unnumbered_new run.server.trace body may_send sound.orderly (Some id)) count run_now one sends)
 
   -- no session was borrowed
@@ -199,11 +214,15 @@ module _ (before now : Moment) (pool pool_now : Pool) (run run_now : ServerRun) 
     unfolding BetweenOld
     keep_bare trace holds = between_free trace bare_send refl pool holds
 
-    bare_left : (count : ℕ) → count ≤ 1 → SendsWhereTold run run_now bare_send count → Left None None body pool_now run.server run_now.server
+    aside_bare : (trace : List Send) (aside : Send) → IsAside aside → BetweenOld trace → BetweenOld (trace ++ aside ∷ [])
+    unfolding BetweenOld
+    aside_bare trace aside is holds = between_free trace aside is.none pool holds
+
+    bare_left : (count : ℕ) → count ≤ 1 → SendsWhereTold paged run run_now bare_send count → Left paged None None body pool_now run.server run_now.server
     unfolding BetweenOld
     bare_left count one sends =
-        let going = unnumbered_goes None None body BetweenOld keep_bare run
-        (begins None None body BetweenOld keep_bare run.server sound between)
+        let going = unnumbered_goes paged None None body BetweenOld keep_bare aside_bare paged (λ is. is) run
+        (begins paged None None body BetweenOld keep_bare aside_bare run.server sound between)
         (unnumbered_new run.server.trace body may_send sound.orderly None) count run_now one sends in
         record {
           between = subst (λ p. Between p run_now.server.trace) (sym stays) going.holds;
@@ -213,13 +232,39 @@ module _ (before now : Moment) (pool pool_now : Pool) (run run_now : ServerRun) 
           which = going.which;
         }
 
-  -- the one send without a number may go out
-  unnumbered_may : (session : Option (List ℕ)) (mid : ServerRun) → SendsWhereTold run mid (send_of (under session None) body) 0 → MayGo (send_of (under session None) body) mid.server
-  unnumbered_may session mid sends = record {
-    either = inr (unnumbered_send session body may_send.writes);
-    joins = subst (λ s. MayJoin s.trace (send_of (under session None) body)) (sym sends.server) (unnumbered_new run.server.trace body may_send sound.orderly session);
-    settled = subst (λ s. IsSettled s.trace s) (sym sends.server) sound.settled;
-  }
+  -- the one send without a number
+  module _ (session : Option (List ℕ)) where
+    abbrev only_send : Send
+    only_send = send_of (under session None) body
+
+    -- of the trace nothing more is asked
+    abbrev Any : List Send → Type 0
+    Any trace = Unit {0}
+
+    any_more : (trace : List Send) → Any trace → Any (trace ++ only_send ∷ [])
+    any_more trace any = tt
+
+    any_aside : (trace : List Send) (aside : Send) → IsAside aside → Any trace → Any (trace ++ aside ∷ [])
+    any_aside trace aside is any = tt
+
+    any_going : Going true session None body Any any_more any_aside run.server run.server
+    any_going = begins true session None body Any any_more any_aside run.server sound tt
+
+    -- it may go out
+    unnumbered_may : (mid : ServerRun) → SendsWhereTold paged run mid only_send 0 → MayGo only_send mid.server
+    unnumbered_may mid sends =
+        let joins = unnumbered_joins true session None body Any any_more any_aside paged (λ is. refl) run any_going (unnumbered_new run.server.trace body may_send sound.orderly session) mid sends in record {
+          either = inr (inl (unnumbered_send session body may_send.writes));
+          joins = joins.0;
+          settled = joins.1;
+        }
+
+    -- where there is no send behind it each entry stays too
+    unnumbered_further : (later : ℕ) (mid : ServerRun) → later ≡ 0 → SendsWhereTold paged run mid only_send 0 → (behind : ServerRun) → LeavesAside (run_after mid only_send) behind
+        → SendsWhereTold paged behind run_now only_send later → (entry : Entry) → Has (run_after mid only_send).server.log entry → Has run_now.server.log entry
+    unnumbered_further later mid none sends behind leaves rest entry has =
+        unnumbered_onward true session None body Any any_more any_aside paged (λ is. refl) run any_going (unnumbered_new run.server.trace body may_send sound.orderly session) refl mid sends behind leaves run_now
+        (subst (SendsWhereTold paged behind run_now only_send) none rest) entry has
 
   -- a store that borrowed nothing has its pool still
   pool_stays : now.store ≡ before.store → pool_now ≡ pool
@@ -227,37 +272,32 @@ module _ (before now : Moment) (pool pool_now : Pool) (run run_now : ServerRun) 
 
   -- what the sends leave
   pub left_of : (session : Option (List ℕ)) (number : Option ℤ) (count : ℕ) → Borrows before.store now.store session number → (number ≡ None → count ≤ 1)
-      → SentTimes (server_run before.link) (server_run now.link) (send_of (under session number) body) count
-      → Left session number body pool_now run.server run_now.server
+      → SentTimes paged (server_run before.link) (server_run now.link) (send_of (under session number) body) count
+      → Left paged session number body pool_now run.server run_now.server
   left_of session number count borrows once sends =
-      by_session session number borrows once (sends_told (server_run before.link) (server_run now.link) run run_now (send_of (under session number) body) count run_is run_now_is sends)
+      by_session session number borrows once (sends_told paged (server_run before.link) (server_run now.link) run run_now (send_of (under session number) body) count run_is run_now_is sends)
     where
       by_session : (session : Option (List ℕ)) (number : Option ℤ) → Borrows before.store now.store session number → (number ≡ None → count ≤ 1)
-          → SendsWhereTold run run_now (send_of (under session number) body) count → Left session number body pool_now run.server run_now.server
+          → SendsWhereTold paged run run_now (send_of (under session number) body) count → Left paged session number body pool_now run.server run_now.server
       by_session (Some id) (Some number) borrows once sends = numbered_left id number borrows count sends
       by_session (Some id) None borrows once sends = free_left id borrows count (once refl) sends
       by_session None (Some number) borrows once sends = absurd (let e : ◌≡◌ {A = Option ℤ} (Some number) None = borrows.1 in cc)
       by_session None None borrows once sends = bare_left (pool_stays borrows.0) count (once refl) sends
 
-  -- where there is no send behind one that is answered each entry stays too
-  unnumbered_further : (session : Option (List ℕ)) (later : ℕ) (mid : ServerRun) → later ≡ 0 → SendsWhereTold (run_after mid (send_of (under session None) body)) run_now (send_of (under session None) body) later
-      → (entry : Entry) → Has (run_after mid (send_of (under session None) body)).server.log entry → Has run_now.server.log entry
-  unnumbered_further session later mid none rest entry has =
-      let stays = subst (SendsWhereTold (run_after mid (send_of (under session None) body)) run_now (send_of (under session None) body)) none rest in
-      subst (λ s. Has s.log entry) (sym stays.server) has
-
   -- after so many sends one more may go out: any with a number, and the first without one
   pub may_go : (session : Option (List ℕ)) (number : Option ℤ) (earlier : ℕ) (mid : ServerRun) → Borrows before.store now.store session number → (number ≡ None → earlier ≡ 0)
-      → SendsWhereTold run mid (send_of (under session number) body) earlier → MayGo (send_of (under session number) body) mid.server
+      → SendsWhereTold paged run mid (send_of (under session number) body) earlier → MayGo (send_of (under session number) body) mid.server
   may_go (Some id) (Some number) earlier mid borrows once sends = numbered_may id number borrows earlier mid sends
   may_go None (Some number) earlier mid borrows once sends = absurd (let e : ◌≡◌ {A = Option ℤ} (Some number) None = borrows.1 in cc)
   may_go session None earlier mid borrows once sends =
-      unnumbered_may session mid (subst (SendsWhereTold run mid (send_of (under session None) body)) (once refl) sends)
+      unnumbered_may session mid (subst (SendsWhereTold paged run mid (send_of (under session None) body)) (once refl) sends)
 
-  -- and behind one that is answered each entry stays
-  pub further : (session : Option (List ℕ)) (number : Option ℤ) (earlier later : ℕ) (mid : ServerRun) → Borrows before.store now.store session number → (number ≡ None → later ≡ 0)
-      → SendsWhereTold run mid (send_of (under session number) body) earlier → SendsWhereTold (run_after mid (send_of (under session number) body)) run_now (send_of (under session number) body) later
+  -- and behind one that is answered, with the pages of its answer, each entry stays
+  pub further : (session : Option (List ℕ)) (number : Option ℤ) (earlier later : ℕ) (mid : ServerRun) → Borrows before.store now.store session number → (number ≡ None → earlier ≡ 0) → (number ≡ None → later ≡ 0)
+      → SendsWhereTold paged run mid (send_of (under session number) body) earlier → (behind : ServerRun) → LeavesAside (run_after mid (send_of (under session number) body)) behind
+      → SendsWhereTold paged behind run_now (send_of (under session number) body) later
       → (entry : Entry) → Has (run_after mid (send_of (under session number) body)).server.log entry → Has run_now.server.log entry
-  further (Some id) (Some number) earlier later mid borrows alone sends rest entry has = numbered_further id number borrows earlier later mid sends rest entry has
-  further None (Some number) earlier later mid borrows alone sends rest entry has = absurd (let e : ◌≡◌ {A = Option ℤ} (Some number) None = borrows.1 in cc)
-  further session None earlier later mid borrows alone sends rest entry has = unnumbered_further session later mid (alone refl) rest entry has
+  further (Some id) (Some number) earlier later mid borrows once alone sends behind leaves rest entry has = numbered_further id number borrows earlier later mid sends behind leaves rest entry has
+  further None (Some number) earlier later mid borrows once alone sends behind leaves rest entry has = absurd (let e : ◌≡◌ {A = Option ℤ} (Some number) None = borrows.1 in cc)
+  further session None earlier later mid borrows once alone sends behind leaves rest entry has =
+      unnumbered_further session later mid (alone refl) (subst (SendsWhereTold paged run mid (send_of (under session None) body)) (once refl) sends) behind leaves rest entry has

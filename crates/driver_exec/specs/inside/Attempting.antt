@@ -15,12 +15,13 @@ use Rattle.driver_link.specs.LinkState.{LinkState}
 use Rattle.driver_session.specs.declared.retryability.Retryability.{Retryability}
 use Rattle.driver_session.specs.StoreTells.{StoreTells}
 use Rattle.driver_ops.specs.Fields.{in_context}
-use Rattle.driver_ops.specs.Operations.{Batch, IsUnframed, OperationSpec, ReadsAnswer, Refuses}
+use Rattle.driver_ops.specs.Operations.{Batch, IsUnframed, OperationSpec, Refuses}
 use Rattle.driver_ops.specs.SendKinds.{SendKind}
 use Rattle.driver_exec.specs.declared.attempt_end.AttemptEnd.{AttemptEnd}
 use Rattle.driver_exec.specs.declared.attempt_end.AttemptEnd.TheVariants.{Ended, Unfit}
-use Rattle.driver_exec.specs.Holding.{DrawsNumber, ExecutionSession, held_id, number_before}
-use Rattle.driver_exec.specs.Attempting.{AttemptState, Exchanges, besides_out, builds_again, held_after}
+use Rattle.driver_exec.specs.AttemptExchanges.{AttemptExchanges, Exchanges}
+use Rattle.driver_exec.specs.Holding.{DrawsNumber, ExecutionSession, held_after_failure, held_id, number_before}
+use Rattle.driver_exec.specs.Attempting.{AttemptState, besides_out, builds_again}
 use Rattle.driver_exec.specs.Failures.{is_memory}
 use Rattle.driver_exec.specs.inside.Failures.{EndsLost, EndsRead}
 
@@ -29,33 +30,42 @@ abbrev pub attempt_state : StoreTells → LinkState → ClockTells → Execution
 attempt_state store link clock held count fixed =
     record { store = store; link = besides_out link; clock = clock; held = held; count = count; fixed = fixed }
 
--- what comes of an exchange's result after a last send of so many statements under a number: its reply was read, or the exchange
--- failed
-pub record ComesOfReply {A : Type 0} (spec : OperationSpec A) (statements : ℕ) (connection_retryability : Retryability) (version : Option ℤ) (address : Address) (number : Option ℤ) (reply : List ℕ) (attempt : AttemptEnd A) : Type 0 where
+-- what comes of a reply to a last send of so many statements under a number: the answer was read, further pages of it over the
+-- connection under the session that is held
+pub record ComesOfReply {A : Type 0} (spec : OperationSpec A) (statements : ℕ) (link link_now : LinkState) (connection_retryability : Retryability) (conn : Conn) (address : Address) (held held_now : ExecutionSession) (reply : List ℕ)
+    (attempt : AttemptEnd A) : Type 0 where
   pub answer : Result A Error
-  pub reads : ReadsAnswer spec statements reply answer
-  pub ends : EndsRead connection_retryability version address number answer attempt
+  pub exchanges : AttemptExchanges spec statements reply conn (held_id held) link link_now held held_now answer
+  pub ends : EndsRead connection_retryability conn.description.max_wire_version address (number_before held) answer attempt
+
+-- what comes of an exchange that failed: nothing more went out
+pub record ComesOfFailure {A : Type 0} (link link_now : LinkState) (connection_retryability : Retryability) (conn : Conn) (address : Address) (held held_now : ExecutionSession) (failure : LinkError) (attempt : AttemptEnd A) : Type 0 where
+  pub same : link_now ≡ link
+  pub held_is : held_now ≡ held_after_failure failure held
+  pub ends : EndsLost connection_retryability conn.description.max_wire_version address (number_before held) failure attempt
 
 -- what comes of an exchange, by its result
-abbrev pub Comes : {A : Type 0} → OperationSpec A → ℕ → Retryability → Option ℤ → Address → Option ℤ → Result (List ℕ) LinkError → AttemptEnd A → Type 0
-Comes spec statements connection_retryability version address number (Ok reply) attempt = ComesOfReply spec statements connection_retryability version address number reply attempt
-Comes spec statements connection_retryability version address number (Err failure) attempt = EndsLost connection_retryability version address number failure attempt
+abbrev pub Comes : {A : Type 0} → OperationSpec A → ℕ → LinkState → LinkState → Retryability → Conn → Address → ExecutionSession → ExecutionSession → Result (List ℕ) LinkError → AttemptEnd A → Type 0
+Comes spec statements link link_now connection_retryability conn address held held_now (Ok reply) attempt =
+    ComesOfReply spec statements link link_now connection_retryability conn address held held_now reply attempt
+Comes spec statements link link_now connection_retryability conn address held held_now (Err failure) attempt =
+    ComesOfFailure link link_now connection_retryability conn address held held_now failure attempt
 
 -- one exchange of a frame of so many statements over a connection, and what came of it
 pub record ExchangesOnce {A : Type 0} (spec : OperationSpec A) (statements : ℕ) (link link_now : LinkState) (connection_retryability : Retryability) (conn : Conn) (address : Address) (frame : Framed) (places : List Place)
     (held held_now : ExecutionSession) (attempt : AttemptEnd A) : Type 0 where
   pub result : Result (List ℕ) LinkError
-  pub exchanges : ExchangesFrame link link_now conn frame places result
-  pub held_is : held_now ≡ held_after result held
-  pub comes : Comes spec statements connection_retryability conn.description.max_wire_version address (number_before held) result attempt
+  pub behind : LinkState
+  pub exchanges : ExchangesFrame link behind conn frame places result
+  pub comes : Comes spec statements behind link_now connection_retryability conn address held held_now result attempt
 
 -- one exchange of the command under what is held, and what came of it
 pub record Exchanging {A : Type 0} (spec : OperationSpec A) (which : SendKind) (concern : Option WriteConcern) (batch : Batch) (link link_now : LinkState) (connection_retryability : Retryability) (conn : Conn) (address : Address)
     (held held_now : ExecutionSession) (attempt : AttemptEnd A) : Type 0 where
   pub result : Result (List ℕ) LinkError
-  pub exchanges : Exchanges spec which batch link link_now conn (in_context (held_id held) (number_before held) concern) result
-  pub held_is : held_now ≡ held_after result held
-  pub comes : Comes spec batch.statements connection_retryability conn.description.max_wire_version address (number_before held) result attempt
+  pub behind : LinkState
+  pub exchanges : Exchanges spec which batch link behind conn (in_context (held_id held) (number_before held) concern) result
+  pub comes : Comes spec batch.statements behind link_now connection_retryability conn address held held_now result attempt
 
 -- the end of an attempt whose build was refused, or met want of memory: a first build's ends the operation
 abbrev pub EndsUnbuilt : {A : Type 0} → Bool → Error → AttemptEnd A → Type 0

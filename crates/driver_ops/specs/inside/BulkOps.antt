@@ -10,6 +10,7 @@ use Rattle.driver_error.specs.Error.{kind_of}
 use Rattle.driver_link.specs.declared.keys.TheConstants.{DELETE, DOCUMENT, INSERT}
 use Rattle.driver_link.specs.Numbers.{field}
 use Rattle.driver_ops.specs.declared.keys.TheConstants.{FILTER, MULTI}
+use Rattle.driver_ops.specs.declared.own_op.OpWork.{OpWork}
 use Rattle.driver_ops.specs.declared.own_op.OwnOp.{OwnOp}
 use Rattle.driver_ops.specs.BulkOps.{delete_fields}
 use Rattle.driver_ops.specs.Encoding.{IsUnspelled}
@@ -28,12 +29,13 @@ abbrev pub delete_op : Bool → List (Pair Bson) → Option (List (Pair Bson)) �
 delete_op multi filter collation hint = field DELETE.now (bson.Int32 (pos 0)) ∷ delete_fields multi filter collation hint
 
 -- an op has these parts and the spelling of this document
-pub record HasParts (op : List (Pair Bson)) (namespace : List ℕ) (multi : Bool) (own : OwnOp) : Type 0 where
+pub record HasParts (op : List (Pair Bson)) (namespace : List ℕ) (multi : Bool) (does : OpWork) (own : OwnOp) : Type 0 where
   pub namespace_is : own.namespace ≡ namespace
   pub spelled : Spells op own.bytes
   pub multi_is : own.multi ≡ multi
+  pub work_is : own.work ≡ does
 
 -- it is so, or the error tells why the document has no spelling, or of want of memory
-abbrev pub SpellsParts : List (Pair Bson) → List ℕ → Bool → Result OwnOp Error → Type 0
-SpellsParts op namespace multi (Ok own) = HasParts op namespace multi own
-SpellsParts op namespace multi (Err error) = (kind_of error ≡ Memory) ⊎ IsUnspelled op error
+abbrev pub SpellsParts : List (Pair Bson) → List ℕ → Bool → OpWork → Result OwnOp Error → Type 0
+SpellsParts op namespace multi does (Ok own) = HasParts op namespace multi does own
+SpellsParts op namespace multi does (Err error) = (kind_of error ≡ Memory) ⊎ IsUnspelled op error

@@ -6,7 +6,7 @@ use Rattle.bson_lite.specs.Spelling.{Spells}
 use Rattle.driver_error.specs.declared.error.Error.{Error}
 use Rattle.driver_error.specs.declared.kind.ErrorKind.TheVariants as kind
 use Rattle.driver_error.specs.Conversions.{IsMade}
-use Rattle.driver_error.specs.Error.{HasResponse, kind_of}
+use Rattle.driver_error.specs.Error.{kind_of}
 use Rattle.driver_error.specs.LabelTexts.{no_labels, label_set}
 use Rattle.driver_ops.specs.Responses.{Said, IsNoDocument, done, fails, breaks}
 
@@ -17,10 +17,6 @@ IsSaid (fails body) None = ⊥
 IsSaid (fails body) (Some error) = IsMade (kind.Command body.command_error) (label_set body.error_labels) error
 IsSaid (breaks message) None = ⊥
 IsSaid (breaks message) (Some error) = IsMade (kind.InvalidResponse message) no_labels error
-
--- the same error with the reply in these bytes, or want of memory
-abbrev pub KeepsReply : List ℕ → Error → Error → Type 0
-KeepsReply bytes old now = (kind_of now ≡ kind.Memory) ⊎ HasResponse (Some bytes) old now
 
 -- the document that the bytes spell, or the error that tells that they spell none, or want of memory
 abbrev pub ReadsDocument : List ℕ → Result (List (Pair Bson)) Error → Type 0

@@ -24,18 +24,22 @@ use Rattle.driver_link.specs.Statements.{entry_of}
 use Rattle.driver_link.proofs.OneWriteReplies.{one_reply}
 use Rattle.driver_ops.specs.declared.operation.Reading.TheVariants.{Done}
 use Rattle.driver_ops.specs.Inserts.{int_at, is_one}
-use Rattle.driver_ops.specs.OperationLaw.{IsLawful, TellsOutput}
+use Rattle.driver_ops.specs.OperationLaw.{FailsWithPage, IsLawful, NeverOpen, TellsOutput}
 use Rattle.driver_ops.specs.Operations.{OperationSpec, ReadsOutput, send_of}
 use Rattle.driver_ops.specs.Served.{statements_in}
+use Rattle.driver_ops.specs.lawful.AlonePages.{none_further}
 use Rattle.driver_ops.specs.lawful.CountReplies.{error_not_one}
 use Rattle.driver_ops.specs.lawful.InsertRead.{differ, ok_is_one, spells_one}
 use Rattle.driver_ops.specs.lawful.OneWriteReplies.{IsOneCounted, IsOneOf, one_stands, one_told}
 use Rattle.driver_ops.specs.lawful.Statements.{TellsStatements, reply_of_writes}
 
--- how an operation of one statement reads: it asks for one write; what it reads as its output in a reply is read so (`IsRead`); a
+-- how an operation of one statement reads: it asks for one write, and for no further page; what it reads as its output in a reply is
+-- read so (`IsRead`); a
 -- statement whose reply is read so has a result, and that counts the output (`counted_by`); and an entry with such a result tells it
 pub record ReadsStatement {A : Type 0} (does : SendCommand) (spec : OperationSpec A) (IsRead : Reply → A → Type 0) (counted_by : Counted → Option A) : Type 0 where
   pub asks : (statements : ℕ) (places : List Place) (body : SendBody) → spec.bodies statements places body → (write : PlacedWrite) × (body ≡ Write does true (write ∷ []))
+  pub never : NeverOpen spec
+  pub failed : FailsWithPage spec
   pub reads : (statements : ℕ) (reply : Reply) (output : A) → spec.reads statements (Ok reply ∷ []) (Ok (Done output)) → IsRead reply output
   pub has_result : (plan : Plan) (server : Server) (write : PlacedWrite) (statement : Statement) (output : A) → IsRead (one_reply does plan server write statement) output
       → (result : Counted) × (result_of statement ≡ Some result)
@@ -103,8 +107,12 @@ module _ {A : Type 0} {does : SendCommand} {spec : OperationSpec A} {IsRead : Re
   -- so over the machine's own reply an operation of one statement keeps the law
   pub statement_lawful : IsLawful spec
   statement_lawful = record {
+    alone = λ one. reading.never;
+    failed = reading.failed;
     reads_own = λ statements places body asks writes context server step reply answer came spelled output reads.
         let asked = reading.asks statements places body asks in
         let one : IsOneOf does (send_of context body) asked.0 = record { out = refl; body = asked.1 } in
         output_told statements server (send_of context body) step asked.0 reply one answer came spelled output reads;
+    reads_further = λ statements places body asks writes context server step reply answer came spelled page pages last further output reads.
+        absurd (none_further spec reading.never statements reply _ last page pages further);
   }

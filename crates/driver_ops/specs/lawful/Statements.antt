@@ -42,7 +42,7 @@ module _ (server : Server) (send : Send) (out : send.in_transaction ≡ false) (
   case_either = either_by send.session send.number
 
 -- the reply to a send that is too old
-reply_too_old : (plan : Plan) (server : Server) (send : Send) → case_of server send ≡ too_old → served_reply plan server send ≡ error_reply transaction_too_old []
+pub reply_too_old : (plan : Plan) (server : Server) (send : Send) → case_of server send ≡ too_old → served_reply plan server send ≡ error_reply transaction_too_old []
 unfolding served_reply reply_in
 reply_too_old plan server send is = ap (λ case. reply_in case plan (done_in case plan (results_of (known_of server send)) send.body) server send) is
 

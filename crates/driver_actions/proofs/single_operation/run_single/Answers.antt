@@ -10,7 +10,7 @@ returns-in-Ok-clause-runs g c =
     let of = c.execute_operation-result.ensures in
     let fixed = still_one _ _ c.requires.built of.fixed in
     let still = still_fixed _ _ c.requires.built of.fixed in λ asked asks.
-    executed_runs _ _ asked c.args.place _ _ _ _ _ _ _ (Ok c.in-Ok.output) (Ok c.in-Ok.output) c.requires.next c.new-sends.ensures c.requires.built still asks (of.executes 1 fixed) (of.one_command 1 fixed) of.caused
+    executed_runs _ _ asked c.args.place _ _ _ _ _ _ _ (Ok c.in-Ok.output) (Ok c.in-Ok.output) c.requires.next c.new-sends.ensures c.requires.built still asks (g.met.O.Operation.law c.args.op).alone (of.executes 1 fixed) (of.one_command 1 fixed) of.caused
     (of.keeps 1 fixed asked asks) (of.entries 1 fixed asked asks) c.in-Ok.is refl
 
 pub returns-clause-runs : goal.returns-clause-runs
@@ -18,7 +18,7 @@ returns-clause-runs g c =
     let of = c.execute_operation-result.ensures in
     let fixed = still_one _ _ c.requires.built of.fixed in
     let still = still_fixed _ _ c.requires.built of.fixed in λ asked asks.
-    executed_runs _ _ asked c.args.place _ _ _ _ _ _ _ (Err c.in-Err.error) (Err c.convert_insert_many_error.result) c.requires.next c.new-sends.ensures c.requires.built still asks (of.executes 1 fixed)
+    executed_runs _ _ asked c.args.place _ _ _ _ _ _ _ (Err c.in-Err.error) (Err c.convert_insert_many_error.result) c.requires.next c.new-sends.ensures c.requires.built still asks (g.met.O.Operation.law c.args.op).alone (of.executes 1 fixed)
     (of.one_command 1 fixed) of.caused (of.keeps 1 fixed asked asks) (of.entries 1 fixed asked asks) c.in-Err.is c.convert_insert_many_error.ensures
 
 pub returns-in-Ok-clause-options : goal.returns-in-Ok-clause-options

@@ -40,7 +40,7 @@ pub returns-clause-one_command : goal.returns-clause-one_command
 returns-clause-one_command g c = λ statements fixed.
     executes_sends_one_command (g.O.Operation.spec c.args.op.now) (batch_of c.args.places.now statements) (g.O.Operation.next c.args.op.now) _ _ c.args.sends.now c.execute_operation_with_retry-held.new.sends
     (g.O.Operation.built c.args.op.now) (g.O.Operation.built c.execute_operation_with_retry-held.new.op)
-    c.execute_operation_with_retry-held.result.1 (returns-clause-executes g c statements fixed)
+    c.execute_operation_with_retry-held.result.1 (g.met.O.Operation.law c.args.op.now).alone (returns-clause-executes g c statements fixed)
 
 -- a number that is fixed, if one is
 pub returns-clause-caused : goal.returns-clause-caused
@@ -48,7 +48,7 @@ returns-clause-caused g c =
     let some = fixed_some (g.O.Operation.built c.execute_operation_with_retry-held.new.op) in
     executes_caused (g.O.Operation.spec c.args.op.now) (batch_of c.args.places.now some.0) (g.O.Operation.next c.args.op.now) _ _ c.args.sends.now c.execute_operation_with_retry-held.new.sends
     (g.O.Operation.built c.args.op.now) (g.O.Operation.built c.execute_operation_with_retry-held.new.op)
-    c.execute_operation_with_retry-held.result.1 (returns-clause-executes g c some.0 some.1)
+    c.execute_operation_with_retry-held.result.1 (g.met.O.Operation.law c.args.op.now).alone (returns-clause-executes g c some.0 some.1)
 
 pub returns-clause-keeps : goal.returns-clause-keeps
 returns-clause-keeps g c = λ statements fixed body asked.
@@ -70,7 +70,7 @@ returns-clause-ran g c =
     let some = fixed_some (g.O.Operation.built c.execute_operation_with_retry-held.new.op) in
     executes_built (g.O.Operation.spec c.args.op.now) (batch_of c.args.places.now some.0) (g.O.Operation.next c.args.op.now) _ _ c.args.sends.now c.execute_operation_with_retry-held.new.sends
     (g.O.Operation.built c.args.op.now) (g.O.Operation.built c.execute_operation_with_retry-held.new.op)
-    c.execute_operation_with_retry-held.result.1 (returns-clause-executes g c some.0 some.1)
+    c.execute_operation_with_retry-held.result.1 (g.met.O.Operation.law c.args.op.now).alone (returns-clause-executes g c some.0 some.1)
 
 pub returns-in-Some-clause-executes : goal.returns-in-Some-clause-executes
 returns-in-Some-clause-executes g c = λ statements fixed. inl (record {
@@ -85,13 +85,13 @@ returns-in-Some-clause-executes g c = λ statements fixed. inl (record {
 pub returns-in-Some-clause-one_command : goal.returns-in-Some-clause-one_command
 returns-in-Some-clause-one_command g c = λ statements fixed.
     executes_sends_one_command (g.O.Operation.spec c.args.op.now) (batch_of c.args.places.now statements) (g.O.Operation.next c.args.op.now) _ _ c.args.sends.now c.args.sends.now (g.O.Operation.built c.args.op.now) (g.O.Operation.built c.args.op.now)
-    (Err c.in-Some.error) (returns-in-Some-clause-executes g c statements fixed)
+    (Err c.in-Some.error) (g.met.O.Operation.law c.args.op.now).alone (returns-in-Some-clause-executes g c statements fixed)
 
 pub returns-in-Some-clause-caused : goal.returns-in-Some-clause-caused
 returns-in-Some-clause-caused g c =
     let some = fixed_some (g.O.Operation.built c.args.op.now) in
     executes_caused (g.O.Operation.spec c.args.op.now) (batch_of c.args.places.now some.0) (g.O.Operation.next c.args.op.now) _ _ c.args.sends.now c.args.sends.now (g.O.Operation.built c.args.op.now) (g.O.Operation.built c.args.op.now)
-    (Err c.in-Some.error) (returns-in-Some-clause-executes g c some.0 some.1)
+    (Err c.in-Some.error) (g.met.O.Operation.law c.args.op.now).alone (returns-in-Some-clause-executes g c some.0 some.1)
 
 pub returns-in-Some-clause-keeps : goal.returns-in-Some-clause-keeps
 returns-in-Some-clause-keeps g c = λ statements fixed body asked.
@@ -105,4 +105,4 @@ pub returns-in-Some-clause-ran : goal.returns-in-Some-clause-ran
 returns-in-Some-clause-ran g c =
     let some = fixed_some (g.O.Operation.built c.args.op.now) in
     executes_built (g.O.Operation.spec c.args.op.now) (batch_of c.args.places.now some.0) (g.O.Operation.next c.args.op.now) _ _ c.args.sends.now c.args.sends.now (g.O.Operation.built c.args.op.now) (g.O.Operation.built c.args.op.now)
-    (Err c.in-Some.error) (returns-in-Some-clause-executes g c some.0 some.1)
+    (Err c.in-Some.error) (g.met.O.Operation.law c.args.op.now).alone (returns-in-Some-clause-executes g c some.0 some.1)

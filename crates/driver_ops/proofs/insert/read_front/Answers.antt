@@ -5,7 +5,7 @@ use Rattle.driver_ops.specs.InsertAnswers.{ReadsInsert}
 use Rattle.driver_ops.specs.InsertSpec.{ReadsAlone}
 use Rattle.driver_ops.proofs.insert.read_front.Goals as goal
 
-pub returns-in-Some : goal.returns-in-Some
-returns-in-Some c =
+pub returns-in-Some-clause-reads : goal.returns-in-Some-clause-reads
+returns-in-Some-clause-reads c =
     subst (λ f. IfSome f (λ statements. ReadsAlone (ReadsInsert c.args.ordered (take statements c.args.documents.now)) (Ok c.args.reply.now ∷ []) c.read_done.result)) (sym c.in-Some.is)
-    (subst (λ own. ReadsAlone (ReadsInsert c.args.ordered own) (Ok c.args.reply.now ∷ []) c.read_done.result) c.front.ensures c.read_done.ensures)
+    (subst (λ own. ReadsAlone (ReadsInsert c.args.ordered own) (Ok c.args.reply.now ∷ []) c.read_done.result) c.front.ensures c.read_done.ensures.reads)

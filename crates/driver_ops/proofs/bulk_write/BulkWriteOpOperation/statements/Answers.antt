@@ -4,5 +4,5 @@ use Rattle.std.specs.Prelude.{IfSome, Option}
 use Rattle.driver_ops.proofs.bulk_write.BulkWriteOpOperation.statements.Goals as goal
 
 pub returns : goal.returns
-returns c =
+returns g c =
     subst (λ (fixed : Option ℕ). IfSome fixed (λ statements. c.statements_of.result ≡ statements)) c.fixed_count.ensures.value c.statements_of.ensures

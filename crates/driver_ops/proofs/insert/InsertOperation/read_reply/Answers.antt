@@ -14,4 +14,4 @@ returns-clause-reads c =
     c.statements_fixed-fixed.ensures.value
     (subst (λ (ordered : Bool). IfSome c.statements_fixed-fixed.result (λ statements.
     ReadsAlone (ReadsInsert ordered (take statements insert.documents.now)) (Ok c.args.reply.now ∷ []) c.read_front.result))
-    c.insert_is_ordered.ensures c.read_front.ensures)
+    c.insert_is_ordered.ensures c.read_front.ensures.reads)

@@ -1,0 +1,233 @@
+//! What the two kinds of results of a bulk write have in common.
+ghost use Rattle.std.specs.Prelude.{◌≡◌, SomeIff, IfOk, IfErr, OnErr, OnOk};
+ghost use Rattle.driver_error.specs.declared.kind.ErrorKind.TheVariants.{InvalidResponse, Memory as NoMemory};
+ghost use Rattle.driver_error.specs.BulkResults.{AddsCounts, AllFit, LeavesRange, ResultSpec, added, five, out_of_range_text};
+ghost use Rattle.driver_error.specs.Conversions.{IsMade};
+ghost use Rattle.driver_error.specs.Error.{IsAlone};
+ghost use Rattle.driver_error.specs.LabelTexts.{no_labels};
+
+use crate::error::{Error, Result};
+use crate::kind::ErrorKind;
+use crate::results::{
+    DeleteResult, InsertOneResult, PartialBulkWriteResult, SummaryBulkWriteResult, UpdateResult,
+    VerboseBulkWriteResult,
+};
+use bson_lite::{ByIndex, Text};
+use std::alloc::Global;
+
+/// A sum of counts has more than 64 bits.
+const OUT_OF_RANGE: &str = "a sum of counts is out of the range of a 64-bit number";
+
+/// The result of a bulk write: its counts alone, or the result of each write too.
+pub trait BulkWriteResult: Drop {
+    // What results of this kind are made of.
+    ghost tells: { ResultSpec Self };
+
+    /// The result of no write. It takes no memory.
+    fn empty(alloc: Global) -> Self
+        ensures { result ≡ tells.nothing };
+
+    /// Whether the server need tell nothing but counts and errors.
+    fn errors_only() -> bool
+        ensures { result ≡ tells.only_errors };
+
+    /// The result as that of a bulk write that failed. It takes no memory.
+    fn into_partial_result(self) -> PartialBulkWriteResult
+        ensures { result ≡ tells.partial self };
+
+    /// Adds the counts of a reply. It is refused exactly where a sum has more than 64 bits, and then changes nothing.
+    fn populate_summary_info(
+        &mut self,
+        alloc: Global,
+        n_inserted: i64,
+        n_matched: i64,
+        n_modified: i64,
+        n_upserted: i64,
+        n_deleted: i64,
+    ) -> Result<()>
+        ensures ok { OnOk result (self.new
+            ≡ tells.counted self.old (five n_inserted n_matched n_modified n_upserted n_deleted)) }
+        ensures fit { OnOk result (AllFit
+            (added (tells.counts self.old) (five n_inserted n_matched n_modified n_upserted n_deleted))) }
+        ensures err { OnErr result (self.new ≡ self.old) }
+        ensures why { IfErr result (λ error. LeavesRange
+            (added (tells.counts self.old) (five n_inserted n_matched n_modified n_upserted n_deleted)) error) };
+
+    /// Keeps the result of an insert. It answers want of memory alone, and then changes nothing.
+    fn add_insert_result(&mut self, index: usize, value: InsertOneResult) -> Result<()>
+        ensures ok { OnOk result (self.new ≡ tells.with_insert self.old index value) }
+        ensures err { OnErr result (self.new ≡ self.old) }
+        ensures why { IfErr result (λ error. IsAlone NoMemory no_labels error) };
+
+    /// Keeps the result of an update. It answers want of memory alone, and then changes nothing.
+    fn add_update_result(&mut self, index: usize, value: UpdateResult) -> Result<()>
+        ensures ok { OnOk result (self.new ≡ tells.with_update self.old index value) }
+        ensures err { OnErr result (self.new ≡ self.old) }
+        ensures why { IfErr result (λ error. IsAlone NoMemory no_labels error) };
+
+    /// Keeps the result of a delete. It answers want of memory alone, and then changes nothing.
+    fn add_delete_result(&mut self, index: usize, value: DeleteResult) -> Result<()>
+        ensures ok { OnOk result (self.new ≡ tells.with_delete self.old index value) }
+        ensures err { OnErr result (self.new ≡ self.old) }
+        ensures why { IfErr result (λ error. IsAlone NoMemory no_labels error) };
+
+    // The result of no write counts nothing, and counts that are added join those that are there.
+    ghost adds: { AddsCounts tells };
+}
+
+impl BulkWriteResult for SummaryBulkWriteResult {
+    ghost use Rattle.std.specs.Prelude.{refl};
+    ghost use Rattle.driver_error.specs.BulkResults.{summary_spec};
+
+    ghost tells = { summary_spec };
+
+    ghost adds = { record { begins = refl; adds = λ now more. refl } };
+
+    fn empty(_alloc: Global) -> SummaryBulkWriteResult {
+        SummaryBulkWriteResult {
+            inserted_count: 0,
+            matched_count: 0,
+            modified_count: 0,
+            upserted_count: 0,
+            deleted_count: 0,
+        }
+    }
+
+    fn errors_only() -> bool {
+        true
+    }
+
+    fn into_partial_result(self) -> PartialBulkWriteResult {
+        PartialBulkWriteResult::Summary(self)
+    }
+
+    fn populate_summary_info(
+        &mut self,
+        alloc: Global,
+        n_inserted: i64,
+        n_matched: i64,
+        n_modified: i64,
+        n_upserted: i64,
+        n_deleted: i64,
+    ) -> Result<()> {
+        let more = SummaryBulkWriteResult {
+            inserted_count: n_inserted,
+            matched_count: n_matched,
+            modified_count: n_modified,
+            upserted_count: n_upserted,
+            deleted_count: n_deleted,
+        };
+        *self = added_counts(alloc, *self, more)?;
+        Ok(())
+    }
+
+    fn add_insert_result(&mut self, _index: usize, _value: InsertOneResult) -> Result<()> {
+        Ok(())
+    }
+
+    fn add_update_result(&mut self, _index: usize, _value: UpdateResult) -> Result<()> {
+        Ok(())
+    }
+
+    fn add_delete_result(&mut self, _index: usize, _value: DeleteResult) -> Result<()> {
+        Ok(())
+    }
+}
+
+impl BulkWriteResult for VerboseBulkWriteResult {
+    ghost use Rattle.std.specs.Prelude.{refl};
+    ghost use Rattle.driver_error.specs.BulkResults.{verbose_spec};
+
+    ghost tells = { verbose_spec };
+
+    ghost adds = { record { begins = refl; adds = λ now more. refl } };
+
+    fn empty(alloc: Global) -> VerboseBulkWriteResult {
+        VerboseBulkWriteResult {
+            summary: SummaryBulkWriteResult::empty(alloc),
+            insert_results: ByIndex::new(alloc),
+            update_results: ByIndex::new(alloc),
+            delete_results: ByIndex::new(alloc),
+        }
+    }
+
+    fn errors_only() -> bool {
+        false
+    }
+
+    fn into_partial_result(self) -> PartialBulkWriteResult {
+        PartialBulkWriteResult::Verbose(self)
+    }
+
+    fn populate_summary_info(
+        &mut self,
+        alloc: Global,
+        n_inserted: i64,
+        n_matched: i64,
+        n_modified: i64,
+        n_upserted: i64,
+        n_deleted: i64,
+    ) -> Result<()> {
+        self.summary.populate_summary_info(
+            alloc, n_inserted, n_matched, n_modified, n_upserted, n_deleted,
+        )
+    }
+
+    fn add_insert_result(&mut self, index: usize, value: InsertOneResult) -> Result<()> {
+        self.insert_results.insert(index, value)?;
+        Ok(())
+    }
+
+    fn add_update_result(&mut self, index: usize, value: UpdateResult) -> Result<()> {
+        self.update_results.insert(index, value)?;
+        Ok(())
+    }
+
+    fn add_delete_result(&mut self, index: usize, value: DeleteResult) -> Result<()> {
+        self.delete_results.insert(index, value)?;
+        Ok(())
+    }
+}
+
+/// Each count with the other's, where all five sums have 64 bits.
+fn sums(
+    counts: SummaryBulkWriteResult,
+    more: SummaryBulkWriteResult,
+) -> Option<SummaryBulkWriteResult>
+    ensures { SomeIff result (AllFit (added counts more)) (added counts more) }
+{
+    Some(SummaryBulkWriteResult {
+        inserted_count: counts.inserted_count.checked_add(more.inserted_count)?,
+        matched_count: counts.matched_count.checked_add(more.matched_count)?,
+        modified_count: counts.modified_count.checked_add(more.modified_count)?,
+        upserted_count: counts.upserted_count.checked_add(more.upserted_count)?,
+        deleted_count: counts.deleted_count.checked_add(more.deleted_count)?,
+    })
+}
+
+/// The error of a sum that has not.
+#[tactic(auto, unfolding(crate::specs::BulkResults::out_of_range_text))]
+fn out_of_range(alloc: Global) -> Error
+    ensures { IsMade (InvalidResponse out_of_range_text) no_labels result }
+{
+    match Text::from_str(alloc, OUT_OF_RANGE) {
+        Ok(message) => Error::from_kind(ErrorKind::InvalidResponse { message }),
+        Err(_refused) => Error::from_kind(ErrorKind::Memory),
+    }
+}
+
+/// Each count with the other's. It is refused exactly where a sum has more than 64 bits.
+fn added_counts(
+    alloc: Global,
+    counts: SummaryBulkWriteResult,
+    more: SummaryBulkWriteResult,
+) -> Result<SummaryBulkWriteResult>
+    ensures sums { IfOk result (λ sums. sums ≡ added counts more) }
+    ensures fit { OnOk result (AllFit (added counts more)) }
+    ensures why { IfErr result (λ error. LeavesRange (added counts more) error) }
+{
+    match sums(counts, more) {
+        Some(sums) => Ok(sums),
+        None => Err(out_of_range(alloc)),
+    }
+}
