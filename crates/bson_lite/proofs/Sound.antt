@@ -4,6 +4,7 @@ use Rattle.std.specs.Prelude.{decimal}
 use Rattle.std.specs.Str.{is_utf8, bytes_eq}
 use Rattle.std.proofs.lemmas.Bool.{ltb-false, eqb-true, or_from, or_parts, or_cases, and_from, both_ways}
 use Rattle.std.proofs.lemmas.List.{length-append, nil_from_length}
+use Rattle.std.specs.Int.{w32}
 use Rattle.bson_lite.specs.declared.bson.Bson as bson
 use Rattle.bson_lite.specs.declared.bson.Bson.{Bson, map-Bson, roll-Bson}
 use Rattle.bson_lite.specs.declared.bson.Bson.TheOpen.{Bson-F}
@@ -12,7 +13,6 @@ use Rattle.bson_lite.specs.declared.document.Pair.{Pair}
 use Rattle.bson_lite.specs.Parts.{number_at, some_at, byte_at, zero_ended, place_at, is_type, type_at, Frame, frame_at, whole_at, leaf_at}
 use Rattle.bson_lite.specs.Reading.{or_at, closed, value_with, pair_with, item_with, many_with, pairs_with, items_with, inside_with, framed_with, nested_at, read}
 use Rattle.bson_lite.specs.Spelling.{four, framed, on_value, numbered, spelled, body_of, depth_step, depth, deepest, deepest_pair, zero_within, zero_in, zero_in_values, holds_zero, valid, valid_pairs, valid_values, spelling, Spells}
-use Rattle.std.specs.Int.{w32}
 use Rattle.bson_lite.proofs.Numbers.{same-bytes_eq}
 use Rattle.bson_lite.proofs.Again.{laid, zero_laid, valid_laid}
 use Rattle.bson_lite.proofs.Nested.{folded, length-element}

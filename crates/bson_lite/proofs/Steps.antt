@@ -1,10 +1,10 @@
 -- What is known of each step of a reading that gave a value.
 use Rattle.std.proofs.Common.{◌≡◌, ℕ, Bool, true, false, cond, List, Option, Some, None, Result, Ok, Err, refl}
+use Rattle.std.specs.Str.{is_utf8}
 use Rattle.bson_lite.specs.Parts as parts
 use Rattle.bson_lite.specs.Parts.{made, utf8_of}
 use Rattle.bson_lite.specs.Reading as reading
 use Rattle.bson_lite.specs.Reading.{or_at, closed}
-use Rattle.std.specs.Str.{is_utf8}
 
 abbrev some : {A : Type 0} → A → Option A
 some x = Some x

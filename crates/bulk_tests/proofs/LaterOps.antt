@@ -5,23 +5,23 @@ use Rattle.std.specs.Prelude.{Option, None, Some, Ok, if◌then◌else◌}
 use Rattle.std.specs.List.{AllByRecursion, list_any}
 use Rattle.bson_lite.specs.declared.bson.ObjectId.{ObjectId}
 use Rattle.driver_error.specs.BulkResults.{ResultSpec}
+use Rattle.driver_options.specs.declared.models.WriteModel.{WriteModel}
+use Rattle.driver_options.specs.declared.write_options.BulkWriteOptions.{BulkWriteOptions}
+use Rattle.driver_options.specs.Models.{namespace_of}
 use Rattle.driver_link.specs.declared.machine.Place.{Place}
-use Rattle.driver_link.specs.declared.models.WriteModel.{WriteModel}
-use Rattle.driver_link.specs.declared.write_options.BulkWriteOptions.{BulkWriteOptions}
-use Rattle.driver_link.specs.Models.{namespace_of}
 use Rattle.driver_link.specs.Writes.{is_dot}
 use Rattle.driver_link.proofs.Lists.{none_is_some}
 use Rattle.driver_session.specs.StoreTells.{StoreTells}
-use Rattle.driver_ops.specs.declared.own_op.OwnOp.{OwnOp}
 use Rattle.driver_ops.specs.declared.target.OperationTarget.{OperationTarget}
-use Rattle.driver_ops.specs.BulkOps.{AreOps, IsUndotted}
-use Rattle.driver_ops.specs.BulkSpec.{bulk_spec}
 use Rattle.driver_ops.specs.Operations.{HasBodies}
-use Rattle.driver_ops.proofs.BulkCommand.{bulk_bodies_of}
+use Rattle.bulk_ops.specs.declared.own_op.OwnOp.{OwnOp}
+use Rattle.bulk_ops.specs.BulkOps.{AreOps, IsUndotted}
+use Rattle.bulk_ops.specs.BulkSpec.{bulk_spec}
+use Rattle.bulk_ops.proofs.BulkCommand.{bulk_bodies_of}
 use Rattle.driver_actions.specs.BulkIds.{PreparesOps}
-use Rattle.driver_actions.specs.BulkInputs.{bulk_argument_refusal, database_refusal, first_text, no_models_text, replacement_refusal, update_refusal, with_model_ids}
-use Rattle.driver_actions.specs.Inputs.{dotted_text, else_text, has_dot}
-use Rattle.driver_actions.proofs.BulkBodies.{same_namespace}
+use Rattle.driver_inputs.specs.BulkInputs.{bulk_argument_refusal, database_refusal, first_text, no_models_text, replacement_refusal, update_refusal, with_model_ids}
+use Rattle.driver_inputs.specs.Inputs.{dotted_text, else_text, has_dot}
+use Rattle.driver_inputs.proofs.ModelNamespaces.{same_namespace}
 
 -- what is left of a list is taken whole
 pub left_whole : {A : Type 0} (at : ℕ) (list : List A) → take (length list - at) (drop at list) ≡ drop at list

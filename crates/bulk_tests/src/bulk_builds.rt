@@ -2,15 +2,15 @@
 //! command with all six models; and how a batch of these numbers its namespaces.
 use crate::bulk_models::{A_X, A_Z, B_Y, OPS, insert, is_op, let_go, named, number, ops_of, six};
 use bson_lite::{Bson, Document, List, ObjectId, Text, TryClone};
+use bulk_ops::BulkWriteOp;
 use driver_actions::bulk_ops;
+use driver_attempt::Client;
 use driver_error::{
     BulkWriteResult, Error, ErrorKind, SummaryBulkWriteResult, VerboseBulkWriteResult,
 };
-use driver_exec::Client;
-use driver_link::{
-    BulkWriteOptions, ClientOptions, CountingIds, Description, Sequence, WriteModel,
-};
-use driver_ops::{BulkWriteOp, Command, Operation, encode_document};
+use driver_link::{CountingIds, Sequence};
+use driver_ops::{Command, Operation, encode_document};
+use driver_options::{BulkWriteOptions, ClientOptions, Description, WriteModel};
 use driver_session::PlainStore;
 use std::alloc::{AllocError, Global};
 use std::test::Fail;

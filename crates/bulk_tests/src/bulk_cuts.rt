@@ -3,12 +3,13 @@
 //! by lengths written by hand.
 use crate::bulk_models::{around, insert, let_go, named, number, ops_of};
 use bson_lite::{Bson, Document, List, Namespace, Text};
+use bulk_ops::{BulkWriteOp, OwnOp};
 use driver_error::SummaryBulkWriteResult;
-use driver_link::{
+use driver_ops::Operation;
+use driver_options::{
     BulkWriteOptions, DeleteManyModel, DeleteOneModel, Description, ReplaceOneModel,
     UpdateManyModel, UpdateModifications, UpdateOneModel, WriteModel,
 };
-use driver_ops::{BulkWriteOp, Operation, OwnOp};
 use rand_core::{Rng, SeedableRng};
 use rand_pcg::Pcg32;
 use std::alloc::{AllocError, Global};

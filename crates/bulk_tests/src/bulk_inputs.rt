@@ -2,15 +2,17 @@
 //! tell, and those that a collection makes.
 use crate::bulk_models::{around, insert, let_go, named, number, six};
 use bson_lite::{Bson, Document, List};
+use bulk_ops::OwnOp;
 use driver_actions::{CollectionModels, bulk_ops};
+use driver_attempt::Client;
 use driver_error::{Error, ErrorKind};
-use driver_exec::Client;
-use driver_link::{
-    BulkWriteOptions, ClientOptions, CountingIds, DeleteManyModel, DeleteOneModel, InsertOneModel,
+use driver_link::CountingIds;
+use driver_ops::Collection;
+use driver_options::{
+    BulkWriteOptions, ClientOptions, DeleteManyModel, DeleteOneModel, InsertOneModel,
     OperationType, ReplaceOneModel, UpdateManyModel, UpdateModifications, UpdateOneModel,
     WriteModel,
 };
-use driver_ops::{Collection, OwnOp};
 use driver_session::PlainStore;
 use std::alloc::{AllocError, Global};
 use std::test::Fail;

@@ -1,11 +1,11 @@
 //! Models of bulk writes and their ops, for the rows, and the bytes of the ops of six, by hand.
 use bson_lite::{Bson, Document, List, Namespace, Text};
+use bulk_ops::{OwnOp, model_op};
 use driver_error::Error;
-use driver_link::{
+use driver_options::{
     DeleteManyModel, DeleteOneModel, InsertOneModel, ReplaceOneModel, UpdateManyModel,
     UpdateModifications, UpdateOneModel, WriteModel,
 };
-use driver_ops::{OwnOp, model_op};
 use std::alloc::{AllocError, Global};
 
 /// `{ns: "a.x"}`, `{ns: "b.y"}` and `{ns: "a.z"}`

@@ -5,15 +5,18 @@ ghost use Rattle.driver_link.specs.WellFormed.{IsWellFormed};
 
 use crate::bulk_models::{A_X, A_Z, B_Y, OPS, insert, is_op, let_go, named, number, six};
 use bson_lite::{Bson, Document, List};
+use bulk_ops::{BulkWriteOp, OwnOp};
 use driver_actions::bulk_ops;
+use driver_attempt::{Client, Outside, Steps};
 use driver_error::{BulkWriteResult, IoKind, Result, SummaryBulkWriteResult};
-use driver_exec::{Client, Outside, Steps, execute_operation};
+use driver_exec::execute_operation;
 use driver_link::{
-    BulkWriteOptions, ClientOptions, CountingIds, DeleteOneModel, Description, FakeLink, Frame,
-    Link, MemClock, Place, Schedule, Server, UpdateManyModel, UpdateModifications, UpdateOneModel,
-    WriteKind, WriteModel,
+    CountingIds, FakeLink, Frame, Link, MemClock, Place, Schedule, Server, WriteKind,
 };
-use driver_ops::{BulkWriteOp, OwnOp};
+use driver_options::{
+    BulkWriteOptions, ClientOptions, DeleteOneModel, Description, UpdateManyModel,
+    UpdateModifications, UpdateOneModel, WriteModel,
+};
 use driver_session::PlainStore;
 use model_server::{ModelServer, USUAL_SETUP};
 use rand_core::SeedableRng;

@@ -1,12 +1,11 @@
 //! What no clause shows: that a call succeeds with ample memory, over a link whose replies a test chooses.
 use bson_lite::{Bson, Bytes, Document, EncodeFault, List, Namespace, Text, TryClone};
-use driver_actions::{Answer, Call, CallRun, Outcome, SingleAnswer, SingleWrite, run_calls};
+use driver_actions::{CallRun, run_calls};
+use driver_attempt::{Client, Outside};
 use driver_error::{Error, ErrorKind, IoKind};
-use driver_exec::{Client, Outside};
-use driver_link::{
-    Address, Answered, ClientOptions, Conn, CountingIds, Frame, InsertManyOptions, Link, LinkError,
-    LinkFault, MemClock, Place, SelectionCriteria,
-};
+use driver_inputs::{Answer, Call, Outcome, SingleAnswer, SingleWrite};
+use driver_link::{Answered, CountingIds, Frame, Link, LinkError, LinkFault, MemClock, Place};
+use driver_options::{Address, ClientOptions, Conn, InsertManyOptions, SelectionCriteria};
 use driver_session::PlainStore;
 use rand_core::SeedableRng;
 use rand_pcg::Pcg32;

@@ -9,13 +9,14 @@ ghost use Rattle.driver_link.specs.WellFormed.{IsWellFormed};
 use crate::meeting::{Meets, items};
 use crate::schedules::{deliver, order, orders, times};
 use bson_lite::{Bson, Document, List, Text};
-use driver_actions::{Answer, Call, Outcome, SingleAnswer, run_calls};
+use driver_actions::run_calls;
+use driver_attempt::{Client, Outside};
 use driver_error::{DeleteResult, Error, ErrorKind, IoKind, RETRYABLE_WRITE_ERROR, UpdateResult};
-use driver_exec::{Client, Outside};
+use driver_inputs::{Answer, Call, Outcome, SingleAnswer};
 use driver_link::{
-    ClientOptions, Counted, CountingIds, Entry, MemClock, Schedule, Send, Server, WriteKind,
-    Written,
+    Counted, CountingIds, Entry, MemClock, Schedule, Send, Server, WriteKind, Written,
 };
+use driver_options::ClientOptions;
 use driver_session::PlainStore;
 use model_server::{ModelServer, USUAL_SETUP};
 use rand_core::SeedableRng;

@@ -2,7 +2,7 @@
 //! anything is sent and without labels, and what is sent beside it.
 use crate::calling::id_of;
 use bson_lite::List;
-use driver_actions::{Call, Outcome};
+use driver_inputs::{Call, Outcome};
 use std::alloc::{AllocError, Global};
 use std::test::Fail;
 use test_parts::faking::{ALIKE, ANY_DONE, DONE, Given, fake_link, outcomes_over};

@@ -4,13 +4,14 @@ ghost use Rattle.std.specs.Prelude.{All, IfOk};
 ghost use Rattle.driver_link.specs.WellFormed.{IsItem, IsWellFormed};
 
 use bson_lite::{Bson, Document, List, Namespace, Text};
-use driver_actions::{Answer, Call, Outcome, SingleAnswer, SingleWrite, run_calls};
+use driver_actions::run_calls;
+use driver_attempt::{Client, Outside};
 use driver_error::{Error, ErrorKind, IoKind, RETRYABLE_WRITE_ERROR};
-use driver_exec::{Client, Outside};
+use driver_inputs::{Answer, Call, Outcome, SingleAnswer, SingleWrite};
 use driver_link::{
-    ClientOptions, CountingIds, Entry, InsertManyOptions, Item, MemClock, Schedule, Scheduled,
-    Server, WriteKind, Written,
+    CountingIds, Entry, Item, MemClock, Schedule, Scheduled, Server, WriteKind, Written,
 };
+use driver_options::{ClientOptions, InsertManyOptions};
 use driver_session::PlainStore;
 use model_server::{ModelServer, USUAL_SETUP};
 use rand_core::SeedableRng;

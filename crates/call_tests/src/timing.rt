@@ -1,9 +1,11 @@
 //! A run of one insert with a clock that goes on by a step at each reading: when the call starts and ends, and
 //! when its session is lent and comes back.
 use crate::schedules::calls;
-use driver_actions::{Call, Outcome, run_calls};
-use driver_exec::{Client, Outside};
-use driver_link::{ClientOptions, CountingIds, FakeLink, MemClock};
+use driver_actions::run_calls;
+use driver_attempt::{Client, Outside};
+use driver_inputs::{Call, Outcome};
+use driver_link::{CountingIds, FakeLink, MemClock};
+use driver_options::ClientOptions;
 use driver_session::{PlainStore, StoreEvent};
 use rand_core::SeedableRng;
 use rand_pcg::Pcg32;

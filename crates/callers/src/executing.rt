@@ -1,13 +1,14 @@
 //! A caller of the executor: an operation whose writes have one place.
 ghost use Rattle.std.specs.Prelude.{◌∷◌, [], ℕ};
 ghost use Rattle.driver_ops.specs.Operations.{HasBodies, IsFixed, batch_of};
-ghost use Rattle.driver_exec.specs.Causes.{end_of};
-ghost use Rattle.driver_exec.specs.Moment.{moment_of};
+ghost use Rattle.driver_attempt.specs.Causes.{end_of};
+ghost use Rattle.driver_attempt.specs.Moment.{moment_of};
 ghost use Rattle.driver_exec.specs.OperationCauses.{Caused};
 ghost use Rattle.driver_exec.specs.Resending.{SendsOneCommand};
 
+use driver_attempt::{Client, Outside, Steps};
 use driver_error::Result;
-use driver_exec::{Client, Outside, Steps, execute_operation};
+use driver_exec::execute_operation;
 use driver_link::{Clock, Link, Place};
 use driver_ops::Operation;
 use driver_session::SessionStore;

@@ -3,7 +3,8 @@ ghost use Rattle.std.specs.Prelude.{◌≡◌};
 ghost use Rattle.driver_link.specs.Faults.{HasLinkCause};
 ghost use Rattle.driver_link.specs.LinkState.{GainsAnswer};
 
-use driver_link::{Address, Link, LinkError, ReadPreference, SelectionCriteria};
+use driver_link::{Link, LinkError};
+use driver_options::{Address, ReadPreference, SelectionCriteria};
 use std::alloc::Global;
 
 /// The address of a server that takes writes. A fault comes only where the link's count of faults rose,

@@ -1,11 +1,12 @@
 //! A caller of the driver's calls: a list of writes, and how many of them are Ok.
 ghost use Rattle.std.specs.Prelude.{◌≡◌, count_by, is_ok, IfOk, OnErr};
-ghost use Rattle.driver_exec.specs.Moment.{moment_of};
+ghost use Rattle.driver_attempt.specs.Moment.{moment_of};
 ghost use Rattle.driver_actions.specs.MainTheorem.{Begins, MeetsMainTheorem};
 
 use bson_lite::List;
-use driver_actions::{Call, Outcome, run_calls};
-use driver_exec::{Client, Outside};
+use driver_actions::run_calls;
+use driver_attempt::{Client, Outside};
+use driver_inputs::{Call, Outcome};
 use driver_link::{Clock, Link};
 use driver_session::SessionStore;
 use rand_core::Rng;

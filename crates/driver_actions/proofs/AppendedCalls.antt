@@ -10,14 +10,14 @@ use Rattle.driver_link.specs.declared.machine.Server.{Server}
 use Rattle.driver_link.specs.declared.machine.Written.{Written}
 use Rattle.driver_link.proofs.Lists.{get_left, some_is_some}
 use Rattle.driver_session.specs.Pool.{Pool}
-use Rattle.driver_actions.specs.declared.call.Answer.{Answer}
-use Rattle.driver_actions.specs.declared.call.Call.{Call}
-use Rattle.driver_actions.specs.declared.call.Outcome.{Outcome}
-use Rattle.driver_actions.specs.Calls.{OwnAt, Done, write_at, write_in, result_of, call_result}
 use Rattle.driver_actions.specs.MainTheorem.{answer_at}
 use Rattle.driver_actions.specs.Standing.{AllOwn}
 use Rattle.driver_actions.proofs.RunSteps.{Ran}
 use Rattle.driver_actions.proofs.SpelledAnswers.{Answered}
+use Rattle.driver_inputs.specs.declared.call.Answer.{Answer}
+use Rattle.driver_inputs.specs.declared.call.Call.{Call}
+use Rattle.driver_inputs.specs.declared.call.Outcome.{Outcome}
+use Rattle.driver_inputs.specs.Calls.{OwnAt, Done, write_at, write_in, result_of, call_result}
 
 -- a number after another is not 0
 no_length : (count : ℕ) → suc count ≡ 0 → ⊥

@@ -5,19 +5,19 @@ use Rattle.std.proofs.lemmas.List.{length-take-le, take_all}
 use Rattle.bson_lite.specs.declared.bson.Bson.{Bson}
 use Rattle.bson_lite.specs.declared.document.Pair.{Pair}
 use Rattle.bson_lite.specs.Spelling.{spelling}
+use Rattle.driver_error.specs.declared.error.Error.{Error}
+use Rattle.driver_options.specs.declared.options.Description.{Description}
+use Rattle.driver_options.specs.declared.write_options.InsertManyOptions.{InsertManyOptions}
 use Rattle.driver_batches.specs.declared.sizes.Limits.{Limits}
 use Rattle.driver_batches.specs.Fronts.{IsLongestFront}
 use Rattle.driver_batches.specs.Sizes.{Fits}
-use Rattle.driver_error.specs.declared.error.Error.{Error}
 use Rattle.driver_link.specs.declared.machine.Setup.{Setup}
-use Rattle.driver_link.specs.declared.options.Description.{Description}
-use Rattle.driver_link.specs.declared.write_options.InsertManyOptions.{InsertManyOptions}
-use Rattle.driver_ops.specs.declared.own_document.OwnDocument.{OwnDocument}
 use Rattle.driver_ops.specs.declared.target.OperationTarget.{OperationTarget}
-use Rattle.driver_ops.specs.InsertFronts.{IsFrontOf, RefusesFront, insert_limits, sizes_of}
-use Rattle.driver_ops.specs.InsertSpec.{AreOwn, insert_spec, statements_fixed}
 use Rattle.driver_ops.specs.Operations.{Refuses}
 use Rattle.driver_ops.specs.Targets.{namespace_of}
+use Rattle.write_ops.specs.declared.own_document.OwnDocument.{OwnDocument}
+use Rattle.write_ops.specs.InsertFronts.{IsFrontOf, RefusesFront, insert_limits, sizes_of}
+use Rattle.write_ops.specs.InsertSpec.{AreOwn, insert_spec, statements_fixed}
 use Rattle.driver_exec.specs.OperationCauses.{TakesFirst}
 use Rattle.driver_exec.proofs.FixedNumbers.{MayBeFixed}
 use Rattle.driver_exec.proofs.HeldSessions.{IsOf}

@@ -3,20 +3,20 @@ use Rattle.std.proofs.Common.{◌≡◌, ℕ, ◌+◌, ◌<◌, ◌≤◌, true,
 use Rattle.std.specs.Prelude.{Option, None, Some, IfSome}
 use Rattle.bson_lite.specs.declared.bson.Bson.{Bson}
 use Rattle.bson_lite.specs.declared.document.Pair.{Pair}
+use Rattle.driver_options.specs.declared.write_options.InsertManyOptions.{InsertManyOptions}
 use Rattle.driver_batches.specs.Fronts.{IsLongestFront}
 use Rattle.driver_batches.specs.Sizes.{Fits}
 use Rattle.driver_link.specs.declared.machine.Setup.{Setup}
-use Rattle.driver_link.specs.declared.write_options.InsertManyOptions.{InsertManyOptions}
 use Rattle.driver_link.specs.LinkState.{Described, Making, Served, Untold, run_in, server_run, setup_in}
 use Rattle.driver_link.specs.ServerRun.{ServerRun}
-use Rattle.driver_ops.specs.declared.own_document.OwnDocument.{OwnDocument}
 use Rattle.driver_ops.specs.declared.target.OperationTarget.{OperationTarget}
-use Rattle.driver_ops.specs.InsertFronts.{insert_limits, sizes_of}
 use Rattle.driver_ops.specs.Inserts.{insert_is_ordered}
-use Rattle.driver_ops.specs.InsertSpec.{AreOwn, insert_spec, statements_fixed}
 use Rattle.driver_ops.specs.SendKinds.{first}
 use Rattle.driver_ops.specs.Targets.{namespace_of}
-use Rattle.driver_exec.specs.Moment.{Moment}
+use Rattle.write_ops.specs.declared.own_document.OwnDocument.{OwnDocument}
+use Rattle.write_ops.specs.InsertFronts.{insert_limits, sizes_of}
+use Rattle.write_ops.specs.InsertSpec.{AreOwn, insert_spec, statements_fixed}
+use Rattle.driver_attempt.specs.Moment.{Moment}
 use Rattle.driver_exec.specs.Reporting.{HasBuilt}
 use Rattle.driver_actions.specs.Batches.{BatchEnd, MakesBatch, MakesBatches, goes_on}
 use Rattle.driver_actions.specs.MainTheorem.{KeepsMakingWhereTold}

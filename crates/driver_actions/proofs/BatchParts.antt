@@ -6,26 +6,26 @@ use Rattle.driver_error.specs.declared.error.Error.{Error}
 use Rattle.driver_error.specs.declared.kind.ErrorKind.TheVariants as kind
 use Rattle.driver_error.specs.declared.results.InsertManyResult.{InsertManyResult}
 use Rattle.driver_error.specs.Error.{ErrorKind, kind_of}
+use Rattle.driver_options.specs.declared.write_options.InsertManyOptions.{InsertManyOptions}
 use Rattle.driver_link.specs.declared.machine.Place.{Place}
-use Rattle.driver_link.specs.declared.write_options.InsertManyOptions.{InsertManyOptions}
 use Rattle.driver_ops.specs.declared.built_front.BuiltFront.{BuiltFront}
-use Rattle.driver_ops.specs.declared.own_document.OwnDocument.{OwnDocument}
 use Rattle.driver_ops.specs.declared.target.OperationTarget.{OperationTarget}
-use Rattle.driver_ops.specs.inside.InsertFronts.{built_count}
+use Rattle.driver_ops.specs.Limits.{built_count}
 use Rattle.driver_ops.specs.Inserts.{insert_is_ordered}
-use Rattle.driver_ops.specs.InsertSpec.{IsInsertCommand, insert_spec, statements_fixed}
 use Rattle.driver_ops.specs.Operations.{HasBodies, IsFixed, OperationSpec, batch_of}
 use Rattle.driver_ops.specs.SendKinds as send
 use Rattle.driver_ops.specs.SendKinds.{SendKind}
 use Rattle.driver_ops.specs.Targets.{namespace_of}
-use Rattle.driver_ops.proofs.InsertCommand.{insert_bodies}
-use Rattle.driver_exec.specs.Causes.{end_of}
-use Rattle.driver_exec.specs.Executing.{Executes}
-use Rattle.driver_exec.specs.Moment.{Moment}
+use Rattle.write_ops.specs.declared.own_document.OwnDocument.{OwnDocument}
+use Rattle.write_ops.specs.InsertSpec.{IsInsertCommand, insert_spec, statements_fixed}
+use Rattle.write_ops.proofs.InsertCommand.{insert_bodies}
+use Rattle.driver_attempt.specs.Causes.{end_of}
+use Rattle.driver_attempt.specs.Executing.{Executes}
+use Rattle.driver_attempt.specs.Moment.{Moment}
+use Rattle.driver_attempt.proofs.CommandParts.{fixed_some}
 use Rattle.driver_exec.specs.OperationCauses.{Caused}
 use Rattle.driver_exec.specs.Reporting.{HasBuilt, HasRun}
 use Rattle.driver_exec.specs.Resending.{IsReadFailure, SendsOneCommand}
-use Rattle.driver_exec.proofs.CommandParts.{fixed_some}
 use Rattle.driver_exec.proofs.WholeOperation.{executes_client, executes_few}
 use Rattle.driver_actions.specs.declared.behind.Behind.{Behind}
 use Rattle.driver_actions.specs.declared.behind.Behind.TheVariants.{Next, Over, Stopped}

@@ -4,8 +4,8 @@ use Rattle.std.proofs.lemmas.List.{length-drop, take_all}
 use Rattle.bson_lite.specs.declared.bson.Bson.{Bson}
 use Rattle.bson_lite.specs.declared.document.Pair.{Pair}
 use Rattle.driver_link.specs.declared.machine.Place.{Place}
-use Rattle.driver_ops.specs.declared.own_document.OwnDocument.{OwnDocument}
-use Rattle.driver_ops.specs.InsertSpec.{AreOwn}
+use Rattle.write_ops.specs.declared.own_document.OwnDocument.{OwnDocument}
+use Rattle.write_ops.specs.InsertSpec.{AreOwn}
 use Rattle.driver_actions.specs.Batches.{places_from}
 use Rattle.driver_actions.specs.inside.Batches.{AreSpelled}
 

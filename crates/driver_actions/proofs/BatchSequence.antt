@@ -7,11 +7,11 @@ use Rattle.driver_error.specs.declared.kind.ErrorKind.TheVariants as kind
 use Rattle.driver_error.specs.declared.results.InsertManyResult.{InsertManyResult}
 use Rattle.driver_error.specs.Error.{IsAlone, kind_of}
 use Rattle.driver_error.specs.LabelTexts.{no_labels}
-use Rattle.driver_link.specs.declared.write_options.InsertManyOptions.{InsertManyOptions}
-use Rattle.driver_ops.specs.declared.own_document.OwnDocument.{OwnDocument}
+use Rattle.driver_options.specs.declared.write_options.InsertManyOptions.{InsertManyOptions}
 use Rattle.driver_ops.specs.declared.target.OperationTarget.{OperationTarget}
 use Rattle.driver_ops.specs.Inserts.{insert_is_ordered}
-use Rattle.driver_exec.specs.Moment.{Moment}
+use Rattle.write_ops.specs.declared.own_document.OwnDocument.{OwnDocument}
+use Rattle.driver_attempt.specs.Moment.{Moment}
 use Rattle.driver_actions.specs.declared.gathered.Gathered.{Gathered}
 use Rattle.driver_actions.specs.Batches.{BatchEnd, GoesOn, MakesBatch, MakesBatches, goes_on}
 use Rattle.driver_actions.specs.ManyAnswers.{AllOfDocuments, AnswersMany, EndsAlone, TellsGathered, count_of, gathered, nothing_gathered, with_result}

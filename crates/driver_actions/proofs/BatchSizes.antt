@@ -8,19 +8,19 @@ use Rattle.bson_lite.specs.declared.namespace.Namespace.{Namespace}
 use Rattle.bson_lite.specs.Fields.{id_key, value_of, with_id}
 use Rattle.bson_lite.specs.Spelling.{spelling}
 use Rattle.bson_lite.proofs.Named.{id_pair, length_named}
+use Rattle.driver_options.specs.declared.options.Description.{Description}
+use Rattle.driver_options.specs.declared.write_options.InsertManyOptions.{InsertManyOptions}
 use Rattle.driver_batches.specs.declared.sizes.Limits.{Limits}
 use Rattle.driver_batches.specs.Fronts.{IsLongestFront}
 use Rattle.driver_batches.specs.Sizes.{Fits}
 use Rattle.driver_link.specs.declared.machine.Setup.{Setup}
-use Rattle.driver_link.specs.declared.options.Description.{Description}
-use Rattle.driver_link.specs.declared.write_options.InsertManyOptions.{InsertManyOptions}
 use Rattle.driver_session.specs.StoreTells.{StoreTells}
-use Rattle.driver_ops.specs.declared.own_document.OwnDocument.{OwnDocument}
-use Rattle.driver_ops.specs.InsertFronts.{TakesFront, insert_limits, sizes_of}
-use Rattle.driver_ops.specs.InsertSpec.{AreOwn, statements_fixed}
+use Rattle.write_ops.specs.declared.own_document.OwnDocument.{OwnDocument}
+use Rattle.write_ops.specs.InsertFronts.{TakesFront, insert_limits, sizes_of}
+use Rattle.write_ops.specs.InsertSpec.{AreOwn, statements_fixed}
 use Rattle.driver_actions.specs.ManyIds.{DrawsOwnIds}
-use Rattle.driver_actions.specs.ManyInputs.{AreTwelve, with_ids}
 use Rattle.driver_actions.specs.Numbers.{size_with_id, sizes_with_ids}
+use Rattle.driver_inputs.specs.ManyInputs.{AreTwelve, with_ids}
 
 -- as many ids as documents
 pub ids_each : (store now : StoreTells) (documents : List (List (Pair Bson))) (ids : List ObjectId) → DrawsOwnIds store now documents ids → length ids ≡ length documents

@@ -4,6 +4,7 @@ use Rattle.std.specs.Prelude.{Some, slice_get}
 use Rattle.bson_lite.specs.declared.bson.Bson.{Bson}
 use Rattle.bson_lite.specs.declared.document.Pair.{Pair}
 use Rattle.bson_lite.specs.declared.namespace.Namespace.{Namespace}
+use Rattle.driver_options.specs.declared.write_options.InsertManyOptions.{InsertManyOptions}
 use Rattle.driver_link.specs.declared.machine.Place.{Place}
 use Rattle.driver_link.specs.declared.machine.PlacedWrite.{PlacedWrite}
 use Rattle.driver_link.specs.declared.machine.Send.{Send}
@@ -11,18 +12,17 @@ use Rattle.driver_link.specs.declared.machine.SendBody.{SendBody}
 use Rattle.driver_link.specs.declared.machine.SendBody.TheVariants.{Write}
 use Rattle.driver_link.specs.declared.machine.SendCommand.TheVariants as command
 use Rattle.driver_link.specs.declared.machine.WriteKind.TheVariants as write_kind
-use Rattle.driver_link.specs.declared.write_options.InsertManyOptions.{InsertManyOptions}
 use Rattle.driver_link.specs.Cases.{body_writes, writes_of}
 use Rattle.driver_link.specs.Settled.{Has}
 use Rattle.driver_link.specs.Writes.{write_on}
 use Rattle.driver_link.proofs.Lists.{none_is_some, some_is_some}
-use Rattle.driver_ops.specs.declared.own_document.OwnDocument.{OwnDocument}
 use Rattle.driver_ops.specs.declared.target.OperationTarget.{OperationTarget}
 use Rattle.driver_ops.specs.Fields.{SendContext}
 use Rattle.driver_ops.specs.Inserts.{insert_is_ordered, insert_write, insert_writes}
-use Rattle.driver_ops.specs.InsertSpec.{AreOwn, insert_spec}
 use Rattle.driver_ops.specs.Operations.{AsksFor, send_of}
 use Rattle.driver_ops.specs.Targets.{namespace_of}
+use Rattle.write_ops.specs.declared.own_document.OwnDocument.{OwnDocument}
+use Rattle.write_ops.specs.InsertSpec.{AreOwn, insert_spec}
 use Rattle.driver_exec.specs.BetweenCalls.{MaySendPlaces}
 use Rattle.driver_actions.specs.Batches.{places_from, rest_of}
 use Rattle.driver_actions.specs.MainTheorem.{HasWriteOf, IsSendOf}

@@ -14,13 +14,13 @@ use Rattle.driver_error.specs.declared.results.InsertManyResult.{InsertManyResul
 use Rattle.driver_error.specs.declared.write.InsertManyError.{InsertManyError}
 use Rattle.driver_error.specs.Error.{ErrorKind, kind_of, labels_of}
 use Rattle.driver_error.specs.LabelTexts.{LabelSet}
+use Rattle.driver_options.specs.declared.write_options.InsertManyOptions.{InsertManyOptions}
 use Rattle.driver_link.specs.declared.machine.Entry.{Entry}
 use Rattle.driver_link.specs.declared.machine.PlacedWrite.{PlacedWrite}
 use Rattle.driver_link.specs.declared.machine.PlannedConcern.{PlannedConcern}
 use Rattle.driver_link.specs.declared.machine.Scheduled.{Scheduled}
 use Rattle.driver_link.specs.declared.machine.SendBody.{SendBody}
 use Rattle.driver_link.specs.declared.machine.WriteKind.TheVariants as write_kind
-use Rattle.driver_link.specs.declared.write_options.InsertManyOptions.{InsertManyOptions}
 use Rattle.driver_link.specs.Apart.{AllApart}
 use Rattle.driver_link.specs.Exchange.{next_step}
 use Rattle.driver_link.specs.LinkState.{server_run}
@@ -32,20 +32,20 @@ use Rattle.driver_link.specs.Writes.{write_on}
 use Rattle.driver_link.proofs.Lists.{has_at, has_left, none_is_some}
 use Rattle.driver_session.specs.Pool.{Pool}
 use Rattle.driver_session.specs.StoreTells.{DrawnApart, DrawnApartIn}
-use Rattle.driver_ops.specs.declared.own_document.OwnDocument.{OwnDocument}
 use Rattle.driver_ops.specs.declared.target.OperationTarget.{OperationTarget}
-use Rattle.driver_ops.specs.InsertAnswers.{all_ids, odd_insert_text}
-use Rattle.driver_ops.specs.InsertLaw.{AddsUp, IsReadExactly, TellsFailures, concern_of, failures_told}
-use Rattle.driver_ops.specs.InsertLawful.{insert_lawful}
 use Rattle.driver_ops.specs.Inserts.{insert_is_ordered, insert_write}
-use Rattle.driver_ops.specs.InsertSpec.{AreOwn, ids_from, insert_spec, statements_fixed}
 use Rattle.driver_ops.specs.Operations.{AsksFor, ReadsAnswer, ReadsPages, send_of}
 use Rattle.driver_ops.specs.SendKinds.{first}
 use Rattle.driver_ops.specs.Targets.{namespace_of}
-use Rattle.driver_ops.proofs.InsertLaw.{read_exactly}
+use Rattle.write_ops.specs.declared.own_document.OwnDocument.{OwnDocument}
+use Rattle.write_ops.specs.InsertAnswers.{all_ids, odd_insert_text}
+use Rattle.write_ops.specs.InsertLaw.{AddsUp, IsReadExactly, TellsFailures, concern_of, failures_told}
+use Rattle.write_ops.specs.InsertLawful.{insert_lawful}
+use Rattle.write_ops.specs.InsertSpec.{AreOwn, ids_from, insert_spec, statements_fixed}
+use Rattle.write_ops.proofs.InsertLaw.{read_exactly}
+use Rattle.driver_attempt.specs.Moment.{Moment}
 use Rattle.driver_exec.specs.BetweenCalls.{Between, Sound}
 use Rattle.driver_exec.specs.Keeping.{AreWritten, HasEntries, StandsBefore}
-use Rattle.driver_exec.specs.Moment.{Moment}
 use Rattle.driver_exec.specs.Reporting.{HasBuilt, HasRun, IsReported, IsToldBy}
 use Rattle.driver_exec.specs.Resending.{IsReadFailure, SendsOneCommand}
 use Rattle.driver_exec.proofs.InvariantSteps.Standing.{one_command_entries, one_command_failures}

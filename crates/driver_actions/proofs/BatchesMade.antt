@@ -8,11 +8,11 @@ use Rattle.driver_error.specs.declared.error.Error.{Error}
 use Rattle.driver_error.specs.declared.kind.ErrorKind.TheVariants as kind
 use Rattle.driver_error.specs.declared.results.InsertManyResult.{InsertManyResult}
 use Rattle.driver_error.specs.Error.{ErrorKind, kind_of}
+use Rattle.driver_options.specs.declared.write_options.InsertManyOptions.{InsertManyOptions}
 use Rattle.driver_link.specs.declared.machine.Entry.{Entry}
 use Rattle.driver_link.specs.declared.machine.PlacedWrite.{PlacedWrite}
 use Rattle.driver_link.specs.declared.machine.Send.{Send}
 use Rattle.driver_link.specs.declared.machine.SendBody.{SendBody}
-use Rattle.driver_link.specs.declared.write_options.InsertManyOptions.{InsertManyOptions}
 use Rattle.driver_link.specs.Apart.{AllApart}
 use Rattle.driver_link.specs.Cases.{writes_of}
 use Rattle.driver_link.specs.LinkState.{server_run}
@@ -22,19 +22,19 @@ use Rattle.driver_session.specs.Pool.{Pool}
 use Rattle.driver_session.specs.StoreTells.{DrawnApart, DrawnApartIn, GainsDrawn}
 use Rattle.driver_session.proofs.IdDraws.{apart_before}
 use Rattle.driver_session.proofs.PoolTells.{same_told}
-use Rattle.driver_ops.specs.declared.own_document.OwnDocument.{OwnDocument}
 use Rattle.driver_ops.specs.declared.target.OperationTarget.{OperationTarget}
 use Rattle.driver_ops.specs.Fields.{under}
-use Rattle.driver_ops.specs.InsertLawful.{insert_lawful}
 use Rattle.driver_ops.specs.Inserts.{insert_is_ordered}
-use Rattle.driver_ops.specs.InsertSpec.{AreOwn, insert_spec, statements_fixed}
 use Rattle.driver_ops.specs.Operations.{IsFixed, OperationSpec, send_of}
 use Rattle.driver_ops.specs.SendKinds.{first}
 use Rattle.driver_ops.specs.Targets.{namespace_of}
+use Rattle.write_ops.specs.declared.own_document.OwnDocument.{OwnDocument}
+use Rattle.write_ops.specs.InsertLawful.{insert_lawful}
+use Rattle.write_ops.specs.InsertSpec.{AreOwn, insert_spec, statements_fixed}
+use Rattle.driver_attempt.specs.Executing.{Executes}
+use Rattle.driver_attempt.specs.Moment.{Moment}
 use Rattle.driver_exec.specs.BetweenCalls.{Between, Sound}
-use Rattle.driver_exec.specs.Executing.{Executes}
 use Rattle.driver_exec.specs.Keeping.{StandsBefore}
-use Rattle.driver_exec.specs.Moment.{Moment}
 use Rattle.driver_exec.specs.Reporting.{HasBuilt, HasRun}
 use Rattle.driver_exec.specs.Resending.{IsReadFailure, SendsOneCommand}
 use Rattle.driver_exec.proofs.BuiltCommands.{executes_built}

@@ -8,9 +8,9 @@ use Rattle.driver_error.specs.declared.error.Error.{Error}
 use Rattle.driver_error.specs.declared.kind.ErrorKind.TheVariants as kind
 use Rattle.driver_error.specs.declared.write.InsertManyError.{InsertManyError}
 use Rattle.driver_error.specs.Error.{kind_of}
+use Rattle.driver_options.specs.declared.write_options.InsertManyOptions.{InsertManyOptions}
 use Rattle.driver_link.specs.declared.machine.Schedule.{Schedule}
 use Rattle.driver_link.specs.declared.machine.Send.{Send}
-use Rattle.driver_link.specs.declared.write_options.InsertManyOptions.{InsertManyOptions}
 use Rattle.driver_link.specs.Apart.{AllApart}
 use Rattle.driver_link.specs.Counting.{KeepsServer}
 use Rattle.driver_link.specs.Exchange.{empty_server, next_step, replayed}
@@ -20,14 +20,14 @@ use Rattle.driver_link.specs.Settled.{Has}
 use Rattle.driver_link.proofs.Replays.{exchanged_trace}
 use Rattle.driver_session.specs.Pool.{Pool}
 use Rattle.driver_session.specs.StoreTells.{DrawnApart, DrawnApartIn}
-use Rattle.driver_ops.specs.declared.own_document.OwnDocument.{OwnDocument}
 use Rattle.driver_ops.specs.declared.target.OperationTarget.{OperationTarget}
-use Rattle.driver_ops.specs.InsertLaw.{concern_of, concern_told}
-use Rattle.driver_ops.specs.InsertSpec.{AreOwn, insert_spec}
 use Rattle.driver_ops.specs.Operations.{send_of}
 use Rattle.driver_ops.specs.Served.{statements_in}
+use Rattle.write_ops.specs.declared.own_document.OwnDocument.{OwnDocument}
+use Rattle.write_ops.specs.InsertLaw.{concern_of, concern_told}
+use Rattle.write_ops.specs.InsertSpec.{AreOwn, insert_spec}
+use Rattle.driver_attempt.specs.Moment.{Moment}
 use Rattle.driver_exec.specs.BetweenCalls.{Between, Sound}
-use Rattle.driver_exec.specs.Moment.{Moment}
 use Rattle.driver_exec.specs.Resending.{GivesPages, SendsWhereTold}
 use Rattle.driver_exec.proofs.Moves.{keeps_fold, keeps_making}
 use Rattle.driver_exec.proofs.PassesBy.{keeps_server_twice}

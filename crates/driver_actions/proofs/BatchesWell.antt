@@ -8,13 +8,13 @@ use Rattle.bson_lite.specs.declared.document.Pair.{Pair}
 use Rattle.bson_lite.specs.declared.fault.EncodeFault.{EncodeFault}
 use Rattle.bson_lite.specs.Spelling.{refusal}
 use Rattle.driver_error.specs.declared.results.InsertManyResult.{InsertManyResult}
+use Rattle.driver_options.specs.declared.options.ClientOptions.{ClientOptions}
+use Rattle.driver_options.specs.declared.write_options.InsertManyOptions.{InsertManyOptions}
 use Rattle.driver_link.specs.declared.machine.Scheduled.{Scheduled}
 use Rattle.driver_link.specs.declared.machine.Send.{Send}
 use Rattle.driver_link.specs.declared.machine.SendBody.{SendBody}
 use Rattle.driver_link.specs.declared.machine.Server.{Server}
 use Rattle.driver_link.specs.declared.machine.Setup.{Setup}
-use Rattle.driver_link.specs.declared.options.ClientOptions.{ClientOptions}
-use Rattle.driver_link.specs.declared.write_options.InsertManyOptions.{InsertManyOptions}
 use Rattle.driver_link.specs.Exchange.{exchanged}
 use Rattle.driver_link.specs.LinkState.{server_run, setup_of}
 use Rattle.driver_link.specs.Retried.{IsNewNumber}
@@ -25,21 +25,21 @@ use Rattle.driver_session.specs.Session.{Session, last_number}
 use Rattle.driver_session.specs.StoreTells.{DrawnApart, DrawnApartIn, LendsSession, StoreTells}
 use Rattle.driver_session.proofs.PoolTells.{lends_told, same_told}
 use Rattle.driver_ops.specs.declared.command.Command.{Command}
-use Rattle.driver_ops.specs.declared.own_document.OwnDocument.{OwnDocument}
 use Rattle.driver_ops.specs.declared.target.OperationTarget.{OperationTarget}
 use Rattle.driver_ops.specs.Fields.{IsSixteen, SendContext, executor_fields, under}
-use Rattle.driver_ops.specs.InsertLawful.{insert_lawful}
 use Rattle.driver_ops.specs.Inserts.{insert_command}
-use Rattle.driver_ops.specs.InsertSpec.{AreOwn, insert_spec, own_of_insert, statements_fixed}
 use Rattle.driver_ops.specs.Operations.{HasNoSpelling, OperationSpec, send_of}
 use Rattle.driver_ops.specs.SendKinds.{first}
 use Rattle.driver_ops.specs.Targets.{namespace_of}
-use Rattle.driver_ops.proofs.InsertLaw.{read_exactly}
-use Rattle.driver_exec.specs.Attempting.{besides_out}
+use Rattle.write_ops.specs.declared.own_document.OwnDocument.{OwnDocument}
+use Rattle.write_ops.specs.InsertLawful.{insert_lawful}
+use Rattle.write_ops.specs.InsertSpec.{AreOwn, insert_spec, own_of_insert, statements_fixed}
+use Rattle.write_ops.proofs.InsertLaw.{read_exactly}
+use Rattle.driver_attempt.specs.Attempting.{besides_out}
+use Rattle.driver_attempt.specs.Concerns.{concern_refusal}
+use Rattle.driver_attempt.specs.Moment.{Moment}
 use Rattle.driver_exec.specs.BetweenCalls.{Between, NumbersWithin, Sound}
-use Rattle.driver_exec.specs.Concerns.{concern_refusal}
 use Rattle.driver_exec.specs.Gentle.{EndsWell, IsGentlePart, IsLossy, IsOfPart}
-use Rattle.driver_exec.specs.Moment.{Moment}
 use Rattle.driver_exec.specs.Resending.{SendsWhereTold, SentTimes}
 use Rattle.driver_exec.proofs.Completeness.Course.{gentle_ends}
 use Rattle.driver_exec.proofs.Completeness.Ends.{AnswersPlainly}

@@ -4,23 +4,23 @@ use Rattle.std.specs.Prelude.{Option, None, Some, Ok, if◌then◌else◌}
 use Rattle.std.specs.List.{AllByRecursion, list_any}
 use Rattle.bson_lite.specs.declared.bson.ObjectId.{ObjectId}
 use Rattle.driver_error.specs.BulkResults.{ResultSpec}
+use Rattle.driver_options.specs.declared.models.WriteModel.{WriteModel}
+use Rattle.driver_options.specs.declared.write_options.BulkWriteOptions.{BulkWriteOptions}
+use Rattle.driver_options.specs.Models.{namespace_of}
 use Rattle.driver_link.specs.declared.machine.Place.{Place}
-use Rattle.driver_link.specs.declared.models.WriteModel.{WriteModel}
-use Rattle.driver_link.specs.declared.models.WriteModel.TheVariants.{InsertOne, UpdateOne, UpdateMany, ReplaceOne, DeleteOne, DeleteMany}
-use Rattle.driver_link.specs.declared.write_options.BulkWriteOptions.{BulkWriteOptions}
-use Rattle.driver_link.specs.Models.{namespace_of}
 use Rattle.driver_link.specs.Writes.{is_dot}
 use Rattle.driver_link.proofs.Lists.{none_is_some}
 use Rattle.driver_session.specs.StoreTells.{StoreTells}
-use Rattle.driver_ops.specs.declared.own_op.OwnOp.{OwnOp}
 use Rattle.driver_ops.specs.declared.target.OperationTarget.{OperationTarget}
-use Rattle.driver_ops.specs.BulkOps.{IsUndotted}
-use Rattle.driver_ops.specs.BulkSpec.{bulk_spec}
 use Rattle.driver_ops.specs.Operations.{HasBodies}
-use Rattle.driver_ops.proofs.BulkCommand.{bulk_bodies_of}
+use Rattle.bulk_ops.specs.declared.own_op.OwnOp.{OwnOp}
+use Rattle.bulk_ops.specs.BulkOps.{IsUndotted}
+use Rattle.bulk_ops.specs.BulkSpec.{bulk_spec}
+use Rattle.bulk_ops.proofs.BulkCommand.{bulk_bodies_of}
 use Rattle.driver_actions.specs.BulkIds.{PreparesOps}
-use Rattle.driver_actions.specs.BulkInputs.{bulk_argument_refusal, database_refusal, first_text, no_models_text, replacement_refusal, update_refusal, with_model_id, with_model_ids}
-use Rattle.driver_actions.specs.Inputs.{dotted_text, else_text, has_dot}
+use Rattle.driver_inputs.specs.BulkInputs.{bulk_argument_refusal, database_refusal, first_text, no_models_text, replacement_refusal, update_refusal, with_model_ids}
+use Rattle.driver_inputs.specs.Inputs.{dotted_text, else_text, has_dot}
+use Rattle.driver_inputs.proofs.ModelNamespaces.{same_namespace}
 
 -- where no message stands neither part has one
 first_none : (first other : Option (List ℕ)) → else_text first other ≡ None → first ≡ None
@@ -35,15 +35,6 @@ other_none (Some text) other is = absurd (none_is_some text (sym is))
 undotted_by : (dot : Bool) (text : List ℕ) → ◌≡◌ {A = Option (List ℕ)} (if dot then Some text else None) None → dot ≡ false
 undotted_by true text is = absurd (none_is_some text (sym is))
 undotted_by false text is = refl
-
--- an id changes no namespace
-pub same_namespace : (id : ObjectId) (model : WriteModel) → namespace_of (with_model_id id model) ≡ namespace_of model
-same_namespace id (InsertOne model) = refl
-same_namespace id (UpdateOne model) = refl
-same_namespace id (UpdateMany model) = refl
-same_namespace id (ReplaceOne model) = refl
-same_namespace id (DeleteOne model) = refl
-same_namespace id (DeleteMany model) = refl
 
 -- a model that is not refused for its database's name
 model_undotted : (model : WriteModel) → database_refusal model ≡ None → IsUndotted model

@@ -9,27 +9,27 @@ use Rattle.bson_lite.specs.Spelling.{zero_within}
 use Rattle.driver_error.specs.declared.error.Error.{Error}
 use Rattle.driver_error.specs.declared.kind.ErrorKind.TheVariants as kind
 use Rattle.driver_error.specs.Error.{kind_of}
-use Rattle.driver_link.specs.declared.models.WriteModel.{WriteModel}
-use Rattle.driver_link.specs.declared.write_options.BulkWriteOptions.{BulkWriteOptions}
-use Rattle.driver_link.specs.Models.{namespace_of}
+use Rattle.driver_options.specs.declared.models.WriteModel.{WriteModel}
+use Rattle.driver_options.specs.declared.write_options.BulkWriteOptions.{BulkWriteOptions}
+use Rattle.driver_options.specs.Models.{namespace_of}
 use Rattle.driver_link.proofs.Lists.{none_is_some, some_is_some}
 use Rattle.driver_session.specs.StoreTells.{StoreTells}
-use Rattle.driver_ops.specs.declared.own_op.OwnOp.{OwnOp}
-use Rattle.driver_ops.specs.BulkOps.{namespace_document, op_document}
-use Rattle.driver_ops.specs.BulkWrites.{bulk_command}
 use Rattle.driver_ops.specs.OptionFields.{document_in}
+use Rattle.bulk_ops.specs.declared.own_op.OwnOp.{OwnOp}
+use Rattle.bulk_ops.specs.BulkOps.{namespace_document, op_document}
+use Rattle.bulk_ops.specs.BulkWrites.{bulk_command}
 use Rattle.driver_actions.specs.BulkIds.{DrawsForModels, OwnsOps, PreparesOps}
-use Rattle.driver_actions.specs.BulkInputs.{IsBulkAccepted, RefusesBulkValues, TellsBulkInput, is_long_model, model_values, with_model_id, with_model_ids}
-use Rattle.driver_actions.specs.Inputs.{is_deep, is_long, value_list, values_refusal}
-use Rattle.driver_actions.specs.ManyInputs.{AreTwelve}
-use Rattle.driver_actions.specs.inside.Faults.{first_of, length_fault, values_fault}
-use Rattle.driver_actions.specs.inside.ManyFaults.{zero_id}
-use Rattle.driver_actions.specs.inside.ModelFaults.{model_fault, model_faults, text_fault}
 use Rattle.driver_actions.specs.inside.OwnOps.{TellsOneModel}
-use Rattle.driver_actions.proofs.ManyRefusals.{both_none}
-use Rattle.driver_actions.proofs.ModelFaults.{model_tested, models_tested, refused_values}
 use Rattle.driver_actions.proofs.OpsSpelled.{op_has_spelling}
 use Rattle.driver_actions.proofs.OwnOps.{models_none}
+use Rattle.driver_inputs.specs.BulkInputs.{IsBulkAccepted, RefusesBulkValues, TellsBulkInput, is_long_model, model_values, with_model_id, with_model_ids}
+use Rattle.driver_inputs.specs.Inputs.{is_deep, is_long, value_list, values_refusal}
+use Rattle.driver_inputs.specs.ManyInputs.{AreTwelve}
+use Rattle.driver_inputs.specs.Faults.{first_of, length_fault, values_fault}
+use Rattle.driver_inputs.specs.ManyFaults.{zero_id}
+use Rattle.driver_inputs.specs.inside.ModelFaults.{model_fault, model_faults, text_fault}
+use Rattle.driver_inputs.proofs.FaultsBeside.{both_none}
+use Rattle.driver_inputs.proofs.ModelFaults.{model_tested, models_tested, refused_values}
 
 -- an id of zeros for each model
 abbrev zero_ids : List WriteModel → List ObjectId

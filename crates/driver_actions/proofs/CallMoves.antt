@@ -19,9 +19,9 @@ use Rattle.driver_session.proofs.IdDraws.{draws_refl, draws_twice}
 use Rattle.driver_session.proofs.LentSessions.{lends_refl, lends_twice}
 use Rattle.driver_ops.specs.Fields.{under}
 use Rattle.driver_ops.specs.Operations.{send_of}
+use Rattle.driver_attempt.specs.Moment.{Moment}
+use Rattle.driver_attempt.specs.Readings.{OnlyRead}
 use Rattle.driver_exec.specs.BetweenCalls.{NumbersWithin}
-use Rattle.driver_exec.specs.Moment.{Moment}
-use Rattle.driver_exec.specs.Readings.{OnlyRead}
 use Rattle.driver_exec.specs.Resending.{Borrows, SendsWhereTold, SentTimes}
 use Rattle.driver_exec.proofs.ClockReadings.{read_same, read_twice}
 use Rattle.driver_exec.proofs.Moves.{keeps_fold, keeps_making}

@@ -13,12 +13,10 @@ use Rattle.driver_session.specs.Pool.{Pool}
 use Rattle.driver_session.specs.StoreTells.{Draws, MayDrawObjectId, StoreTells}
 use Rattle.driver_session.proofs.IdDraws.{draws_object, draws_staying}
 use Rattle.driver_session.proofs.PoolTells.{same_told}
-use Rattle.driver_exec.specs.Moment.{Moment}
+use Rattle.driver_attempt.specs.Moment.{Moment}
 use Rattle.driver_exec.specs.Resending.{SentTimes}
 use Rattle.driver_exec.proofs.Moves.{new_is}
 use Rattle.driver_exec.proofs.SessionNumbers.{borrows_within, within_staying}
-use Rattle.driver_actions.specs.declared.call.SingleAnswer.{SingleAnswer}
-use Rattle.driver_actions.specs.Forms.{WriteForm, asked_in, send_in}
 use Rattle.driver_actions.specs.MainTheorem.{IsSendOf}
 use Rattle.driver_actions.specs.ManyCompleteness.{CarrySame}
 use Rattle.driver_actions.specs.SingleCalls.{Made, Makes, first_place}
@@ -26,6 +24,8 @@ use Rattle.driver_actions.specs.SingleCompleteness.{RaisesNumbers, RaisesWhereTo
 use Rattle.driver_actions.proofs.CallMoves.{CallMoves, DrewIds, gains_sent, left_moves, moves_drew, moves_more, moves_twice}
 use Rattle.driver_actions.proofs.OwnIds.{OnlyDrew}
 use Rattle.driver_actions.proofs.CallWrites.WritesMade.{made_drew, made_left, unmade_drew_by}
+use Rattle.driver_inputs.specs.declared.call.SingleAnswer.{SingleAnswer}
+use Rattle.driver_inputs.specs.Forms.{WriteForm, asked_in, send_in}
 
 -- a store that may have drawn an object id has its pool still
 pub pool_kept : (old now : StoreTells) → MayDrawObjectId old now → now.pool ≡ old.pool

@@ -1,11 +1,11 @@
 -- A call only reads its clock, and draws no random word.
 use Rattle.std.proofs.Common.{ℕ, ◌∙◌, arith}
-use Rattle.driver_exec.specs.Moment.{Moment}
+use Rattle.driver_attempt.specs.Moment.{Moment}
 use Rattle.driver_exec.proofs.ClockReadings.{reads_later}
-use Rattle.driver_actions.specs.declared.call.Call.{Call}
-use Rattle.driver_actions.specs.declared.call.Outcome.{Outcome}
 use Rattle.driver_actions.specs.CallByCall.{CallCaused, IsTimed, with_clock}
 use Rattle.driver_actions.proofs.EachCall.{call_moves}
+use Rattle.driver_inputs.specs.declared.call.Call.{Call}
+use Rattle.driver_inputs.specs.declared.call.Outcome.{Outcome}
 
 -- the times of a call that ended with its cause
 pub caused_timed : (number : ℕ) (before now : Moment) (call : Call) (outcome : Outcome) → CallCaused number before now call outcome → IsTimed before now outcome

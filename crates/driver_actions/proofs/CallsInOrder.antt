@@ -3,13 +3,13 @@ use Rattle.std.proofs.Common.{◌≡◌, ℕ, ◌≤◌, take, List, [], ◌∷�
 use Rattle.std.proofs.lemmas.List.{length-take-le, take_all}
 use Rattle.driver_session.specs.StoreTells.{Draws}
 use Rattle.driver_session.proofs.IdDraws.{apart_before}
-use Rattle.driver_exec.specs.Moment.{Moment}
-use Rattle.driver_actions.specs.declared.call.Call.{Call}
-use Rattle.driver_actions.specs.declared.call.Outcome.{Outcome}
+use Rattle.driver_attempt.specs.Moment.{Moment}
 use Rattle.driver_actions.specs.CallByCall.{CallByCall, CallCaused, HaveCauses}
 use Rattle.driver_actions.specs.MainTheorem.{Begins, CallEnds, HaveEnded}
 use Rattle.driver_actions.specs.Standing.{MakesCaused, MakesEnded, MakesNext, RunState, new_run}
 use Rattle.driver_actions.proofs.AppendedCalls.{take_next}
+use Rattle.driver_inputs.specs.declared.call.Call.{Call}
+use Rattle.driver_inputs.specs.declared.call.Outcome.{Outcome}
 
 module _ (P : List Call → Moment → Moment → Call → Outcome → Type 0) where
   -- a last call

@@ -9,21 +9,21 @@ use Rattle.driver_error.specs.LabelTexts.{no_labels}
 use Rattle.driver_link.specs.declared.machine.Place.{Place}
 use Rattle.driver_link.specs.declared.machine.SendBody.{SendBody}
 use Rattle.driver_ops.specs.Operations.{OperationSpec}
-use Rattle.driver_ops.specs.StatementSpec.{delete_spec, find_spec, update_spec}
 use Rattle.driver_ops.specs.Targets.{in_collection}
-use Rattle.driver_exec.specs.Causes.{end_of, outline_of}
-use Rattle.driver_exec.specs.Moment.{Moment}
-use Rattle.driver_actions.specs.declared.call.Answer.TheVariants as answer
-use Rattle.driver_actions.specs.declared.call.Call.TheVariants.{Single}
-use Rattle.driver_actions.specs.declared.call.SingleAnswer.{SingleAnswer}
-use Rattle.driver_actions.specs.declared.call.SingleWrite.{SingleWrite}
+use Rattle.write_ops.specs.StatementSpec.{delete_spec, find_spec, update_spec}
+use Rattle.driver_attempt.specs.Causes.{end_of, outline_of}
+use Rattle.driver_attempt.specs.Moment.{Moment}
 use Rattle.driver_actions.specs.CallMaking.{HasCause}
 use Rattle.driver_actions.specs.Causes.{BecomesEnd, EndsAsCaused, EndsEarly, OperationCaused, RefusesFirst, WriteCaused}
-use Rattle.driver_actions.specs.Forms.{WriteForm, deletes, finds, form_of, inserts, updates}
-use Rattle.driver_actions.specs.Inputs.{IsAccepted, TellsInput}
 use Rattle.driver_actions.specs.SingleCalls.{Made, Runs, Tells}
 use Rattle.driver_actions.specs.Singles.{BecomesSingle}
-use Rattle.driver_actions.proofs.Refusals.{input_first, refuses_nothing}
+use Rattle.driver_actions.proofs.RefusedFirst.{input_first, refuses_nothing}
+use Rattle.driver_inputs.specs.declared.call.Answer.TheVariants as answer
+use Rattle.driver_inputs.specs.declared.call.Call.TheVariants.{Single}
+use Rattle.driver_inputs.specs.declared.call.SingleAnswer.{SingleAnswer}
+use Rattle.driver_inputs.specs.declared.call.SingleWrite.{SingleWrite}
+use Rattle.driver_inputs.specs.Forms.{WriteForm, deletes, finds, form_of, inserts, updates}
+use Rattle.driver_inputs.specs.Inputs.{IsAccepted, TellsInput}
 
 -- input that was refused before anything was asked
 pub caused_input : {A : Type 0} (before : Moment) (form : WriteForm) (error : Error) → TellsInput form error → WriteCaused {A = A} before before form (Err error)

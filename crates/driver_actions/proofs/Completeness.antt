@@ -13,15 +13,16 @@ use Rattle.driver_error.specs.declared.kind.ErrorKind.TheVariants as kind
 use Rattle.driver_error.specs.declared.results.InsertManyResult.{InsertManyResult}
 use Rattle.driver_error.specs.Conversions.{ConvertsKind}
 use Rattle.driver_error.specs.Error.{kind_of}
+use Rattle.driver_options.specs.Concerns.{else_concern}
+use Rattle.driver_options.specs.declared.concerns.WriteConcern.{WriteConcern}
+use Rattle.driver_options.specs.declared.options.Description.{Description}
+use Rattle.driver_options.specs.declared.write_options.InsertManyOptions.{InsertManyOptions}
 use Rattle.driver_link.specs.Clock.{ClockTells}
-use Rattle.driver_link.specs.declared.concerns.WriteConcern.{WriteConcern}
 use Rattle.driver_link.specs.declared.machine.Item.{Item}
 use Rattle.driver_link.specs.declared.machine.Place.{Place}
 use Rattle.driver_link.specs.declared.machine.Scheduled.{Scheduled}
 use Rattle.driver_link.specs.declared.machine.Server.{Server}
 use Rattle.driver_link.specs.declared.machine.Written.{Written}
-use Rattle.driver_link.specs.declared.options.Description.{Description}
-use Rattle.driver_link.specs.declared.write_options.InsertManyOptions.{InsertManyOptions}
 use Rattle.driver_link.specs.Cursors.{Reply}
 use Rattle.driver_link.specs.Retried.{IsDoneReply, IsGentleItem, one_inserted}
 use Rattle.driver_link.specs.LinkState.{server_run, setup_of}
@@ -33,25 +34,25 @@ use Rattle.driver_session.specs.StoreTells.{DrawnApart, DrawnApartIn, GainsDrawn
 use Rattle.driver_ops.specs.declared.command.Command.{Command}
 use Rattle.driver_ops.specs.Features.{feature_of}
 use Rattle.driver_ops.specs.Fields.{SendContext, executor_fields}
-use Rattle.driver_ops.specs.InsertSpec.{insert_spec}
-use Rattle.driver_ops.specs.DeleteLawful.{delete_lawful}
-use Rattle.driver_ops.specs.FindLawful.{find_lawful}
-use Rattle.driver_ops.specs.InsertLawful.{insert_lawful}
 use Rattle.driver_ops.specs.OperationLaw.{NeverOpen}
-use Rattle.driver_ops.specs.UpdateLawful.{update_lawful}
 use Rattle.driver_ops.specs.Operations.{HasNoSpelling, OperationSpec, ReadsAnswer, Refuses}
 use Rattle.driver_ops.specs.SendKinds.{SendKind, first}
-use Rattle.driver_ops.specs.StatementSpec.{delete_spec, find_spec, update_spec}
 use Rattle.driver_ops.specs.Operations.{batch_of}
 use Rattle.driver_ops.specs.Targets.{in_collection}
-use Rattle.driver_ops.proofs.FindLaw.{find_plain}
-use Rattle.driver_ops.proofs.InsertReading.{inserted_plain, plain_read}
-use Rattle.driver_ops.proofs.StatementLaw.{delete_plain, update_plain}
-use Rattle.driver_exec.specs.Attempting.{besides_out}
+use Rattle.write_ops.specs.InsertSpec.{insert_spec}
+use Rattle.write_ops.specs.DeleteLawful.{delete_lawful}
+use Rattle.write_ops.specs.FindLawful.{find_lawful}
+use Rattle.write_ops.specs.InsertLawful.{insert_lawful}
+use Rattle.write_ops.specs.UpdateLawful.{update_lawful}
+use Rattle.write_ops.specs.StatementSpec.{delete_spec, find_spec, update_spec}
+use Rattle.write_ops.proofs.FindLaw.{find_plain}
+use Rattle.write_ops.proofs.InsertReading.{inserted_plain, plain_read}
+use Rattle.write_ops.proofs.StatementLaw.{delete_plain, update_plain}
+use Rattle.driver_attempt.specs.Attempting.{besides_out}
+use Rattle.driver_attempt.specs.Concerns.{concern_of, concern_refusal, effective_concern}
+use Rattle.driver_attempt.specs.Moment.{Moment}
 use Rattle.driver_exec.specs.BetweenCalls.{Between, NumbersWithin, Sound}
-use Rattle.driver_exec.specs.Concerns.{concern_of, concern_refusal, effective_concern, else_concern}
 use Rattle.driver_exec.specs.Gentle.{EndsWell, IsGentlePart, IsGentleWhereTold}
-use Rattle.driver_exec.specs.Moment.{Moment}
 use Rattle.driver_exec.specs.OperationCauses.{DrawsNumbers}
 use Rattle.driver_exec.proofs.Completeness.Course.{gentle_ends}
 use Rattle.driver_exec.proofs.Completeness.Ends.{AnswersPlainly}
@@ -59,18 +60,8 @@ use Rattle.driver_exec.proofs.Completeness.Sessions.{KnownCommand}
 use Rattle.driver_exec.proofs.FixedNumbers.{MayBeFixed}
 use Rattle.driver_exec.proofs.HeldSessions.{IsOf}
 use Rattle.driver_exec.proofs.SessionNumbers.{lent_within}
-use Rattle.driver_actions.specs.declared.call.Answer.{Answer}
-use Rattle.driver_actions.specs.declared.call.Answer.TheVariants as answer
-use Rattle.driver_actions.specs.declared.call.Call.{Call}
-use Rattle.driver_actions.specs.declared.call.Call.TheVariants.{InsertMany, Single}
-use Rattle.driver_actions.specs.declared.call.Outcome.{Outcome}
-use Rattle.driver_actions.specs.declared.call.SingleAnswer.{SingleAnswer}
-use Rattle.driver_actions.specs.declared.call.SingleAnswer.TheVariants.{Deleted, Found, Inserted, Updated}
-use Rattle.driver_actions.specs.declared.call.SingleWrite.{SingleWrite}
 use Rattle.driver_actions.specs.CallByCall.{CallCaused, with_clock}
 use Rattle.driver_actions.specs.CallMaking.{MakesCall}
-use Rattle.driver_actions.specs.Forms.{WriteForm, asked_in, body_in, command_body, command_in, concern_in, deletes, finds, form_of, inserts, kind_in, namespace_in, repeats_in, send_in, updates}
-use Rattle.driver_actions.specs.Inputs.{IsAccepted, TellsInput}
 use Rattle.driver_actions.specs.MainTheorem.{CallCompletes, CallEnds, FitsAlone, IsValidWrite, SendsOwn, all_numbers_of}
 use Rattle.driver_actions.specs.ManyCalls.{MakesMany}
 use Rattle.driver_actions.specs.ManyCompleteness.{CarrySame, InsertsHaveNumbers, IsGentleCallPart, IsGentleCallWhereTold, IsValidMany, MayCompleteCallWhereTold, ServesInserts}
@@ -90,11 +81,21 @@ use Rattle.driver_actions.proofs.ManyCompleteness.{many_complete}
 use Rattle.driver_actions.proofs.ManyMade.{many_listed, many_moves}
 use Rattle.driver_actions.proofs.ManySpelled.{many_truly}
 use Rattle.driver_actions.proofs.OwnIds.{OnlyDrew}
-use Rattle.driver_actions.proofs.Refusals.{accepted_not_refused}
 use Rattle.driver_actions.proofs.CallWrites.Entries.{may_send, new_place, placed_at}
 use Rattle.driver_actions.proofs.CallWrites.Readiness.{MayGo, bare_goes, go_again, go_answered, lent_goes}
 use Rattle.driver_actions.proofs.CallWrites.WritesMade.{made_drew}
 use Rattle.driver_actions.proofs.StandingRuns.{stands_count}
+use Rattle.driver_inputs.specs.declared.call.Answer.{Answer}
+use Rattle.driver_inputs.specs.declared.call.Answer.TheVariants as answer
+use Rattle.driver_inputs.specs.declared.call.Call.{Call}
+use Rattle.driver_inputs.specs.declared.call.Call.TheVariants.{InsertMany, Single}
+use Rattle.driver_inputs.specs.declared.call.Outcome.{Outcome}
+use Rattle.driver_inputs.specs.declared.call.SingleAnswer.{SingleAnswer}
+use Rattle.driver_inputs.specs.declared.call.SingleAnswer.TheVariants.{Deleted, Found, Inserted, Updated}
+use Rattle.driver_inputs.specs.declared.call.SingleWrite.{SingleWrite}
+use Rattle.driver_inputs.specs.Forms.{WriteForm, asked_in, body_in, command_body, command_in, concern_in, deletes, finds, form_of, inserts, kind_in, namespace_in, repeats_in, send_in, updates}
+use Rattle.driver_inputs.specs.Inputs.{IsAccepted, TellsInput}
+use Rattle.driver_inputs.proofs.Refusals.{accepted_not_refused}
 
 -- an accepted input is refused only for want of memory
 accepted_memory : (form : WriteForm) (error : Error) → IsAccepted form → TellsInput form error → kind_of error ≡ kind.Memory

@@ -19,24 +19,24 @@ use Rattle.driver_error.specs.LabelTexts.{LabelSet, has_label, in_order, label_s
 use Rattle.driver_error.specs.Predicates.{is_network_error}
 use Rattle.driver_error.proofs.LabelSets.{has_label-none, has_label-with}
 use Rattle.driver_error.proofs.SortedLabels.{adds_nothing, first_in_set}
+use Rattle.driver_options.specs.declared.write_options.InsertManyOptions.{InsertManyOptions}
 use Rattle.driver_link.specs.declared.fault.Answered.{Answered}
 use Rattle.driver_link.specs.declared.fault.Answered.TheVariants as answer
-use Rattle.driver_link.specs.declared.write_options.InsertManyOptions.{InsertManyOptions}
 use Rattle.driver_link.specs.LinkState.{LinkState}
 use Rattle.driver_session.specs.declared.retryability.Retryability.{Retryability}
 use Rattle.driver_session.specs.declared.retryability.Retryability.TheVariants as may
-use Rattle.driver_ops.specs.declared.own_document.OwnDocument.{OwnDocument}
 use Rattle.driver_ops.specs.declared.target.OperationTarget.{OperationTarget}
-use Rattle.driver_ops.specs.InsertAnswers as insert
-use Rattle.driver_ops.specs.InsertAnswers.{AnswersReply, ReadsInsert, insert_reply, odd_insert_text}
-use Rattle.driver_ops.specs.InsertSpec.{insert_spec, statements_fixed}
 use Rattle.driver_ops.specs.Inserts.{insert_is_ordered}
 use Rattle.driver_ops.specs.Operations.{MayRefuse, ReadsAnswer, ReadsPages}
 use Rattle.driver_ops.specs.SendKinds as send
-use Rattle.driver_exec.specs.Causes.{ErrorOutline, HasReply, end_of, outline_of}
-use Rattle.driver_exec.specs.LabelTable.{labels_outside_transactions}
-use Rattle.driver_exec.specs.Moment.{Moment}
-use Rattle.driver_exec.specs.OldDeployment.{reworded}
+use Rattle.write_ops.specs.declared.own_document.OwnDocument.{OwnDocument}
+use Rattle.write_ops.specs.InsertAnswers as insert
+use Rattle.write_ops.specs.InsertAnswers.{AnswersReply, ReadsInsert, insert_reply, odd_insert_text}
+use Rattle.write_ops.specs.InsertSpec.{insert_spec, statements_fixed}
+use Rattle.driver_attempt.specs.Causes.{ErrorOutline, HasReply, end_of, outline_of}
+use Rattle.driver_attempt.specs.LabelTable.{labels_outside_transactions}
+use Rattle.driver_attempt.specs.Moment.{Moment}
+use Rattle.driver_attempt.specs.OldDeployment.{reworded}
 use Rattle.driver_exec.specs.OperationCauses.{Caused, EndsCaused, Grounds, KindNeeds, SpellsEnd, grounds}
 use Rattle.driver_exec.specs.Resending.{IsReadFailure}
 use Rattle.driver_exec.proofs.OperationCauses.{reworded_is}

@@ -5,20 +5,20 @@ use Rattle.driver_error.specs.declared.error.Error.{Error}
 use Rattle.driver_link.specs.LinkState.{server_run}
 use Rattle.driver_session.specs.StoreTells.{Draws, LendsAsBefore}
 use Rattle.driver_ops.specs.Targets.{in_collection}
-use Rattle.driver_exec.specs.Moment.{Moment}
-use Rattle.driver_actions.specs.declared.call.Answer.{Answer}
-use Rattle.driver_actions.specs.declared.call.Answer.TheVariants as answer
-use Rattle.driver_actions.specs.declared.call.Call.{Call}
-use Rattle.driver_actions.specs.declared.call.Call.TheVariants.{InsertMany, Single}
-use Rattle.driver_actions.specs.declared.call.Outcome.{Outcome}
+use Rattle.driver_attempt.specs.Moment.{Moment}
 use Rattle.driver_actions.specs.CallByCall.{CallCaused, with_clock}
 use Rattle.driver_actions.specs.CallMaking.{MakesCall}
-use Rattle.driver_actions.specs.Forms.{form_of}
 use Rattle.driver_actions.specs.MainTheorem.{IsReplayed, KeepsMaking, SendsOwn, numbers_of}
 use Rattle.driver_actions.specs.Numbers.{server_setup}
 use Rattle.driver_actions.proofs.CallMoves.{CallMoves, gains_sends_own}
 use Rattle.driver_actions.proofs.CallSends.{makes_moves}
 use Rattle.driver_actions.proofs.ManyNumbers.{many_leaves}
+use Rattle.driver_inputs.specs.declared.call.Answer.{Answer}
+use Rattle.driver_inputs.specs.declared.call.Answer.TheVariants as answer
+use Rattle.driver_inputs.specs.declared.call.Call.{Call}
+use Rattle.driver_inputs.specs.declared.call.Call.TheVariants.{InsertMany, Single}
+use Rattle.driver_inputs.specs.declared.call.Outcome.{Outcome}
+use Rattle.driver_inputs.specs.Forms.{form_of}
 
 -- what a call leaves
 pub call_moves : (before now : Moment) (call : Call) (number : ℕ) (result : Result Answer Error) → MakesCall before now call number result → CallMoves (numbers_of (server_setup (server_run before.link)) call) number before now

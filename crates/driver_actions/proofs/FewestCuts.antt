@@ -5,32 +5,32 @@ use Rattle.std.proofs.lemmas.List.{append-nil, length-take-le}
 use Rattle.bson_lite.specs.declared.bson.Bson.{Bson}
 use Rattle.bson_lite.specs.declared.document.Pair.{Pair}
 use Rattle.bson_lite.specs.declared.namespace.Namespace.{Namespace}
+use Rattle.driver_error.specs.declared.error.Error.{Error}
+use Rattle.driver_error.specs.declared.results.InsertManyResult.{InsertManyResult}
+use Rattle.driver_options.specs.declared.write_options.InsertManyOptions.{InsertManyOptions}
 use Rattle.driver_batches.specs.declared.sizes.Limits.{Limits}
 use Rattle.driver_batches.specs.Batches.{CutsFront, IsGreedyCut}
 use Rattle.driver_batches.specs.Fronts.{IsLongestFront}
 use Rattle.driver_batches.specs.Sizes.{Fits}
 use Rattle.driver_batches.proofs.Greedy.{greedy_law}
 use Rattle.driver_batches.proofs.Keeping.{sizes_keep}
-use Rattle.driver_error.specs.declared.error.Error.{Error}
-use Rattle.driver_error.specs.declared.results.InsertManyResult.{InsertManyResult}
 use Rattle.driver_link.specs.declared.machine.Place.{Place}
 use Rattle.driver_link.specs.declared.machine.Send.{Send}
 use Rattle.driver_link.specs.declared.machine.SendBody.{SendBody}
 use Rattle.driver_link.specs.declared.machine.Setup.{Setup}
-use Rattle.driver_link.specs.declared.write_options.InsertManyOptions.{InsertManyOptions}
 use Rattle.driver_link.specs.LinkState.{server_run}
 use Rattle.driver_link.specs.ServerRun.{ServerRun}
 use Rattle.driver_session.proofs.PoolTells.{same_told}
-use Rattle.driver_ops.specs.declared.own_document.OwnDocument.{OwnDocument}
 use Rattle.driver_ops.specs.declared.target.OperationTarget.{OperationTarget}
 use Rattle.driver_ops.specs.Fields.{under}
-use Rattle.driver_ops.specs.InsertFronts.{TakesFront, insert_limits, sizes_of}
 use Rattle.driver_ops.specs.Inserts.{insert_is_ordered, insert_writes}
-use Rattle.driver_ops.specs.InsertSpec.{AreOwn, insert_spec, statements_fixed}
 use Rattle.driver_ops.specs.Operations.{OperationSpec, Page, send_of}
 use Rattle.driver_ops.specs.SendKinds.{first}
 use Rattle.driver_ops.specs.Targets.{namespace_of}
-use Rattle.driver_exec.specs.Moment.{Moment}
+use Rattle.write_ops.specs.declared.own_document.OwnDocument.{OwnDocument}
+use Rattle.write_ops.specs.InsertFronts.{TakesFront, insert_limits, sizes_of}
+use Rattle.write_ops.specs.InsertSpec.{AreOwn, insert_spec, statements_fixed}
+use Rattle.driver_attempt.specs.Moment.{Moment}
 use Rattle.driver_exec.specs.Reporting.{HasBuilt}
 use Rattle.driver_exec.specs.Resending.{AnsweredLast, LastAnswer, SendsOneCommand, SendsWhereTold}
 use Rattle.driver_actions.specs.declared.gathered.Gathered.{Gathered}

@@ -15,18 +15,18 @@ use Rattle.driver_error.specs.declared.results.InsertManyResult.{InsertManyResul
 use Rattle.driver_error.specs.declared.write.IndexedWriteError.{IndexedWriteError}
 use Rattle.driver_error.specs.Error.{ErrorKind, kind_of, labels_of}
 use Rattle.driver_error.specs.LabelTexts.{LabelSet}
-use Rattle.driver_link.specs.declared.write_options.InsertManyOptions.{InsertManyOptions}
+use Rattle.driver_options.specs.declared.write_options.InsertManyOptions.{InsertManyOptions}
 use Rattle.driver_link.specs.LinkState.{server_run}
 use Rattle.driver_link.specs.ServerRun.{ServerRun}
 use Rattle.driver_link.specs.Settled.{Has}
-use Rattle.driver_ops.specs.declared.own_document.OwnDocument.{OwnDocument}
 use Rattle.driver_ops.specs.declared.target.OperationTarget.{OperationTarget}
-use Rattle.driver_ops.specs.InsertAnswers.{AnswersReply, ReadsInsert, all_ids, ids_where, insert_reply}
-use Rattle.driver_ops.specs.InsertLawful.{Ids}
-use Rattle.driver_ops.specs.InsertSpec.{id_beside, insert_spec}
 use Rattle.driver_ops.specs.Inserts.{insert_is_ordered}
 use Rattle.driver_ops.specs.Operations.{Batch, IsFixed, OperationSpec, ReadsOutput, ReadsPagesOutput}
-use Rattle.driver_exec.specs.Moment.{Moment}
+use Rattle.write_ops.specs.declared.own_document.OwnDocument.{OwnDocument}
+use Rattle.write_ops.specs.InsertAnswers.{AnswersReply, ReadsInsert, all_ids, ids_where, insert_reply}
+use Rattle.write_ops.specs.InsertLawful.{Ids}
+use Rattle.write_ops.specs.InsertSpec.{id_beside, insert_spec}
+use Rattle.driver_attempt.specs.Moment.{Moment}
 use Rattle.driver_exec.specs.Resending.{ReadsLast, SendsOneCommand}
 use Rattle.driver_actions.specs.declared.gathered.Gathered.{Gathered}
 use Rattle.driver_actions.specs.BatchTells.{AllOk, AllWentIn, TellsId, all_errors, errors_of_end, errors_of_kind, ids_of_end, ids_of_kind}

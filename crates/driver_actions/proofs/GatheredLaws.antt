@@ -18,14 +18,14 @@ use Rattle.driver_error.specs.Error.{ErrorKind, kind_of, labels_of}
 use Rattle.driver_error.specs.LabelTexts.{LabelSet, has_label, in_order, label_set, with_label, with_labels}
 use Rattle.driver_error.proofs.LabelSets.{has_label-none, has_label-with}
 use Rattle.driver_error.proofs.SortedLabels.{with_labels_none}
-use Rattle.driver_link.specs.declared.write_options.InsertManyOptions.{InsertManyOptions}
+use Rattle.driver_options.specs.declared.write_options.InsertManyOptions.{InsertManyOptions}
 use Rattle.driver_link.specs.Settled.{Has}
 use Rattle.driver_link.proofs.Lists.{none_is_some}
-use Rattle.driver_ops.specs.declared.own_document.OwnDocument.{OwnDocument}
 use Rattle.driver_ops.specs.declared.target.OperationTarget.{OperationTarget}
-use Rattle.driver_ops.specs.InsertLawful.{Ids}
-use Rattle.driver_ops.specs.InsertSpec.{id_beside}
-use Rattle.driver_exec.specs.Moment.{Moment}
+use Rattle.write_ops.specs.declared.own_document.OwnDocument.{OwnDocument}
+use Rattle.write_ops.specs.InsertLawful.{Ids}
+use Rattle.write_ops.specs.InsertSpec.{id_beside}
+use Rattle.driver_attempt.specs.Moment.{Moment}
 use Rattle.driver_actions.specs.declared.gathered.Gathered.{Gathered}
 use Rattle.driver_actions.specs.BatchTells.{AreInOrder, TellsId, concern_of_end, concern_of_kind, ids_of_end, ids_of_kind, last_concern, some_failed, some_labelled, tells_failures, tells_label}
 use Rattle.driver_actions.specs.Batches.{BatchEnd, MakesBatches, tells_documents}

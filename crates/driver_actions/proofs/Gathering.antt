@@ -14,8 +14,8 @@ use Rattle.driver_error.specs.Error.{ErrorKind, kind_of, labels_of}
 use Rattle.driver_error.specs.LabelTexts.{LabelSet, has_label, in_order, label_set, no_labels, with_labels}
 use Rattle.driver_error.proofs.LabelSets.{has_label-none, has_label-with, same_labels}
 use Rattle.driver_error.proofs.SortedLabels.{with_labels_none}
-use Rattle.driver_ops.specs.InsertLawful.{Ids}
-use Rattle.driver_ops.specs.InsertSpec.{id_beside}
+use Rattle.write_ops.specs.InsertLawful.{Ids}
+use Rattle.write_ops.specs.InsertSpec.{id_beside}
 use Rattle.driver_actions.specs.declared.gathered.Gathered.{Gathered}
 use Rattle.driver_actions.specs.Batches.{tells_documents}
 use Rattle.driver_actions.specs.ManyAnswers.{later_concern, moved_error, put_ids, told_errors, with_failures, with_kind}

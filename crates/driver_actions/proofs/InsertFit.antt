@@ -7,23 +7,23 @@ use Rattle.bson_lite.specs.declared.document.Pair.{Pair}
 use Rattle.bson_lite.specs.declared.namespace.Namespace.{Namespace}
 use Rattle.bson_lite.specs.Fields.{with_id}
 use Rattle.bson_lite.specs.Spelling.{Spells}
-use Rattle.driver_batches.specs.Sizes.{Fits}
 use Rattle.driver_error.specs.declared.error.Error.{Error}
+use Rattle.driver_options.specs.declared.options.Description.{Description}
+use Rattle.driver_options.specs.declared.write_options.InsertManyOptions.{InsertManyOptions}
+use Rattle.driver_batches.specs.Sizes.{Fits}
 use Rattle.driver_link.specs.declared.machine.Setup.{Setup}
-use Rattle.driver_link.specs.declared.options.Description.{Description}
-use Rattle.driver_link.specs.declared.write_options.InsertManyOptions.{InsertManyOptions}
 use Rattle.driver_link.specs.LinkState.{Described, Making, Served, Untold, run_in, setup_in}
 use Rattle.driver_link.specs.ServerRun.{ServerRun}
 use Rattle.driver_link.proofs.Lists.{none_is_some, some_is_some}
-use Rattle.driver_ops.specs.declared.own_document.OwnDocument.{OwnDocument}
-use Rattle.driver_ops.specs.InsertFronts.{IsFrontOf, RefusesFront, insert_limits}
-use Rattle.driver_ops.specs.InsertSpec.{insert_spec}
 use Rattle.driver_ops.specs.Operations.{Refuses}
 use Rattle.driver_ops.specs.Targets.{in_collection}
+use Rattle.write_ops.specs.declared.own_document.OwnDocument.{OwnDocument}
+use Rattle.write_ops.specs.InsertFronts.{IsFrontOf, RefusesFront, insert_limits}
+use Rattle.write_ops.specs.InsertSpec.{insert_spec}
 use Rattle.driver_exec.proofs.FixedNumbers.{MayBeFixed}
 use Rattle.driver_exec.proofs.HeldSessions.{IsOf}
-use Rattle.driver_actions.specs.Forms.{inserts}
 use Rattle.driver_actions.specs.MainTheorem.{FitsAlone}
+use Rattle.driver_inputs.specs.Forms.{inserts}
 
 -- a link that tells its server tells its setup
 pub served_setup : (making : Making) (run : ServerRun) → run_in making ≡ Some run → setup_in making ≡ Some run.setup

@@ -35,8 +35,8 @@ use Rattle.driver_link.proofs.Replays.{exchanged_trace}
 use Rattle.driver_link.proofs.ServedSends.{taken_is}
 use Rattle.driver_link.proofs.SettledExchanges.{after_settled, exchanged_settled, orderly_front}
 use Rattle.driver_link.proofs.Unnumbered.{case_free, results_free}
-use Rattle.driver_ops.specs.InsertLaw.{AddsUp, CountsDocuments, concern_of}
 use Rattle.driver_ops.specs.Served.{case_statements, met_statements, statements_in}
+use Rattle.write_ops.specs.InsertLaw.{AddsUp, CountsDocuments, concern_of}
 use Rattle.driver_exec.specs.Gentle.{IsLossy}
 use Rattle.driver_actions.specs.ManyCompleteness.{CountOneEach, ServesInserts}
 use Rattle.driver_actions.proofs.InsertsKept.{CountsOnes, KeepsOnes, after_keep_ones, exchanged_keep_ones, new_keeps_ones, taken_ones}

@@ -21,12 +21,12 @@ use Rattle.driver_link.specs.Replies.{result_of}
 use Rattle.driver_link.specs.Settled.{Has}
 use Rattle.driver_link.specs.Statements.{entry_of, is_failed}
 use Rattle.driver_link.proofs.Lists.{none_is_some, some_is_some}
-use Rattle.driver_ops.specs.declared.own_document.OwnDocument.{OwnDocument}
-use Rattle.driver_ops.specs.InsertAnswers.{ids_where}
-use Rattle.driver_ops.specs.InsertLaw.{ids_ended}
-use Rattle.driver_ops.specs.InsertSpec.{AreOwn, id_beside, ids_from}
 use Rattle.driver_ops.specs.Inserts.{insert_write, insert_writes}
 use Rattle.driver_ops.specs.Served.{AreEntries, entries_counted, entry_counted}
+use Rattle.write_ops.specs.declared.own_document.OwnDocument.{OwnDocument}
+use Rattle.write_ops.specs.InsertAnswers.{ids_where}
+use Rattle.write_ops.specs.InsertLaw.{ids_ended}
+use Rattle.write_ops.specs.InsertSpec.{AreOwn, id_beside, ids_from}
 use Rattle.driver_actions.specs.Batches.{places_from}
 use Rattle.driver_actions.specs.ManyAnswers.{put_ids}
 use Rattle.driver_actions.proofs.BatchWrites.{place_in}

@@ -7,8 +7,8 @@ use Rattle.driver_link.specs.declared.machine.Entry.{Entry}
 use Rattle.driver_link.specs.declared.machine.Place.{Place}
 use Rattle.driver_link.specs.Once.{Once, NoneAt}
 use Rattle.driver_link.specs.Settled.{Has}
-use Rattle.driver_actions.specs.declared.call.Call.{Call}
-use Rattle.driver_actions.specs.Calls.{OwnAt, Mine, HasPlace, Done, write_at, same_place, entry_at}
+use Rattle.driver_inputs.specs.declared.call.Call.{Call}
+use Rattle.driver_inputs.specs.Calls.{OwnAt, Mine, HasPlace, Done, write_at, same_place, entry_at}
 
 -- what has a place in a log has it in a longer one
 stands_left : (place : Place) (log more : List Entry) → HasPlace place log → HasPlace place (log ++ more)

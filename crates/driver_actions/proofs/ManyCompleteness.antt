@@ -7,30 +7,29 @@ use Rattle.bson_lite.specs.declared.document.Pair.{Pair}
 use Rattle.bson_lite.specs.declared.fault.EncodeFault.{EncodeFault}
 use Rattle.bson_lite.specs.declared.namespace.Namespace.{Namespace}
 use Rattle.bson_lite.specs.Spelling.{spelling}
-use Rattle.driver_batches.specs.Sizes.{Fits}
 use Rattle.driver_error.specs.declared.error.Error.{Error}
 use Rattle.driver_error.specs.declared.kind.ErrorKind.TheVariants as kind
 use Rattle.driver_error.specs.declared.results.InsertManyResult.{InsertManyResult}
 use Rattle.driver_error.specs.Error.{ErrorKind, kind_of}
+use Rattle.driver_options.specs.declared.write_options.InsertManyOptions.{InsertManyOptions}
+use Rattle.driver_batches.specs.Sizes.{Fits}
 use Rattle.driver_link.specs.declared.machine.Setup.{Setup}
-use Rattle.driver_link.specs.declared.write_options.InsertManyOptions.{InsertManyOptions}
 use Rattle.driver_link.specs.LinkState.{server_run, setup_of}
 use Rattle.driver_link.specs.ServerRun.{ServerRun}
 use Rattle.driver_session.specs.Pool.{Pool}
 use Rattle.driver_session.specs.Session.{last_number}
 use Rattle.driver_session.specs.StoreTells.{DrawnApartIn}
 use Rattle.driver_ops.specs.declared.target.OperationTarget.{OperationTarget}
-use Rattle.driver_ops.specs.InsertFronts.{sizes_of}
 use Rattle.driver_ops.specs.Targets.{namespace_of}
+use Rattle.write_ops.specs.InsertFronts.{sizes_of}
+use Rattle.driver_attempt.specs.Moment.{Moment}
 use Rattle.driver_exec.specs.Gentle.{EndsWell}
-use Rattle.driver_exec.specs.Moment.{Moment}
 use Rattle.driver_exec.proofs.Moments.{before_refl}
 use Rattle.driver_actions.specs.declared.gathered.Gathered.{Gathered}
 use Rattle.driver_actions.specs.Batches.{BatchEnd, is_of_documents, tells_documents}
 use Rattle.driver_actions.specs.ManyAnswers.{AllOfDocuments, AnswersMany, EndsAlone, count_of, gathered, nothing_gathered, with_result}
 use Rattle.driver_actions.specs.ManyCalls.{MadeMany, MakesMany, RanShort}
 use Rattle.driver_actions.specs.ManyCompleteness.{CompletesMany, EachFitsAlone, InsertsHaveNumbers, IsGentleCallPart, IsGentleCallWhereTold, IsValidMany, MayCompleteCall, MayCompleteCallWhereTold, ServesInserts}
-use Rattle.driver_actions.specs.ManyInputs.{AreTwelve, IsManyAccepted, ManyInputRefused, TellsManyInput}
 use Rattle.driver_actions.specs.Numbers.{many_numbers, numbers_for}
 use Rattle.driver_actions.proofs.BatchFit.{FitsOne, setup_limits}
 use Rattle.driver_actions.proofs.BatchWrites.{EachIs}
@@ -38,6 +37,7 @@ use Rattle.driver_actions.proofs.BatchesWell.{AllWell, batches_well}
 use Rattle.driver_actions.proofs.InsertFit.{served_setup}
 use Rattle.driver_actions.proofs.ManyMade.{IsGiven, made_drew, sent, sent_each}
 use Rattle.driver_actions.proofs.ManyNumbers.{made_sizes}
+use Rattle.driver_inputs.specs.ManyInputs.{AreTwelve, IsManyAccepted, ManyInputRefused, TellsManyInput}
 
 -- ids of twelve bytes, as many as documents
 some_ids : List (List (Pair Bson)) → List ObjectId

@@ -10,21 +10,21 @@ use Rattle.bson_lite.specs.declared.bson.Bson.{Bson}
 use Rattle.bson_lite.specs.declared.document.Pair.{Pair}
 use Rattle.bson_lite.specs.declared.namespace.Namespace.{Namespace}
 use Rattle.driver_error.specs.declared.results.InsertManyResult.{InsertManyResult}
+use Rattle.driver_options.specs.declared.write_options.InsertManyOptions.{InsertManyOptions}
 use Rattle.driver_link.specs.declared.machine.Entry.{Entry}
 use Rattle.driver_link.specs.declared.machine.PlacedWrite.{PlacedWrite}
-use Rattle.driver_link.specs.declared.write_options.InsertManyOptions.{InsertManyOptions}
 use Rattle.driver_link.specs.Once.{Once}
 use Rattle.driver_link.proofs.Lists.{none_is_some}
-use Rattle.driver_ops.specs.InsertSpec.{id_beside}
-use Rattle.driver_actions.specs.declared.call.Answer.TheVariants as answer
-use Rattle.driver_actions.specs.declared.call.Call.{Call}
-use Rattle.driver_actions.specs.declared.call.Call.TheVariants.{InsertMany}
-use Rattle.driver_actions.specs.Calls.{Done, HasPlace, IsOwn, OwnAt, call_result, entry_at, entry_id, given_insert, ids_in_log, put_id, result_of, write_at, write_in}
+use Rattle.write_ops.specs.InsertSpec.{id_beside}
 use Rattle.driver_actions.specs.ManyEntries.{HasListed, ListsAll}
 use Rattle.driver_actions.proofs.BatchWrites.{IsOfCall, place_in}
 use Rattle.driver_actions.proofs.ListedIds.{Ids, get_here, get_other}
 use Rattle.driver_actions.proofs.LogEntries.{entry_found, stands_has}
 use Rattle.driver_actions.proofs.ManyMade.{IsGiven}
+use Rattle.driver_inputs.specs.declared.call.Answer.TheVariants as answer
+use Rattle.driver_inputs.specs.declared.call.Call.{Call}
+use Rattle.driver_inputs.specs.declared.call.Call.TheVariants.{InsertMany}
+use Rattle.driver_inputs.specs.Calls.{Done, HasPlace, IsOwn, OwnAt, call_result, entry_at, entry_id, given_insert, ids_in_log, put_id, result_of, write_at, write_in}
 
 -- what is found beside an id at another index
 beside_other : (at : ℕ) (put : Option Bson) (ids : Ids) (q : ℕ) → (q ≡ at → ⊥) → finite.get (id_beside at put ids) q ≡ finite.get ids q

@@ -14,29 +14,27 @@ use Rattle.driver_error.specs.declared.results.InsertManyResult.{InsertManyResul
 use Rattle.driver_error.specs.declared.write.InsertManyError.{InsertManyError}
 use Rattle.driver_error.specs.Error.{ErrorKind, kind_of, labels_of}
 use Rattle.driver_error.specs.LabelTexts.{LabelSet}
+use Rattle.driver_options.specs.declared.write_options.InsertManyOptions.{InsertManyOptions}
 use Rattle.driver_link.specs.declared.machine.Entry.{Entry}
 use Rattle.driver_link.specs.declared.machine.PlacedWrite.{PlacedWrite}
-use Rattle.driver_link.specs.declared.write_options.InsertManyOptions.{InsertManyOptions}
 use Rattle.driver_link.specs.LinkState.{server_run}
 use Rattle.driver_link.specs.ServerRun.{ServerRun}
 use Rattle.driver_link.proofs.Lists.{none_is_some, some_is_some}
 use Rattle.driver_session.specs.Pool.{Pool}
 use Rattle.driver_session.specs.StoreTells.{DrawnApart, DrawnApartIn, Draws, StoreTells}
 use Rattle.driver_session.proofs.IdDraws.{draws_staying, draws_twice}
-use Rattle.driver_ops.specs.declared.own_document.OwnDocument.{OwnDocument}
 use Rattle.driver_ops.specs.declared.target.OperationTarget.{OperationTarget}
 use Rattle.driver_ops.specs.Inserts.{insert_is_ordered}
-use Rattle.driver_ops.specs.InsertSpec.{AreOwn}
 use Rattle.driver_ops.specs.Targets.{namespace_of}
-use Rattle.driver_exec.specs.Moment.{Moment}
+use Rattle.write_ops.specs.declared.own_document.OwnDocument.{OwnDocument}
+use Rattle.write_ops.specs.InsertSpec.{AreOwn}
+use Rattle.driver_attempt.specs.Moment.{Moment}
 use Rattle.driver_actions.specs.declared.gathered.Gathered.{Gathered}
 use Rattle.driver_actions.specs.Batches.{BatchEnd, MakesBatch, MakesBatches, goes_on, is_of_documents, tells_documents}
-use Rattle.driver_actions.specs.Calls.{GetsId, IsOwn, given_insert}
 use Rattle.driver_actions.specs.ManyAnswers.{AllOfDocuments, AnswersMany, EndsAlone, count_of, failures_of, gathered, nothing_gathered, with_kind, with_result}
 use Rattle.driver_actions.specs.ManyCalls.{MadeMany, MakesMany, RanShort}
 use Rattle.driver_actions.specs.ManyEntries.{AnswerStands, AnswerStandsWhereTold, HasListed, IsOwnInsert, KeepsCall, KeepsCallWhereTold, ListedStand, ListsAll, MayWriteCall}
 use Rattle.driver_actions.specs.ManyIds.{DrawsOwnIds, MayDrawAllBy}
-use Rattle.driver_actions.specs.ManyInputs.{AreTwelve, ManyInputRefused, TellsManyInput, with_ids}
 use Rattle.driver_actions.proofs.BatchWrites.{EachIs, IsNewFrom, IsOfCall, own_length, own_rest, rest_is}
 use Rattle.driver_actions.proofs.BatchesListed.{AllInLog, batches_list, ok_there}
 use Rattle.driver_actions.proofs.BatchesMade.{Advances, batches_advance, batches_move, fixed_or_one}
@@ -44,6 +42,8 @@ use Rattle.driver_actions.proofs.CallMoves.{CallMoves, DrewIds, moves_drew, move
 use Rattle.driver_actions.proofs.CallSends.{may_draws, pool_kept}
 use Rattle.driver_actions.proofs.ListedIds.{Ids, put_keeps, put_there}
 use Rattle.driver_actions.proofs.OwnIds.{own_drawn}
+use Rattle.driver_inputs.specs.Calls.{GetsId, IsOwn, given_insert}
+use Rattle.driver_inputs.specs.ManyInputs.{AreTwelve, ManyInputRefused, TellsManyInput, with_ids}
 
 -- a document is the caller's at an index, with its id
 pub record IsGiven (documents : List (List (Pair Bson))) (index : ℕ) (sent : List (Pair Bson)) : Type 0 where

@@ -5,13 +5,13 @@ use Rattle.bson_lite.specs.declared.bson.Bson.{Bson}
 use Rattle.bson_lite.specs.declared.document.Pair.{Pair}
 use Rattle.driver_error.specs.declared.error.Error.{Error}
 use Rattle.driver_error.specs.declared.results.InsertManyResult.{InsertManyResult}
-use Rattle.driver_link.specs.declared.write_options.InsertManyOptions.{InsertManyOptions}
+use Rattle.driver_options.specs.declared.write_options.InsertManyOptions.{InsertManyOptions}
 use Rattle.driver_link.specs.declared.machine.Setup.{Setup}
 use Rattle.driver_link.specs.LinkState.{server_run}
 use Rattle.driver_ops.specs.declared.target.OperationTarget.{OperationTarget}
-use Rattle.driver_ops.specs.InsertFronts.{sizes_of}
 use Rattle.driver_ops.specs.Targets.{namespace_of}
-use Rattle.driver_exec.specs.Moment.{Moment}
+use Rattle.write_ops.specs.InsertFronts.{sizes_of}
+use Rattle.driver_attempt.specs.Moment.{Moment}
 use Rattle.driver_actions.specs.ManyCalls.{MadeMany, MakesMany, RanShort}
 use Rattle.driver_actions.specs.ManyCompleteness.{RaisesBy, RaisesByBatches, RaisesByWhereTold}
 use Rattle.driver_actions.specs.Numbers.{many_numbers, numbers_for, server_setup, sizes_with_ids}

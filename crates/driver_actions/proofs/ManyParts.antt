@@ -8,20 +8,20 @@ use Rattle.driver_error.specs.declared.kind.ErrorKind.TheVariants as kind
 use Rattle.driver_error.specs.declared.results.InsertManyResult.{InsertManyResult}
 use Rattle.driver_error.specs.Error.{IsAlone, kind_of}
 use Rattle.driver_error.specs.LabelTexts.{no_labels}
-use Rattle.driver_link.specs.declared.options.ClientOptions.{ClientOptions}
-use Rattle.driver_link.specs.declared.write_options.InsertManyOptions.{InsertManyOptions}
+use Rattle.driver_options.specs.declared.options.ClientOptions.{ClientOptions}
+use Rattle.driver_options.specs.declared.write_options.InsertManyOptions.{InsertManyOptions}
 use Rattle.driver_session.specs.StoreTells.{StoreTells}
-use Rattle.driver_ops.specs.declared.own_document.OwnDocument.{OwnDocument}
 use Rattle.driver_ops.specs.declared.target.OperationTarget.{OperationTarget}
 use Rattle.driver_ops.specs.Targets.{namespace_of}
-use Rattle.driver_exec.specs.Causes.{end_of}
-use Rattle.driver_exec.specs.Moment.{Moment}
+use Rattle.write_ops.specs.declared.own_document.OwnDocument.{OwnDocument}
+use Rattle.driver_attempt.specs.Causes.{end_of}
+use Rattle.driver_attempt.specs.Moment.{Moment}
 use Rattle.driver_actions.specs.ManyCalls.{MadeMany, MakesMany, ManyCaused}
 use Rattle.driver_actions.specs.ManyIds.{OwnsAll}
-use Rattle.driver_actions.specs.ManyInputs.{IsManyAccepted, TellsManyInput, with_ids}
 use Rattle.driver_actions.specs.inside.Batches.{AreSpelled, BatchesMade}
 use Rattle.driver_actions.specs.inside.OwnDocuments.{DrawsFront}
 use Rattle.driver_actions.proofs.ManyRefusals.{many_first, many_refuses_nothing}
+use Rattle.driver_inputs.specs.ManyInputs.{IsManyAccepted, TellsManyInput, with_ids}
 
 -- documents that got their ids are spelled
 pub owns_spelled : {store now : StoreTells} {given : List (List (Pair Bson))} {own : List OwnDocument} → OwnsAll store now given own → AreSpelled own

@@ -1,34 +1,34 @@
 -- The input of an insert of documents has one error at most, and documents that are not refused have spellings.
-use Rattle.std.proofs.Common.{◌≡◌, ℕ, zero, suc, Bool, true, false, List, [], ◌∷◌, length, refl, sym, ap, subst, ◌∙◌, inl, inr}
+use Rattle.std.proofs.Common.{◌≡◌, ℕ, zero, suc, List, [], ◌∷◌, length, refl, sym, ap, subst, ◌∙◌, inl, inr}
 use Rattle.std.specs.Prelude.{Option, None, Some, nat_lt, slice_get}
 use Rattle.bson_lite.specs.declared.bson.Bson.{Bson}
 use Rattle.bson_lite.specs.declared.bson.ObjectId.{ObjectId}
 use Rattle.bson_lite.specs.declared.document.Pair.{Pair}
 use Rattle.bson_lite.specs.declared.fault.EncodeFault.{EncodeFault}
-use Rattle.bson_lite.specs.declared.fault.EncodeFault.TheVariants.{Memory, TooDeep, TooLong, ZeroByte}
+use Rattle.bson_lite.specs.declared.fault.EncodeFault.TheVariants.{Memory}
 use Rattle.bson_lite.specs.declared.namespace.Namespace.{Namespace}
 use Rattle.bson_lite.specs.Fields.{with_id}
 use Rattle.bson_lite.specs.Spelling.{nesting, zero_in}
-use Rattle.bson_lite.proofs.Named.{by_tests}
 use Rattle.driver_error.specs.declared.error.Error.{Error}
 use Rattle.driver_error.specs.declared.kind.ErrorKind.TheVariants as kind
 use Rattle.driver_error.specs.Error.{ErrorKind, kind_of}
-use Rattle.driver_link.specs.declared.write_options.InsertManyOptions.{InsertManyOptions}
+use Rattle.driver_options.specs.declared.write_options.InsertManyOptions.{InsertManyOptions}
 use Rattle.driver_link.proofs.Lists.{none_is_some, some_is_some}
 use Rattle.driver_ops.specs.declared.target.OperationTarget.{OperationTarget}
 use Rattle.driver_ops.specs.Inserts.{insert_command}
 use Rattle.driver_ops.specs.Targets.{namespace_of}
-use Rattle.driver_exec.specs.Causes.{ErrorOutline, outline_of}
-use Rattle.driver_exec.specs.Moment.{Moment}
-use Rattle.driver_actions.specs.Inputs.{is_long, value_list}
+use Rattle.driver_attempt.specs.Causes.{ErrorOutline, outline_of}
+use Rattle.driver_attempt.specs.Moment.{Moment}
 use Rattle.driver_actions.specs.ManyCalls.{RefusesManyFirst}
-use Rattle.driver_actions.specs.ManyInputs.{AreTwelve, IsManyAccepted, ManyInputRefused, RefusesManyValues, TellsManyInput}
-use Rattle.driver_actions.specs.inside.Faults.{before_length, before_zero, first_of, length_fault, values_fault}
-use Rattle.driver_actions.specs.inside.ManyFaults.{own_fault, own_faults, zero_id}
 use Rattle.driver_actions.specs.inside.OwnDocuments.{TellsOneRefusal}
-use Rattle.driver_actions.proofs.InputFaults.{first_twice}
-use Rattle.driver_actions.proofs.ManyFaults.{own_refused, refused_values}
-use Rattle.driver_actions.proofs.Refusals.{spelled_within}
+use Rattle.driver_inputs.specs.Inputs.{is_long, value_list}
+use Rattle.driver_inputs.specs.ManyInputs.{AreTwelve, IsManyAccepted, ManyInputRefused, RefusesManyValues, TellsManyInput}
+use Rattle.driver_inputs.specs.Faults.{first_of, length_fault, values_fault}
+use Rattle.driver_inputs.specs.ManyFaults.{own_fault, own_faults, zero_id}
+use Rattle.driver_inputs.proofs.InputFaults.{first_twice}
+use Rattle.driver_inputs.proofs.ManyFaults.{own_refused, refused_values}
+use Rattle.driver_inputs.proofs.Refusals.{spelled_within}
+use Rattle.driver_inputs.proofs.FaultsBeside.{both_none}
 
 -- an id of zeros for each document
 abbrev zero_ids : List (List (Pair Bson)) → List ObjectId
@@ -94,28 +94,6 @@ many_refuses_nothing before now target documents options ended accepted = record
   tells = λ why refused. absurd (many_not_refused (namespace_of target) documents options why accepted refused);
   undone = λ why refused. absurd (many_not_refused (namespace_of target) documents options why accepted refused);
 }
-
--- a fault stays one beside others
-zero_told : (other : Option EncodeFault) → before_zero other ≡ None → ⊥
-zero_told None is = let e : ◌≡◌ {A = Option EncodeFault} (Some ZeroByte) None = is in cc
-zero_told (Some Memory) is = let e : ◌≡◌ {A = Option EncodeFault} (Some ZeroByte) None = is in cc
-zero_told (Some TooDeep) is = let e : ◌≡◌ {A = Option EncodeFault} (Some TooDeep) None = is in cc
-zero_told (Some ZeroByte) is = let e : ◌≡◌ {A = Option EncodeFault} (Some ZeroByte) None = is in cc
-zero_told (Some TooLong) is = let e : ◌≡◌ {A = Option EncodeFault} (Some ZeroByte) None = is in cc
-
-length_told : (other : Option EncodeFault) → before_length other ≡ None → ⊥
-length_told None is = let e : ◌≡◌ {A = Option EncodeFault} (Some TooLong) None = is in cc
-length_told (Some Memory) is = let e : ◌≡◌ {A = Option EncodeFault} (Some TooLong) None = is in cc
-length_told (Some TooDeep) is = let e : ◌≡◌ {A = Option EncodeFault} (Some TooDeep) None = is in cc
-length_told (Some ZeroByte) is = let e : ◌≡◌ {A = Option EncodeFault} (Some ZeroByte) None = is in cc
-length_told (Some TooLong) is = let e : ◌≡◌ {A = Option EncodeFault} (Some TooLong) None = is in cc
-
-pub both_none : (deep holed long : Bool) (other : Option EncodeFault) → first_of (by_tests deep holed long) other ≡ None
-    → (by_tests deep holed long ≡ None) × (other ≡ None)
-both_none true holed long other is = absurd (let e : ◌≡◌ {A = Option EncodeFault} (Some TooDeep) None = is in cc)
-both_none false true long other is = absurd (zero_told other is)
-both_none false false true other is = absurd (length_told other is)
-both_none false false false other is = (refl, is)
 
 -- so where there is none, a document has none
 own_none : (document : List (Pair Bson)) (other : Option EncodeFault) → first_of (own_fault document) other ≡ None → (own_fault document ≡ None) × (other ≡ None)

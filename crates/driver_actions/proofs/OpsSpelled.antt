@@ -9,19 +9,19 @@ use Rattle.bson_lite.specs.declared.bson.Bson.{Bson}
 use Rattle.bson_lite.specs.declared.document.Pair.{Pair}
 use Rattle.bson_lite.specs.Spelling.{deepest, deepest_pair, depth, holds_zero, nesting, on_value, refusal, zero_in, zero_in_pairs, zero_in_values, zero_within}
 use Rattle.bson_lite.proofs.Named.{by_tests}
+use Rattle.driver_options.specs.declared.models.WriteModel.{WriteModel}
+use Rattle.driver_options.specs.declared.models.WriteModel.TheVariants.{InsertOne, UpdateOne, UpdateMany, ReplaceOne, DeleteOne, DeleteMany}
+use Rattle.driver_options.specs.declared.updates.UpdateModifications.{UpdateModifications}
+use Rattle.driver_options.specs.declared.updates.UpdateModifications.TheVariants as modifications
+use Rattle.driver_options.specs.declared.updates.UpdateOrReplace.TheVariants as change
+use Rattle.driver_options.specs.Models.{operation_of}
 use Rattle.driver_link.specs.declared.keys.TheConstants.{DOCUMENT}
-use Rattle.driver_link.specs.declared.models.WriteModel.{WriteModel}
-use Rattle.driver_link.specs.declared.models.WriteModel.TheVariants.{InsertOne, UpdateOne, UpdateMany, ReplaceOne, DeleteOne, DeleteMany}
-use Rattle.driver_link.specs.declared.updates.UpdateModifications.{UpdateModifications}
-use Rattle.driver_link.specs.declared.updates.UpdateModifications.TheVariants as modifications
-use Rattle.driver_link.specs.declared.updates.UpdateOrReplace.TheVariants as change
-use Rattle.driver_link.specs.Models.{operation_of}
 use Rattle.driver_link.specs.Numbers.{field}
 use Rattle.driver_ops.specs.declared.keys.TheConstants.{ARRAY_FILTERS, COLLATION, FILTER, HINT, MULTI, SORT, UPDATE_MODIFICATIONS, UPSERT}
-use Rattle.driver_ops.specs.BulkOps.{delete_fields, modifications_value, op_document, op_fields, op_key, replace_one_fields, update_many_fields, update_one_fields, values_of}
 use Rattle.driver_ops.specs.OptionFields.{document_in, flag_of, option_field}
-use Rattle.driver_actions.specs.BulkInputs.{model_values, set_values}
-use Rattle.driver_actions.specs.Inputs.{change_values, document_values, is_deep, is_long, value_list, values_refusal}
+use Rattle.bulk_ops.specs.BulkOps.{delete_fields, modifications_value, op_document, op_fields, op_key, replace_one_fields, update_many_fields, update_one_fields, values_of}
+use Rattle.driver_inputs.specs.BulkInputs.{model_values, set_values}
+use Rattle.driver_inputs.specs.Inputs.{change_values, document_values, is_deep, is_long, value_list, values_refusal}
 
 -- values that nest no deeper than a caller's may, without a zero byte
 abbrev ArePlain : List Bson → Type 0

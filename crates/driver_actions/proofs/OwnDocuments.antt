@@ -9,16 +9,16 @@ use Rattle.bson_lite.specs.declared.document.Pair.{Pair}
 use Rattle.bson_lite.specs.Fields.{id_key, value_of, with_id}
 use Rattle.bson_lite.specs.Spelling.{Spells}
 use Rattle.driver_error.specs.declared.error.Error.{Error}
-use Rattle.driver_link.specs.declared.options.ClientOptions.{ClientOptions}
+use Rattle.driver_options.specs.declared.options.ClientOptions.{ClientOptions}
 use Rattle.driver_session.specs.StoreTells.{StoreTells}
-use Rattle.driver_ops.specs.declared.own_document.OwnDocument.{OwnDocument}
-use Rattle.driver_ops.specs.InsertSpec.{AreOwn}
-use Rattle.driver_exec.specs.Moment.{Moment}
+use Rattle.write_ops.specs.declared.own_document.OwnDocument.{OwnDocument}
+use Rattle.write_ops.specs.InsertSpec.{AreOwn}
+use Rattle.driver_attempt.specs.Moment.{Moment}
 use Rattle.driver_actions.specs.Causes.{TellsOwnRefusal}
 use Rattle.driver_actions.specs.ManyIds.{DrawsForFront, DrawsOwnIds, OwnsAll}
-use Rattle.driver_actions.specs.ManyInputs.{AreTwelve, with_ids}
 use Rattle.driver_actions.specs.OwnIds.{DrawsOwnId}
 use Rattle.driver_actions.specs.inside.OwnDocuments.{DrawsFront, DrawsTwelve, IsSent, MayDrawTwelve, TellsOneRefusal}
+use Rattle.driver_inputs.specs.ManyInputs.{AreTwelve, with_ids}
 
 -- one id more of twelve bytes
 twelve_push : (ids : List ObjectId) (id : ObjectId) → AreTwelve ids → length id.bytes ≡ 12 → AreTwelve (ids ++ id ∷ [])

@@ -13,9 +13,9 @@ use Rattle.driver_error.specs.declared.kind.ErrorKind.TheVariants.{Memory}
 use Rattle.driver_error.specs.declared.results.InsertOneResult.{InsertOneResult}
 use Rattle.driver_error.specs.Error.{kind_of}
 use Rattle.driver_session.specs.StoreTells.{DrawsObjectId, MayDrawObjectId, StoreTells}
-use Rattle.driver_ops.specs.declared.own_document.OwnDocument.{OwnDocument}
 use Rattle.driver_ops.specs.Encoding.{IsUnspelled}
-use Rattle.driver_exec.specs.Moment.{Moment}
+use Rattle.write_ops.specs.declared.own_document.OwnDocument.{OwnDocument}
+use Rattle.driver_attempt.specs.Moment.{Moment}
 use Rattle.driver_actions.specs.Causes.{TellsOwnRefusal}
 use Rattle.driver_actions.specs.OwnIds.{DrawsOwn, DrawsOwnId, MayDrawBy, Owns}
 use Rattle.driver_actions.specs.inside.OwnDocuments.{IsSent}

@@ -7,14 +7,14 @@ use Rattle.bson_lite.specs.declared.bson.ObjectId.{ObjectId}
 use Rattle.driver_error.specs.declared.error.Error.{Error}
 use Rattle.driver_error.specs.declared.kind.ErrorKind.TheVariants.{Memory}
 use Rattle.driver_error.specs.Error.{kind_of}
-use Rattle.driver_link.specs.declared.models.WriteModel.{WriteModel}
+use Rattle.driver_options.specs.declared.models.WriteModel.{WriteModel}
 use Rattle.driver_session.specs.StoreTells.{StoreTells}
-use Rattle.driver_ops.specs.declared.own_op.OwnOp.{OwnOp}
-use Rattle.driver_ops.specs.BulkOps.{AreOps, IsOpOf}
+use Rattle.bulk_ops.specs.declared.own_op.OwnOp.{OwnOp}
+use Rattle.bulk_ops.specs.BulkOps.{AreOps, IsOpOf}
 use Rattle.driver_actions.specs.BulkIds.{DrawsForModels, DrawsModelId, DrawsModelIds, OwnsOps}
-use Rattle.driver_actions.specs.BulkInputs.{with_model_id, with_model_ids}
-use Rattle.driver_actions.specs.ManyInputs.{AreTwelve}
 use Rattle.driver_actions.specs.inside.OwnOps.{IsModelError, IsSentOp, MayDrawForModel, TellsOneModel}
+use Rattle.driver_inputs.specs.BulkInputs.{with_model_id, with_model_ids}
+use Rattle.driver_inputs.specs.ManyInputs.{AreTwelve}
 
 -- one id more of twelve bytes
 twelve_push : (ids : List ObjectId) (id : ObjectId) → AreTwelve ids → length id.bytes ≡ 12 → AreTwelve (ids ++ id ∷ [])

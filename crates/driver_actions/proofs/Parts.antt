@@ -12,26 +12,26 @@ use Rattle.driver_error.specs.declared.results.InsertManyResult.{InsertManyResul
 use Rattle.driver_error.specs.declared.results.InsertOneResult.{InsertOneResult}
 use Rattle.driver_error.specs.Error.{IsAlone, kind_of}
 use Rattle.driver_error.specs.LabelTexts.{no_labels}
+use Rattle.driver_options.specs.declared.options.ClientOptions.{ClientOptions}
+use Rattle.driver_options.specs.declared.write_options.InsertManyOptions.{InsertManyOptions}
 use Rattle.driver_link.specs.Clock.{ClockTells, ReadsClock}
 use Rattle.driver_link.specs.declared.machine.Place.{Place}
 use Rattle.driver_link.specs.declared.machine.SendBody.{SendBody}
-use Rattle.driver_link.specs.declared.options.ClientOptions.{ClientOptions}
-use Rattle.driver_link.specs.declared.write_options.InsertManyOptions.{InsertManyOptions}
 use Rattle.driver_session.specs.StoreTells.{MayDrawObjectId, StoreTells}
-use Rattle.driver_ops.specs.declared.own_document.OwnDocument.{OwnDocument}
-use Rattle.driver_ops.specs.InsertSpec.{insert_spec}
 use Rattle.driver_ops.specs.Targets.{in_collection}
-use Rattle.driver_exec.specs.Moment.{Moment}
-use Rattle.driver_actions.specs.declared.call.Call.{Call}
-use Rattle.driver_actions.specs.declared.call.Outcome.{Outcome}
-use Rattle.driver_actions.specs.declared.call.SingleAnswer.{SingleAnswer}
-use Rattle.driver_actions.specs.declared.call.SingleAnswer.TheVariants.{Inserted}
+use Rattle.write_ops.specs.declared.own_document.OwnDocument.{OwnDocument}
+use Rattle.write_ops.specs.InsertSpec.{insert_spec}
+use Rattle.driver_attempt.specs.Moment.{Moment}
 use Rattle.driver_actions.specs.CallByCall.{CallCaused, with_clock}
 use Rattle.driver_actions.specs.CallMaking.{HasCause, MakesCall}
-use Rattle.driver_actions.specs.Forms.{WriteForm, asked_in, deletes, finds, inserts, updates, written_in}
-use Rattle.driver_actions.specs.Inputs.{IsAccepted, TellsInput}
 use Rattle.driver_actions.specs.OwnIds.{DrawsOwn, MayDrawId, Owns}
 use Rattle.driver_actions.specs.SingleCalls.{Made, Makes, MayDrawFor, Runs, Tells}
+use Rattle.driver_inputs.specs.declared.call.Call.{Call}
+use Rattle.driver_inputs.specs.declared.call.Outcome.{Outcome}
+use Rattle.driver_inputs.specs.declared.call.SingleAnswer.{SingleAnswer}
+use Rattle.driver_inputs.specs.declared.call.SingleAnswer.TheVariants.{Inserted}
+use Rattle.driver_inputs.specs.Forms.{WriteForm, asked_in, deletes, finds, inserts, updates, written_in}
+use Rattle.driver_inputs.specs.Inputs.{IsAccepted, TellsInput}
 
 -- the store of a client alone changes where its options stay
 same_client : (before : Moment) (store : StoreTells) (options : ClientOptions) → options ≡ before.client.options

@@ -7,13 +7,13 @@ use Rattle.std.proofs.lemmas.List.Sums.{sum_by-cons, sum_by_push}
 use Rattle.std.specs.List.{AllByRecursion, flat_map}
 use Rattle.std.specs.Prelude.{Option, None, Some, IfSome, nat_le, nat_lt, ◌&&◌, if◌then◌else◌}
 use Rattle.bson_lite.specs.declared.namespace.Namespace.{Namespace}
+use Rattle.driver_options.specs.declared.write_options.InsertManyOptions.{InsertManyOptions}
 use Rattle.driver_batches.specs.declared.sizes.Limits.{Limits}
 use Rattle.driver_batches.specs.Batches.{IsPartition}
 use Rattle.driver_batches.specs.Fronts.{IsLongestFront}
 use Rattle.driver_batches.specs.Sizes.{Fits}
 use Rattle.driver_link.specs.declared.machine.Setup.{Setup}
-use Rattle.driver_link.specs.declared.write_options.InsertManyOptions.{InsertManyOptions}
-use Rattle.driver_ops.specs.InsertFronts.{insert_limits}
+use Rattle.write_ops.specs.InsertFronts.{insert_limits}
 use Rattle.driver_actions.specs.Numbers.{goes_in, numbers_for, runs_beside, runs_of}
 
 -- what counts one and more is at least one

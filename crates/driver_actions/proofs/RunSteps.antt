@@ -8,11 +8,11 @@ use Rattle.bson_lite.specs.declared.document.Pair.{Pair}
 use Rattle.bson_lite.specs.declared.namespace.Namespace.{Namespace}
 use Rattle.driver_error.specs.declared.error.Error.{Error}
 use Rattle.driver_error.specs.declared.results.InsertManyResult.{InsertManyResult}
+use Rattle.driver_options.specs.declared.write_options.InsertManyOptions.{InsertManyOptions}
 use Rattle.driver_link.specs.declared.machine.Entry.{Entry}
 use Rattle.driver_link.specs.declared.machine.Send.{Send}
 use Rattle.driver_link.specs.declared.machine.Server.{Server}
 use Rattle.driver_link.specs.declared.machine.Place.{Place}
-use Rattle.driver_link.specs.declared.write_options.InsertManyOptions.{InsertManyOptions}
 use Rattle.driver_link.specs.Cases.{writes_of}
 use Rattle.driver_link.specs.Exchange.{after_picks, empty_server}
 use Rattle.driver_link.specs.Once.{Once}
@@ -24,19 +24,10 @@ use Rattle.driver_link.specs.Apart.{AllApart}
 use Rattle.driver_session.specs.Pool.{Pool, empty_pool}
 use Rattle.driver_session.proofs.PoolTells.{same_told}
 use Rattle.driver_ops.specs.Targets.{in_collection}
+use Rattle.driver_attempt.specs.Moment.{Moment}
 use Rattle.driver_exec.specs.BetweenCalls.{Between, Sound}
-use Rattle.driver_exec.specs.Moment.{Moment}
 use Rattle.driver_exec.proofs.InvariantSteps.Leaving.{Left, left_of}
-use Rattle.driver_actions.specs.declared.call.Answer.{Answer}
-use Rattle.driver_actions.specs.declared.call.Answer.TheVariants as answer
-use Rattle.driver_actions.specs.declared.call.Call.{Call}
-use Rattle.driver_actions.specs.declared.call.Call.TheVariants.{InsertMany, Single}
-use Rattle.driver_actions.specs.declared.call.Outcome.{Outcome}
-use Rattle.driver_actions.specs.declared.call.SingleAnswer.{SingleAnswer}
-use Rattle.driver_actions.specs.declared.call.SingleWrite.{SingleWrite}
 use Rattle.driver_actions.specs.CallMaking.{MakesCall}
-use Rattle.driver_actions.specs.Calls.{Done, OwnAt, call_result, write_at, written}
-use Rattle.driver_actions.specs.Forms.{WriteForm, asked_in, form_of}
 use Rattle.driver_actions.specs.MainTheorem.{MainTheorem}
 use Rattle.driver_actions.specs.ManyCalls.{MadeMany, MakesMany}
 use Rattle.driver_actions.specs.ManyEntries.{MayWriteCall}
@@ -52,6 +43,15 @@ use Rattle.driver_actions.proofs.CallWrites.WritesMade.{LeftBy, made_drew, made_
 use Rattle.driver_actions.proofs.CallSends.{mid_pool, mid_run, only_write}
 use Rattle.driver_actions.proofs.ManyMade.{IsGiven, made_advances, made_stands, unmade_drew}
 use Rattle.driver_actions.proofs.ManyInLog.{many_done, many_own, many_result}
+use Rattle.driver_inputs.specs.declared.call.Answer.{Answer}
+use Rattle.driver_inputs.specs.declared.call.Answer.TheVariants as answer
+use Rattle.driver_inputs.specs.declared.call.Call.{Call}
+use Rattle.driver_inputs.specs.declared.call.Call.TheVariants.{InsertMany, Single}
+use Rattle.driver_inputs.specs.declared.call.Outcome.{Outcome}
+use Rattle.driver_inputs.specs.declared.call.SingleAnswer.{SingleAnswer}
+use Rattle.driver_inputs.specs.declared.call.SingleWrite.{SingleWrite}
+use Rattle.driver_inputs.specs.Calls.{Done, OwnAt, call_result, write_at, written}
+use Rattle.driver_inputs.specs.Forms.{WriteForm, asked_in, form_of}
 
 -- what holds after a number of calls
 pub record Ran (calls : List Call) (outcomes : List Outcome) (pool : Pool) (server : Server) : Type 0 where

@@ -7,23 +7,23 @@ use Rattle.bson_lite.specs.declared.document.Pair.{Pair}
 use Rattle.bson_lite.specs.Fields.{id_key, value_of, with_id}
 use Rattle.bson_lite.proofs.Named.{kept_with}
 use Rattle.driver_error.specs.declared.error.Error.{Error}
-use Rattle.driver_link.specs.declared.models.DeleteManyModel.{DeleteManyModel}
-use Rattle.driver_link.specs.declared.models.DeleteOneModel.{DeleteOneModel}
-use Rattle.driver_link.specs.declared.models.InsertOneModel.{InsertOneModel}
-use Rattle.driver_link.specs.declared.models.ReplaceOneModel.{ReplaceOneModel}
-use Rattle.driver_link.specs.declared.models.UpdateManyModel.{UpdateManyModel}
-use Rattle.driver_link.specs.declared.models.UpdateOneModel.{UpdateOneModel}
-use Rattle.driver_link.specs.declared.models.WriteModel.{WriteModel}
-use Rattle.driver_link.specs.declared.models.WriteModel.TheVariants.{InsertOne, UpdateOne, UpdateMany, ReplaceOne, DeleteOne, DeleteMany}
+use Rattle.driver_options.specs.declared.models.DeleteManyModel.{DeleteManyModel}
+use Rattle.driver_options.specs.declared.models.DeleteOneModel.{DeleteOneModel}
+use Rattle.driver_options.specs.declared.models.InsertOneModel.{InsertOneModel}
+use Rattle.driver_options.specs.declared.models.ReplaceOneModel.{ReplaceOneModel}
+use Rattle.driver_options.specs.declared.models.UpdateManyModel.{UpdateManyModel}
+use Rattle.driver_options.specs.declared.models.UpdateOneModel.{UpdateOneModel}
+use Rattle.driver_options.specs.declared.models.WriteModel.{WriteModel}
+use Rattle.driver_options.specs.declared.models.WriteModel.TheVariants.{InsertOne, UpdateOne, UpdateMany, ReplaceOne, DeleteOne, DeleteMany}
 use Rattle.driver_session.specs.StoreTells.{DrawsObjectId, StoreTells}
-use Rattle.driver_ops.specs.declared.own_op.OwnOp.{OwnOp}
-use Rattle.driver_ops.specs.BulkOps.{IsOpOf, SpellsOp, op_document}
 use Rattle.driver_ops.specs.Encoding.{IsUnspelled}
+use Rattle.bulk_ops.specs.declared.own_op.OwnOp.{OwnOp}
+use Rattle.bulk_ops.specs.BulkOps.{IsOpOf, SpellsOp, op_document}
 use Rattle.driver_actions.specs.BulkIds.{DrawsModelId}
-use Rattle.driver_actions.specs.BulkInputs.{with_model_id}
 use Rattle.driver_actions.specs.OwnIds.{DrawsOwnId}
-use Rattle.driver_actions.specs.inside.ManyFaults.{zero_id}
 use Rattle.driver_actions.specs.inside.OwnOps.{DrawsForModel, SendsOp}
+use Rattle.driver_inputs.specs.BulkInputs.{with_model_id}
+use Rattle.driver_inputs.specs.ManyFaults.{zero_id}
 
 -- the op of an insert whose document gets the id that was drawn
 pub sent_with_drawn : (store now : StoreTells) (model : InsertOneModel) (id : ObjectId) (made : Result OwnOp Error) → ◌≡◌ {A = Option Bson} (value_of id_key model.document) None

@@ -12,19 +12,19 @@ use Rattle.driver_link.specs.declared.machine.WriteKind.{WriteKind}
 use Rattle.driver_link.specs.declared.machine.Written.{Written}
 use Rattle.driver_link.specs.Once.{Once}
 use Rattle.driver_link.specs.Settled.{Has}
-use Rattle.driver_actions.specs.declared.call.Answer.{Answer}
-use Rattle.driver_actions.specs.declared.call.Answer.TheVariants as answer
-use Rattle.driver_actions.specs.declared.call.Call.{Call}
-use Rattle.driver_actions.specs.declared.call.Call.TheVariants.{InsertMany, Single}
-use Rattle.driver_actions.specs.declared.call.Outcome.{Outcome}
-use Rattle.driver_actions.specs.declared.call.SingleAnswer.{SingleAnswer}
-use Rattle.driver_actions.specs.declared.call.SingleWrite.{SingleWrite}
-use Rattle.driver_actions.specs.Calls.{OwnAt, IsOwn, Done, answer_by, write_at, write_in, written, entry_at, entry_id, ids_in_log, put_id, result_of, call_result}
 use Rattle.driver_actions.specs.MainTheorem.{answer_at}
 use Rattle.driver_actions.specs.SingleCalls.{first_place}
 use Rattle.driver_actions.proofs.BatchWrites.{place_in}
 use Rattle.driver_actions.proofs.ListedIds.{Ids}
 use Rattle.driver_actions.proofs.LogEntries.{done_left, entry_found, entry_left, stands_has}
+use Rattle.driver_inputs.specs.declared.call.Answer.{Answer}
+use Rattle.driver_inputs.specs.declared.call.Answer.TheVariants as answer
+use Rattle.driver_inputs.specs.declared.call.Call.{Call}
+use Rattle.driver_inputs.specs.declared.call.Call.TheVariants.{InsertMany, Single}
+use Rattle.driver_inputs.specs.declared.call.Outcome.{Outcome}
+use Rattle.driver_inputs.specs.declared.call.SingleAnswer.{SingleAnswer}
+use Rattle.driver_inputs.specs.declared.call.SingleWrite.{SingleWrite}
+use Rattle.driver_inputs.specs.Calls.{OwnAt, IsOwn, Done, answer_by, write_at, write_in, written, entry_at, entry_id, ids_in_log, put_id, result_of, call_result}
 
 -- what the log spells of the calls that answered
 pub record Answered (calls : List Call) (outcomes : List Outcome) (log : List Entry) : Type 0 where

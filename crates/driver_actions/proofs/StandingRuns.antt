@@ -13,10 +13,8 @@ use Rattle.driver_link.specs.Apart.{AllApart}
 use Rattle.driver_session.specs.Pool.{Pool, empty_pool}
 use Rattle.driver_session.specs.StoreTells.{DrawnApart, DrawnApartIn, GainsDrawn, IsNewStore}
 use Rattle.driver_session.proofs.PoolTells.{same_told}
+use Rattle.driver_attempt.specs.Moment.{Moment}
 use Rattle.driver_exec.specs.BetweenCalls.{NumbersWithin}
-use Rattle.driver_exec.specs.Moment.{Moment}
-use Rattle.driver_actions.specs.declared.call.Call.{Call}
-use Rattle.driver_actions.specs.declared.call.Outcome.{Outcome}
 use Rattle.driver_actions.specs.CallByCall.{CallCaused, with_clock}
 use Rattle.driver_actions.specs.CallMaking.{MakesCall}
 use Rattle.driver_actions.specs.MainTheorem.{KeepsMakingWhereTold, all_numbers_of, numbers_of}
@@ -26,6 +24,8 @@ use Rattle.driver_actions.specs.Standing.{Leaves, LeavesWhereTold, RunInvariant,
 use Rattle.driver_actions.proofs.AppendedCalls.{ran_appended, take_next, take_none}
 use Rattle.driver_actions.proofs.EachCall.{call_moves}
 use Rattle.driver_actions.proofs.RunSteps.{Ran, ran_none, ran_more, ran_holds}
+use Rattle.driver_inputs.specs.declared.call.Call.{Call}
+use Rattle.driver_inputs.specs.declared.call.Outcome.{Outcome}
 
 -- before the first call
 leaves_none : (pool : Pool) (run : ServerRun) → pool ≡ empty_pool → run.server ≡ empty_server → Leaves [] [] pool run

@@ -13,8 +13,8 @@ use Rattle.driver_error.specs.declared.write.IndexedWriteError.{IndexedWriteErro
 use Rattle.driver_error.specs.declared.write.WriteConcernError.{WriteConcernError}
 use Rattle.driver_error.specs.Error.{ErrorKind, kind_of, labels_of}
 use Rattle.driver_error.specs.LabelTexts.{has_label}
-use Rattle.driver_ops.specs.declared.own_document.OwnDocument.{OwnDocument}
-use Rattle.driver_ops.specs.InsertAnswers.{all_ids}
+use Rattle.write_ops.specs.declared.own_document.OwnDocument.{OwnDocument}
+use Rattle.write_ops.specs.InsertAnswers.{all_ids}
 use Rattle.driver_actions.specs.Batches.{BatchEnd, is_of_documents, tells_documents}
 use Rattle.driver_actions.specs.ManyAnswers.{count_of, moved_error, told_errors}
 

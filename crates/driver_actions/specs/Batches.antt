@@ -4,17 +4,17 @@ use Rattle.driver_error.specs.declared.error.Error.{Error}
 use Rattle.driver_error.specs.declared.kind.ErrorKind.TheVariants as kind
 use Rattle.driver_error.specs.declared.results.InsertManyResult.{InsertManyResult}
 use Rattle.driver_error.specs.Error.{ErrorKind, kind_of}
+use Rattle.driver_options.specs.declared.write_options.InsertManyOptions.{InsertManyOptions}
 use Rattle.driver_link.specs.declared.machine.Place.{Place}
-use Rattle.driver_link.specs.declared.write_options.InsertManyOptions.{InsertManyOptions}
-use Rattle.driver_ops.specs.declared.own_document.OwnDocument.{OwnDocument}
 use Rattle.driver_ops.specs.declared.target.OperationTarget.{OperationTarget}
 use Rattle.driver_ops.specs.Inserts.{insert_is_ordered}
-use Rattle.driver_ops.specs.InsertSpec.{insert_spec, statements_fixed}
 use Rattle.driver_ops.specs.Operations.{Batch, IsFixed, batch_of}
 use Rattle.driver_ops.specs.SendKinds.{first}
-use Rattle.driver_exec.specs.Causes.{end_of}
-use Rattle.driver_exec.specs.Executing.{Executes}
-use Rattle.driver_exec.specs.Moment.{Moment}
+use Rattle.write_ops.specs.declared.own_document.OwnDocument.{OwnDocument}
+use Rattle.write_ops.specs.InsertSpec.{insert_spec, statements_fixed}
+use Rattle.driver_attempt.specs.Causes.{end_of}
+use Rattle.driver_attempt.specs.Executing.{Executes}
+use Rattle.driver_attempt.specs.Moment.{Moment}
 use Rattle.driver_exec.specs.OperationCauses.{Caused}
 use Rattle.driver_exec.specs.Resending.{SendsOneCommand}
 

@@ -5,15 +5,15 @@ use Rattle.bson_lite.specs.Fields.{id_key, value_of}
 use Rattle.driver_error.specs.declared.error.Error.{Error}
 use Rattle.driver_error.specs.declared.kind.ErrorKind.TheVariants.{Memory}
 use Rattle.driver_error.specs.Error.{kind_of}
-use Rattle.driver_link.specs.declared.models.WriteModel.{WriteModel}
-use Rattle.driver_link.specs.declared.models.WriteModel.TheVariants.{InsertOne}
-use Rattle.driver_link.specs.declared.write_options.BulkWriteOptions.{BulkWriteOptions}
+use Rattle.driver_options.specs.declared.models.WriteModel.{WriteModel}
+use Rattle.driver_options.specs.declared.models.WriteModel.TheVariants.{InsertOne}
+use Rattle.driver_options.specs.declared.write_options.BulkWriteOptions.{BulkWriteOptions}
 use Rattle.driver_session.specs.StoreTells.{StoreTells}
-use Rattle.driver_ops.specs.declared.own_op.OwnOp.{OwnOp}
-use Rattle.driver_ops.specs.BulkOps.{AreOps}
-use Rattle.driver_actions.specs.BulkInputs.{IsBulkAccepted, IsBulkInputError, with_model_ids}
-use Rattle.driver_actions.specs.ManyInputs.{AreTwelve}
+use Rattle.bulk_ops.specs.declared.own_op.OwnOp.{OwnOp}
+use Rattle.bulk_ops.specs.BulkOps.{AreOps}
 use Rattle.driver_actions.specs.OwnIds.{DrawsOwnId}
+use Rattle.driver_inputs.specs.BulkInputs.{IsBulkAccepted, IsBulkInputError, with_model_ids}
+use Rattle.driver_inputs.specs.ManyInputs.{AreTwelve}
 
 -- for a model that inserts a document without an id this one is drawn, the next to come; for another nothing is
 abbrev pub DrawsModelId : WriteModel → StoreTells → StoreTells → ObjectId → Type 0

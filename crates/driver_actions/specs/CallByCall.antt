@@ -1,10 +1,10 @@
 -- Calls one after another: what holds of each between the moments before and after it.
 use Rattle.std.specs.Prelude.{◌≡◌, ℕ, ◌≤◌, List, [], ◌∷◌, ◌++◌, length}
 use Rattle.driver_link.specs.Clock.{ClockTells, ReadsClock}
-use Rattle.driver_exec.specs.Moment.{Moment}
-use Rattle.driver_actions.specs.declared.call.Call.{Call}
-use Rattle.driver_actions.specs.declared.call.Outcome.{Outcome}
+use Rattle.driver_attempt.specs.Moment.{Moment}
 use Rattle.driver_actions.specs.CallMaking.{HasCause, MakesCall}
+use Rattle.driver_inputs.specs.declared.call.Call.{Call}
+use Rattle.driver_inputs.specs.declared.call.Outcome.{Outcome}
 
 -- a property holds of each call of a list, by the calls before it and between two moments, from the first moment to the last
 abbrev pub CallByCall : (List Call → Moment → Moment → Call → Outcome → Type 0) → List Call → List Call → List Outcome → Moment → Moment → Type 0

@@ -3,16 +3,16 @@ use Rattle.std.specs.Prelude.{ℕ, Result, Ok, Err}
 use Rattle.driver_error.specs.declared.error.Error.{Error}
 use Rattle.driver_error.specs.declared.results.InsertManyResult.{InsertManyResult}
 use Rattle.driver_ops.specs.Targets.{in_collection}
-use Rattle.driver_exec.specs.Moment.{Moment}
-use Rattle.driver_actions.specs.declared.call.Answer.{Answer}
-use Rattle.driver_actions.specs.declared.call.Answer.TheVariants as answer
-use Rattle.driver_actions.specs.declared.call.Call.{Call}
-use Rattle.driver_actions.specs.declared.call.Call.TheVariants.{InsertMany, Single}
-use Rattle.driver_actions.specs.declared.call.SingleAnswer.{SingleAnswer}
+use Rattle.driver_attempt.specs.Moment.{Moment}
 use Rattle.driver_actions.specs.Causes.{WriteCaused}
-use Rattle.driver_actions.specs.Forms.{form_of}
 use Rattle.driver_actions.specs.ManyCalls.{MakesMany, ManyCaused}
 use Rattle.driver_actions.specs.SingleCalls.{Makes, first_place}
+use Rattle.driver_inputs.specs.declared.call.Answer.{Answer}
+use Rattle.driver_inputs.specs.declared.call.Answer.TheVariants as answer
+use Rattle.driver_inputs.specs.declared.call.Call.{Call}
+use Rattle.driver_inputs.specs.declared.call.Call.TheVariants.{InsertMany, Single}
+use Rattle.driver_inputs.specs.declared.call.SingleAnswer.{SingleAnswer}
+use Rattle.driver_inputs.specs.Forms.{form_of}
 
 -- an answer is that of a single write
 abbrev pub OfSingle : (Result SingleAnswer Error → Type 0) → Result Answer Error → Type 0

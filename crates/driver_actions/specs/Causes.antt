@@ -11,20 +11,20 @@ use Rattle.driver_error.specs.declared.kind.ErrorKind.TheVariants as kind
 use Rattle.driver_error.specs.Conversions.{Converts}
 use Rattle.driver_error.specs.Error.{ErrorKind, kind_of}
 use Rattle.driver_error.specs.LabelTexts.{no_labels}
-use Rattle.driver_link.specs.declared.write_options.InsertManyOptions.{InsertManyOptions}
-use Rattle.driver_ops.specs.declared.own_document.OwnDocument.{OwnDocument}
+use Rattle.driver_options.specs.declared.write_options.InsertManyOptions.{InsertManyOptions}
 use Rattle.driver_ops.specs.Encoding.{IsUnspelled}
-use Rattle.driver_ops.specs.InsertSpec.{insert_spec}
 use Rattle.driver_ops.specs.Operations.{OperationSpec}
 use Rattle.driver_ops.specs.SendKinds.{first}
-use Rattle.driver_ops.specs.StatementSpec.{delete_spec, find_spec, update_spec}
 use Rattle.driver_ops.specs.Targets.{in_collection}
-use Rattle.driver_exec.specs.Causes.{ErrorOutline, end_of}
-use Rattle.driver_exec.specs.Moment.{Moment}
+use Rattle.write_ops.specs.declared.own_document.OwnDocument.{OwnDocument}
+use Rattle.write_ops.specs.InsertSpec.{insert_spec}
+use Rattle.write_ops.specs.StatementSpec.{delete_spec, find_spec, update_spec}
+use Rattle.driver_attempt.specs.Causes.{ErrorOutline, end_of}
+use Rattle.driver_attempt.specs.Moment.{Moment}
 use Rattle.driver_exec.specs.OperationCauses.{Caused}
-use Rattle.driver_actions.specs.Forms.{WriteForm, deletes, finds, inserts, updates}
-use Rattle.driver_actions.specs.Inputs.{InputRefused, TellsInput}
 use Rattle.driver_actions.specs.OwnIds.{DrawsOwn}
+use Rattle.driver_inputs.specs.Forms.{WriteForm, deletes, finds, inserts, updates}
+use Rattle.driver_inputs.specs.Inputs.{InputRefused, TellsInput}
 
 -- an end tells of an error of this kind without labels, or of want of memory
 abbrev pub TellsKind : ErrorKind → Option ErrorOutline → Type 0

@@ -6,20 +6,20 @@ use Rattle.bson_lite.specs.declared.bson.ObjectId.{ObjectId}
 use Rattle.bson_lite.specs.declared.document.Pair.{Pair}
 use Rattle.bson_lite.specs.declared.namespace.Namespace.{Namespace}
 use Rattle.bson_lite.specs.Spelling.{spelling}
-use Rattle.driver_batches.specs.Batches.{IsFewest}
-use Rattle.driver_batches.specs.Sizes.{Fits}
 use Rattle.driver_error.specs.declared.error.Error.{Error}
 use Rattle.driver_error.specs.declared.results.InsertManyResult.{InsertManyResult}
+use Rattle.driver_options.specs.declared.write_options.InsertManyOptions.{InsertManyOptions}
+use Rattle.driver_batches.specs.Batches.{IsFewest}
+use Rattle.driver_batches.specs.Sizes.{Fits}
 use Rattle.driver_link.specs.declared.machine.Place.{Place}
 use Rattle.driver_link.specs.declared.machine.Send.{Send}
-use Rattle.driver_link.specs.declared.write_options.InsertManyOptions.{InsertManyOptions}
 use Rattle.driver_link.specs.Cases.{writes_of}
 use Rattle.driver_link.specs.LinkState.{server_run}
 use Rattle.driver_link.specs.ServerRun.{ServerRun}
-use Rattle.driver_ops.specs.InsertFronts.{insert_limits}
-use Rattle.driver_exec.specs.Moment.{Moment}
+use Rattle.write_ops.specs.InsertFronts.{insert_limits}
+use Rattle.driver_attempt.specs.Moment.{Moment}
 use Rattle.driver_actions.specs.Batches.{places_from}
-use Rattle.driver_actions.specs.ManyInputs.{AreTwelve, with_ids}
+use Rattle.driver_inputs.specs.ManyInputs.{AreTwelve, with_ids}
 
 -- the places of a send's writes
 abbrev pub places_of : Send → List Place

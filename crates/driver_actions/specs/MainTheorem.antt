@@ -7,15 +7,15 @@ use Rattle.std.specs.Result.{result_ok}
 use Rattle.bson_lite.specs.declared.bson.ObjectId.{ObjectId}
 use Rattle.bson_lite.specs.Fields.{with_id}
 use Rattle.bson_lite.specs.Spelling.{refusal, spelling}
-use Rattle.driver_batches.specs.Sizes.{Fits}
 use Rattle.driver_error.specs.declared.error.Error.{Error}
+use Rattle.driver_options.specs.declared.options.ClientOptions.{ClientOptions}
+use Rattle.driver_options.specs.declared.options.Description.{Description}
+use Rattle.driver_batches.specs.Sizes.{Fits}
 use Rattle.driver_link.specs.declared.machine.Item.{Item}
 use Rattle.driver_link.specs.declared.machine.PlacedWrite.{PlacedWrite}
 use Rattle.driver_link.specs.declared.machine.Send.{Send}
 use Rattle.driver_link.specs.declared.machine.Server.{Server}
 use Rattle.driver_link.specs.declared.machine.Setup.{Setup}
-use Rattle.driver_link.specs.declared.options.ClientOptions.{ClientOptions}
-use Rattle.driver_link.specs.declared.options.Description.{Description}
 use Rattle.driver_link.specs.Cases.{writes_of}
 use Rattle.driver_link.specs.Exchange.{after_picks, replayed, empty_server}
 use Rattle.driver_link.specs.Once.{Once}
@@ -25,23 +25,23 @@ use Rattle.driver_link.specs.ServerRun.{IsFresh, ServerRun}
 use Rattle.driver_session.specs.Session.{last_number}
 use Rattle.driver_session.specs.StoreTells.{DrawnApart, IsNewStore}
 use Rattle.driver_ops.specs.Fields.{IsSixteen, SendContext}
-use Rattle.driver_ops.specs.InsertFronts.{insert_limits}
 use Rattle.driver_ops.specs.Targets.{in_collection}
-use Rattle.driver_exec.specs.Concerns.{concern_refusal}
+use Rattle.write_ops.specs.InsertFronts.{insert_limits}
+use Rattle.driver_attempt.specs.Concerns.{concern_refusal}
+use Rattle.driver_attempt.specs.Moment.{Moment}
 use Rattle.driver_exec.specs.Gentle.{EndsWell}
-use Rattle.driver_exec.specs.Moment.{Moment}
 use Rattle.driver_exec.specs.OperationCauses.{DrawsNumbers}
-use Rattle.driver_actions.specs.declared.call.Answer.{Answer}
-use Rattle.driver_actions.specs.declared.call.Call.{Call}
-use Rattle.driver_actions.specs.declared.call.Outcome.{Outcome}
-use Rattle.driver_actions.specs.declared.call.Call.TheVariants.{InsertMany, Single}
-use Rattle.driver_actions.specs.Calls.{Mine, Done, call_result}
 use Rattle.driver_actions.specs.CallByCall.{CallByCall, CallCaused}
-use Rattle.driver_actions.specs.Forms.{WriteForm, body_in, concern_in, form_of, inserts, kind_in, repeats_in}
-use Rattle.driver_actions.specs.Inputs.{IsAccepted}
 use Rattle.driver_actions.specs.ManyCompleteness.{InsertsHaveNumbers, IsGentleCallWhereTold, IsValidMany, ServesInserts}
 use Rattle.driver_actions.specs.ManyLeft.{LeavesByCall}
 use Rattle.driver_actions.specs.Numbers.{many_numbers}
+use Rattle.driver_inputs.specs.declared.call.Answer.{Answer}
+use Rattle.driver_inputs.specs.declared.call.Call.{Call}
+use Rattle.driver_inputs.specs.declared.call.Outcome.{Outcome}
+use Rattle.driver_inputs.specs.declared.call.Call.TheVariants.{InsertMany, Single}
+use Rattle.driver_inputs.specs.Calls.{Mine, Done, call_result}
+use Rattle.driver_inputs.specs.Forms.{WriteForm, body_in, concern_in, form_of, inserts, kind_in, repeats_in}
+use Rattle.driver_inputs.specs.Inputs.{IsAccepted}
 
 -- the answer of the call at a number, where it is Ok
 abbrev pub answer_at : List Outcome → ℕ → Option Answer

@@ -12,8 +12,8 @@ use Rattle.driver_error.specs.declared.write.WriteConcernError.{WriteConcernErro
 use Rattle.driver_error.specs.Conversions.{IsMade}
 use Rattle.driver_error.specs.Error.{ErrorKind, kind_of, labels_of}
 use Rattle.driver_error.specs.LabelTexts.{LabelSet, in_order, no_labels, with_labels}
-use Rattle.driver_ops.specs.InsertAnswers.{errors_there}
-use Rattle.driver_ops.specs.InsertSpec.{id_beside}
+use Rattle.write_ops.specs.InsertAnswers.{errors_there}
+use Rattle.write_ops.specs.InsertSpec.{id_beside}
 use Rattle.driver_actions.specs.declared.gathered.Gathered.{Gathered}
 use Rattle.driver_actions.specs.Batches.{BatchEnd, is_of_documents}
 

@@ -6,17 +6,17 @@ use Rattle.driver_error.specs.declared.error.Error.{Error}
 use Rattle.driver_error.specs.declared.kind.ErrorKind.TheVariants as kind
 use Rattle.driver_error.specs.declared.results.InsertManyResult.{InsertManyResult}
 use Rattle.driver_error.specs.Error.{ErrorKind, kind_of}
-use Rattle.driver_link.specs.declared.write_options.InsertManyOptions.{InsertManyOptions}
-use Rattle.driver_ops.specs.declared.own_document.OwnDocument.{OwnDocument}
+use Rattle.driver_options.specs.declared.write_options.InsertManyOptions.{InsertManyOptions}
 use Rattle.driver_ops.specs.declared.target.OperationTarget.{OperationTarget}
 use Rattle.driver_ops.specs.Targets.{namespace_of}
-use Rattle.driver_exec.specs.Causes.{ErrorOutline, end_of}
-use Rattle.driver_exec.specs.Moment.{Moment}
+use Rattle.write_ops.specs.declared.own_document.OwnDocument.{OwnDocument}
+use Rattle.driver_attempt.specs.Causes.{ErrorOutline, end_of}
+use Rattle.driver_attempt.specs.Moment.{Moment}
 use Rattle.driver_actions.specs.Batches.{BatchEnd, MakesBatches}
 use Rattle.driver_actions.specs.Causes.{TellsKind}
 use Rattle.driver_actions.specs.ManyAnswers.{AnswersMany}
 use Rattle.driver_actions.specs.ManyIds.{MayDrawAllBy, OwnsAll}
-use Rattle.driver_actions.specs.ManyInputs.{IsManyAccepted, ManyInputRefused, TellsManyInput}
+use Rattle.driver_inputs.specs.ManyInputs.{IsManyAccepted, ManyInputRefused, TellsManyInput}
 
 -- a call ended for want of memory
 abbrev pub RanShort : {A : Type 0} → Result A Error → Type 0

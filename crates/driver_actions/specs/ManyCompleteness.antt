@@ -6,18 +6,18 @@ use Rattle.bson_lite.specs.declared.document.Pair.{Pair}
 use Rattle.bson_lite.specs.declared.namespace.Namespace.{Namespace}
 use Rattle.bson_lite.specs.Fields.{with_id}
 use Rattle.bson_lite.specs.Spelling.{refusal, spelling}
-use Rattle.driver_batches.specs.Sizes.{Fits}
 use Rattle.driver_error.specs.declared.error.Error.{Error}
 use Rattle.driver_error.specs.declared.results.InsertManyResult.{InsertManyResult}
-use Rattle.driver_link.specs.declared.concerns.WriteConcern.{WriteConcern}
+use Rattle.driver_options.specs.declared.concerns.WriteConcern.{WriteConcern}
+use Rattle.driver_options.specs.declared.options.ClientOptions.{ClientOptions}
+use Rattle.driver_options.specs.declared.options.Description.{Description}
+use Rattle.driver_options.specs.declared.write_options.InsertManyOptions.{InsertManyOptions}
+use Rattle.driver_batches.specs.Sizes.{Fits}
 use Rattle.driver_link.specs.declared.machine.Item.{Item}
 use Rattle.driver_link.specs.declared.machine.Item.TheVariants.{Serve}
 use Rattle.driver_link.specs.declared.machine.Planned.{Planned}
 use Rattle.driver_link.specs.declared.machine.Send.{Send}
 use Rattle.driver_link.specs.declared.machine.Setup.{Setup}
-use Rattle.driver_link.specs.declared.options.ClientOptions.{ClientOptions}
-use Rattle.driver_link.specs.declared.options.Description.{Description}
-use Rattle.driver_link.specs.declared.write_options.InsertManyOptions.{InsertManyOptions}
 use Rattle.driver_link.specs.Exchange.{step_at}
 use Rattle.driver_link.specs.LinkState.{server_run, setup_of}
 use Rattle.driver_link.specs.ServerRun.{ServerRun}
@@ -27,18 +27,18 @@ use Rattle.driver_session.specs.Session.{last_number}
 use Rattle.driver_ops.specs.declared.target.OperationTarget.{OperationTarget}
 use Rattle.driver_ops.specs.Features.{feature_of}
 use Rattle.driver_ops.specs.Fields.{IsSixteen, SendContext, executor_fields}
-use Rattle.driver_ops.specs.InsertFronts.{insert_limits}
 use Rattle.driver_ops.specs.Inserts.{insert_command}
-use Rattle.driver_ops.specs.InsertSpec.{own_of_insert}
 use Rattle.driver_ops.specs.Targets.{namespace_of}
+use Rattle.write_ops.specs.InsertFronts.{insert_limits}
+use Rattle.write_ops.specs.InsertSpec.{own_of_insert}
+use Rattle.driver_attempt.specs.Concerns.{concern_refusal, effective_concern}
+use Rattle.driver_attempt.specs.Moment.{Moment}
 use Rattle.driver_exec.specs.BetweenCalls.{NumbersWithin}
-use Rattle.driver_exec.specs.Concerns.{concern_refusal, effective_concern}
 use Rattle.driver_exec.specs.Gentle.{EndsWell, IsLossy, IsOfPart, NoneListed}
-use Rattle.driver_exec.specs.Moment.{Moment}
 use Rattle.driver_exec.specs.OperationCauses.{DrawsNumbers}
 use Rattle.driver_actions.specs.ManyEntries.{MayWriteCall}
-use Rattle.driver_actions.specs.ManyInputs.{IsManyAccepted}
 use Rattle.driver_actions.specs.Numbers.{many_numbers, server_setup}
+use Rattle.driver_inputs.specs.ManyInputs.{IsManyAccepted}
 
 -- the exchanges of a part with these numbers are of sends that carry the same
 abbrev pub CarrySame : ServerRun → ℕ → ℕ → Type 0

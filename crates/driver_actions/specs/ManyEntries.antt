@@ -20,9 +20,9 @@ use Rattle.driver_link.specs.LinkState.{server_run}
 use Rattle.driver_link.specs.ServerRun.{ServerRun}
 use Rattle.driver_link.specs.Settled.{Has}
 use Rattle.driver_session.specs.Pool.{Pool}
+use Rattle.driver_attempt.specs.Moment.{Moment}
 use Rattle.driver_exec.specs.BetweenCalls.{Between, Sound}
-use Rattle.driver_exec.specs.Moment.{Moment}
-use Rattle.driver_actions.specs.Calls.{IsOwn, entry_id, given_insert}
+use Rattle.driver_inputs.specs.Calls.{IsOwn, entry_id, given_insert}
 
 -- no write of a trace has a place of this call
 abbrev pub IsNewCall : List Send → ℕ → Type 0

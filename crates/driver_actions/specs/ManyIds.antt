@@ -8,11 +8,11 @@ use Rattle.driver_error.specs.declared.error.Error.{Error}
 use Rattle.driver_error.specs.declared.kind.ErrorKind.TheVariants.{Memory}
 use Rattle.driver_error.specs.Error.{kind_of}
 use Rattle.driver_session.specs.StoreTells.{StoreTells}
-use Rattle.driver_ops.specs.declared.own_document.OwnDocument.{OwnDocument}
-use Rattle.driver_ops.specs.InsertSpec.{AreOwn}
-use Rattle.driver_exec.specs.Moment.{Moment}
-use Rattle.driver_actions.specs.ManyInputs.{AreTwelve, with_ids}
+use Rattle.write_ops.specs.declared.own_document.OwnDocument.{OwnDocument}
+use Rattle.write_ops.specs.InsertSpec.{AreOwn}
+use Rattle.driver_attempt.specs.Moment.{Moment}
 use Rattle.driver_actions.specs.OwnIds.{DrawsOwnId}
+use Rattle.driver_inputs.specs.ManyInputs.{AreTwelve, with_ids}
 
 -- for each document without an id one is drawn, in order, each the next to come; for one that has an id nothing is
 abbrev pub DrawsOwnIds : StoreTells → StoreTells → List (List (Pair Bson)) → List ObjectId → Type 0

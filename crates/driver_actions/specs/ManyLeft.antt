@@ -5,20 +5,20 @@ use Rattle.bson_lite.specs.declared.document.Pair.{Pair}
 use Rattle.bson_lite.specs.declared.namespace.Namespace.{Namespace}
 use Rattle.driver_error.specs.declared.error.Error.{Error}
 use Rattle.driver_error.specs.declared.results.InsertManyResult.{InsertManyResult}
+use Rattle.driver_options.specs.declared.write_options.InsertManyOptions.{InsertManyOptions}
 use Rattle.driver_link.specs.Clock.{ClockTells}
-use Rattle.driver_link.specs.declared.write_options.InsertManyOptions.{InsertManyOptions}
 use Rattle.driver_link.specs.LinkState.{server_run}
 use Rattle.driver_ops.specs.Targets.{in_collection}
-use Rattle.driver_exec.specs.Moment.{Moment}
-use Rattle.driver_actions.specs.declared.call.Answer.{Answer}
-use Rattle.driver_actions.specs.declared.call.Call.{Call}
-use Rattle.driver_actions.specs.declared.call.Call.TheVariants.{InsertMany, Single}
+use Rattle.driver_attempt.specs.Moment.{Moment}
 use Rattle.driver_actions.specs.CallByCall.{with_clock}
 use Rattle.driver_actions.specs.CallMaking.{OfMany}
 use Rattle.driver_actions.specs.FewestBatches.{OkIsFewestCut}
 use Rattle.driver_actions.specs.ManyCalls.{MadeMany}
 use Rattle.driver_actions.specs.ManyEntries.{AnswerStands}
 use Rattle.driver_actions.specs.ManyTold.{IsToldTruly}
+use Rattle.driver_inputs.specs.declared.call.Answer.{Answer}
+use Rattle.driver_inputs.specs.declared.call.Call.{Call}
+use Rattle.driver_inputs.specs.declared.call.Call.TheVariants.{InsertMany, Single}
 
 -- where the link tells its server the documents that the answer lists stand in the log, which are all where it is Ok; what the
 -- batches told is so, however the call ended and whichever two clocks it was made between; and the sends of an Ok are a

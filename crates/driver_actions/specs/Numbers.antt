@@ -5,11 +5,11 @@ use Rattle.bson_lite.specs.declared.document.Pair.{Pair}
 use Rattle.bson_lite.specs.declared.namespace.Namespace.{Namespace}
 use Rattle.bson_lite.specs.Fields.{id_key, value_of}
 use Rattle.bson_lite.specs.Spelling.{spelling}
+use Rattle.driver_options.specs.declared.write_options.InsertManyOptions.{InsertManyOptions}
 use Rattle.driver_batches.specs.declared.sizes.Limits.{Limits}
 use Rattle.driver_link.specs.declared.machine.Setup.{Setup}
-use Rattle.driver_link.specs.declared.write_options.InsertManyOptions.{InsertManyOptions}
 use Rattle.driver_link.specs.ServerRun.{ServerRun}
-use Rattle.driver_ops.specs.InsertFronts.{insert_limits}
+use Rattle.write_ops.specs.InsertFronts.{insert_limits}
 
 -- a document of this size goes into a run that has so many documents and bytes already
 abbrev pub goes_in : Limits → ℕ → ℕ → ℕ → Bool

@@ -10,8 +10,8 @@ use Rattle.driver_error.specs.declared.kind.ErrorKind.TheVariants.{Memory}
 use Rattle.driver_error.specs.declared.results.InsertOneResult.{InsertOneResult}
 use Rattle.driver_error.specs.Error.{kind_of}
 use Rattle.driver_session.specs.StoreTells.{DrawsObjectId, MayDrawObjectId, StoreTells}
-use Rattle.driver_ops.specs.declared.own_document.OwnDocument.{OwnDocument}
-use Rattle.driver_exec.specs.Moment.{Moment}
+use Rattle.write_ops.specs.declared.own_document.OwnDocument.{OwnDocument}
+use Rattle.driver_attempt.specs.Moment.{Moment}
 
 -- for a document without an id this one is drawn, the next to come; for one that has an id nothing is
 abbrev pub DrawsOwnId : Option Bson → StoreTells → StoreTells → ObjectId → Type 0

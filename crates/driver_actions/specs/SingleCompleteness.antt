@@ -6,14 +6,14 @@ use Rattle.driver_link.specs.Retried.{IsGentleItem}
 use Rattle.driver_link.specs.LinkState.{server_run, setup_of}
 use Rattle.driver_link.specs.ServerRun.{ServerRun}
 use Rattle.driver_session.specs.Pool.{Pool}
+use Rattle.driver_attempt.specs.Moment.{Moment}
 use Rattle.driver_exec.specs.BetweenCalls.{NumbersWithin}
 use Rattle.driver_exec.specs.Gentle.{EndsWell, IsGentleWhereTold}
-use Rattle.driver_exec.specs.Moment.{Moment}
 use Rattle.driver_exec.specs.OperationCauses.{DrawsNumbers}
-use Rattle.driver_actions.specs.declared.call.SingleAnswer.{SingleAnswer}
-use Rattle.driver_actions.specs.Forms.{WriteForm, kind_in, repeats_in}
 use Rattle.driver_actions.specs.MainTheorem.{IsValidWrite}
 use Rattle.driver_actions.specs.SingleEntries.{MayWrite}
+use Rattle.driver_inputs.specs.declared.call.SingleAnswer.{SingleAnswer}
+use Rattle.driver_inputs.specs.Forms.{WriteForm, kind_in, repeats_in}
 
 -- the numbers of idle sessions rise by one at most, where the pool is told
 abbrev pub RaisesWhereTold : Option Pool → Option Pool → Type 0

@@ -12,10 +12,10 @@ use Rattle.driver_link.specs.LinkState.{server_run}
 use Rattle.driver_link.specs.ServerRun.{ServerRun}
 use Rattle.driver_link.specs.Settled.{Has}
 use Rattle.driver_session.specs.Pool.{Pool}
+use Rattle.driver_attempt.specs.Moment.{Moment}
 use Rattle.driver_exec.specs.BetweenCalls.{Between, Sound}
-use Rattle.driver_exec.specs.Moment.{Moment}
-use Rattle.driver_actions.specs.declared.call.SingleAnswer.{SingleAnswer}
-use Rattle.driver_actions.specs.Calls.{IsOwn, answer_by}
+use Rattle.driver_inputs.specs.declared.call.SingleAnswer.{SingleAnswer}
+use Rattle.driver_inputs.specs.Calls.{IsOwn, answer_by}
 
 -- a place stands in no send of a trace
 abbrev pub IsNewPlace : List Send → Place → Type 0

@@ -8,13 +8,13 @@ use Rattle.driver_link.specs.Settled.{Has}
 use Rattle.driver_link.specs.LinkState.{server_run}
 use Rattle.driver_link.specs.ServerRun.{ServerRun}
 use Rattle.driver_session.specs.Pool.{Pool}
+use Rattle.driver_attempt.specs.Moment.{Moment}
 use Rattle.driver_exec.specs.BetweenCalls.{Between, NumbersWithin, Sound}
-use Rattle.driver_exec.specs.Moment.{Moment}
-use Rattle.driver_actions.specs.declared.call.Call.{Call}
-use Rattle.driver_actions.specs.declared.call.Outcome.{Outcome}
-use Rattle.driver_actions.specs.Calls.{OwnAt, write_at}
 use Rattle.driver_actions.specs.CallByCall.{CallCaused}
 use Rattle.driver_actions.specs.MainTheorem.{CallEnds, MainTheorem, all_numbers_of}
+use Rattle.driver_inputs.specs.declared.call.Call.{Call}
+use Rattle.driver_inputs.specs.declared.call.Outcome.{Outcome}
+use Rattle.driver_inputs.specs.Calls.{OwnAt, write_at}
 
 -- a run of calls: how many were made, for how many there is room, their outcomes, and the slots of open sessions, of which
 -- there are none until calls open sessions

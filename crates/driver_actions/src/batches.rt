@@ -2,8 +2,8 @@
 ghost use Rattle.std.specs.Prelude.{◌≡◌, ◌<◌, ◌≤◌, drop, length, IfOk, OnErr};
 ghost use Rattle.driver_ops.specs.Inserts.{insert_is_ordered};
 ghost use Rattle.driver_ops.specs.declared.target.OperationTarget.TheVariants.{Collection as Within};
-ghost use Rattle.driver_exec.specs.Client.{options_of};
-ghost use Rattle.driver_exec.specs.Moment.{moment_of};
+ghost use Rattle.driver_attempt.specs.Client.{options_of};
+ghost use Rattle.driver_attempt.specs.Moment.{moment_of};
 ghost use Rattle.driver_actions.specs.Batches.{goes_on, places_from};
 ghost use Rattle.driver_actions.specs.ManyAnswers.{nothing_gathered};
 ghost use Rattle.driver_actions.specs.inside.Batches.{AreSpelled, BatchMade, BatchesMade, ComesBehind, GathersAll, NextBehind, StepsWithin};
@@ -11,15 +11,18 @@ ghost use Rattle.driver_actions.specs.inside.Batches.{AreSpelled, BatchMade, Bat
 use crate::behind::Behind;
 use crate::gathered::{Gathered, tells_documents};
 use bson_lite::TryClone;
+use driver_attempt::{Client, Outside, Steps};
 use driver_error::{Error, ErrorKind, InsertManyResult, Result};
-use driver_exec::{Client, Outside, Steps, execute_operation};
-use driver_link::{Clock, InsertManyOptions, Link, Place};
-use driver_ops::{Collection, Insert, Operation, OwnDocument};
+use driver_exec::execute_operation;
+use driver_link::{Clock, Link, Place};
+use driver_ops::{Collection, Operation};
+use driver_options::InsertManyOptions;
 use driver_session::SessionStore;
 use rand_core::Rng;
 use std::alloc::{AllocError, Global};
 use std::marker::Brand;
 use std::sync::ledger::{Blank, Ledger};
+use write_ops::{Insert, OwnDocument};
 
 /// The places of so many documents of a call, from the first one on.
 #[tactic(auto, using(crate::proofs::BatchPlaces::places_more))]

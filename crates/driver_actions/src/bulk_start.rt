@@ -1,15 +1,15 @@
 //! What a bulk write begins with: its input is judged, and then its ops are made.
 ghost use Rattle.std.specs.Prelude.{◌≡◌};
-ghost use Rattle.driver_exec.specs.Client.{options_of, store_of};
+ghost use Rattle.driver_attempt.specs.Client.{options_of, store_of};
 ghost use Rattle.driver_actions.specs.BulkIds.{PreparesOps};
 
-use crate::bulk_refusal::bulk_refusal;
 use crate::own_ops::own_ops;
 use bson_lite::List;
+use bulk_ops::OwnOp;
+use driver_attempt::Client;
 use driver_error::Result;
-use driver_exec::Client;
-use driver_link::{BulkWriteOptions, WriteModel};
-use driver_ops::OwnOp;
+use driver_inputs::bulk_refusal::bulk_refusal;
+use driver_options::{BulkWriteOptions, WriteModel};
 use driver_session::SessionStore;
 use std::alloc::Global;
 

@@ -1,15 +1,15 @@
 //! A run of calls, which a program feeds call by call.
 ghost use Rattle.std.specs.Prelude.{◌≡◌, ◌<◌, ◌≤◌, List as Listed, length, slice_get, take, IfOk, Some};
 ghost use Rattle.driver_session.specs.StoreTells.{IsNewStore};
-ghost use Rattle.driver_exec.specs.Moment.{DrawsInOrder, HasDrawnApart, HasFreshServer, KeepsClient, KeepsLent, Moment, moment_of};
+ghost use Rattle.driver_attempt.specs.Moment.{DrawsInOrder, HasDrawnApart, HasFreshServer, KeepsClient, KeepsLent, Moment, moment_of};
 ghost use Rattle.driver_actions.specs.MainTheorem.{IsReplayed, KeepsMaking, MeetsMainTheorem};
 ghost use Rattle.driver_actions.specs.Standing.{MakesCaused, MakesEnded, RunInvariant, new_run, run_more};
-ghost use Rattle.driver_actions.specs.declared.call.Call.{Call as Asked};
+ghost use Rattle.driver_inputs.specs.declared.call.Call.{Call as Asked};
 
-use crate::call::{Call, Outcome};
 use crate::making::make_call;
 use bson_lite::List;
-use driver_exec::{Client, Outside};
+use driver_attempt::{Client, Outside};
+use driver_inputs::{Call, Outcome};
 use driver_link::{Clock, Link};
 use driver_session::SessionStore;
 use rand_core::Rng;
@@ -26,7 +26,7 @@ impl Model for CallRun {
     ghost use Rattle.std.specs.Coded.{codes};
     ghost use Rattle.std.specs.Prelude.{[], vec_capacity, vec_len};
     ghost use Rattle.driver_actions.specs.Standing.{RunState};
-    ghost use Rattle.driver_actions.specs.contracts.call.Outcome as outcome_contract;
+    ghost use Rattle.driver_inputs.specs.contracts.call.Outcome as outcome_contract;
 
     ghost Value = { RunState };
 

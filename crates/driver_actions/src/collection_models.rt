@@ -3,11 +3,11 @@ ghost use Rattle.std.specs.Prelude.{◌≡◌, IfErr, IfOk, None};
 ghost use Rattle.driver_error.specs.declared.kind.ErrorKind.TheVariants.{Memory};
 ghost use Rattle.driver_error.specs.Error.{kind_of};
 
-use crate::to_document::ToDocument;
 use bson_lite::{Document, TryClone};
 use driver_error::Result;
-use driver_link::{InsertOneModel, ReplaceOneModel};
+use driver_inputs::ToDocument;
 use driver_ops::Collection;
+use driver_options::{InsertOneModel, ReplaceOneModel};
 use std::alloc::Global;
 
 /// Models of writes on a collection.

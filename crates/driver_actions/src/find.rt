@@ -1,32 +1,33 @@
 //! The writes that answer the document which their filter finds, from their caller to their answer.
 ghost use Rattle.std.specs.Prelude.{◌≡◌, IfOk};
-ghost use Rattle.driver_link.specs.FindOptions.{options_of_delete, options_of_replace, options_of_update};
-ghost use Rattle.driver_link.specs.declared.updates.Modification.TheVariants.{Delete, Update};
-ghost use Rattle.driver_link.specs.declared.updates.UpdateOrReplace.TheVariants.{Replacement, UpdateModifications as Modifies};
+ghost use Rattle.driver_options.specs.FindOptions.{options_of_delete, options_of_replace, options_of_update};
+ghost use Rattle.driver_options.specs.declared.updates.Modification.TheVariants.{Delete, Update};
+ghost use Rattle.driver_options.specs.declared.updates.UpdateOrReplace.TheVariants.{Replacement, UpdateModifications as Modifies};
 ghost use Rattle.driver_ops.specs.Targets.{in_collection};
 ghost use Rattle.driver_ops.specs.declared.target.OperationTarget.TheVariants.{Collection as Within};
-ghost use Rattle.driver_exec.specs.Client.{options_of};
-ghost use Rattle.driver_exec.specs.Moment.{moment_of};
+ghost use Rattle.driver_attempt.specs.Client.{options_of};
+ghost use Rattle.driver_attempt.specs.Moment.{moment_of};
 ghost use Rattle.driver_actions.specs.Causes.{WriteCaused};
-ghost use Rattle.driver_actions.specs.Forms.{finds};
 ghost use Rattle.driver_actions.specs.SingleCalls.{Makes};
+ghost use Rattle.driver_inputs.specs.Forms.{finds};
 
-use crate::call::SingleAnswer;
-use crate::refusal::find_refusal;
 use crate::single_operation::run_single;
 use bson_lite::{Document, Namespace, TryClone};
+use driver_attempt::{Client, Outside};
 use driver_error::{Error, Result};
-use driver_exec::{Client, Outside};
-use driver_link::{
-    Clock, FindAndModifyOptions, FindOneAndDeleteOptions, FindOneAndReplaceOptions,
-    FindOneAndUpdateOptions, Link, Modification, Place, UpdateModifications, UpdateOrReplace,
+use driver_inputs::{SingleAnswer, find_refusal};
+use driver_link::{Clock, Link, Place};
+use driver_ops::Collection;
+use driver_options::{
+    FindAndModifyOptions, FindOneAndDeleteOptions, FindOneAndReplaceOptions,
+    FindOneAndUpdateOptions, Modification, UpdateModifications, UpdateOrReplace,
 };
-use driver_ops::{Collection, FindAndModify};
 use driver_session::SessionStore;
 use rand_core::Rng;
 use std::alloc::{AllocError, Global};
 use std::marker::Brand;
 use std::sync::ledger::Blank;
+use write_ops::FindAndModify;
 
 /// Takes out one of the documents that a filter finds, in a place that is given, and answers it.
 pub(crate) fn find_one_and_delete<S: SessionStore, L: Link, K: Clock, R: Rng>(

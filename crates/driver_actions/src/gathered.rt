@@ -5,8 +5,8 @@ ghost use Rattle.driver_error.specs.declared.kind.ErrorKind.TheVariants.{InsertM
 ghost use Rattle.driver_error.specs.Conversions.{IsNew};
 ghost use Rattle.driver_error.specs.Error.{kind_of};
 ghost use Rattle.driver_error.specs.LabelTexts.{in_order, with_labels};
-ghost use Rattle.driver_ops.specs.InsertAnswers.{errors_there};
-ghost use Rattle.driver_ops.specs.InsertSpec.{id_beside};
+ghost use Rattle.write_ops.specs.InsertAnswers.{errors_there};
+ghost use Rattle.write_ops.specs.InsertSpec.{id_beside};
 ghost use Rattle.driver_actions.specs.Batches.{tells_documents};
 ghost use Rattle.driver_actions.specs.ManyAnswers.{failures_of, later_concern, moved_error, nothing_gathered, put_ids, told_errors, with_failures, with_kind};
 ghost use Rattle.driver_actions.specs.inside.Taking.{AnswersTold, StopsWith, Takes};

@@ -1,25 +1,26 @@
 //! The insert of one document, from its caller to its answer.
 ghost use Rattle.std.specs.Prelude.{◌≡◌};
-ghost use Rattle.driver_exec.specs.Client.{options_of};
-ghost use Rattle.driver_exec.specs.Moment.{moment_of};
+ghost use Rattle.driver_attempt.specs.Client.{options_of};
+ghost use Rattle.driver_attempt.specs.Moment.{moment_of};
 ghost use Rattle.driver_actions.specs.Causes.{WriteCaused};
-ghost use Rattle.driver_actions.specs.Forms.{inserts};
 ghost use Rattle.driver_actions.specs.SingleCalls.{Makes};
+ghost use Rattle.driver_inputs.specs.Forms.{inserts};
 
-use crate::call::SingleAnswer;
 use crate::own_ids::{AnsweredDocument, own_document};
-use crate::refusal::insert_refusal;
 use crate::single_operation::run_single;
 use bson_lite::{Document, Namespace, TryClone};
+use driver_attempt::{Client, Outside};
 use driver_error::Result;
-use driver_exec::{Client, Outside};
-use driver_link::{Clock, InsertManyOptions, Link, Place};
-use driver_ops::{Collection, Insert};
+use driver_inputs::{SingleAnswer, insert_refusal};
+use driver_link::{Clock, Link, Place};
+use driver_ops::Collection;
+use driver_options::InsertManyOptions;
 use driver_session::SessionStore;
 use rand_core::Rng;
 use std::alloc::Global;
 use std::marker::Brand;
 use std::sync::ledger::Blank;
+use write_ops::Insert;
 
 /// Inserts one document, whose place is given.
 pub(crate) fn insert_one<S: SessionStore, L: Link, K: Clock, R: Rng>(

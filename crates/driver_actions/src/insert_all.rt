@@ -1,18 +1,19 @@
 //! The insert of many documents, from its caller to its answer.
 ghost use Rattle.std.specs.Prelude.{◌≡◌};
 ghost use Rattle.driver_ops.specs.declared.target.OperationTarget.TheVariants.{Collection as Within};
-ghost use Rattle.driver_exec.specs.Client.{options_of};
-ghost use Rattle.driver_exec.specs.Moment.{moment_of};
+ghost use Rattle.driver_attempt.specs.Client.{options_of};
+ghost use Rattle.driver_attempt.specs.Moment.{moment_of};
 ghost use Rattle.driver_actions.specs.ManyCalls.{MakesMany, ManyCaused};
 
 use crate::batches::make_batches;
-use crate::many_refusal::many_refusal;
 use crate::own_ids::own_documents;
 use bson_lite::Document;
+use driver_attempt::{Client, Outside};
 use driver_error::{InsertManyResult, Result};
-use driver_exec::{Client, Outside};
-use driver_link::{Clock, InsertManyOptions, Link};
+use driver_inputs::many_refusal::many_refusal;
+use driver_link::{Clock, Link};
 use driver_ops::Collection;
+use driver_options::InsertManyOptions;
 use driver_session::SessionStore;
 use rand_core::Rng;
 use std::alloc::Global;

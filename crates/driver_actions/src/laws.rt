@@ -4,22 +4,22 @@ ghost use Rattle.std.specs.Prelude.{◌≡◌, ◌≤◌, ◌++◌, ◌∷◌, �
 ghost use Rattle.std.specs.FinMap as finite;
 ghost use Rattle.bson_lite.specs.declared.bson.Bson.{Bson};
 ghost use Rattle.bson_lite.specs.declared.document.Pair.{Pair};
-ghost use Rattle.driver_batches.specs.declared.sizes.Limits.{Limits};
-ghost use Rattle.driver_batches.specs.Batches.{IsPartition};
-ghost use Rattle.driver_batches.specs.Sizes.{Fits};
 ghost use Rattle.driver_error.specs.declared.error.Error.{Error};
 ghost use Rattle.driver_error.specs.declared.results.InsertManyResult.{InsertManyResult};
 ghost use Rattle.driver_error.specs.LabelTexts.{has_label};
+ghost use Rattle.driver_options.specs.declared.write_options.InsertManyOptions.{InsertManyOptions};
+ghost use Rattle.driver_batches.specs.declared.sizes.Limits.{Limits};
+ghost use Rattle.driver_batches.specs.Batches.{IsPartition};
+ghost use Rattle.driver_batches.specs.Sizes.{Fits};
 ghost use Rattle.driver_link.specs.declared.machine.Scheduled.{Scheduled};
 ghost use Rattle.driver_link.specs.declared.machine.Send.{Send};
 ghost use Rattle.driver_link.specs.declared.machine.Server.{Server};
-ghost use Rattle.driver_link.specs.declared.write_options.InsertManyOptions.{InsertManyOptions};
 ghost use Rattle.driver_link.specs.Exchange.{after_picks, exchanged};
 ghost use Rattle.driver_link.specs.Settled.{Has, IsOrderly, IsPlain, IsSettled, MayJoin};
-ghost use Rattle.driver_ops.specs.declared.own_document.OwnDocument.{OwnDocument};
 ghost use Rattle.driver_ops.specs.declared.target.OperationTarget.{OperationTarget};
-ghost use Rattle.driver_ops.specs.InsertAnswers.{all_ids};
-ghost use Rattle.driver_exec.specs.Moment.{Moment};
+ghost use Rattle.write_ops.specs.declared.own_document.OwnDocument.{OwnDocument};
+ghost use Rattle.write_ops.specs.InsertAnswers.{all_ids};
+ghost use Rattle.driver_attempt.specs.Moment.{Moment};
 ghost use Rattle.driver_actions.specs.BatchTells.{AllOk, AllWentIn, AreInOrder, TellsId, all_errors, last_concern, some_failed, some_labelled};
 ghost use Rattle.driver_actions.specs.Batches.{BatchEnd, MakesBatch, MakesBatches};
 ghost use Rattle.driver_actions.specs.CallByCall.{CallCaused, IsTimed};
@@ -27,8 +27,8 @@ ghost use Rattle.driver_actions.specs.ManyAnswers.{gathered, nothing_gathered};
 ghost use Rattle.driver_actions.specs.ManyCalls.{MadeMany, RanShort};
 ghost use Rattle.driver_actions.specs.Numbers.{runs_of};
 ghost use Rattle.driver_actions.specs.Standing.{RunInvariant, RunState};
-ghost use Rattle.driver_actions.specs.declared.call.Call.{Call};
-ghost use Rattle.driver_actions.specs.declared.call.Outcome.{Outcome};
+ghost use Rattle.driver_inputs.specs.declared.call.Call.{Call};
+ghost use Rattle.driver_inputs.specs.declared.call.Outcome.{Outcome};
 
 /// Calls that are appended to the list change nothing of a run that stands.
 #[tactic(auto, using(crate::proofs::StandingRuns::stands_appended))]

@@ -6,13 +6,10 @@
 
 mod batches;
 mod behind;
-mod bulk_refusal;
 pub mod bulk_start;
-pub mod call;
 pub mod call_run;
 pub mod collection_models;
 mod delete;
-mod faults;
 mod find;
 mod gathered;
 mod insert;
@@ -20,22 +17,16 @@ mod insert_all;
 pub mod insert_many;
 pub mod laws;
 mod making;
-mod many_refusal;
-mod model_faults;
 mod own_ids;
 mod own_ops;
-mod refusal;
 pub mod run;
 mod single;
 mod single_operation;
-pub mod to_document;
 mod update;
 
 pub use bulk_start::bulk_ops;
-pub use call::{Answer, Call, Outcome, SingleAnswer, SingleWrite};
 pub use call_run::CallRun;
 pub use collection_models::CollectionModels;
 pub use insert_many::{InsertMany, ManyInserts};
 pub use run::run_calls;
 pub use single::SingleWrites;
-pub use to_document::ToDocument;

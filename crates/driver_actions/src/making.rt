@@ -1,23 +1,24 @@
 //! One call of a list.
 ghost use Rattle.std.specs.Prelude.{◌≡◌};
 ghost use Rattle.driver_ops.specs.Targets.{in_collection};
-ghost use Rattle.driver_exec.specs.Client.{options_of};
-ghost use Rattle.driver_exec.specs.Moment.{moment_of};
+ghost use Rattle.driver_attempt.specs.Client.{options_of};
+ghost use Rattle.driver_attempt.specs.Moment.{moment_of};
 ghost use Rattle.driver_actions.specs.CallByCall.{CallCaused};
 ghost use Rattle.driver_actions.specs.CallMaking.{HasCause, MakesCall, OfMany, OfSingle};
 ghost use Rattle.driver_actions.specs.Causes.{WriteCaused};
-ghost use Rattle.driver_actions.specs.Forms.{form_of};
 ghost use Rattle.driver_actions.specs.ManyCalls.{MakesMany, ManyCaused};
 ghost use Rattle.driver_actions.specs.SingleCalls.{Makes, first_place};
+ghost use Rattle.driver_inputs.specs.Forms.{form_of};
 
-use crate::call::{Answer, Call, Outcome, SingleWrite};
 use crate::insert_all::insert_all;
 use crate::single::SingleWrites;
 use bson_lite::{Document, List, Namespace, TryClone};
+use driver_attempt::{Client, Outside};
 use driver_error::{InsertManyResult, Result};
-use driver_exec::{Client, Outside};
-use driver_link::{Clock, InsertManyOptions, Link};
+use driver_inputs::{Answer, Call, Outcome, SingleWrite};
+use driver_link::{Clock, Link};
 use driver_ops::Collection;
+use driver_options::InsertManyOptions;
 use driver_session::SessionStore;
 use rand_core::Rng;
 use std::alloc::Global;

@@ -3,18 +3,19 @@ ghost use Rattle.std.specs.Prelude.{◌≡◌, IfErr, IfOk, IsSome, None, Some};
 ghost use Rattle.bson_lite.specs.Fields.{id_key, value_of};
 ghost use Rattle.bson_lite.specs.Spelling.{Spells};
 ghost use Rattle.driver_session.specs.StoreTells.{MayDrawObjectId};
-ghost use Rattle.driver_exec.specs.Client.{options_of, store_of};
+ghost use Rattle.driver_attempt.specs.Client.{options_of, store_of};
 ghost use Rattle.driver_actions.specs.Causes.{TellsOwnRefusal};
 ghost use Rattle.driver_actions.specs.ManyIds.{OwnsAll};
 ghost use Rattle.driver_actions.specs.OwnIds.{Owns};
 ghost use Rattle.driver_actions.specs.inside.OwnDocuments.{DrawsFront, DrawsTwelve, IsSent, MayDrawTwelve, TellsOneRefusal};
 
 use bson_lite::{Bson, Document, ID_KEY, List, TryClone};
+use driver_attempt::Client;
 use driver_error::{InsertOneResult, Result};
-use driver_exec::Client;
-use driver_ops::{OwnDocument, encode_document, encode_document_with_id};
+use driver_ops::{encode_document, encode_document_with_id};
 use driver_session::SessionStore;
 use std::alloc::Global;
+use write_ops::OwnDocument;
 
 /// A document as it is sent, and the answer that tells its id.
 #[derive(Drop)]

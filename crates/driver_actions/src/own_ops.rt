@@ -1,16 +1,16 @@
 //! The ops of the caller's models: each inserted document has its own id, else the next object id to come, drawn once.
 ghost use Rattle.std.specs.Prelude.{◌≡◌, IfErr, IfOk, None};
 ghost use Rattle.bson_lite.specs.Fields.{id_key, value_of};
-ghost use Rattle.driver_link.specs.declared.models.WriteModel.TheVariants.{InsertOne as Inserts};
-ghost use Rattle.driver_exec.specs.Client.{options_of, store_of};
+ghost use Rattle.driver_options.specs.declared.models.WriteModel.TheVariants.{InsertOne as Inserts};
+ghost use Rattle.driver_attempt.specs.Client.{options_of, store_of};
 ghost use Rattle.driver_actions.specs.BulkIds.{DrawsForModels, OwnsOps};
 ghost use Rattle.driver_actions.specs.inside.OwnOps.{DrawsForModel, MayDrawForModel, SendsOp, TellsOneModel};
 
 use bson_lite::{ID_KEY, List};
+use bulk_ops::{OwnOp, insert_op, insert_op_with_id, model_op};
+use driver_attempt::Client;
 use driver_error::Result;
-use driver_exec::Client;
-use driver_link::{InsertOneModel, WriteModel};
-use driver_ops::{OwnOp, insert_op, insert_op_with_id, model_op};
+use driver_options::{InsertOneModel, WriteModel};
 use driver_session::SessionStore;
 use std::alloc::Global;
 

@@ -1,13 +1,13 @@
 //! A list of calls, made one after another.
 ghost use Rattle.std.specs.Prelude.{◌≡◌, IfOk, OnOk, OnErr};
-ghost use Rattle.driver_exec.specs.Moment.{DrawsInOrder, HasFreshServer, KeepsClient, KeepsLent, moment_of};
+ghost use Rattle.driver_attempt.specs.Moment.{DrawsInOrder, HasFreshServer, KeepsClient, KeepsLent, moment_of};
 ghost use Rattle.driver_actions.specs.CallByCall.{HaveCauses};
 ghost use Rattle.driver_actions.specs.MainTheorem.{Begins, HaveEnded, IsReplayed, KeepsMaking, MeetsMainTheorem};
 
-use crate::call::{Call, Outcome};
 use crate::call_run::CallRun;
 use bson_lite::List;
-use driver_exec::{Client, Outside};
+use driver_attempt::{Client, Outside};
+use driver_inputs::{Call, Outcome};
 use driver_link::{Clock, Link};
 use driver_session::SessionStore;
 use rand_core::Rng;

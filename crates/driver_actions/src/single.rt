@@ -1,23 +1,24 @@
 //! Single writes of a client.
 ghost use Rattle.std.specs.Prelude.{◌≡◌};
-ghost use Rattle.driver_exec.specs.Client.{options_of};
-ghost use Rattle.driver_exec.specs.Moment.{moment_of};
-ghost use Rattle.driver_actions.specs.Calls.{written};
+ghost use Rattle.driver_attempt.specs.Client.{options_of};
+ghost use Rattle.driver_attempt.specs.Moment.{moment_of};
 ghost use Rattle.driver_actions.specs.Causes.{WriteCaused};
-ghost use Rattle.driver_actions.specs.Forms.{form_of};
 ghost use Rattle.driver_actions.specs.SingleCalls.{Makes, first_place};
 ghost use Rattle.driver_actions.specs.SingleCompleteness.{CompletesSingle, RaisesNumbers};
 ghost use Rattle.driver_actions.specs.SingleEntries.{KeepsSingle, OkHasEntry};
+ghost use Rattle.driver_inputs.specs.Calls.{written};
+ghost use Rattle.driver_inputs.specs.Forms.{form_of};
 
-use crate::call::{SingleAnswer, SingleWrite};
 use crate::delete::delete_found;
 use crate::find::{find_one_and_delete, find_one_and_replace, find_one_and_update};
 use crate::insert::insert_one;
 use crate::update::update_found;
 use bson_lite::TryClone;
+use driver_attempt::{Client, Outside};
 use driver_error::Result;
-use driver_exec::{Client, Outside};
-use driver_link::{Clock, Link, Place, UpdateOrReplace};
+use driver_inputs::{SingleAnswer, SingleWrite};
+use driver_link::{Clock, Link, Place};
+use driver_options::UpdateOrReplace;
 use driver_session::SessionStore;
 use rand_core::Rng;
 use std::alloc::Global;

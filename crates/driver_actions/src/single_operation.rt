@@ -3,12 +3,13 @@ ghost use Rattle.std.specs.Prelude.{◌≡◌, ◌<◌, ◌∷◌, [], Some};
 ghost use Rattle.driver_link.specs.declared.machine.SendBody.{SendBody};
 ghost use Rattle.driver_ops.specs.Operations.{AsksFor, HasBodies, batch_of};
 ghost use Rattle.driver_ops.specs.SendKinds.{first};
-ghost use Rattle.driver_exec.specs.Client.{options_of};
-ghost use Rattle.driver_exec.specs.Moment.{moment_of};
+ghost use Rattle.driver_attempt.specs.Client.{options_of};
+ghost use Rattle.driver_attempt.specs.Moment.{moment_of};
 ghost use Rattle.driver_actions.specs.SingleCalls.{Runs};
 
+use driver_attempt::{Client, Outside, Steps};
 use driver_error::{Result, convert_insert_many_error};
-use driver_exec::{Client, Outside, Steps, execute_operation};
+use driver_exec::execute_operation;
 use driver_link::{Clock, Link, Place};
 use driver_ops::Operation;
 use driver_session::SessionStore;

@@ -1,24 +1,25 @@
 //! The update or replacement of what a filter finds, from its caller to its answer.
 ghost use Rattle.std.specs.Prelude.{◌≡◌};
-ghost use Rattle.driver_exec.specs.Client.{options_of};
-ghost use Rattle.driver_exec.specs.Moment.{moment_of};
+ghost use Rattle.driver_attempt.specs.Client.{options_of};
+ghost use Rattle.driver_attempt.specs.Moment.{moment_of};
 ghost use Rattle.driver_actions.specs.Causes.{WriteCaused};
-ghost use Rattle.driver_actions.specs.Forms.{updates};
 ghost use Rattle.driver_actions.specs.SingleCalls.{Makes};
+ghost use Rattle.driver_inputs.specs.Forms.{updates};
 
-use crate::call::SingleAnswer;
-use crate::refusal::update_refusal;
 use crate::single_operation::run_single;
 use bson_lite::{Document, Namespace, TryClone};
+use driver_attempt::{Client, Outside};
 use driver_error::Result;
-use driver_exec::{Client, Outside};
-use driver_link::{Clock, Link, Place, UpdateOptions, UpdateOrReplace};
-use driver_ops::{Collection, Update};
+use driver_inputs::{SingleAnswer, update_refusal};
+use driver_link::{Clock, Link, Place};
+use driver_ops::Collection;
+use driver_options::{UpdateOptions, UpdateOrReplace};
 use driver_session::SessionStore;
 use rand_core::Rng;
 use std::alloc::Global;
 use std::marker::Brand;
 use std::sync::ledger::Blank;
+use write_ops::Update;
 
 /// Updates or replaces one of the documents that a filter finds, or all of them (`multi`), in a place that is given.
 pub(crate) fn update_found<S: SessionStore, L: Link, K: Clock, R: Rng>(

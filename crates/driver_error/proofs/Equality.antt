@@ -1,11 +1,11 @@
 -- Derived equality decides equality: it compares field by field, in the order of the fields.
 use Rattle.std.proofs.Common.{◌≡◌, ◌↔◌, refl, ap, ℕ, Bool, true, false, ◌&&◌, List, Option, None, Some, IsTrue, nat_eq, int_eq, Decides}
-use mathlib.Core.Bool.{beq}
 use Rattle.std.specs.Cmp.Lexicographic.{pointwise}
 use Rattle.std.specs.Option.{option_eq}
 use Rattle.std.specs.Str.{bytes_eq}
 use Rattle.std.proofs.lemmas.Bool.Decides.{Decides-and, Decides-at, Decides-eqb, Decides-int_eq, Decides-like}
 use Rattle.std.proofs.lemmas.Slice.Eq.{bytes_eq-Decides, slice_eq-Decides}
+use mathlib.Core.Bool.{beq}
 use Rattle.bson_lite.specs.declared.bson.Bson.{Bson}
 use Rattle.bson_lite.specs.declared.document.Pair.{Pair}
 use Rattle.bson_lite.specs.Same.{same_by, document_code}

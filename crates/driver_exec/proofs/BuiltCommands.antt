@@ -4,12 +4,12 @@ use Rattle.std.specs.Prelude.{Bool, false, ◌⊎◌, Option, None, Some, Result
 use Rattle.driver_error.specs.declared.error.Error.{Error}
 use Rattle.driver_error.specs.declared.kind.ErrorKind.TheVariants as kind
 use Rattle.driver_error.specs.Error.{kind_of}
+use Rattle.driver_options.specs.declared.concerns.WriteConcern.{WriteConcern}
+use Rattle.driver_options.specs.declared.options.Address.{Address}
+use Rattle.driver_options.specs.declared.options.Conn.{Conn}
 use Rattle.driver_link.specs.Clock.{ClockTells}
-use Rattle.driver_link.specs.declared.concerns.WriteConcern.{WriteConcern}
 use Rattle.driver_link.specs.declared.fault.LinkError.{LinkError}
 use Rattle.driver_link.specs.declared.fault.LinkError.TheVariants.{Fault}
-use Rattle.driver_link.specs.declared.options.Address.{Address}
-use Rattle.driver_link.specs.declared.options.Conn.{Conn}
 use Rattle.driver_link.specs.LinkState.{LinkState, setup_of}
 use Rattle.driver_session.specs.declared.retryability.Retryability.{Retryability}
 use Rattle.driver_session.specs.declared.retryability.Retryability.TheVariants as may
@@ -18,24 +18,24 @@ use Rattle.driver_ops.specs.declared.command.Command.{Command}
 use Rattle.driver_ops.specs.OperationLaw.{NeverOpen}
 use Rattle.driver_ops.specs.Operations.{Batch, OperationSpec}
 use Rattle.driver_ops.specs.SendKinds.{SendKind}
+use Rattle.driver_attempt.specs.declared.attempt_end.AttemptEnd.{AttemptEnd}
+use Rattle.driver_attempt.specs.declared.attempt_end.AttemptEnd.TheVariants.{Done, Ended, Failed, Stopped, Unfit, Unselected}
+use Rattle.driver_attempt.specs.declared.failure.AttemptFailure.{AttemptFailure}
+use Rattle.driver_attempt.specs.declared.failure.FailurePhase.{FailurePhase}
+use Rattle.driver_attempt.specs.declared.failure.FailurePhase.TheVariants.{ConnectionEstablishment, Execution}
+use Rattle.driver_attempt.specs.Attempting.{AttemptState, AttemptedOperation, FailsIn, MakesAttempt, Sends, attempted_operation, besides_out}
+use Rattle.driver_attempt.specs.Concerns.{concern_of}
+use Rattle.driver_attempt.specs.Executing.{Ends, EndsWith, Executes, Proceeds, RefusesConcern, first_state}
+use Rattle.driver_attempt.specs.Moment.{Moment}
+use Rattle.driver_attempt.specs.OldDeployment.{reworded}
+use Rattle.driver_attempt.specs.Retry.{RetryState, decide}
+use Rattle.driver_attempt.specs.inside.Executing.{Reaches}
+use Rattle.driver_attempt.proofs.RetryFold.{Came, came_of}
 use Rattle.driver_exec.specs.Resending.{IsReadFailure}
-use Rattle.driver_exec.specs.declared.attempt_end.AttemptEnd.{AttemptEnd}
-use Rattle.driver_exec.specs.declared.attempt_end.AttemptEnd.TheVariants.{Done, Ended, Failed, Stopped, Unfit, Unselected}
-use Rattle.driver_exec.specs.declared.failure.AttemptFailure.{AttemptFailure}
-use Rattle.driver_exec.specs.declared.failure.FailurePhase.{FailurePhase}
-use Rattle.driver_exec.specs.declared.failure.FailurePhase.TheVariants.{ConnectionEstablishment, Execution}
-use Rattle.driver_exec.specs.Attempting.{AttemptState, AttemptedOperation, FailsIn, MakesAttempt, Sends, attempted_operation, besides_out}
-use Rattle.driver_exec.specs.Concerns.{concern_of}
-use Rattle.driver_exec.specs.Executing.{Ends, EndsWith, Executes, Proceeds, RefusesConcern, first_state}
-use Rattle.driver_exec.specs.Moment.{Moment}
-use Rattle.driver_exec.specs.OldDeployment.{reworded}
 use Rattle.driver_exec.specs.OperationCauses.{TakesFirst}
 use Rattle.driver_exec.specs.Reporting.{HasBuilt, HasRun}
-use Rattle.driver_exec.specs.Retry.{RetryState, decide}
-use Rattle.driver_exec.specs.inside.Executing.{Reaches}
 use Rattle.driver_exec.proofs.OperationCauses.{KeptHas, ResultHas, SoFar, decided_has, first_sent, kept_has, reaches_far}
 use Rattle.driver_exec.proofs.ReadFailures.{concern_unread, ended_unread, fault_unread, reworded_read}
-use Rattle.driver_exec.proofs.RetryFold.{Came, came_of}
 
 module _ {A : Type 0} (spec : OperationSpec A) (batch : Batch) (which : SendKind) (retryability : Retryability) (concern : Option WriteConcern) (store : StoreTells) (link : LinkState) (fixed : Option ℕ)
     (alone : spec.paged ≡ false → NeverOpen spec) where

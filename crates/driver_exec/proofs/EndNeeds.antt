@@ -18,8 +18,8 @@ use Rattle.driver_session.specs.declared.retryability.Retryability.{Retryability
 use Rattle.driver_session.specs.declared.retryability.Retryability.TheVariants as may
 use Rattle.driver_ops.specs.Operations.{OperationSpec, Page}
 use Rattle.driver_ops.specs.Responses.{ReadsResponse}
-use Rattle.driver_exec.specs.Causes.{AllEarly, ErrorOutline, HasExchangeFault, HasReply}
-use Rattle.driver_exec.specs.Failures.{IsFaultOf}
+use Rattle.driver_attempt.specs.Causes.{AllEarly, ErrorOutline, HasExchangeFault, HasReply}
+use Rattle.driver_attempt.specs.Failures.{IsFaultOf}
 use Rattle.driver_exec.specs.OperationCauses.{EndAtLast, EndNeeds, Grounds, HasFault, IsRead, KindNeeds, PageNeeds, PagesNeed, SpellsEnd}
 
 -- answers noted twice

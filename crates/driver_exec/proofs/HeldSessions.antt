@@ -8,12 +8,12 @@ use Rattle.driver_error.specs.declared.error.Error.{Error}
 use Rattle.driver_error.specs.declared.kind.ErrorKind.TheVariants as kind
 use Rattle.driver_error.specs.Error.{IsAlone, kind_of}
 use Rattle.driver_error.specs.LabelTexts.{no_labels}
+use Rattle.driver_options.specs.declared.options.Address.{Address}
+use Rattle.driver_options.specs.declared.options.Conn.{Conn}
+use Rattle.driver_options.specs.declared.options.Description.{Description}
 use Rattle.driver_link.specs.declared.fault.LinkError.{LinkError}
 use Rattle.driver_link.specs.declared.fault.LinkError.TheVariants.{Fault, Memory}
 use Rattle.driver_link.specs.declared.machine.Setup.{Setup}
-use Rattle.driver_link.specs.declared.options.Address.{Address}
-use Rattle.driver_link.specs.declared.options.Conn.{Conn}
-use Rattle.driver_link.specs.declared.options.Description.{Description}
 use Rattle.driver_link.specs.LinkCalls.{IsTo}
 use Rattle.driver_link.specs.Failures.{is_network}
 use Rattle.driver_link.proofs.Lists.{none_told}
@@ -23,10 +23,10 @@ use Rattle.driver_session.specs.declared.retryability.Retryability.TheVariants a
 use Rattle.driver_session.specs.Pool.{Pool, session_out}
 use Rattle.driver_session.specs.StoreTells.{LendsFrom, LendsSession, StoreTells}
 use Rattle.driver_session.specs.Session.{IsAtItsEnd, Numbers, Session, last_number, number_at_its_end}
-use Rattle.driver_exec.specs.AttemptExchanges.{PageAsked, held_after, held_after_answer, held_after_pages}
-use Rattle.driver_exec.specs.Attempting.{asks_session, on_connection}
-use Rattle.driver_exec.specs.Causes.{IsLast, MayBeLast, lent_number, next_number, number_in}
-use Rattle.driver_exec.specs.Holding.{DrawsNumber, DrawsSession, GivesNumber, ExecutionSession, HoldsSession, dirty_session, needs_session}
+use Rattle.driver_attempt.specs.AttemptExchanges.{PageAsked, held_after, held_after_answer, held_after_pages}
+use Rattle.driver_attempt.specs.Attempting.{asks_session, on_connection}
+use Rattle.driver_attempt.specs.Causes.{IsLast, MayBeLast, lent_number, next_number, number_in}
+use Rattle.driver_attempt.specs.Holding.{DrawsNumber, DrawsSession, GivesNumber, ExecutionSession, HoldsSession, dirty_session, needs_session}
 use Rattle.driver_exec.specs.OperationCauses.{DrawsNumbers}
 
 -- what is true is not false

@@ -3,12 +3,12 @@ use Rattle.std.proofs.Common.{◌≡◌, ℕ, suc, List, refl, sym, subst, ◌�
 use Rattle.std.specs.Prelude.{Bool, false, Option, Some, Result, Ok, Err}
 use Rattle.driver_error.specs.declared.error.Error.{Error}
 use Rattle.driver_error.specs.Error.{kind_of, source_of}
+use Rattle.driver_options.specs.declared.options.Address.{Address}
+use Rattle.driver_options.specs.declared.options.Conn.{Conn}
 use Rattle.driver_link.specs.declared.fault.LinkError.{LinkError}
 use Rattle.driver_link.specs.declared.fault.LinkError.TheVariants.{Fault}
 use Rattle.driver_link.specs.declared.fault.LinkFault.{LinkFault}
 use Rattle.driver_link.specs.declared.machine.SendBody.{SendBody}
-use Rattle.driver_link.specs.declared.options.Address.{Address}
-use Rattle.driver_link.specs.declared.options.Conn.{Conn}
 use Rattle.driver_link.specs.Counting.{OnlyCounts}
 use Rattle.driver_link.specs.LinkState.{LinkState, server_run}
 use Rattle.driver_session.specs.declared.retryability.Retryability.{Retryability}
@@ -16,19 +16,19 @@ use Rattle.driver_session.specs.StoreTells.{StoreTells}
 use Rattle.driver_ops.specs.Fields.{under}
 use Rattle.driver_ops.specs.OperationLaw.{NeverOpen}
 use Rattle.driver_ops.specs.Operations.{AsksFor, send_of}
+use Rattle.driver_attempt.specs.declared.attempt_end.AttemptEnd.TheVariants.{Failed}
+use Rattle.driver_attempt.specs.declared.failure.AttemptFailure.{AttemptFailure}
+use Rattle.driver_attempt.specs.declared.failure.FailurePhase.{FailurePhase}
+use Rattle.driver_attempt.specs.declared.failure.FailurePhase.TheVariants.{ConnectionEstablishment, Execution}
+use Rattle.driver_attempt.specs.AttemptExchanges.{held_after, held_after_pages, pages_of}
+use Rattle.driver_attempt.specs.Attempting.{AttemptState, AttemptedOperation, FailsIn, MakesAttempt, OnlyLink, Readies, ReadsOn, RefusedAgain, Sends, asks_session, on_connection}
+use Rattle.driver_attempt.specs.Holding.{ExecutionSession, held_id}
+use Rattle.driver_attempt.specs.OldDeployment.{reworded}
+use Rattle.driver_attempt.specs.Retry.{RetryState, decide}
+use Rattle.driver_attempt.proofs.OneAttempt.{checked_counted, connected_counted}
 use Rattle.driver_exec.specs.Resending.{AnsweredAmong, IsReadFailure}
-use Rattle.driver_exec.specs.declared.attempt_end.AttemptEnd.TheVariants.{Failed}
-use Rattle.driver_exec.specs.declared.failure.AttemptFailure.{AttemptFailure}
-use Rattle.driver_exec.specs.declared.failure.FailurePhase.{FailurePhase}
-use Rattle.driver_exec.specs.declared.failure.FailurePhase.TheVariants.{ConnectionEstablishment, Execution}
-use Rattle.driver_exec.specs.AttemptExchanges.{held_after, held_after_pages, pages_of}
-use Rattle.driver_exec.specs.Attempting.{AttemptState, AttemptedOperation, FailsIn, MakesAttempt, OnlyLink, Readies, ReadsOn, RefusedAgain, Sends, asks_session, on_connection}
-use Rattle.driver_exec.specs.Holding.{ExecutionSession, held_id}
-use Rattle.driver_exec.specs.OldDeployment.{reworded}
-use Rattle.driver_exec.specs.Retry.{RetryState, decide}
 use Rattle.driver_exec.proofs.BorrowedSession.{CountFits, MayGoOn, id_of, number_of}
 use Rattle.driver_exec.proofs.FixedNumbers.{ready_sent}
-use Rattle.driver_exec.proofs.OneAttempt.{checked_counted, connected_counted}
 use Rattle.driver_exec.proofs.OperationCauses.{KeptHas, ResultHas, decided_has, kept_has, reworded_source}
 use Rattle.driver_exec.proofs.PassesBy.{behind_passes, ends_pass, reads_error}
 use Rattle.driver_exec.proofs.Progress.{CourseAt, alone_at, fits_at, pages_at, ready_here, same_held}

@@ -3,6 +3,8 @@ use Rattle.std.proofs.Common.{◌≡◌, ℕ, ◌+◌, ◌-◌, ◌^◌, ◌≤�
 use Rattle.std.specs.Prelude.{Bool, Option, None, Some, Result, Ok, Err}
 use Rattle.driver_error.specs.declared.error.Error.{Error}
 use Rattle.driver_error.specs.declared.kind.IoKind.TheVariants.{ConnectionRefused}
+use Rattle.driver_options.specs.declared.options.Address.{Address}
+use Rattle.driver_options.specs.declared.options.Conn.{Conn}
 use Rattle.driver_link.specs.declared.fault.LinkCall.{LinkCall}
 use Rattle.driver_link.specs.declared.fault.LinkCall.TheVariants.{CheckOut, Select}
 use Rattle.driver_link.specs.declared.fault.LinkError.{LinkError}
@@ -14,8 +16,6 @@ use Rattle.driver_link.specs.declared.machine.Send.{Send}
 use Rattle.driver_link.specs.declared.machine.SendBody.{SendBody}
 use Rattle.driver_link.specs.declared.machine.SendBody.TheVariants.{Kill, More}
 use Rattle.driver_link.specs.declared.machine.Item.{Item}
-use Rattle.driver_link.specs.declared.options.Address.{Address}
-use Rattle.driver_link.specs.declared.options.Conn.{Conn}
 use Rattle.driver_link.specs.Counting.{Counts, Listed, check_out_fault, checked_out, fault_where, is_listed, one_more, overload_labels, select_fault, selected}
 use Rattle.driver_link.specs.Exchange.{next_step}
 use Rattle.driver_link.specs.LinkCalls.{CallsLink}
@@ -27,13 +27,13 @@ use Rattle.driver_ops.specs.Fields.{SendContext, under}
 use Rattle.driver_ops.specs.GetMores.{AsksCursor, at_namespace, kill_spec, more_spec}
 use Rattle.driver_ops.specs.Operations.{AsksFor, OperationSpec, send_of}
 use Rattle.driver_ops.specs.SendKinds.{SendKind}
-use Rattle.driver_exec.specs.declared.failure.FailurePhase.{FailurePhase}
-use Rattle.driver_exec.specs.declared.failure.FailurePhase.TheVariants.{ConnectionEstablishment, Execution}
-use Rattle.driver_exec.specs.AttemptExchanges.{AsksPage, AsksPages, AttemptExchanges, EndsCursor, EndsCursorWhere, EndsPages, Exchanges, PageAsked, ends_cursor, no_statements}
-use Rattle.driver_exec.specs.Attempting.{AttemptState, AttemptedOperation, Connects, FailsIn, MayReadOn, NotConnected, ReadsOn, Sends}
+use Rattle.driver_attempt.specs.declared.failure.FailurePhase.{FailurePhase}
+use Rattle.driver_attempt.specs.declared.failure.FailurePhase.TheVariants.{ConnectionEstablishment, Execution}
+use Rattle.driver_attempt.specs.AttemptExchanges.{AsksPage, AsksPages, AttemptExchanges, EndsCursor, EndsCursorWhere, EndsPages, Exchanges, PageAsked, ends_cursor, no_statements}
+use Rattle.driver_attempt.specs.Attempting.{AttemptState, AttemptedOperation, Connects, FailsIn, MayReadOn, NotConnected, ReadsOn, Sends}
+use Rattle.driver_attempt.specs.Holding.{ExecutionSession, held_id}
+use Rattle.driver_attempt.specs.Retry.{RetryState}
 use Rattle.driver_exec.specs.Gentle.{IsCounted, IsGentlePart}
-use Rattle.driver_exec.specs.Holding.{ExecutionSession, held_id}
-use Rattle.driver_exec.specs.Retry.{RetryState}
 
 -- a moment is not after another: the schedule is the same, and neither the trace nor a count became less
 pub record IsBefore (a b : ServerRun) : Type 0 where

@@ -16,25 +16,25 @@ use Rattle.driver_ops.specs.Fields.{under}
 use Rattle.driver_ops.specs.OperationLaw.{NeverOpen}
 use Rattle.driver_ops.specs.Operations.{Batch, OperationSpec, send_of}
 use Rattle.driver_ops.specs.SendKinds.{SendKind}
-use Rattle.driver_exec.specs.declared.attempt_end.AttemptEnd.{AttemptEnd}
-use Rattle.driver_exec.specs.declared.attempt_end.AttemptEnd.TheVariants.{Done, Ended, Failed, Stopped, Unfit, Unselected}
-use Rattle.driver_exec.specs.declared.failure.AttemptFailure.{AttemptFailure}
-use Rattle.driver_exec.specs.Attempting.{AttemptState, AttemptedOperation, EndsAtOnce, EndsRefused, MakesAttempt, RefusedAgain, attempted_operation, besides_out, on_connection}
-use Rattle.driver_exec.specs.Concerns.{concern_of}
-use Rattle.driver_exec.specs.Executing.{Ends, EndsNotAllowed, EndsWith, Proceeds, first_state}
-use Rattle.driver_exec.specs.Holding.{DrawsNumber, DrawsSession, GivesBack, GivesNumber, ExecutionSession}
-use Rattle.driver_exec.specs.Moment.{Moment}
+use Rattle.driver_attempt.specs.declared.attempt_end.AttemptEnd.{AttemptEnd}
+use Rattle.driver_attempt.specs.declared.attempt_end.AttemptEnd.TheVariants.{Done, Ended, Failed, Stopped, Unfit, Unselected}
+use Rattle.driver_attempt.specs.declared.failure.AttemptFailure.{AttemptFailure}
+use Rattle.driver_attempt.specs.Attempting.{AttemptState, AttemptedOperation, EndsAtOnce, EndsRefused, MakesAttempt, RefusedAgain, attempted_operation, besides_out, on_connection}
+use Rattle.driver_attempt.specs.Concerns.{concern_of}
+use Rattle.driver_attempt.specs.Executing.{Ends, EndsNotAllowed, EndsWith, Proceeds, first_state}
+use Rattle.driver_attempt.specs.Holding.{DrawsNumber, DrawsSession, GivesBack, GivesNumber, ExecutionSession}
+use Rattle.driver_attempt.specs.Moment.{Moment}
+use Rattle.driver_attempt.specs.Retry.{RetryState, may_be_sent}
+use Rattle.driver_attempt.specs.inside.Executing.{Reaches}
+use Rattle.driver_attempt.proofs.Attempts.{may_raise, stays}
+use Rattle.driver_attempt.proofs.AttemptSequence.{AtMostOne, attempts_left, decided_fewer, decided_sent, one_left}
+use Rattle.driver_attempt.proofs.RetryFold.{Came, came_of}
+use Rattle.driver_attempt.proofs.OneAttempt.{early_counted, selected_counted}
 use Rattle.driver_exec.specs.Resending.{Borrows, EndsWithReading, IsReadFailure, SendsOneCommand, SentWithin}
-use Rattle.driver_exec.specs.Retry.{RetryState, may_be_sent}
-use Rattle.driver_exec.specs.inside.Executing.{Reaches}
-use Rattle.driver_exec.proofs.Attempts.{may_raise, stays}
-use Rattle.driver_exec.proofs.AttemptSequence.{AtMostOne, attempts_left, decided_fewer, decided_sent, one_left}
 use Rattle.driver_exec.proofs.KeptFailures.{FailureAt, ReadAt, again_read, decided_read, link_read, ready_read}
 use Rattle.driver_exec.proofs.OperationCauses.{KeptHas}
 use Rattle.driver_exec.proofs.ReadFailures.{ended_unread, fault_unread}
 use Rattle.driver_exec.proofs.ReadReplies.{reads_one}
-use Rattle.driver_exec.proofs.RetryFold.{Came, came_of}
-use Rattle.driver_exec.proofs.OneAttempt.{early_counted, selected_counted}
 use Rattle.driver_exec.proofs.SendRelations.{none_sent}
 use Rattle.driver_exec.proofs.BorrowedSession.{CountFits, HoldsFrom, HoldsLast, MayGoOn, NumberFits, id_of, number_of}
 use Rattle.driver_exec.proofs.Courses.{Course, Drawn, Over, counted, course_over, drawn, one_more, starts, store_stays}

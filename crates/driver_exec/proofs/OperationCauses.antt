@@ -10,8 +10,11 @@ use Rattle.driver_error.specs.declared.labels.TheConstants.{RETRYABLE_WRITE_ERRO
 use Rattle.driver_error.specs.Error.{IsAlone, kind_of, labels_of, source_of, with_kind}
 use Rattle.driver_error.specs.LabelTexts.{LabelSet, label_set, no_labels, with_label}
 use Rattle.driver_error.specs.Predicates.{of_network}
+use Rattle.driver_options.specs.declared.concerns.WriteConcern.{WriteConcern}
+use Rattle.driver_options.specs.declared.options.Address.{Address}
+use Rattle.driver_options.specs.declared.options.Conn.{Conn}
+use Rattle.driver_options.specs.declared.options.Description.{Description}
 use Rattle.driver_link.specs.Clock.{ClockTells}
-use Rattle.driver_link.specs.declared.concerns.WriteConcern.{WriteConcern}
 use Rattle.driver_link.specs.declared.fault.Answered.{Answered}
 use Rattle.driver_link.specs.declared.fault.Answered.TheVariants as answer
 use Rattle.driver_link.specs.declared.fault.LinkCall.{LinkCall}
@@ -22,9 +25,6 @@ use Rattle.driver_link.specs.declared.fault.LinkFault.{LinkFault}
 use Rattle.driver_link.specs.declared.fault.LinkFault.TheVariants as fault
 use Rattle.driver_link.specs.declared.machine.Place.{Place}
 use Rattle.driver_link.specs.declared.machine.Setup.{Setup}
-use Rattle.driver_link.specs.declared.options.Address.{Address}
-use Rattle.driver_link.specs.declared.options.Conn.{Conn}
-use Rattle.driver_link.specs.declared.options.Description.{Description}
 use Rattle.driver_link.specs.Counting.{Listed}
 use Rattle.driver_link.specs.Failures.{fault_kind, is_network}
 use Rattle.driver_link.specs.Faults.{HasLinkCause, Rose}
@@ -39,31 +39,31 @@ use Rattle.driver_ops.specs.Fields.{SendContext, in_context, under}
 use Rattle.driver_ops.specs.OperationLaw.{NeverOpen}
 use Rattle.driver_ops.specs.Operations.{Batch, IsUnframed, LeavesCursor, OperationSpec, Page, Refuses, front}
 use Rattle.driver_ops.specs.SendKinds.{SendKind}
-use Rattle.driver_exec.specs.declared.attempt_end.AttemptEnd.{AttemptEnd}
-use Rattle.driver_exec.specs.declared.attempt_end.AttemptEnd.TheVariants.{Done, Ended, Failed, Stopped, Unfit, Unselected}
-use Rattle.driver_exec.specs.declared.failure.AttemptFailure.{AttemptFailure}
-use Rattle.driver_exec.specs.declared.failure.FailurePhase.{FailurePhase}
-use Rattle.driver_exec.specs.declared.failure.FailurePhase.TheVariants.{ConnectionEstablishment, Execution}
-use Rattle.driver_exec.specs.AttemptExchanges.{AsksPage, AsksPages, AttemptExchanges, EndsCursor, EndsCursorWhere, EndsPages, PageAsked, PageCame, ends_cursor, no_statements, pages_of}
-use Rattle.driver_exec.specs.Attempting.{Connects, EndsAtOnce, EndsRefused, EndsSent, EndsUnready, FailsIn, IsAnswered, LosesExchange, MayReadOn, NoFrame, NoNumber, NoSessions, NotConnected, NotSelected, Readies, ReadsOn, AttemptState, Sends, SpellsFailure, AttemptedOperation, MakesAttempt, besides_out, builds_again, on_connection, attempted_operation}
-use Rattle.driver_exec.specs.Causes as causes
-use Rattle.driver_exec.specs.Causes.{AllEarly, IsLast, KindAtLast, end_of, outline_of, next_number}
-use Rattle.driver_exec.specs.Executing.{Ends, EndsWith, Proceeds, first_state}
-use Rattle.driver_exec.specs.Concerns.{concern_of}
-use Rattle.driver_exec.specs.Failures.{IsFaultOf, is_memory}
-use Rattle.driver_exec.specs.Holding.{DrawsNumber, ExecutionSession, held_id}
-use Rattle.driver_exec.specs.LabelTable.{labels_outside_transactions}
-use Rattle.driver_exec.specs.Moment.{Moment}
-use Rattle.driver_exec.specs.OldDeployment.{reworded, reworded_kind}
+use Rattle.driver_attempt.specs.declared.attempt_end.AttemptEnd.{AttemptEnd}
+use Rattle.driver_attempt.specs.declared.attempt_end.AttemptEnd.TheVariants.{Done, Ended, Failed, Stopped, Unfit, Unselected}
+use Rattle.driver_attempt.specs.declared.failure.AttemptFailure.{AttemptFailure}
+use Rattle.driver_attempt.specs.declared.failure.FailurePhase.{FailurePhase}
+use Rattle.driver_attempt.specs.declared.failure.FailurePhase.TheVariants.{ConnectionEstablishment, Execution}
+use Rattle.driver_attempt.specs.AttemptExchanges.{AsksPage, AsksPages, AttemptExchanges, EndsCursor, EndsCursorWhere, EndsPages, PageAsked, PageCame, ends_cursor, no_statements, pages_of}
+use Rattle.driver_attempt.specs.Attempting.{Connects, EndsAtOnce, EndsRefused, EndsSent, EndsUnready, FailsIn, IsAnswered, LosesExchange, MayReadOn, NoFrame, NoNumber, NoSessions, NotConnected, NotSelected, Readies, ReadsOn, AttemptState, Sends, SpellsFailure, AttemptedOperation, MakesAttempt, besides_out, builds_again, on_connection, attempted_operation}
+use Rattle.driver_attempt.specs.Causes as causes
+use Rattle.driver_attempt.specs.Causes.{AllEarly, IsLast, KindAtLast, end_of, outline_of, next_number}
+use Rattle.driver_attempt.specs.Executing.{Ends, EndsWith, Proceeds, first_state}
+use Rattle.driver_attempt.specs.Concerns.{concern_of}
+use Rattle.driver_attempt.specs.Failures.{IsFaultOf, is_memory}
+use Rattle.driver_attempt.specs.Holding.{DrawsNumber, ExecutionSession, held_id}
+use Rattle.driver_attempt.specs.LabelTable.{labels_outside_transactions}
+use Rattle.driver_attempt.specs.Moment.{Moment}
+use Rattle.driver_attempt.specs.OldDeployment.{reworded, reworded_kind}
+use Rattle.driver_attempt.specs.Retry.{RetryState, after, after_further, avoiding, decide, in_phase, may_be_retried, reworded_failure, stays}
+use Rattle.driver_attempt.specs.inside.Executing.{Reaches}
+use Rattle.driver_attempt.proofs.RetryFold.{came_of}
+use Rattle.driver_attempt.proofs.Causes.{notes_nothing}
+use Rattle.driver_attempt.proofs.OneAttempt.{early_counted, later_of}
 use Rattle.driver_exec.specs.OperationCauses.{Caused, DrawsNumbers, EndAtLast, EndNeeds, EndsCaused, FaultLabels, Grounds, IsRead, KindNeeds, PageNeeds, PagesNeed, SpellsEnd, TakesFirst, grounds, labels_after}
-use Rattle.driver_exec.specs.Retry.{RetryState, after, after_further, avoiding, decide, in_phase, may_be_retried, reworded_failure, stays}
-use Rattle.driver_exec.specs.inside.Executing.{Reaches}
-use Rattle.driver_exec.proofs.RetryFold.{came_of}
-use Rattle.driver_exec.proofs.Causes.{notes_nothing}
 use Rattle.driver_exec.proofs.HeldSessions.{AtEnd, HeldSoFar, IsOf, draw_holds, draws_on, exchange_holds, held_at_first, is_of, is_told, last_draws_none, none_draws, pages_hold, ready_held, ready_holds, sent_held, sessionless, unnumbered_at_end}
 use Rattle.driver_exec.proofs.EndNeeds.{early_twice, end_after, end_before, last_after, notes_twice, page_after, pages_before, pages_since}
 use Rattle.driver_exec.proofs.FixedNumbers.{MayBeFixed, first_fixed, read_sent, ready_sent, sends_first}
-use Rattle.driver_exec.proofs.OneAttempt.{early_counted, later_of}
 use Rattle.driver_exec.proofs.PassesBy.{no_pages, reads_error, reads_output}
 
 -- a link noted these; its count of faults did not fall, and its setup stays

@@ -5,11 +5,11 @@ use Rattle.bson_lite.specs.declared.bson.Bson.{Bson}
 use Rattle.bson_lite.specs.declared.document.Pair.{Pair}
 use Rattle.bson_lite.specs.declared.namespace.Namespace.{Namespace}
 use Rattle.driver_error.specs.declared.error.Error.{Error}
+use Rattle.driver_options.specs.declared.options.Conn.{Conn}
 use Rattle.driver_link.specs.declared.fault.LinkError.{LinkError}
 use Rattle.driver_link.specs.declared.fault.LinkError.TheVariants.{Fault, Memory}
 use Rattle.driver_link.specs.declared.machine.Send.{Send}
 use Rattle.driver_link.specs.declared.machine.SendBody.TheVariants.{Kill, More}
-use Rattle.driver_link.specs.declared.options.Conn.{Conn}
 use Rattle.driver_link.specs.Counting.{KeepsServer, OnlyCounts}
 use Rattle.driver_link.specs.LinkState.{LinkState, server_run}
 use Rattle.driver_link.specs.ServerRun.{ServerRun, TakesStep, run_after}
@@ -17,8 +17,8 @@ use Rattle.driver_link.specs.Settled.{IsAside}
 use Rattle.driver_ops.specs.Fields.{under}
 use Rattle.driver_ops.specs.OperationLaw.{NeverOpen}
 use Rattle.driver_ops.specs.Operations.{LeavesCursor, OperationSpec, Page, ReadsPages, ReadsPagesOutput, send_of}
-use Rattle.driver_exec.specs.AttemptExchanges.{AsksPage, AsksPages, AttemptExchanges, EndsCursor, EndsCursorWhere, EndsPages, PageAsked, PageCame, ends_cursor, pages_of}
-use Rattle.driver_exec.specs.Holding.{ExecutionSession}
+use Rattle.driver_attempt.specs.AttemptExchanges.{AsksPage, AsksPages, AttemptExchanges, EndsCursor, EndsCursorWhere, EndsPages, PageAsked, PageCame, ends_cursor, pages_of}
+use Rattle.driver_attempt.specs.Holding.{ExecutionSession}
 use Rattle.driver_exec.specs.Resending.{AnswersPage, GivesPages, LeavesAside, PassesAside, PassesBy, more_send}
 
 pub keeps_server_twice : (a b c : ServerRun) → KeepsServer a b → KeepsServer b c → KeepsServer a c

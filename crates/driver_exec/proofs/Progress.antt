@@ -2,12 +2,12 @@
 use Rattle.std.proofs.Common.{◌≡◌, ℕ, suc, ◌≤◌, List, [], refl, sym, subst, inl, inr, arith}
 use Rattle.std.specs.Prelude.{ℤ, true, false, Option, None, Some, is_some, Result, Ok, Err}
 use Rattle.driver_error.specs.declared.error.Error.{Error}
+use Rattle.driver_options.specs.declared.options.Address.{Address}
+use Rattle.driver_options.specs.declared.options.Conn.{Conn}
 use Rattle.driver_link.specs.declared.fault.LinkError.{LinkError}
 use Rattle.driver_link.specs.declared.fault.LinkError.TheVariants.{Fault}
 use Rattle.driver_link.specs.declared.fault.LinkFault.{LinkFault}
 use Rattle.driver_link.specs.declared.machine.SendBody.{SendBody}
-use Rattle.driver_link.specs.declared.options.Address.{Address}
-use Rattle.driver_link.specs.declared.options.Conn.{Conn}
 use Rattle.driver_link.specs.Counting.{OnlyCounts}
 use Rattle.driver_link.specs.LinkState.{LinkState, server_run}
 use Rattle.driver_session.specs.declared.retryability.Retryability.{Retryability}
@@ -15,17 +15,17 @@ use Rattle.driver_session.specs.StoreTells.{StoreTells}
 use Rattle.driver_ops.specs.Fields.{under}
 use Rattle.driver_ops.specs.OperationLaw.{NeverOpen}
 use Rattle.driver_ops.specs.Operations.{AsksFor, Page, send_of}
-use Rattle.driver_exec.specs.declared.attempt_end.AttemptEnd.TheVariants.{Failed}
-use Rattle.driver_exec.specs.declared.failure.AttemptFailure.{AttemptFailure}
-use Rattle.driver_exec.specs.declared.failure.FailurePhase.{FailurePhase}
-use Rattle.driver_exec.specs.declared.failure.FailurePhase.TheVariants.{ConnectionEstablishment, Execution}
-use Rattle.driver_exec.specs.AttemptExchanges.{held_after, held_after_pages, pages_of}
-use Rattle.driver_exec.specs.Attempting.{EndsSent, FailsIn, IsAnswered, MayReadOn, OnlyLink, Readies, ReadsOn, AttemptState, Sends, AttemptedOperation, MakesAttempt, asks_session, on_connection}
-use Rattle.driver_exec.specs.Holding.{ExecutionSession, held_id, number_before}
+use Rattle.driver_attempt.specs.declared.attempt_end.AttemptEnd.TheVariants.{Failed}
+use Rattle.driver_attempt.specs.declared.failure.AttemptFailure.{AttemptFailure}
+use Rattle.driver_attempt.specs.declared.failure.FailurePhase.{FailurePhase}
+use Rattle.driver_attempt.specs.declared.failure.FailurePhase.TheVariants.{ConnectionEstablishment, Execution}
+use Rattle.driver_attempt.specs.AttemptExchanges.{held_after, held_after_pages, pages_of}
+use Rattle.driver_attempt.specs.Attempting.{EndsSent, FailsIn, IsAnswered, MayReadOn, OnlyLink, Readies, ReadsOn, AttemptState, Sends, AttemptedOperation, MakesAttempt, asks_session, on_connection}
+use Rattle.driver_attempt.specs.Holding.{ExecutionSession, held_id, number_before}
+use Rattle.driver_attempt.specs.Retry.{RetryState, may_be_sent}
+use Rattle.driver_attempt.proofs.OneAttempt.{checked_counted, connected_counted}
 use Rattle.driver_exec.specs.Resending.{AnsweredLast, ReadsLast}
-use Rattle.driver_exec.specs.Retry.{RetryState, may_be_sent}
 use Rattle.driver_exec.proofs.FixedNumbers.{read_sent, ready_sent}
-use Rattle.driver_exec.proofs.OneAttempt.{checked_counted, connected_counted}
 use Rattle.driver_exec.proofs.BorrowedSession.{CountFits, MayGoOn, id_of, number_of}
 use Rattle.driver_exec.proofs.Courses.{Course, Over, answered_course, answered_now, counted, course_over, first_alone, fits_now, lost_course, one_more, pages_course, passed, readied, sent_over}
 use Rattle.driver_exec.proofs.PassesBy.{asks_give, behind_passes, no_pages, reads_output}

@@ -4,7 +4,7 @@ use Rattle.std.specs.Prelude.{ℤ, Option, None, Some, Err}
 use Rattle.driver_error.specs.declared.error.Error.{Error}
 use Rattle.driver_error.specs.declared.kind.ErrorKind.TheVariants as kind
 use Rattle.driver_error.specs.Error.{ErrorKind, kind_of}
-use Rattle.driver_link.specs.declared.concerns.WriteConcern.{WriteConcern}
+use Rattle.driver_options.specs.declared.concerns.WriteConcern.{WriteConcern}
 use Rattle.driver_link.specs.declared.fault.LinkFault.{LinkFault}
 use Rattle.driver_link.specs.declared.fault.LinkFault.TheVariants as fault
 use Rattle.driver_link.specs.Failures.{fault_kind}
@@ -12,13 +12,13 @@ use Rattle.driver_session.specs.declared.retryability.Retryability.{Retryability
 use Rattle.driver_session.specs.Session.{Session}
 use Rattle.driver_ops.specs.Operations.{MayRefuse, OperationSpec, Page, ReadsPages, ReadsPagesError}
 use Rattle.driver_ops.specs.Responses.{Said, SpellsError, TellsResponse, breaks, done, fails, said}
-use Rattle.driver_exec.specs.Attempting.{AttemptState, AttemptedOperation, EndsAtOnce, EndsRefused, on_connection}
-use Rattle.driver_exec.specs.Concerns.{IsConcernError}
-use Rattle.driver_exec.specs.Failures.{IsFaultOf}
-use Rattle.driver_exec.specs.Holding.{DrawsNumber, ExecutionSession}
-use Rattle.driver_exec.specs.OldDeployment.{reworded, reworded_kind}
+use Rattle.driver_attempt.specs.Attempting.{AttemptState, AttemptedOperation, EndsAtOnce, EndsRefused, on_connection}
+use Rattle.driver_attempt.specs.Concerns.{IsConcernError}
+use Rattle.driver_attempt.specs.Failures.{IsFaultOf}
+use Rattle.driver_attempt.specs.Holding.{DrawsNumber, ExecutionSession}
+use Rattle.driver_attempt.specs.OldDeployment.{reworded, reworded_kind}
+use Rattle.driver_attempt.specs.Retry.{RetryState}
 use Rattle.driver_exec.specs.Resending.{IsReadFailure}
-use Rattle.driver_exec.specs.Retry.{RetryState}
 use Rattle.driver_exec.proofs.HeldSessions.{IsFirst, unnumbered_at_end}
 use Rattle.driver_exec.proofs.OperationCauses.{fault_error, reworded_is}
 

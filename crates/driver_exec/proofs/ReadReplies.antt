@@ -5,12 +5,12 @@ use Rattle.std.specs.Option.{option_map}
 use Rattle.std.proofs.lemmas.Bool.{and_parts}
 use Rattle.driver_error.specs.declared.error.Error.{Error}
 use Rattle.driver_error.specs.Error.{kind_of, source_of}
-use Rattle.driver_link.specs.declared.concerns.WriteConcern.{WriteConcern}
+use Rattle.driver_options.specs.declared.concerns.WriteConcern.{WriteConcern}
+use Rattle.driver_options.specs.declared.options.Conn.{Conn}
 use Rattle.driver_link.specs.declared.fault.LinkError.{LinkError}
 use Rattle.driver_link.specs.declared.fault.LinkError.TheVariants.{Fault, Memory}
 use Rattle.driver_link.specs.declared.fault.LinkFault.{LinkFault}
 use Rattle.driver_link.specs.declared.machine.SendBody.{SendBody}
-use Rattle.driver_link.specs.declared.options.Conn.{Conn}
 use Rattle.driver_link.specs.Counting.{OnlyCounts}
 use Rattle.driver_link.specs.Failures.{is_network}
 use Rattle.driver_link.specs.LinkState.{LinkState, server_run}
@@ -22,9 +22,9 @@ use Rattle.driver_session.specs.StoreTells.{StoreTells}
 use Rattle.driver_ops.specs.Fields.{in_context, under}
 use Rattle.driver_ops.specs.Operations.{AsksFor, Batch, OperationSpec, Page, ReadsPages, send_of}
 use Rattle.driver_ops.specs.SendKinds.{SendKind}
-use Rattle.driver_exec.specs.AttemptExchanges.{Exchanges, PageAsked, held_after, held_after_answer, held_after_pages}
-use Rattle.driver_exec.specs.Attempting.{AttemptState, AttemptedOperation, ReadsOn}
-use Rattle.driver_exec.specs.Holding.{DrawsNumber, ExecutionSession, HoldsSession, dirty_session, held_id, needs_session}
+use Rattle.driver_attempt.specs.AttemptExchanges.{Exchanges, PageAsked, held_after, held_after_answer, held_after_pages}
+use Rattle.driver_attempt.specs.Attempting.{AttemptState, AttemptedOperation, ReadsOn}
+use Rattle.driver_attempt.specs.Holding.{DrawsNumber, ExecutionSession, HoldsSession, dirty_session, held_id, needs_session}
 use Rattle.driver_exec.specs.Resending.{AnsweredAmong, ReadsOne}
 use Rattle.driver_exec.proofs.BorrowedSession.{CountFits, MayGoOn, id_of, number_of, one_at_most}
 use Rattle.driver_exec.proofs.FixedNumbers.{after_sent, pages_sent}

@@ -2,30 +2,30 @@
 use Rattle.std.proofs.Common.{◌≡◌, ℕ, ◌+◌, ◌≤◌, List, [], ◌∷◌, length, refl, ap, ◌∙◌, inl, inr, arith}
 use Rattle.std.specs.Prelude.{Bool, Option, Result, Ok, Err}
 use Rattle.driver_error.specs.declared.error.Error.{Error}
+use Rattle.driver_options.specs.declared.options.Address.{Address}
+use Rattle.driver_options.specs.declared.options.Conn.{Conn}
 use Rattle.driver_link.specs.Clock.{ClockTells}
 use Rattle.driver_link.specs.declared.fault.LinkError.{LinkError}
 use Rattle.driver_link.specs.declared.fault.LinkError.TheVariants.{Fault}
-use Rattle.driver_link.specs.declared.options.Address.{Address}
-use Rattle.driver_link.specs.declared.options.Conn.{Conn}
 use Rattle.driver_link.specs.LinkState.{LinkState}
 use Rattle.driver_session.specs.declared.retryability.Retryability.TheVariants as may
 use Rattle.driver_session.specs.StoreTells.{StoreTells}
 use Rattle.driver_ops.specs.Operations.{Batch, OperationSpec}
 use Rattle.driver_ops.specs.SendKinds.{SendKind}
-use Rattle.driver_exec.specs.declared.attempt_end.AttemptEnd.{AttemptEnd}
-use Rattle.driver_exec.specs.declared.attempt_end.AttemptEnd.TheVariants.{Done, Ended, Failed, Stopped, Unfit, Unselected}
-use Rattle.driver_exec.specs.declared.failure.AttemptFailure.{AttemptFailure}
-use Rattle.driver_exec.specs.declared.failure.FailurePhase.{FailurePhase}
-use Rattle.driver_exec.specs.declared.failure.FailurePhase.TheVariants.{ConnectionEstablishment, Execution}
-use Rattle.driver_exec.specs.Attempting.{AttemptState, AttemptedOperation, EndsAtOnce, FailsIn, MakesAttempt, Sends, attempted_operation, besides_out}
-use Rattle.driver_exec.specs.Concerns.{concern_of}
-use Rattle.driver_exec.specs.Executing.{Ends, Proceeds, first_state}
-use Rattle.driver_exec.specs.Moment.{Moment}
-use Rattle.driver_exec.specs.Retry.{RetryState}
-use Rattle.driver_exec.specs.inside.Executing.{Reaches}
-use Rattle.driver_exec.proofs.Attempts.{may_read_leaves}
-use Rattle.driver_exec.proofs.AttemptSequence.{one_left}
-use Rattle.driver_exec.proofs.RetryFold.{came_of}
+use Rattle.driver_attempt.specs.declared.attempt_end.AttemptEnd.{AttemptEnd}
+use Rattle.driver_attempt.specs.declared.attempt_end.AttemptEnd.TheVariants.{Done, Ended, Failed, Stopped, Unfit, Unselected}
+use Rattle.driver_attempt.specs.declared.failure.AttemptFailure.{AttemptFailure}
+use Rattle.driver_attempt.specs.declared.failure.FailurePhase.{FailurePhase}
+use Rattle.driver_attempt.specs.declared.failure.FailurePhase.TheVariants.{ConnectionEstablishment, Execution}
+use Rattle.driver_attempt.specs.Attempting.{AttemptState, AttemptedOperation, EndsAtOnce, FailsIn, MakesAttempt, Sends, attempted_operation, besides_out}
+use Rattle.driver_attempt.specs.Concerns.{concern_of}
+use Rattle.driver_attempt.specs.Executing.{Ends, Proceeds, first_state}
+use Rattle.driver_attempt.specs.Moment.{Moment}
+use Rattle.driver_attempt.specs.Retry.{RetryState}
+use Rattle.driver_attempt.specs.inside.Executing.{Reaches}
+use Rattle.driver_attempt.proofs.Attempts.{may_read_leaves}
+use Rattle.driver_attempt.proofs.AttemptSequence.{one_left}
+use Rattle.driver_attempt.proofs.RetryFold.{came_of}
 use Rattle.driver_exec.proofs.OneCommand.{reaches_few}
 use Rattle.driver_exec.proofs.Unnumbered.{no_failure}
 

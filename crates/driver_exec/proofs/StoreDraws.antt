@@ -2,21 +2,21 @@
 use Rattle.std.proofs.Common.{◌≡◌, ℕ, refl, sym, subst, ◌∙◌, inl, inr}
 use Rattle.std.specs.Prelude.{Bool, true, false, List, Option, None, Some, Result, Ok}
 use Rattle.driver_error.specs.declared.error.Error.{Error}
+use Rattle.driver_options.specs.declared.options.Address.{Address}
+use Rattle.driver_options.specs.declared.options.Conn.{Conn}
 use Rattle.driver_link.specs.declared.fault.LinkError.{LinkError}
-use Rattle.driver_link.specs.declared.options.Address.{Address}
-use Rattle.driver_link.specs.declared.options.Conn.{Conn}
 use Rattle.driver_session.specs.StoreTells.{DrawnApart, Draws, StoreTells}
 use Rattle.driver_session.specs.Session.{Session}
 use Rattle.driver_session.proofs.IdDraws.{apart_before, draws_lending, draws_staying, draws_taking}
-use Rattle.driver_exec.specs.declared.attempt_end.AttemptEnd.{AttemptEnd}
-use Rattle.driver_exec.specs.declared.attempt_end.AttemptEnd.TheVariants.{Done, Ended, Failed, Stopped, Unfit, Unselected}
-use Rattle.driver_exec.specs.declared.failure.FailurePhase.{FailurePhase}
-use Rattle.driver_exec.specs.declared.failure.FailurePhase.TheVariants.{ConnectionEstablishment, Execution}
-use Rattle.driver_exec.specs.Attempting.{FailsIn, Readies, AttemptState, Sends, AttemptedOperation, MakesAttempt, asks_session}
-use Rattle.driver_exec.specs.Executing.{Ends}
-use Rattle.driver_exec.specs.Holding.{GivesBack, ExecutionSession, HoldsSession, needs_session}
-use Rattle.driver_exec.specs.Retry.{RetryState}
-use Rattle.driver_exec.proofs.Attempts.{may_read_leaves}
+use Rattle.driver_attempt.specs.declared.attempt_end.AttemptEnd.{AttemptEnd}
+use Rattle.driver_attempt.specs.declared.attempt_end.AttemptEnd.TheVariants.{Done, Ended, Failed, Stopped, Unfit, Unselected}
+use Rattle.driver_attempt.specs.declared.failure.FailurePhase.{FailurePhase}
+use Rattle.driver_attempt.specs.declared.failure.FailurePhase.TheVariants.{ConnectionEstablishment, Execution}
+use Rattle.driver_attempt.specs.Attempting.{FailsIn, Readies, AttemptState, Sends, AttemptedOperation, MakesAttempt, asks_session}
+use Rattle.driver_attempt.specs.Executing.{Ends}
+use Rattle.driver_attempt.specs.Holding.{GivesBack, ExecutionSession, HoldsSession, needs_session}
+use Rattle.driver_attempt.specs.Retry.{RetryState}
+use Rattle.driver_attempt.proofs.Attempts.{may_read_leaves}
 
 -- a session is lent where one is needed
 holds_draws : (needed : Bool) (store now : StoreTells) (held held_now : ExecutionSession) → HoldsSession needed store now held held_now (Ok tt) → Draws store now

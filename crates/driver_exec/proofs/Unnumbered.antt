@@ -2,25 +2,25 @@
 use Rattle.std.proofs.Common.{◌≡◌, ℕ, List, [], ◌∷◌, length, refl, ap, subst, ◌∙◌, inl, inr}
 use Rattle.std.specs.Prelude.{ℤ, Bool, true, false, Option, None, Some, Result, Ok, Err, unwrap_or}
 use Rattle.driver_error.specs.declared.error.Error.{Error}
+use Rattle.driver_options.specs.declared.options.Address.{Address}
+use Rattle.driver_options.specs.declared.options.Conn.{Conn}
+use Rattle.driver_options.specs.declared.options.Description.{Description}
 use Rattle.driver_link.specs.declared.fault.LinkError.{LinkError}
 use Rattle.driver_link.specs.declared.fault.LinkError.TheVariants.{Fault}
-use Rattle.driver_link.specs.declared.options.Address.{Address}
-use Rattle.driver_link.specs.declared.options.Conn.{Conn}
-use Rattle.driver_link.specs.declared.options.Description.{Description}
 use Rattle.driver_session.specs.declared.retryability.Retryability.{Retryability}
 use Rattle.driver_session.specs.declared.retryability.Retryability.TheVariants as may
 use Rattle.driver_session.specs.StoreTells.{StoreTells}
-use Rattle.driver_exec.specs.declared.attempt_end.AttemptEnd.{AttemptEnd}
-use Rattle.driver_exec.specs.declared.attempt_end.AttemptEnd.TheVariants.{Done, Ended, Failed, Stopped, Unfit, Unselected}
-use Rattle.driver_exec.specs.declared.failure.AttemptFailure.{AttemptFailure}
-use Rattle.driver_exec.specs.declared.failure.FailurePhase.{FailurePhase}
-use Rattle.driver_exec.specs.declared.failure.FailurePhase.TheVariants.{ConnectionEstablishment, Execution}
-use Rattle.driver_exec.specs.Attempting.{AttemptState, AttemptedOperation, EndsRefused, FailsIn, MakesAttempt, Readies, Sends, asks_session, on_connection}
-use Rattle.driver_exec.specs.Executing.{Ends}
-use Rattle.driver_exec.specs.Holding.{DrawsNumber, ExecutionSession, HoldsSession, needs_session, number_before}
-use Rattle.driver_exec.specs.Retry.{RetryState, after, decide, may_be_retried, reworded_failure}
-use Rattle.driver_exec.specs.inside.Executing.{Reaches}
-use Rattle.driver_exec.proofs.Attempts.{may_read_leaves, reads_leave, sent_number}
+use Rattle.driver_attempt.specs.declared.attempt_end.AttemptEnd.{AttemptEnd}
+use Rattle.driver_attempt.specs.declared.attempt_end.AttemptEnd.TheVariants.{Done, Ended, Failed, Stopped, Unfit, Unselected}
+use Rattle.driver_attempt.specs.declared.failure.AttemptFailure.{AttemptFailure}
+use Rattle.driver_attempt.specs.declared.failure.FailurePhase.{FailurePhase}
+use Rattle.driver_attempt.specs.declared.failure.FailurePhase.TheVariants.{ConnectionEstablishment, Execution}
+use Rattle.driver_attempt.specs.Attempting.{AttemptState, AttemptedOperation, EndsRefused, FailsIn, MakesAttempt, Readies, Sends, asks_session, on_connection}
+use Rattle.driver_attempt.specs.Executing.{Ends}
+use Rattle.driver_attempt.specs.Holding.{DrawsNumber, ExecutionSession, HoldsSession, needs_session, number_before}
+use Rattle.driver_attempt.specs.Retry.{RetryState, after, decide, may_be_retried, reworded_failure}
+use Rattle.driver_attempt.specs.inside.Executing.{Reaches}
+use Rattle.driver_attempt.proofs.Attempts.{may_read_leaves, reads_leave, sent_number}
 
 -- nothing may be repeated on a connection either
 on_connection_none : (retryability : Retryability) (description : Description) → retryability ≡ may.None → on_connection retryability description ≡ may.None

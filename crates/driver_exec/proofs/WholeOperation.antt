@@ -12,14 +12,14 @@ use Rattle.driver_ops.specs.Fields.{under}
 use Rattle.driver_ops.specs.OperationLaw.{NeverOpen}
 use Rattle.driver_ops.specs.Operations.{Batch, OperationSpec, send_of}
 use Rattle.driver_ops.specs.SendKinds.{SendKind}
-use Rattle.driver_exec.specs.Causes.{end_of}
-use Rattle.driver_exec.specs.Concerns.{concern_of}
-use Rattle.driver_exec.specs.Executing.{Executes, RefusesConcern}
-use Rattle.driver_exec.specs.Moment.{Moment}
+use Rattle.driver_attempt.specs.Causes.{end_of}
+use Rattle.driver_attempt.specs.Concerns.{concern_of}
+use Rattle.driver_attempt.specs.Executing.{Executes, RefusesConcern}
+use Rattle.driver_attempt.specs.Moment.{Moment}
+use Rattle.driver_attempt.specs.Readings.{OnlyRead}
+use Rattle.driver_attempt.proofs.Causes.{notes_nothing}
 use Rattle.driver_exec.specs.OperationCauses.{Caused, Grounds, KindNeeds, grounds}
-use Rattle.driver_exec.specs.Readings.{OnlyRead}
 use Rattle.driver_exec.specs.Resending.{EndsWithReading, SendsOneCommand, SentTimes}
-use Rattle.driver_exec.proofs.Causes.{notes_nothing}
 use Rattle.driver_exec.proofs.ClockReadings.{proceeds_read, read_same}
 use Rattle.driver_exec.proofs.OperationCauses.{proceeds_caused}
 use Rattle.driver_exec.proofs.OneCommand.{proceeds_draws, proceeds_lends, proceeds_sends_one_command}

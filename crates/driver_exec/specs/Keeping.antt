@@ -13,8 +13,8 @@ use Rattle.driver_link.specs.Settled.{Has, IsAside}
 use Rattle.driver_session.specs.Pool.{Pool}
 use Rattle.driver_ops.specs.Operations.{OperationSpec}
 use Rattle.driver_ops.specs.Served.{AreEntries}
+use Rattle.driver_attempt.specs.Moment.{Moment}
 use Rattle.driver_exec.specs.BetweenCalls.{Between, MaySendPlaces, Sound}
-use Rattle.driver_exec.specs.Moment.{Moment}
 
 -- what stands before an operation that asks for this: nothing is lent, the sends so far are sound, its places may be sent, and
 -- the ids that are drawn by its end are apart

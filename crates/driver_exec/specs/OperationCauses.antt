@@ -8,7 +8,8 @@ use Rattle.driver_error.specs.declared.kind.ErrorKind.TheVariants as kind
 use Rattle.driver_error.specs.declared.labels.TheConstants.{RETRYABLE_WRITE_ERROR}
 use Rattle.driver_error.specs.Error.{ErrorKind, kind_of, source_of}
 use Rattle.driver_error.specs.LabelTexts.{LabelSet, label_set, no_labels, with_label}
-use Rattle.driver_link.specs.declared.concerns.WriteConcern.{WriteConcern}
+use Rattle.driver_options.specs.declared.concerns.WriteConcern.{WriteConcern}
+use Rattle.driver_options.specs.declared.options.Description.{Description}
 use Rattle.driver_link.specs.declared.fault.Answered.{Answered}
 use Rattle.driver_link.specs.declared.fault.Answered.TheVariants as answer
 use Rattle.driver_link.specs.declared.fault.LinkCall.{LinkCall}
@@ -22,19 +23,18 @@ use Rattle.driver_link.specs.Failures.{is_network}
 use Rattle.driver_session.specs.declared.retryability.Retryability.{Retryability}
 use Rattle.driver_session.specs.declared.retryability.Retryability.TheVariants as may
 use Rattle.driver_session.specs.Session.{number_at_its_end}
-use Rattle.driver_link.specs.declared.options.Description.{Description}
 use Rattle.driver_ops.specs.Fields.{SendContext}
 use Rattle.driver_ops.specs.GetMores.{at_namespace, more_spec}
 use Rattle.driver_ops.specs.Operations.{HasNoSpelling, IsUnframed, LeavesCursor, OperationSpec, Page, ReadsPages, Refuses}
 use Rattle.driver_ops.specs.Responses.{ReadsResponse}
 use Rattle.driver_ops.specs.SendKinds.{SendKind}
-use Rattle.driver_exec.specs.Attempting.{on_connection}
-use Rattle.driver_exec.specs.Causes.{AllEarly, ErrorOutline, HasExchangeFault, HasReply, IsLast, KindAtLast, MayBeLast, next_number, outline_of}
-use Rattle.driver_exec.specs.Concerns.{concern_of, concern_refusal}
-use Rattle.driver_exec.specs.Failures.{IsFaultOf, is_memory}
-use Rattle.driver_exec.specs.LabelTable.{labels_outside_transactions}
-use Rattle.driver_exec.specs.OldDeployment.{reworded_kind}
-use Rattle.driver_exec.specs.Moment.{Moment}
+use Rattle.driver_attempt.specs.Attempting.{on_connection}
+use Rattle.driver_attempt.specs.Causes.{AllEarly, ErrorOutline, HasExchangeFault, HasReply, IsLast, KindAtLast, MayBeLast, next_number, outline_of}
+use Rattle.driver_attempt.specs.Concerns.{concern_of, concern_refusal}
+use Rattle.driver_attempt.specs.Failures.{IsFaultOf, is_memory}
+use Rattle.driver_attempt.specs.LabelTable.{labels_outside_transactions}
+use Rattle.driver_attempt.specs.OldDeployment.{reworded_kind}
+use Rattle.driver_attempt.specs.Moment.{Moment}
 
 -- the labels of the error of a fault: a failure of the network has the label that lets a write be tried again beside the
 -- link's own labels, where the write may be repeated

@@ -17,8 +17,8 @@ use Rattle.driver_session.specs.Session.{MayRaise, Raises, Session}
 use Rattle.driver_session.specs.StoreTells.{LendsSession, StoreTells, TakesSession}
 use Rattle.driver_ops.specs.Fields.{under}
 use Rattle.driver_ops.specs.Operations.{AsksFor, Batch, LeavesCursor, OperationSpec, Page, ReadsPages, ReadsPagesOutput, send_of}
-use Rattle.driver_exec.specs.AttemptExchanges.{PageCame}
-use Rattle.driver_exec.specs.Moment.{Moment}
+use Rattle.driver_attempt.specs.AttemptExchanges.{PageCame}
+use Rattle.driver_attempt.specs.Moment.{Moment}
 
 -- a failure that only the reply to a command that was done spells
 abbrev pub IsReadFailure : ErrorKind → Type 0

@@ -2,33 +2,29 @@
 ghost use Rattle.std.specs.Prelude.{◌≡◌, ◌⊎◌, ℕ, List as Listed, IsSome, Some};
 ghost use Rattle.driver_link.specs.declared.machine.SendBody.{SendBody};
 ghost use Rattle.driver_ops.specs.Operations.{AsksFor, HasBodies, IsFixed, SameSpec, StaysFixed, batch_of};
-ghost use Rattle.driver_exec.specs.Attempting.{attempted_operation};
-ghost use Rattle.driver_exec.specs.Causes.{end_of};
-ghost use Rattle.driver_exec.specs.Client.{options_of, store_of};
-ghost use Rattle.driver_exec.specs.Concerns.{concern_of, concern_refusal};
-ghost use Rattle.driver_exec.specs.Executing.{Attempts, EndsWith, Executes, limit_reached};
-ghost use Rattle.driver_exec.specs.Holding.{holds_nothing};
+ghost use Rattle.driver_attempt.specs.Attempting.{attempted_operation};
+ghost use Rattle.driver_attempt.specs.Causes.{end_of};
+ghost use Rattle.driver_attempt.specs.Client.{options_of, store_of};
+ghost use Rattle.driver_attempt.specs.Concerns.{concern_of, concern_refusal};
+ghost use Rattle.driver_attempt.specs.Executing.{Attempts, EndsWith, Executes, limit_reached};
+ghost use Rattle.driver_attempt.specs.Holding.{holds_nothing};
+ghost use Rattle.driver_attempt.specs.Moment.{moment_of};
+ghost use Rattle.driver_attempt.specs.Retry.{Decides, decide};
+ghost use Rattle.driver_attempt.specs.inside.Attempting.{attempt_state};
+ghost use Rattle.driver_attempt.specs.inside.Executing.{FailureOf, IsLastError, MayAnswer, kept_or};
 ghost use Rattle.driver_exec.specs.Keeping.{KeepsInvariant, OkHasEntries};
-ghost use Rattle.driver_exec.specs.Moment.{moment_of};
 ghost use Rattle.driver_exec.specs.OperationCauses.{Caused};
 ghost use Rattle.driver_exec.specs.Reporting.{ErrIsReported, HasRun};
 ghost use Rattle.driver_exec.specs.Resending.{SendsOneCommand};
-ghost use Rattle.driver_exec.specs.Retry.{Decides, decide};
-ghost use Rattle.driver_exec.specs.inside.Attempting.{attempt_state};
-ghost use Rattle.driver_exec.specs.inside.Executing.{FailureOf, IsLastError, MayAnswer, kept_or};
 
-use crate::attempt::make_attempt;
-use crate::attempt_end::AttemptEnd;
-use crate::client::Client;
-use crate::concern::concern_refusal;
-use crate::execution_session::{ExecutionSession, check_in_session};
-use crate::failure::{AttemptFailure, FailurePhase};
-use crate::outside::Outside;
-use crate::retry::Retry;
-use crate::steps::Steps;
+use driver_attempt::{
+    AttemptEnd, AttemptFailure, Client, ExecutionSession, FailurePhase, Outside, Retry, Steps,
+    check_in_session, concern_refusal, make_attempt,
+};
 use driver_error::{Error, Result};
-use driver_link::{ClientOptions, Clock, Link, Place};
+use driver_link::{Clock, Link, Place};
 use driver_ops::Operation;
+use driver_options::ClientOptions;
 use driver_session::{Retryability, SessionStore};
 use rand_core::Rng;
 use std::alloc::Global;

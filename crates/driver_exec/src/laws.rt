@@ -5,10 +5,10 @@ ghost use Rattle.driver_link.specs.declared.machine.SendBody.{SendBody};
 ghost use Rattle.driver_session.specs.declared.retryability.Retryability.TheVariants.{None as Nothing};
 ghost use Rattle.driver_ops.specs.Operations.{AsksFor, Batch};
 ghost use Rattle.driver_ops.specs.SendKinds.{SendKind};
-ghost use Rattle.driver_exec.specs.Executing.{Executes};
+ghost use Rattle.driver_attempt.specs.Executing.{Executes};
+ghost use Rattle.driver_attempt.specs.Moment.{DrawsInOrder, KeepsLent, Moment};
+ghost use Rattle.driver_attempt.specs.Readings.{OnlyRead};
 ghost use Rattle.driver_exec.specs.Keeping.{KeepsInvariant, OkHasEntries};
-ghost use Rattle.driver_exec.specs.Moment.{DrawsInOrder, KeepsLent, Moment};
-ghost use Rattle.driver_exec.specs.Readings.{OnlyRead};
 ghost use Rattle.driver_exec.specs.Reporting.{ErrIsReported, HasRun};
 ghost use Rattle.driver_exec.specs.Resending.{SendsOneCommand};
 

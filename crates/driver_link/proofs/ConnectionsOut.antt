@@ -5,7 +5,7 @@ use Rattle.std.proofs.lemmas.Bool.{cond-true, cond-false, or_parts, or_right}
 use Rattle.std.proofs.lemmas.Bool.Decides.{nat_tests}
 use Rattle.std.proofs.Common.{drop-cons, get_or}
 use Rattle.std.proofs.lemmas.List.{append-nil, take-append-drop}
-use Rattle.driver_link.specs.declared.options.Conn.{Conn}
+use Rattle.driver_options.specs.declared.options.Conn.{Conn}
 use Rattle.driver_link.specs.LinkState.{has_number, without_newest}
 
 -- equal numbers are told to be equal

@@ -1,6 +1,12 @@
 -- A link whose answers are chosen beforehand.
 use Rattle.std.specs.Prelude.{◌≡◌, ℕ, ◌+◌, ◌-◌, ◌<◌, min, false, length, take, drop, slice_get, List, [], ◌∷◌, ◌++◌, Option, None, Some, Result, Ok, Err}
 use Rattle.driver_error.specs.declared.kind.IoKind.TheVariants.{ConnectionReset}
+use Rattle.driver_options.specs.declared.options.Address.{Address}
+use Rattle.driver_options.specs.declared.options.Asked.{Asked}
+use Rattle.driver_options.specs.declared.options.Conn.{Conn}
+use Rattle.driver_options.specs.declared.options.Description.{Description}
+use Rattle.driver_options.specs.declared.options.SelectionCriteria.{SelectionCriteria}
+use Rattle.driver_options.specs.declared.options.SelectionCriteria.TheVariants as criteria
 use Rattle.driver_link.specs.declared.fake_link.FakeStep.{FakeStep}
 use Rattle.driver_link.specs.declared.fake_link.FakeStep.TheVariants as step
 use Rattle.driver_link.specs.declared.fake_link.TheConstants.{HOST, PORT}
@@ -10,12 +16,6 @@ use Rattle.driver_link.specs.declared.fault.LinkCall.TheVariants.{Exchange}
 use Rattle.driver_link.specs.declared.fault.LinkError.{LinkError}
 use Rattle.driver_link.specs.declared.fault.LinkError.TheVariants.{Fault, Memory}
 use Rattle.driver_link.specs.declared.fault.LinkFault.TheVariants.{Io}
-use Rattle.driver_link.specs.declared.options.Address.{Address}
-use Rattle.driver_link.specs.declared.options.Asked.{Asked}
-use Rattle.driver_link.specs.declared.options.Conn.{Conn}
-use Rattle.driver_link.specs.declared.options.Description.{Description}
-use Rattle.driver_link.specs.declared.options.SelectionCriteria.{SelectionCriteria}
-use Rattle.driver_link.specs.declared.options.SelectionCriteria.TheVariants as criteria
 use Rattle.driver_link.specs.Counting.{one_more}
 use Rattle.driver_link.specs.Framed.{Framed}
 use Rattle.driver_link.specs.LinkState.{LinkState, Untold, has_number, without_newest}

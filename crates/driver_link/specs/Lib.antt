@@ -4,7 +4,6 @@ pub mod Cases
 pub mod Clock
 pub mod CommandNames
 pub mod Commands
-pub mod Concerns
 pub mod Counting
 pub mod CountingIds
 pub mod Cursors
@@ -12,7 +11,6 @@ pub mod Exchange
 pub mod Failures
 pub mod FakeLink
 pub mod Faults
-pub mod FindOptions
 pub mod Framed
 pub mod Gathered
 pub mod Honesty
@@ -23,7 +21,6 @@ pub mod LinkCalls
 pub mod LinkState
 pub mod MemClock
 pub mod MemStreams
-pub mod Models
 pub mod Numbers
 pub mod Once
 pub mod Reads

@@ -1,14 +1,14 @@
 -- What each call of a link makes of what it tells.
 use Rattle.std.specs.Prelude.{◌≡◌, ℕ, Bool, List, Option, None, Some, Result, IfOk, IfSome}
+use Rattle.driver_options.specs.declared.options.Address.{Address}
+use Rattle.driver_options.specs.declared.options.Asked.{Asked}
+use Rattle.driver_options.specs.declared.options.Conn.{Conn}
 use Rattle.driver_link.specs.declared.fault.LinkCall.{LinkCall}
 use Rattle.driver_link.specs.declared.fault.LinkCall.TheVariants.{Select, Support, CheckOut, Exchange, Reauthenticate}
 use Rattle.driver_link.specs.declared.fault.LinkError.{LinkError}
 use Rattle.driver_link.specs.declared.machine.Place.{Place}
 use Rattle.driver_link.specs.declared.machine.Send.{Send}
 use Rattle.driver_link.specs.declared.machine.Setup.{Setup}
-use Rattle.driver_link.specs.declared.options.Address.{Address}
-use Rattle.driver_link.specs.declared.options.Asked.{Asked}
-use Rattle.driver_link.specs.declared.options.Conn.{Conn}
 use Rattle.driver_link.specs.Counting.{Counts, Listed, selected, select_fault, supported, support_fault, checked_out, check_out_fault, reauthenticated, reauthentication_fault}
 use Rattle.driver_link.specs.Faults.{HasLinkCause}
 use Rattle.driver_link.specs.Framed.{Framed}

@@ -8,9 +8,9 @@ use crate::fault::{Answered, LinkCall, LinkError, LinkFault};
 use crate::frame::Frame;
 use crate::link::Link;
 use crate::machine::Place;
-use crate::options::{Address, Asked, Conn, Description, SelectionCriteria};
 use bson_lite::{Bytes, List, Text, TryClone};
 use driver_error::{Error, IoKind};
+use driver_options::{Address, Asked, Conn, Description, SelectionCriteria};
 use std::alloc::{AllocError, Global};
 use std::marker::Model;
 
@@ -48,8 +48,8 @@ pub struct NotedConn {
 
 impl Model for NotedConn {
     ghost use Rattle.std.specs.Coded.{codes};
-    ghost use Rattle.driver_link.specs.contracts.options.Conn as conn_contract;
-    ghost use Rattle.driver_link.specs.declared.options.Conn.{Conn};
+    ghost use Rattle.driver_options.specs.contracts.options.Conn as conn_contract;
+    ghost use Rattle.driver_options.specs.declared.options.Conn.{Conn};
 
     ghost Value = { Conn };
 

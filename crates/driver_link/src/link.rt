@@ -9,9 +9,9 @@ ghost use Rattle.driver_link.specs.Reads.{Reads};
 use crate::fault::LinkError;
 use crate::frame::Frame;
 use crate::machine::Place;
-use crate::options::{Address, Conn, SelectionCriteria};
 use bson_lite::Bytes;
 use driver_error::Error;
+use driver_options::{Address, Conn, SelectionCriteria};
 use std::alloc::Global;
 
 /// Servers behind connections. What a link tells is for contracts alone.

@@ -1,8 +1,8 @@
 //! The model server's machine as plain data: what is sent, what the server keeps, and what a schedule
 //! lets happen. Its steps are the definitions of `specs/Exchange.antt`.
 use crate::by_id::ById;
-use crate::options::Description;
 use bson_lite::{Bson, ByIndex, Document, List, Namespace, Text, TryClone};
+use driver_options::Description;
 use std::alloc::{AllocError, Global};
 
 /// The place of a write in a list of calls: the number of the call, and the write's index in it.

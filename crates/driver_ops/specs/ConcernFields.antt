@@ -3,9 +3,9 @@ use Rattle.std.specs.Prelude.{ℕ, ◌^◌, pos, List, [], ◌∷◌, ◌++◌, 
 use Rattle.bson_lite.specs.declared.bson.Bson.{Bson}
 use Rattle.bson_lite.specs.declared.bson.Bson as bson
 use Rattle.bson_lite.specs.declared.document.Pair.{Pair}
-use Rattle.driver_link.specs.declared.concerns.Acknowledgment.{Acknowledgment}
-use Rattle.driver_link.specs.declared.concerns.Acknowledgment.TheVariants.{Custom, Majority, Nodes}
-use Rattle.driver_link.specs.declared.concerns.WriteConcern.{WriteConcern}
+use Rattle.driver_options.specs.declared.concerns.Acknowledgment.{Acknowledgment}
+use Rattle.driver_options.specs.declared.concerns.Acknowledgment.TheVariants.{Custom, Majority, Nodes}
+use Rattle.driver_options.specs.declared.concerns.WriteConcern.{WriteConcern}
 use Rattle.driver_ops.specs.declared.keys.TheConstants.{JOURNAL, MAJORITY, W, W_TIMEOUT}
 use Rattle.driver_ops.specs.OptionFields.{flag_of, option_field}
 

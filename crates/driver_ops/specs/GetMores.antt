@@ -7,14 +7,14 @@ use Rattle.bson_lite.specs.declared.namespace.Namespace.{Namespace}
 use Rattle.driver_error.specs.declared.error.Error.{Error}
 use Rattle.driver_error.specs.declared.kind.ErrorKind.TheVariants as kind
 use Rattle.driver_error.specs.Error.{kind_of}
+use Rattle.driver_options.specs.declared.options.ClientOptions.{ClientOptions}
+use Rattle.driver_options.specs.declared.options.Description.{Description}
 use Rattle.driver_link.specs.declared.command.CommandName.TheVariants as name
 use Rattle.driver_link.specs.declared.keys.TheConstants.{COLLECTION, CURSORS, GET_MORE, KILL_CURSORS}
 use Rattle.driver_link.specs.declared.machine.Entry.{Entry}
 use Rattle.driver_link.specs.declared.machine.Place.{Place}
 use Rattle.driver_link.specs.declared.machine.SendBody.{SendBody}
 use Rattle.driver_link.specs.declared.machine.SendBody.TheVariants.{Kill, More}
-use Rattle.driver_link.specs.declared.options.ClientOptions.{ClientOptions}
-use Rattle.driver_link.specs.declared.options.Description.{Description}
 use Rattle.driver_link.specs.Numbers.{field}
 use Rattle.driver_session.specs.declared.retryability.Retryability.{Retryability}
 use Rattle.driver_session.specs.declared.retryability.Retryability.TheVariants as may
@@ -22,8 +22,7 @@ use Rattle.driver_ops.specs.declared.command.Command.{Command}
 use Rattle.driver_ops.specs.declared.feature.Feature.TheVariants.{NotSupported}
 use Rattle.driver_ops.specs.declared.target.OperationTarget.{OperationTarget}
 use Rattle.driver_ops.specs.declared.target.OperationTarget.TheVariants as target
-use Rattle.driver_ops.specs.InsertSpec.{ReadsAlone}
-use Rattle.driver_ops.specs.Operations.{OperationSpec, never}
+use Rattle.driver_ops.specs.Operations.{ReadsAlone, OperationSpec, never}
 use Rattle.driver_ops.specs.Targets.{namespace_of}
 
 -- the body of the question: the cursor, and the collection that it is asked for under

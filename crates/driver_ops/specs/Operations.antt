@@ -1,6 +1,6 @@
 -- What an operation tells of its command, what building it comes to, and what a reply to it comes to.
-use denote.Ref.{Bor}
 use Rattle.std.specs.Prelude.{◌≡◌, ◌↔◌, ℕ, ◌≤◌, ℤ, Bool, false, List, [], ◌∷◌, length, take, ◌++◌, Option, None, Some, ◌⊎◌, Result, Ok, Err}
+use denote.Ref.{Bor}
 use Rattle.bson_lite.specs.declared.bson.Bson.{Bson}
 use Rattle.bson_lite.specs.declared.document.Pair.{Pair}
 use Rattle.bson_lite.specs.declared.fault.EncodeFault.{EncodeFault}
@@ -10,17 +10,17 @@ use Rattle.driver_error.specs.declared.error.Error.{Error}
 use Rattle.driver_error.specs.declared.kind.ErrorKind.TheVariants as kind
 use Rattle.driver_error.specs.Error.{ErrorKind, HasResponse, IsAlone, kind_of}
 use Rattle.driver_error.specs.LabelTexts.{no_labels}
+use Rattle.driver_options.specs.declared.concerns.ReadConcern.{ReadConcern}
+use Rattle.driver_options.specs.declared.concerns.WriteConcern.{WriteConcern}
+use Rattle.driver_options.specs.declared.options.ClientOptions.{ClientOptions}
+use Rattle.driver_options.specs.declared.options.Description.{Description}
+use Rattle.driver_options.specs.declared.options.SelectionCriteria.{SelectionCriteria}
 use Rattle.driver_link.specs.declared.command.CommandName.{CommandName}
-use Rattle.driver_link.specs.declared.concerns.ReadConcern.{ReadConcern}
-use Rattle.driver_link.specs.declared.concerns.WriteConcern.{WriteConcern}
 use Rattle.driver_link.specs.declared.frame.Documents.{Documents}
 use Rattle.driver_link.specs.declared.machine.Entry.{Entry}
 use Rattle.driver_link.specs.declared.machine.Place.{Place}
 use Rattle.driver_link.specs.declared.machine.Send.{Send}
 use Rattle.driver_link.specs.declared.machine.SendBody.{SendBody}
-use Rattle.driver_link.specs.declared.options.ClientOptions.{ClientOptions}
-use Rattle.driver_link.specs.declared.options.Description.{Description}
-use Rattle.driver_link.specs.declared.options.SelectionCriteria.{SelectionCriteria}
 use Rattle.driver_link.specs.Asking.{asks}
 use Rattle.driver_link.specs.Framed.{Framed}
 use Rattle.driver_link.specs.Reads.{Reads, SpellSequences}
@@ -48,6 +48,12 @@ page_told (Err failure) = Err failure
 abbrev pub OnPage : {A : Type 0} → Result (Reading A) Error → Type 0 → Type 0
 OnPage (Ok (Further cursor namespace)) claim = claim
 OnPage result claim = Unit {0}
+
+-- an answer is the one reply
+abbrev pub ReadsAlone : {A : Type 0} → (List (Pair Bson) → Result A Error → Type 0) → List Page → Result (Reading A) Error → Type 0
+ReadsAlone reads (Ok reply ∷ []) (Ok (Done output)) = reads reply (Ok output)
+ReadsAlone reads (Ok reply ∷ []) (Err error) = reads reply (Err error)
+ReadsAlone reads pages result = ⊥
 
 -- what an operation tells: the name of its command and what it goes to; which commands it builds, by the kind of the send and
 -- the number of statements; what a command of so many statements asks for, with the places of all its remaining writes; how many

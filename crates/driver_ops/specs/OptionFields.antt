@@ -3,8 +3,8 @@ use Rattle.std.specs.Prelude.{ℕ, Bool, true, false, List, [], ◌∷◌, map, 
 use Rattle.bson_lite.specs.declared.bson.Bson.{Bson}
 use Rattle.bson_lite.specs.declared.bson.Bson as bson
 use Rattle.bson_lite.specs.declared.document.Pair.{Pair}
-use Rattle.driver_link.specs.declared.updates.Hint.{Hint}
-use Rattle.driver_link.specs.declared.updates.Hint.TheVariants.{Keys, Name}
+use Rattle.driver_options.specs.declared.updates.Hint.{Hint}
+use Rattle.driver_options.specs.declared.updates.Hint.TheVariants.{Keys, Name}
 
 -- the field of an option that is set to a value
 abbrev pub option_field : List ℕ → Option Bson → List (Pair Bson)

@@ -1,5 +1,5 @@
 -- How the fields of a reply are read: what their values may be, and what a missing field stands for.
-use Rattle.std.specs.Prelude.{ℕ, ◌^◌, ℤ, pos, negsuc, List, [], ◌∷◌, Option, None, Some, unwrap_or, if◌then◌else◌}
+use Rattle.std.specs.Prelude.{◌≡◌, ℕ, ◌^◌, ℤ, pos, negsuc, List, [], ◌∷◌, Option, None, Some, Result, Ok, Err, unwrap_or, if◌then◌else◌}
 use Rattle.std.specs.Option.{option_and_then, option_map}
 use Rattle.bson_lite.specs.declared.bson.Bson.{Bson}
 use Rattle.bson_lite.specs.declared.document.Pair.{Pair}
@@ -10,6 +10,8 @@ use Rattle.driver_link.specs.declared.keys.TheConstants.{CODE, ERROR_LABELS, ERR
 use Rattle.driver_link.specs.Commands.{needed, optional}
 use Rattle.driver_link.specs.Values.{text_of, array_of}
 use Rattle.driver_ops.specs.declared.keys.TheConstants.{BASE_BACKOFF, CODE_NAME}
+use Rattle.driver_ops.specs.declared.reply_fields.Unread.{Unread}
+use Rattle.driver_ops.specs.declared.reply_fields.Unread.TheVariants.{Memory, Wrong}
 
 -- a whole number that has 32 bits
 unfoldable pub small_of : Bson → Option ℤ
@@ -57,3 +59,9 @@ command_error_in document =
     (text_in ERROR_MESSAGE.now document))
     (text_in CODE_NAME.now document))
     (needed small_of CODE.now document)
+
+-- what a reader of a field gives: the answer is what is given, and wrong where none is; want of memory says nothing
+abbrev pub Gives : {A : Type 0} → Result A Unread → Option A → Type 0
+Gives (Ok value) given = given ≡ Some value
+Gives (Err Wrong) given = given ≡ None
+Gives (Err Memory) given = Unit {0}

@@ -6,7 +6,7 @@ ghost use Rattle.driver_ops.specs.OptionFields.{option_field};
 use crate::keys::{JOURNAL, MAJORITY, W, W_TIMEOUT};
 use crate::option_fields::push_flag;
 use bson_lite::{Bson, Document, Text, TryClone};
-use driver_link::{Acknowledgment, WriteConcern};
+use driver_options::{Acknowledgment, WriteConcern};
 use std::alloc::{AllocError, Global};
 
 /// The fields of a write concern that are set, in their order: which servers acknowledge the write, how many
@@ -49,7 +49,7 @@ fn acknowledgment_value(alloc: Global, w: &Acknowledgment) -> Result<Bson, Alloc
 }
 
 /// Appends a number where it is set.
-pub(crate) fn push_number(
+pub fn push_number(
     document: &mut Document,
     key: &str,
     number: Option<u32>,

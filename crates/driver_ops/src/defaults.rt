@@ -13,7 +13,7 @@ use crate::operation::Reading;
 use crate::response::odd_reply;
 use bson_lite::Document;
 use driver_error::{Error, Result};
-use driver_link::WriteConcern;
+use driver_options::WriteConcern;
 use driver_session::Retryability;
 use std::alloc::Global;
 

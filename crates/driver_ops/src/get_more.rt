@@ -14,9 +14,8 @@ use crate::operation::{Operation, Reading};
 use crate::target::OperationTarget;
 use bson_lite::{Bson, Document, List, Namespace, Text, TryClone};
 use driver_error::{Error, Result};
-use driver_link::{
-    ClientOptions, CommandName, Description, ReadConcern, SelectionCriteria, WriteConcern, keys,
-};
+use driver_link::{CommandName, keys};
+use driver_options::{ClientOptions, Description, ReadConcern, SelectionCriteria, WriteConcern};
 use driver_session::Retryability;
 use std::alloc::{AllocError, Global};
 

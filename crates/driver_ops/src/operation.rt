@@ -13,7 +13,7 @@ use crate::feature::Feature;
 use crate::target::OperationTarget;
 use bson_lite::{Document, Namespace};
 use driver_error::{Error, Result};
-use driver_link::{ClientOptions, Description, ReadConcern, SelectionCriteria, WriteConcern};
+use driver_options::{ClientOptions, Description, ReadConcern, SelectionCriteria, WriteConcern};
 use driver_session::Retryability;
 use std::alloc::Global;
 

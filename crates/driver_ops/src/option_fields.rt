@@ -4,15 +4,11 @@ ghost use Rattle.bson_lite.specs.declared.bson.Bson as bson;
 ghost use Rattle.driver_ops.specs.OptionFields.{document_in, documents_of, documents_value, flag_of, hint_of, hint_value, option_field, where_true};
 
 use bson_lite::{Bson, Document, List, TryClone};
-use driver_link::Hint;
+use driver_options::Hint;
 use std::alloc::{AllocError, Global};
 
 /// Appends a flag where it is set.
-pub(crate) fn push_flag(
-    document: &mut Document,
-    key: &str,
-    flag: Option<bool>,
-) -> Result<(), AllocError>
+pub fn push_flag(document: &mut Document, key: &str, flag: Option<bool>) -> Result<(), AllocError>
     ensures { OnOk result (document.new ≡ document.old ++ option_field key.now (flag_of flag)) }
 {
     match flag {
@@ -22,7 +18,7 @@ pub(crate) fn push_flag(
 }
 
 /// Appends a copy of a value where one is set.
-pub(crate) fn push_value(
+pub fn push_value(
     alloc: Global,
     document: &mut Document,
     key: &str,
@@ -37,7 +33,7 @@ pub(crate) fn push_value(
 }
 
 /// Appends a copy of a document where one is set.
-pub(crate) fn push_document(
+pub fn push_document(
     alloc: Global,
     document: &mut Document,
     key: &str,
@@ -52,7 +48,7 @@ pub(crate) fn push_document(
 }
 
 /// Appends copies of documents as an array, where they are set.
-pub(crate) fn push_documents(
+pub fn push_documents(
     alloc: Global,
     document: &mut Document,
     key: &str,
@@ -67,7 +63,7 @@ pub(crate) fn push_documents(
 }
 
 /// Copies of documents as an array.
-pub(crate) fn documents_value(alloc: Global, documents: &[Document]) -> Result<Bson, AllocError>
+pub fn documents_value(alloc: Global, documents: &[Document]) -> Result<Bson, AllocError>
     ensures { IfOk result (λ value. value ≡ documents_value documents.now) }
 {
     let mut values = List::new(alloc);
@@ -78,7 +74,7 @@ pub(crate) fn documents_value(alloc: Global, documents: &[Document]) -> Result<B
 }
 
 /// Appends a hint where it is set.
-pub(crate) fn push_hint(
+pub fn push_hint(
     alloc: Global,
     document: &mut Document,
     key: &str,
@@ -103,7 +99,7 @@ fn hint_value(alloc: Global, hint: &Hint) -> Result<Bson, AllocError>
 }
 
 /// Appends a flag only where it is true.
-pub(crate) fn push_where(document: &mut Document, key: &str, flag: bool) -> Result<(), AllocError>
+pub fn push_where(document: &mut Document, key: &str, flag: bool) -> Result<(), AllocError>
     ensures { OnOk result (document.new ≡ document.old ++ option_field key.now (where_true flag)) }
 {
     if flag {
@@ -114,7 +110,7 @@ pub(crate) fn push_where(document: &mut Document, key: &str, flag: bool) -> Resu
 }
 
 /// The one statement of a command, as an array.
-pub(crate) fn one_statement(alloc: Global, statement: Document) -> Result<Bson, AllocError>
+pub fn one_statement(alloc: Global, statement: Document) -> Result<Bson, AllocError>
     ensures { IfOk result (λ value. value ≡ bson.Array (bson.Document statement ∷ [])) }
 {
     let mut statements = List::new(alloc);

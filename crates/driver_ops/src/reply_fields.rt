@@ -4,8 +4,7 @@ ghost use Rattle.std.specs.Option.{option_copied};
 ghost use Rattle.bson_lite.specs.Fields.{int_of};
 ghost use Rattle.driver_link.specs.Commands.{needed, optional};
 ghost use Rattle.driver_link.specs.Values.{text_of};
-ghost use Rattle.driver_ops.specs.Readings.{small_of, natural_of, text_in, texts_in, texts_of, labels_in, command_error_in};
-ghost use Rattle.driver_ops.specs.inside.Readings.{Gives};
+ghost use Rattle.driver_ops.specs.Readings.{Gives, small_of, natural_of, text_in, texts_in, texts_of, labels_in, command_error_in};
 
 use crate::keys::{BASE_BACKOFF, CODE_NAME};
 use bson_lite::{Bson, Document, List, Text, TryClone, get_int};
@@ -58,7 +57,7 @@ fn natural_of(value: &Bson) -> Option<u64>
 
 /// The code of an error, which is needed.
 #[tactic(auto, unfolding(driver_link::specs::Commands::needed))]
-pub(crate) fn code_at(document: &Document, key: &str) -> Result<i32, Unread>
+pub fn code_at(document: &Document, key: &str) -> Result<i32, Unread>
     ensures { Gives result (needed small_of key.now document.now) }
 {
     let Some(value) = document.get(key) else {
@@ -72,7 +71,7 @@ pub(crate) fn code_at(document: &Document, key: &str) -> Result<i32, Unread>
 
 /// A whole number, which is needed.
 #[tactic(auto, unfolding(driver_link::specs::Commands::needed))]
-pub(crate) fn int_at(document: &Document, key: &str) -> Result<i64, Unread>
+pub fn int_at(document: &Document, key: &str) -> Result<i64, Unread>
     ensures { Gives result (needed int_of key.now document.now) }
 {
     let Some(value) = document.get(key) else {
@@ -86,7 +85,7 @@ pub(crate) fn int_at(document: &Document, key: &str) -> Result<i64, Unread>
 
 /// A number that is not negative, which is needed.
 #[tactic(auto, unfolding(driver_link::specs::Commands::needed))]
-pub(crate) fn count_at(document: &Document, key: &str) -> Result<u64, Unread>
+pub fn count_at(document: &Document, key: &str) -> Result<u64, Unread>
     ensures { Gives result (needed natural_of key.now document.now) }
 {
     let Some(value) = document.get(key) else {
@@ -100,7 +99,7 @@ pub(crate) fn count_at(document: &Document, key: &str) -> Result<u64, Unread>
 
 /// A number that is not negative, which may be missing.
 #[tactic(auto, unfolding(driver_link::specs::Commands::optional_value))]
-pub(crate) fn natural_at(document: &Document, key: &str) -> Result<Option<u64>, Unread>
+pub fn natural_at(document: &Document, key: &str) -> Result<Option<u64>, Unread>
     ensures { Gives result (optional natural_of key.now document.now) }
 {
     let Some(value) = document.get(key) else {
@@ -114,7 +113,7 @@ pub(crate) fn natural_at(document: &Document, key: &str) -> Result<Option<u64>, 
 
 /// A text, which is empty where it is missing.
 #[tactic(auto, unfolding(crate::specs::Readings::text_in, driver_link::specs::Commands::optional_value))]
-pub(crate) fn text_at(alloc: Global, document: &Document, key: &str) -> Result<Text, Unread>
+pub fn text_at(alloc: Global, document: &Document, key: &str) -> Result<Text, Unread>
     ensures { Gives result (text_in key.now document.now) }
 {
     match document.get(key) {
@@ -151,7 +150,7 @@ fn texts_in(alloc: Global, values: &[Bson]) -> Result<List<Text>, Unread>
 
 /// The labels of a reply.
 #[tactic(auto, unfolding(crate::specs::Readings::labels_in, crate::specs::Readings::texts_of, driver_link::specs::Commands::optional_value))]
-pub(crate) fn labels_at(alloc: Global, document: &Document) -> Result<List<Text>, Unread>
+pub fn labels_at(alloc: Global, document: &Document) -> Result<List<Text>, Unread>
     ensures { Gives result (labels_in document.now) }
 {
     match document.get(keys::ERROR_LABELS) {

@@ -155,7 +155,7 @@ fn failed_error(alloc: Global, reply: &Document) -> Error
 }
 
 /// The error of a reply that breaks the form of replies, or want of memory.
-pub(crate) fn odd_reply(alloc: Global, text: &str) -> Error
+pub fn odd_reply(alloc: Global, text: &str) -> Error
     ensures { IsMade (InvalidResponse text.now) no_labels result }
 {
     match Text::from_str(alloc, text) {

@@ -2,7 +2,7 @@
 ghost use Rattle.driver_link.specs.declared.keys.TheConstants.{FIRST_BATCH};
 ghost use Rattle.driver_link.specs.Commands.{needed};
 ghost use Rattle.driver_ops.specs.SingleCursor.{ReadsSingleCursor, batch_of_one, first_document, single_cursor};
-ghost use Rattle.driver_ops.specs.inside.Readings.{Gives};
+ghost use Rattle.driver_ops.specs.Readings.{Gives};
 
 use crate::reply_fields::Unread;
 use crate::response::odd_reply;

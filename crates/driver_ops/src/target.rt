@@ -3,7 +3,7 @@ ghost use Rattle.std.specs.Prelude.{◌≡◌};
 ghost use Rattle.driver_ops.specs.Targets.{collection_of, database_of};
 
 use bson_lite::{Namespace, Text};
-use driver_link::WriteConcern;
+use driver_options::WriteConcern;
 
 /// A database.
 #[derive(Debug, Drop)]

@@ -3,7 +3,7 @@ ghost use Rattle.std.specs.Prelude.{◌≡◌};
 ghost use Rattle.std.specs.Option.{option_copied};
 ghost use Rattle.driver_link.specs.Commands.{optional};
 ghost use Rattle.driver_link.specs.Values.{document_of, text_of};
-ghost use Rattle.driver_ops.specs.inside.Readings.{Gives};
+ghost use Rattle.driver_ops.specs.Readings.{Gives};
 ghost use Rattle.driver_ops.specs.WriteReplies.{concern_error_in, concern_error_of, indexed_error_in, indexed_error_of, indexed_errors, indexed_errors_of, reply_concern_error, write_errors_in};
 
 use crate::keys::{CODE_NAME, ERROR_INFO};
@@ -25,7 +25,7 @@ fn document_of(value: &Bson) -> Option<&Document>
 
 /// A document under a key, which may be missing.
 #[tactic(auto, unfolding(driver_link::specs::Commands::optional_value))]
-pub(crate) fn document_at(
+pub fn document_at(
     alloc: Global,
     document: &Document,
     key: &str,
@@ -41,7 +41,7 @@ pub(crate) fn document_at(
 
 /// A text under a key, which may be missing.
 #[tactic(auto, unfolding(driver_link::specs::Commands::optional_value))]
-pub(crate) fn optional_text_at(
+pub fn optional_text_at(
     alloc: Global,
     document: &Document,
     key: &str,
@@ -99,10 +99,7 @@ fn indexed_errors(alloc: Global, values: &[Bson]) -> Result<List<IndexedWriteErr
 
 /// The write errors of a reply.
 #[tactic(auto, unfolding(crate::specs::WriteReplies::write_errors_in, crate::specs::WriteReplies::indexed_errors_of, driver_link::specs::Commands::optional_value))]
-pub(crate) fn write_errors_in(
-    alloc: Global,
-    reply: &Document,
-) -> Result<List<IndexedWriteError>, Unread>
+pub fn write_errors_in(alloc: Global, reply: &Document) -> Result<List<IndexedWriteError>, Unread>
     ensures { Gives result (write_errors_in reply.now) }
 {
     match reply.get(keys::WRITE_ERRORS) {
@@ -133,7 +130,7 @@ fn concern_error_in(alloc: Global, document: &Document) -> Result<WriteConcernEr
 
 /// The write concern error of a reply, which may be missing.
 #[tactic(auto, unfolding(crate::specs::WriteReplies::concern_error_of, driver_link::specs::Commands::optional_value))]
-pub(crate) fn reply_concern_error(
+pub fn reply_concern_error(
     alloc: Global,
     reply: &Document,
 ) -> Result<Option<WriteConcernError>, Unread>

@@ -2,8 +2,8 @@
 use Rattle.std.specs.Prelude.{◌≡◌, ℕ, List, Bool, true, false, refl, None}
 use Rattle.std.specs.Str.{is_utf8, IsUtf8}
 use Rattle.std.proofs.lemmas.Str.{is_utf8-from_IsUtf8, IsUtf8-from_is_utf8}
-use Rattle.serde_json.specs.Read.{read}
 use Rattle.driver_script.specs.Script.{value_read}
+use Rattle.serde_json.specs.Read.{read}
 
 -- UTF-8 is what is read of it
 pub value_read_text : (bytes : List ℕ) → IsUtf8 bytes → value_read bytes ≡ read bytes

@@ -5,15 +5,13 @@ use Rattle.std.proofs.lemmas.List.Elements.{All-nil}
 use Rattle.std.specs.Prelude.{◌&&◌, Option, Some, bytes_eq}
 use Rattle.std.specs.List.{list_all}
 use Rattle.std.specs.Option.{option_and_then, option_map}
-use Rattle.serde_json.specs.Data.{Data, null, boolean, number, string, array, object, no_members, member}
+use Rattle.driver_options.specs.declared.options.ClientOptions.{ClientOptions}
 use Rattle.driver_link.specs.declared.machine.Item.{Item}
 use Rattle.driver_link.specs.declared.machine.Item.TheVariants.{Lost, Late, ReplyLost, Interrupted, Refused}
 use Rattle.driver_link.specs.declared.machine.Scheduled.{Scheduled}
-use Rattle.driver_link.specs.declared.options.ClientOptions.{ClientOptions}
 use Rattle.driver_link.specs.Exchange.{usual_item}
 use Rattle.driver_link.specs.WellFormed.{IsItem, IsPlan, IsWellFormed}
 use Rattle.driver_link.proofs.Lists.{none_is_some, some_is_some}
-use Rattle.driver_actions.specs.declared.call.Call.{Call}
 use Rattle.driver_script.specs.declared.keys.TheConstants.{AFTER, CALLS, CODE, DELIVER, FAULTS, INTERRUPTED, ITEM, LABELS, LATE, LIMITS, LOST, OPTIONS, REFUSED, REPLY_LOST, SCHEDULE, SERVE}
 use Rattle.driver_script.specs.declared.limits.Limits.{Limits}
 use Rattle.driver_script.specs.declared.schedule.ErrorReply.{ErrorReply}
@@ -28,6 +26,8 @@ use Rattle.driver_script.specs.Script.{script_around, script_of, script_with}
 use Rattle.driver_script.specs.Values.{code_of, count_of, text_of}
 use Rattle.driver_script.proofs.PlannedResults.{IsOther, other_code, serve_well}
 use Rattle.driver_script.proofs.Readings.{chained, either, list_optional, mapped, needed_holds, where_so}
+use Rattle.serde_json.specs.Data.{Data, null, boolean, number, string, array, object, no_members, member}
+use Rattle.driver_inputs.specs.declared.call.Call.{Call}
 
 -- a step of a schedule that may be scheduled
 abbrev IsStep : Scheduled → Type 0

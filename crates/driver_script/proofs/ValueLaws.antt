@@ -6,13 +6,13 @@ use Rattle.std.specs.Option.{option_and_then, option_map}
 use Rattle.std.proofs.lemmas.List.{append_assoc, at_drop_more}
 use Rattle.bson_lite.specs.declared.bson.Bson.{Bson}
 use Rattle.bson_lite.specs.declared.document.Pair.{Pair}
-use Rattle.serde_json.specs.Data.{Data, array, Items, no_items, item}
-use Rattle.serde_json.specs.View.{view, items_view}
-use Rattle.serde_json.specs.declared.value.Value.{Value}
 use Rattle.driver_script.specs.Json.{GivesPart}
 use Rattle.driver_script.specs.Values.{text_of, value_of, pair_of, values_of}
 use Rattle.driver_script.specs.declared.json.Unread.{Unread}
 use Rattle.driver_script.specs.declared.json.Unread.TheVariants.{Wrong, Memory}
+use Rattle.serde_json.specs.Data.{Data, array, Items, no_items, item}
+use Rattle.serde_json.specs.View.{view, items_view}
+use Rattle.serde_json.specs.declared.value.Value.{Value}
 
 -- a list of two
 pub two_items : {X : Type 0} (items rest more : List X) (key inner : X) → IsFirstAndRest items key rest → IsFirstAndRest rest inner more → length more ≡ 0

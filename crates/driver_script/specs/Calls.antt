@@ -4,19 +4,15 @@ use Rattle.std.specs.Option.{option_and_then, option_map}
 use Rattle.bson_lite.specs.declared.bson.Bson.{Bson}
 use Rattle.bson_lite.specs.declared.document.Pair.{Pair}
 use Rattle.bson_lite.specs.declared.namespace.Namespace.{Namespace}
-use Rattle.driver_link.specs.declared.concerns.WriteConcern.{WriteConcern}
-use Rattle.driver_link.specs.declared.find_options.FindOneAndDeleteOptions.{FindOneAndDeleteOptions}
-use Rattle.driver_link.specs.declared.find_options.FindOneAndReplaceOptions.{FindOneAndReplaceOptions}
-use Rattle.driver_link.specs.declared.find_options.FindOneAndUpdateOptions.{FindOneAndUpdateOptions}
-use Rattle.driver_link.specs.declared.updates.UpdateModifications.{UpdateModifications}
-use Rattle.driver_link.specs.declared.updates.UpdateModifications.TheVariants as modifies
-use Rattle.driver_link.specs.declared.write_options.DeleteOptions.{DeleteOptions}
-use Rattle.driver_link.specs.declared.write_options.InsertManyOptions.{InsertManyOptions}
-use Rattle.driver_link.specs.declared.write_options.UpdateOptions.{UpdateOptions}
-use Rattle.driver_actions.specs.declared.call.Call.{Call}
-use Rattle.driver_actions.specs.declared.call.Call.TheVariants.{InsertMany, Single}
-use Rattle.driver_actions.specs.declared.call.SingleWrite.TheVariants.{DeleteMany, DeleteOne, FindOneAndDelete, FindOneAndReplace, FindOneAndUpdate, InsertOne, ReplaceOne, UpdateMany, UpdateOne}
-use Rattle.serde_json.specs.Data.{Data, array, object, no_members, member}
+use Rattle.driver_options.specs.declared.concerns.WriteConcern.{WriteConcern}
+use Rattle.driver_options.specs.declared.find_options.FindOneAndDeleteOptions.{FindOneAndDeleteOptions}
+use Rattle.driver_options.specs.declared.find_options.FindOneAndReplaceOptions.{FindOneAndReplaceOptions}
+use Rattle.driver_options.specs.declared.find_options.FindOneAndUpdateOptions.{FindOneAndUpdateOptions}
+use Rattle.driver_options.specs.declared.updates.UpdateModifications.{UpdateModifications}
+use Rattle.driver_options.specs.declared.updates.UpdateModifications.TheVariants as modifies
+use Rattle.driver_options.specs.declared.write_options.DeleteOptions.{DeleteOptions}
+use Rattle.driver_options.specs.declared.write_options.InsertManyOptions.{InsertManyOptions}
+use Rattle.driver_options.specs.declared.write_options.UpdateOptions.{UpdateOptions}
 use Rattle.driver_script.specs.declared.calls.DeleteParts.{DeleteParts}
 use Rattle.driver_script.specs.declared.calls.SharedOptions.{SharedOptions}
 use Rattle.driver_script.specs.declared.calls.UpdateParts.{UpdateParts}
@@ -24,6 +20,10 @@ use Rattle.driver_script.specs.declared.keys.TheConstants.{COMMENT, DELETE_MANY,
 use Rattle.driver_script.specs.Json.{has_only, list_of, needed_part, optional_part}
 use Rattle.driver_script.specs.Options.{flag_of, write_concern_of}
 use Rattle.driver_script.specs.Values.{document_of, namespace_of, value_of}
+use Rattle.driver_inputs.specs.declared.call.Call.{Call}
+use Rattle.driver_inputs.specs.declared.call.Call.TheVariants.{InsertMany, Single}
+use Rattle.driver_inputs.specs.declared.call.SingleWrite.TheVariants.{DeleteMany, DeleteOne, FindOneAndDelete, FindOneAndReplace, FindOneAndUpdate, InsertOne, ReplaceOne, UpdateMany, UpdateOne}
+use Rattle.serde_json.specs.Data.{Data, array, object, no_members, member}
 
 -- the options that every write has: a write concern and a comment
 abbrev pub shared_with : Option WriteConcern → Option Bson → SharedOptions

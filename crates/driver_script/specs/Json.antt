@@ -2,10 +2,10 @@
 use Rattle.std.specs.Prelude.{◌≡◌, ℕ, Bool, true, false, ◌&&◌, List, [], ◌∷◌, Option, None, Some, Result, Ok, Err, bytes_eq}
 use Rattle.std.specs.List.{list_any}
 use Rattle.std.specs.Option.{option_and_then, option_map}
-use Rattle.serde_json.specs.Data.{Data, array, object, Items, no_items, item, Members, no_members, member}
-use Rattle.serde_json.specs.Find.{get}
 use Rattle.driver_script.specs.declared.json.Unread.{Unread}
 use Rattle.driver_script.specs.declared.json.Unread.TheVariants.{Wrong, Memory}
+use Rattle.serde_json.specs.Data.{Data, array, object, Items, no_items, item, Members, no_members, member}
+use Rattle.serde_json.specs.Find.{get}
 
 -- the answer is what is given, and wrong where none is; want of memory says nothing
 abbrev pub GivesPart : {A : Type 0} → Result A Unread → Option A → Type 0

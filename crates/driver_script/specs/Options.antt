@@ -1,17 +1,17 @@
 -- How a script writes the options of its client, and the concerns of writes and reads.
 use Rattle.std.specs.Prelude.{ℕ, Bool, if◌then◌else◌, List, [], ◌∷◌, Option, None, Some, bytes_eq}
 use Rattle.std.specs.Option.{option_and_then, option_map}
-use Rattle.driver_link.specs.declared.concerns.Acknowledgment.{Acknowledgment}
-use Rattle.driver_link.specs.declared.concerns.Acknowledgment.TheVariants.{Custom, Majority, Nodes}
-use Rattle.driver_link.specs.declared.concerns.ReadConcern.{ReadConcern}
-use Rattle.driver_link.specs.declared.concerns.ReadConcernLevel.{ReadConcernLevel}
-use Rattle.driver_link.specs.declared.concerns.ReadConcernLevel.TheVariants as levels
-use Rattle.driver_link.specs.declared.concerns.WriteConcern.{WriteConcern}
-use Rattle.driver_link.specs.declared.options.ClientOptions.{ClientOptions}
-use Rattle.serde_json.specs.Data.{Data, boolean, number, string}
+use Rattle.driver_options.specs.declared.concerns.Acknowledgment.{Acknowledgment}
+use Rattle.driver_options.specs.declared.concerns.Acknowledgment.TheVariants.{Custom, Majority, Nodes}
+use Rattle.driver_options.specs.declared.concerns.ReadConcern.{ReadConcern}
+use Rattle.driver_options.specs.declared.concerns.ReadConcernLevel.{ReadConcernLevel}
+use Rattle.driver_options.specs.declared.concerns.ReadConcernLevel.TheVariants as levels
+use Rattle.driver_options.specs.declared.concerns.WriteConcern.{WriteConcern}
+use Rattle.driver_options.specs.declared.options.ClientOptions.{ClientOptions}
 use Rattle.driver_script.specs.declared.keys.TheConstants.{AVAILABLE, JOURNAL, LINEARIZABLE, LOCAL, MAJORITY, READ_CONCERN, RETRY_WRITES, SNAPSHOT, W, W_TIMEOUT, WRITE_CONCERN}
 use Rattle.driver_script.specs.Json.{has_only, optional_part}
 use Rattle.driver_script.specs.Values.{small_of}
+use Rattle.serde_json.specs.Data.{Data, boolean, number, string}
 
 -- true or false
 unfoldable pub flag_of : Data → Option Bool

@@ -13,11 +13,11 @@ use Rattle.driver_link.specs.declared.machine.Planned.{Planned}
 use Rattle.driver_link.specs.declared.machine.PlannedConcern.{PlannedConcern}
 use Rattle.driver_link.specs.Exchange.{reauthentication_required}
 use Rattle.driver_link.specs.Numbers.{field}
-use Rattle.serde_json.specs.Data.{Data}
-use Rattle.serde_json.specs.Find.{at}
 use Rattle.driver_script.specs.declared.keys.TheConstants.{CODE, FAIL, MESSAGE, MODIFIED, N, RESULTS, UPSERTED, VALUE, WRITE_CONCERN_ERROR}
 use Rattle.driver_script.specs.Json.{has_only, list_of, needed_part, optional_part}
 use Rattle.driver_script.specs.Values.{code_of, count_of, document_of, item_of, small_of, text_of, value_of}
+use Rattle.serde_json.specs.Data.{Data}
+use Rattle.serde_json.specs.Find.{at}
 
 -- a code that an item may answer: the one that asks for another authentication is not built yet, and neither an
 -- interrupted send nor one that is served may answer it

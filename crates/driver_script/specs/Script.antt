@@ -2,11 +2,8 @@
 use Rattle.std.specs.Prelude.{◌≡◌, ℕ, ◌<◌, ◌≤◌, if◌then◌else◌, List, [], ◌∷◌, length, codes, Option, None, Result, Ok, Err, unwrap_or}
 use Rattle.std.specs.Option.{option_and_then, option_map, ok_or}
 use Rattle.std.specs.Str.{is_utf8}
+use Rattle.driver_options.specs.declared.options.ClientOptions.{ClientOptions}
 use Rattle.driver_link.specs.declared.machine.Scheduled.{Scheduled}
-use Rattle.driver_link.specs.declared.options.ClientOptions.{ClientOptions}
-use Rattle.driver_actions.specs.declared.call.Call.{Call}
-use Rattle.serde_json.specs.Data.{Data}
-use Rattle.serde_json.specs.Read.{read}
 use Rattle.driver_script.specs.declared.keys.TheConstants.{CALLS, FAULTS, LATE, LIMITS, OPTIONS, SCHEDULE}
 use Rattle.driver_script.specs.declared.limits.Limits.{Limits}
 use Rattle.driver_script.specs.declared.schedule.Faults.{Faults}
@@ -20,6 +17,9 @@ use Rattle.driver_script.specs.Limits.{limits_of, no_limits, setup_with}
 use Rattle.driver_script.specs.Options.{client_options_of}
 use Rattle.driver_script.specs.ScheduleSteps.{faults_of, no_faults, schedule_with, step_of}
 use Rattle.driver_script.specs.Values.{count_of}
+use Rattle.driver_inputs.specs.declared.call.Call.{Call}
+use Rattle.serde_json.specs.Data.{Data}
+use Rattle.serde_json.specs.Read.{read}
 
 -- the options of a script's client where it sets none; the client is the first
 abbrev pub usual_options : ClientOptions

@@ -9,10 +9,10 @@ use Rattle.bson_lite.specs.declared.document.Pair.{Pair}
 use Rattle.bson_lite.specs.declared.namespace.Namespace.{Namespace}
 use Rattle.bson_lite.specs.Ranges.{fits}
 use Rattle.driver_link.specs.Writes.{cut}
+use Rattle.driver_script.specs.declared.keys.TheConstants.{ARRAY, BYTES, DATE, DOC, DOUBLE, INT64, OID, TS}
 use Rattle.hex.specs.Hex.{decode_of, decode_sized}
 use Rattle.serde_json.specs.Data.{Data, null, boolean, number, string, array, object, Items, no_items, item, no_members, member}
 use Rattle.serde_json.specs.Find.{at, as_i64, as_u64}
-use Rattle.driver_script.specs.declared.keys.TheConstants.{ARRAY, BYTES, DATE, DOC, DOUBLE, INT64, OID, TS}
 
 -- a text
 unfoldable pub text_of : Data → Option (List ℕ)

@@ -1,8 +1,8 @@
 //! Readers of a script's calls: each is an object whose one key names it.
 ghost use Rattle.std.specs.Prelude.{◌≡◌};
-ghost use Rattle.serde_json.specs.View.{view};
 ghost use Rattle.driver_script.specs.Calls.{call_of, call_under, delete_many_of, delete_one_of, delete_options, delete_parts_of, find_delete_options, find_one_and_delete_of, find_one_and_replace_of, find_one_and_update_of, find_replace_options, find_under, find_update_options, insert_many_of, insert_one_of, insert_options, insert_options_of, pipeline_of, replace_one_of, shared_of, update_many_of, update_of, update_one_of, update_options, update_options_of, update_parts_of, update_under, write_under};
 ghost use Rattle.driver_script.specs.Json.{GivesPart};
+ghost use Rattle.serde_json.specs.View.{view};
 
 use crate::json::{FromJson, Unread, is_object_of, read_needed, read_optional};
 use crate::keys::{
@@ -11,8 +11,8 @@ use crate::keys::{
     UPDATE_MANY, UPDATE_ONE, UPSERT, WRITE_CONCERN,
 };
 use bson_lite::{Bson, Document, Namespace};
-use driver_actions::{Call, SingleWrite};
-use driver_link::{
+use driver_inputs::{Call, SingleWrite};
+use driver_options::{
     DeleteOptions, FindOneAndDeleteOptions, FindOneAndReplaceOptions, FindOneAndUpdateOptions,
     InsertManyOptions, UpdateModifications, UpdateOptions, WriteConcern,
 };

@@ -1,8 +1,8 @@
 //! Readers of JSON values: each gives exactly what its definition says, or refuses the value.
 ghost use Rattle.std.specs.Prelude.{◌≡◌, Option, map};
+ghost use Rattle.driver_script.specs.Json.{GivesPart, each, list_of, needed_part, optional_part, has_only, among};
 ghost use Rattle.serde_json.specs.Data.{Data};
 ghost use Rattle.serde_json.specs.View.{view, items_view};
-ghost use Rattle.driver_script.specs.Json.{GivesPart, each, list_of, needed_part, optional_part, has_only, among};
 
 use crate::script::MOST_CALLS;
 use bson_lite::List;

@@ -1,8 +1,8 @@
 //! Readers of numbers, and of the values that hold no other.
 ghost use Rattle.std.specs.Prelude.{◌≡◌};
-ghost use Rattle.serde_json.specs.View.{view};
 ghost use Rattle.driver_script.specs.Json.{GivesPart};
 ghost use Rattle.driver_script.specs.Values.{tagged_leaf, whole_of, small_of, count_of, code_of, stamp_of, sized_of, bytes_of, whole_number};
+ghost use Rattle.serde_json.specs.View.{view};
 
 use crate::json::{FromJson, Unread};
 use crate::keys::{BYTES, DATE, DOUBLE, INT64, OID, TS};

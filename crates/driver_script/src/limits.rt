@@ -4,7 +4,8 @@ ghost use Rattle.driver_script.specs.Limits.{limits_of, no_limits, setup_with};
 
 use crate::json::{FromJson, Unread, is_object_of, read_optional};
 use crate::keys::{BATCH, BSON, MESSAGE, WIRE};
-use driver_link::{Description, Setup};
+use driver_link::Setup;
+use driver_options::Description;
 use serde_json::Value;
 use std::alloc::Global;
 

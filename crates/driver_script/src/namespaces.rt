@@ -1,8 +1,8 @@
 //! Readers of the script's texts and namespaces.
-ghost use Rattle.serde_json.specs.View.{view};
 ghost use Rattle.driver_link.specs.Writes.{cut};
 ghost use Rattle.driver_script.specs.Json.{GivesPart};
 ghost use Rattle.driver_script.specs.Values.{text_of, namespace_of, two_texts};
+ghost use Rattle.serde_json.specs.View.{view};
 
 use crate::json::{FromJson, Unread};
 use bson_lite::{Namespace, Text};

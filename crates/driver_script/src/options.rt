@@ -8,7 +8,7 @@ use crate::keys::{
     W_TIMEOUT, WRITE_CONCERN,
 };
 use bson_lite::Text;
-use driver_link::{Acknowledgment, ClientOptions, ReadConcern, ReadConcernLevel, WriteConcern};
+use driver_options::{Acknowledgment, ClientOptions, ReadConcern, ReadConcernLevel, WriteConcern};
 use serde_json::Value;
 use std::alloc::{AllocError, Global};
 

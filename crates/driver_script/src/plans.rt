@@ -1,9 +1,9 @@
 //! Readers of what a schedule plans for a send that is served.
 ghost use Rattle.std.specs.Prelude.{◌≡◌, pos, IfOk};
 ghost use Rattle.std.specs.Option.{option_map};
-ghost use Rattle.serde_json.specs.View.{view};
 ghost use Rattle.driver_script.specs.Json.{GivesPart};
 ghost use Rattle.driver_script.specs.Plans.{built_code, built_plan, concern_error_of, failing_of, is_built_code, is_spelled_within, may_be_found, may_be_upserted, planned_of, serve_of, serve_with};
+ghost use Rattle.serde_json.specs.View.{view};
 
 use crate::json::{FromJson, Unread, is_object_of, read_needed, read_optional};
 use crate::keys::{

@@ -1,10 +1,10 @@
 //! Readers of the script's schedule: its steps, and the calls of the link that fail.
 ghost use Rattle.std.specs.Prelude.{◌≡◌};
 ghost use Rattle.std.specs.List.{list_all};
-ghost use Rattle.serde_json.specs.View.{view};
 ghost use Rattle.driver_link.specs.Exchange.{usual_item};
 ghost use Rattle.driver_script.specs.Json.{GivesPart};
 ghost use Rattle.driver_script.specs.ScheduleSteps.{built_reply, delivering_of, faults_of, interrupted_of, is_built_label, item_in, item_named, item_under, no_faults, refused_of, reply_of, schedule_with, step_of};
+ghost use Rattle.serde_json.specs.View.{view};
 
 use crate::json::{FromJson, Unread, is_object_of, read_needed, read_optional};
 use crate::keys::{

@@ -9,8 +9,9 @@ use crate::keys::{CALLS, FAULTS, LATE, LIMITS, OPTIONS, SCHEDULE};
 use crate::limits::{no_limits, setup_with};
 use crate::schedule::{no_faults, schedule_with};
 use bson_lite::{List, Text};
-use driver_actions::Call;
-use driver_link::{ClientOptions, Schedule, Setup};
+use driver_inputs::Call;
+use driver_link::{Schedule, Setup};
+use driver_options::ClientOptions;
 use serde_json::Value;
 use std::alloc::{AllocError, Global};
 

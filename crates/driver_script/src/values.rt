@@ -1,7 +1,7 @@
 //! Readers of the script's values and documents, which hold one another.
-ghost use Rattle.serde_json.specs.View.{view, items_view};
 ghost use Rattle.driver_script.specs.Json.{GivesPart};
 ghost use Rattle.driver_script.specs.Values.{value_of, tagged, document_of, pairs_of, pair_of, array_of, values_of};
+ghost use Rattle.serde_json.specs.View.{view, items_view};
 
 use crate::json::{FromJson, Unread, room_for};
 use crate::keys::{ARRAY, DOC};

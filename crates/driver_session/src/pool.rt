@@ -1,8 +1,8 @@
 //! The pool of server sessions behind a store, with its history.
 ghost use Rattle.std.specs.Prelude.{◌≡◌, ◌+◌, ◌<◌, ◌≤◌, ◌++◌, [], ◌∷◌, IfErr, IfOk, OnErr, OnOk, if◌then◌else◌, vec_len, vec_capacity};
+ghost use Rattle.std.specs.VecDeque.{deque_len, deque_capacity};
 ghost use Rattle.driver_error.specs.Error.{kind_of};
 ghost use Rattle.driver_error.specs.declared.kind.ErrorKind.TheVariants.{Memory};
-ghost use Rattle.std.specs.VecDeque.{deque_len, deque_capacity};
 ghost use Rattle.driver_link.specs.Ids.{after_draw};
 ghost use Rattle.driver_link.specs.declared.ids.IdKind.TheVariants.{Object, Session};
 ghost use Rattle.driver_session.specs.Pool.{empty_pool, session_out, idle_out, lent_out, taken_back, draws, ids_after};

@@ -4,13 +4,14 @@ ghost use Rattle.std.specs.Prelude.{◌≡◌, ◌<◌};
 
 use crate::concerns::has_end;
 use bson_lite::{Document, TryClone};
+use driver_attempt::{Client, Outside, Steps};
 use driver_error::Result;
-use driver_exec::{Client, Outside, Steps, execute_operation};
-use driver_link::{
-    ClientOptions, CountingIds, FakeLink, FindAndModifyOptions, MemClock, Modification, Place,
-    UpdateOrReplace, WriteConcern,
+use driver_exec::execute_operation;
+use driver_link::{CountingIds, FakeLink, MemClock, Place};
+use driver_ops::Collection;
+use driver_options::{
+    ClientOptions, FindAndModifyOptions, Modification, UpdateOrReplace, WriteConcern,
 };
-use driver_ops::{Collection, FindAndModify};
 use driver_session::PlainStore;
 use rand_core::SeedableRng;
 use rand_pcg::Pcg32;
@@ -22,6 +23,7 @@ use test_parts::faking::{ALIKE, ANY_DONE, Given, fake_link};
 use test_parts::inserting::{Ended, how_ended};
 use test_parts::spelling::{FIRST_NUMBER, LAST, joined};
 use test_parts::writes::{Concern, namespace, number, write_concern};
+use write_ops::FindAndModify;
 
 /// `writeConcern: {w: 1}`, and the same of 2 and of 3
 const BY_ONE: &[u8] = b"\x03writeConcern\0\x0c\0\0\0\x10w\0\x01\0\0\0\0";

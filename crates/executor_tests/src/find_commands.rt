@@ -2,8 +2,8 @@
 //! in which order, with every option and with none.
 use crate::statements::{ENGLISH, Hinted, Said, Shared, VARIABLES, filters, sends, shared_options};
 use bson_lite::Document;
-use driver_actions::SingleWrite;
-use driver_link::{
+use driver_inputs::SingleWrite;
+use driver_options::{
     Acknowledgment, FindOneAndDeleteOptions, FindOneAndReplaceOptions, FindOneAndUpdateOptions,
     ReturnDocument, UpdateModifications, WriteConcern,
 };

@@ -1,8 +1,8 @@
 //! Updates and deletes over a fake link, by the bytes that they send: which fields their commands and statements
 //! have, in which order, with every option and with none.
 use bson_lite::{Bson, Document, List, Text};
-use driver_actions::SingleWrite;
-use driver_link::{
+use driver_inputs::SingleWrite;
+use driver_options::{
     Acknowledgment, DeleteOptions, Hint, InsertManyOptions, UpdateModifications, UpdateOptions,
     WriteConcern,
 };

@@ -1,9 +1,10 @@
 //! Replies to updates, deletes and an unordered insert over a fake link: the counts and the failures that they
 //! tell, and the forms that are refused.
 use bson_lite::{Bson, Document};
-use driver_actions::{SingleAnswer, SingleWrite};
 use driver_error::{Error, Result, UpdateResult};
-use driver_link::{FakeLink, InsertManyOptions};
+use driver_inputs::{SingleAnswer, SingleWrite};
+use driver_link::FakeLink;
+use driver_options::InsertManyOptions;
 use std::alloc::{AllocError, Global};
 use std::test::Fail;
 use test_parts::faking::{ALIKE, CHANGED, DONE, Given, fake_link};

@@ -1,10 +1,11 @@
 //! What is read of the options of a client, of the limits of a server, and of the parts of a call.
 use crate::schedules::script_in;
 use bson_lite::{Bson, Document, List, Namespace};
-use driver_actions::{Call, SingleWrite};
-use driver_link::{
+use driver_inputs::{Call, SingleWrite};
+use driver_link::Setup;
+use driver_options::{
     Acknowledgment, ClientOptions, DeleteOptions, InsertManyOptions, ReadConcern, ReadConcernLevel,
-    Setup, UpdateModifications, UpdateOptions, WriteConcern,
+    UpdateModifications, UpdateOptions, WriteConcern,
 };
 use driver_script::Script;
 use std::alloc::{AllocError, Global};

@@ -10,11 +10,11 @@ use Rattle.driver_link.specs.declared.machine.SendBody.TheVariants.{Abort}
 use Rattle.driver_link.specs.Asking.{asks, asks_alone, asks_as, is_plain_one, may_go_to, spelled}
 use Rattle.driver_link.specs.CommandNames.{command_named}
 use Rattle.driver_link.specs.Commands.{flag_value, goes_to, needed, optional_value, sent_as}
-use Rattle.link_tests.specs.AbortFrame.{abort_body, abort_send}
 use Rattle.driver_link.specs.Framed.{Framed}
 use Rattle.driver_link.specs.Reads.{Reads}
 use Rattle.driver_link.specs.Values.{int32_of}
 use Rattle.driver_link.proofs.Forms.{text_is}
+use Rattle.link_tests.specs.AbortFrame.{abort_body, abort_send}
 
 int_is : (number : ℤ) → int32_of (bson.Int32 number) ≡ Some number
 unfolding bson.out-Bson out

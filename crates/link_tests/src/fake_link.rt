@@ -1,15 +1,17 @@
 //! Tests of the fake link, and of copies of concerns.
 ghost use Rattle.std.specs.Prelude.{◌≡◌, [], IfOk};
-ghost use Rattle.link_tests.specs.AbortFrame.{abort_body as body_of_abort, abort_send};
 ghost use Rattle.driver_link.specs.Reads.{Reads};
+ghost use Rattle.link_tests.specs.AbortFrame.{abort_body as body_of_abort, abort_send};
 
 use bson_lite::{Bson, Bytes, Document, List, Text, TryClone, encode};
 use driver_error::IoKind;
 use driver_link::keys::{ABORT_TRANSACTION, ADMIN, DATABASE};
 use driver_link::{
-    Acknowledgment, Address, Answered, Asked, Conn, Description, FakeLink, FakeStep, Frame, Link,
-    LinkCall, LinkError, LinkFault, NotedConn, ReadConcern, ReadConcernLevel, SelectionCriteria,
-    WriteConcern,
+    Answered, FakeLink, FakeStep, Frame, Link, LinkCall, LinkError, LinkFault, NotedConn,
+};
+use driver_options::{
+    Acknowledgment, Address, Asked, Conn, Description, ReadConcern, ReadConcernLevel,
+    SelectionCriteria, WriteConcern,
 };
 use std::alloc::{AllocError, Global};
 

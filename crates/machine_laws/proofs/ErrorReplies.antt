@@ -1,9 +1,9 @@
 -- Replies that spell an error, and when a send that is served is answered so.
 use Rattle.std.proofs.Common.{◌≡◌, ◌≢◌, ℕ, ℤ, pos, Bool, true, false, List, [], ◌∷◌, ◌++◌, map, Option, None, Some, unwrap_or, refl, sym, ap, ◌∙◌, inl, inr, if◌then◌else◌}
 use Rattle.std.specs.Prelude.{◌⊎◌, int_lt}
+use denote.Hole.Carrier.{out}
 use Rattle.bson_lite.specs.declared.bson.Bson.{Bson}
 use Rattle.bson_lite.specs.declared.bson.Bson as bson
-use denote.Hole.Carrier.{out}
 use Rattle.driver_error.specs.declared.labels.TheConstants.{TRANSIENT_TRANSACTION_ERROR}
 use Rattle.driver_link.proofs.Forms.{array_is, text_is}
 use Rattle.driver_link.proofs.Lists.{some_is_some}

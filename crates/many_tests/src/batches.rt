@@ -2,15 +2,13 @@
 //! tells of them; and one insert whose resend the next connection does not take.
 use bson_lite::{Bson, Document, List, Namespace, ObjectId, Text};
 use driver_error::{Error, ErrorKind, InsertManyError, IoKind};
-use driver_link::{Description, InsertManyOptions};
-use driver_ops::{
-    Collection, Command, CommandResponse, Insert, Operation, OwnDocument, encode_document,
-    read_response,
-};
+use driver_ops::{Collection, Command, CommandResponse, Operation, encode_document, read_response};
+use driver_options::{Description, InsertManyOptions};
 use std::alloc::{AllocError, Global};
 use std::test::Fail;
 use test_parts::faking::{DONE, Given, Servers, inserted};
 use test_parts::inserting::{Ended, SERVER};
+use write_ops::{Insert, OwnDocument};
 
 /// The three limits of a connection.
 #[derive(Clone, Copy, Debug)]

@@ -1,9 +1,9 @@
 //! An insert of four documents in two batches, over a fake link that answers each batch with failures of its own: what
 //! the insert's error has of each, under the indexes of its list.
 use bson_lite::{Bson, ByIndex, Document, List, Text};
-use driver_actions::{Call, Outcome};
 use driver_error::{Error, ErrorKind, IndexedWriteError, InsertManyError, WriteConcernError};
-use driver_link::{Description, InsertManyOptions};
+use driver_inputs::{Call, Outcome};
+use driver_options::{Description, InsertManyOptions};
 use std::alloc::{AllocError, Global};
 use std::test::Fail;
 use test_parts::faking::{Given, Servers, fake_link, outcomes_over};

@@ -4,14 +4,13 @@ ghost use Rattle.driver_link.specs.WellFormed.{IsWellFormed};
 
 use crate::many_failures::id_at;
 use bson_lite::{Bson, ByIndex, Document, List};
-use driver_actions::{InsertMany, ManyInserts, ToDocument};
+use driver_actions::{InsertMany, ManyInserts};
+use driver_attempt::{Client, Outside};
 use driver_error::{InsertManyResult, Result};
-use driver_exec::{Client, Outside};
-use driver_link::{
-    ClientOptions, CountingIds, Description, InsertManyOptions, Link, MemClock, Schedule, Server,
-    Setup, WriteConcern,
-};
+use driver_inputs::ToDocument;
+use driver_link::{CountingIds, Link, MemClock, Schedule, Server, Setup};
 use driver_ops::Collection;
+use driver_options::{ClientOptions, Description, InsertManyOptions, WriteConcern};
 use driver_session::PlainStore;
 use model_server::{ModelServer, USUAL_SETUP};
 use rand_core::SeedableRng;

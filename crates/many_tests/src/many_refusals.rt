@@ -1,9 +1,9 @@
 //! Inserts of many documents over a link that would answer each one: what is refused for its input before an id is
 //! drawn or anything sent, which fault is told first, and which ids are drawn.
 use bson_lite::{Bson, Document, List};
-use driver_actions::{Answer, Call, Outcome};
 use driver_error::InsertManyResult;
-use driver_link::InsertManyOptions;
+use driver_inputs::{Answer, Call, Outcome};
+use driver_options::InsertManyOptions;
 use std::alloc::{AllocError, Global};
 use std::test::Fail;
 use test_parts::faking::{ALIKE, Given, fake_link, outcomes_over};

@@ -1,5 +1,8 @@
 -- What contracts see of the model server.
 use Rattle.std.specs.Prelude.{◌≡◌, ℕ, List, [], ◌∷◌, ◌++◌, Option, None, Some, Result, Ok, Err}
+use Rattle.driver_options.specs.declared.options.Address.{Address}
+use Rattle.driver_options.specs.declared.options.SelectionCriteria.{SelectionCriteria}
+use Rattle.driver_options.specs.declared.options.SelectionCriteria.TheVariants as criteria
 use Rattle.driver_link.specs.declared.fault.Answered.{Answered}
 use Rattle.driver_link.specs.declared.fault.Answered.TheVariants as answer
 use Rattle.driver_link.specs.declared.fault.LinkCall.{LinkCall}
@@ -9,9 +12,6 @@ use Rattle.driver_link.specs.declared.machine.Schedule.{Schedule}
 use Rattle.driver_link.specs.declared.machine.Send.{Send}
 use Rattle.driver_link.specs.declared.machine.Server.{Server}
 use Rattle.driver_link.specs.declared.machine.Setup.{Setup}
-use Rattle.driver_link.specs.declared.options.Address.{Address}
-use Rattle.driver_link.specs.declared.options.SelectionCriteria.{SelectionCriteria}
-use Rattle.driver_link.specs.declared.options.SelectionCriteria.TheVariants as criteria
 use Rattle.driver_link.specs.Counting.{Listed, one_more}
 use Rattle.driver_link.specs.Exchange.{answered, exchanged, next_step}
 use Rattle.driver_link.specs.LinkState.{LinkState, Served}

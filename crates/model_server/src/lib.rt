@@ -3,8 +3,6 @@
 //! Each function computes one of the machine's definitions, and its clause is the equation with it.
 #![tactic(auto)]
 
-pub mod asking;
-pub mod body_fields;
 mod calls;
 pub mod cases;
 pub mod change;
@@ -19,10 +17,7 @@ pub mod interrupting;
 pub mod laws;
 mod link;
 pub mod meeting;
-pub mod ops;
 pub mod places;
-mod plain_insert;
-pub mod reading;
 pub mod refusing;
 pub mod replying;
 pub mod server;
@@ -31,7 +26,6 @@ pub mod statements;
 mod stepping;
 pub mod undoing;
 pub mod usual;
-pub mod writing;
 
 pub use exchange::new_server;
 pub use server::ModelServer;

@@ -1,16 +1,17 @@
 //! The model server as a link.
 ghost use Rattle.std.specs.Prelude.{◌≡◌, [], IfOk};
 ghost use Rattle.std.specs.Option.{option_copied};
+ghost use Rattle.driver_error.specs.declared.kind.IoKind.TheVariants.{ConnectionReset};
 ghost use Rattle.driver_link.specs.declared.fault.LinkError.TheVariants.{Fault};
 ghost use Rattle.driver_link.specs.declared.fault.LinkFault.TheVariants.{Io};
-ghost use Rattle.driver_error.specs.declared.kind.IoKind.TheVariants.{ConnectionReset};
 ghost use Rattle.model_server.specs.ModelState.{address_for as selected_address};
 
-use crate::reading::read_send;
 use crate::server::{HOST, ModelServer, PORT};
 use bson_lite::{Bytes, List, Text, TryClone};
 use driver_error::{Error, IoKind};
-use driver_link::{Address, Conn, Frame, Link, LinkError, LinkFault, Place, SelectionCriteria};
+use driver_link::{Frame, Link, LinkError, LinkFault, Place};
+use driver_options::{Address, Conn, SelectionCriteria};
+use frame_reading::reading::read_send;
 use std::alloc::{AllocError, Global};
 
 /// The address that is selected: the one that is asked for, else that of the model server.

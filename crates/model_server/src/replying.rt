@@ -1,9 +1,9 @@
 //! The replies of the model server, as documents.
 ghost use Rattle.std.specs.Prelude.{◌≡◌, ◌++◌, ◌∷◌, [], Some, map, List as Listed, OnOk, IfOk};
 ghost use Rattle.bson_lite.specs.declared.bson.Bson as bson;
+ghost use Rattle.bson_lite.specs.declared.bson.Bson.{Bson as Value};
 ghost use Rattle.driver_link.specs.Numbers.{field, reply_number};
 ghost use Rattle.driver_link.specs.Replies.{done_field, error_reply, errors_field, write_errors as all_errors, write_error as error_at, upserted_at, upserted_by, result_of, upserted_field, upserts as all_upserts, concern_field, first_value as value_of, cursor_field, bulk_fields, needed_fields, write_reply as reply_to_writes, end_reply as reply_to_end, results_in, sum_of, cursor_reply as reply_of_cursor, denied_reply as reply_denied};
-ghost use Rattle.bson_lite.specs.declared.bson.Bson.{Bson as Value};
 ghost use Rattle.model_server.specs.SomeField.{some_field, upsert_value};
 
 use crate::fields::{count, number};

@@ -1,5 +1,6 @@
 //! The setup of a usual server.
-use driver_link::{Description, Setup};
+use driver_link::Setup;
+use driver_options::Description;
 
 /// A server that takes sessions, retryable writes and transactions, and is no router of shards.
 pub const USUAL_SETUP: Setup = Setup {

@@ -1,4 +1,3 @@
 mod FailureOrder
-mod IdSets
 mod Made
 mod Pieces

@@ -11,17 +11,17 @@ use Rattle.driver_link.specs.WellFormed.{IsWellFormed}
 use Rattle.driver_link.specs.declared.ids.IdKind.TheVariants as id
 use Rattle.driver_link.specs.declared.machine.Schedule.{Schedule}
 use Rattle.driver_link.specs.Apart.{AllApart, first_ids}
-use Rattle.model_server.specs.ModelState.{ModelState, model_tells}
 use Rattle.driver_session.specs.Pool.{StorePool}
 use Rattle.driver_session.specs.StoreTells.{DrawnApart, Draws}
-use Rattle.driver_exec.specs.declared.client.Client.{Client}
-use Rattle.driver_exec.specs.Client.{options_of, store_of}
-use Rattle.driver_exec.specs.Moment.{Moment}
-use Rattle.driver_actions.specs.declared.call.Call.{Call}
-use Rattle.driver_actions.specs.declared.call.Outcome.{Outcome}
+use Rattle.model_server.specs.ModelState.{ModelState, model_tells}
+use Rattle.driver_attempt.specs.declared.client.Client.{Client}
+use Rattle.driver_attempt.specs.Client.{options_of, store_of}
+use Rattle.driver_attempt.specs.Moment.{Moment}
 use Rattle.driver_actions.specs.MainTheorem.{Begins, HaveEnded, IsReplayed, KeepsMaking, MainTheorem, MeetsMainTheorem}
 use Rattle.driver_script.specs.declared.script.Script.{Script}
 use Rattle.script_run.specs.Ended.{IsFirstMoment, IsMomentOf, IsRunOf, new_store, store_tells}
+use Rattle.driver_inputs.specs.declared.call.Call.{Call}
+use Rattle.driver_inputs.specs.declared.call.Outcome.{Outcome}
 
 -- so many ids are as many
 length_first : (count : ℕ) (to_come : ℕ → List ℕ) → length (first_ids count to_come) ≡ count

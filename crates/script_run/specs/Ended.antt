@@ -5,26 +5,26 @@ use Rattle.driver_link.specs.Exchange.{after_picks, replayed, empty_server}
 use Rattle.driver_link.specs.Faults.{Rose}
 use Rattle.driver_link.specs.MemClock.{readings_from}
 use Rattle.driver_link.specs.Streams.{Appends}
-use Rattle.model_server.specs.ModelState.{ModelState, model_tells, no_calls}
 use Rattle.driver_session.specs.Pool.{StorePool, empty_pool}
 use Rattle.driver_session.specs.StoreTells.{StoreTells}
-use Rattle.driver_exec.specs.Client.{options_of, store_of}
-use Rattle.driver_exec.specs.Moment.{Moment}
-use Rattle.driver_exec.specs.declared.client.Client.{Client}
+use Rattle.model_server.specs.ModelState.{ModelState, model_tells, no_calls}
+use Rattle.driver_attempt.specs.Client.{options_of, store_of}
+use Rattle.driver_attempt.specs.Moment.{Moment}
+use Rattle.driver_attempt.specs.declared.client.Client.{Client}
 use Rattle.driver_actions.specs.MainTheorem.{HaveEnded, MainTheorem}
-use Rattle.driver_actions.specs.declared.call.Outcome.{Outcome}
+use Rattle.driver_script.specs.declared.script.TheConstants.{MOST_CALLS}
+use Rattle.driver_script.specs.declared.script.Script.{Script}
+use Rattle.driver_script.specs.Script.{script}
+use Rattle.report_lines.specs.Lines.{newline}
 use Rattle.script_run.specs.declared.program.Command.{Command}
 use Rattle.script_run.specs.declared.program.Command.TheVariants as command
 use Rattle.script_run.specs.declared.running.Run.{Run}
-use Rattle.driver_script.specs.declared.script.TheConstants.{MOST_CALLS}
-use Rattle.driver_script.specs.declared.script.Script.{Script}
 use Rattle.script_run.specs.declared.status.Status.{Status}
 use Rattle.script_run.specs.declared.status.Status.TheVariants as status
 use Rattle.script_run.specs.declared.streams.TheConstants.{LIMIT}
-use Rattle.script_run.specs.Lines.{newline}
 use Rattle.script_run.specs.Report.{report}
-use Rattle.driver_script.specs.Script.{script}
 use Rattle.script_run.specs.Streamed.{ReadToEnd, ReadMore, ReadFailed, TookFront}
+use Rattle.driver_inputs.specs.declared.call.Outcome.{Outcome}
 
 -- the server of a script that has seen nothing
 abbrev pub new_model : Script → ModelState

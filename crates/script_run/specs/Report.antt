@@ -4,16 +4,16 @@ use Rattle.driver_link.specs.declared.machine.Send.{Send}
 use Rattle.driver_link.specs.declared.machine.Server.{Server}
 use Rattle.driver_link.specs.CountingIds.{IdsDrawn}
 use Rattle.driver_link.specs.Exchange.{empty_server}
-use Rattle.model_server.specs.ModelState.{ModelState}
 use Rattle.driver_session.specs.Pool.{StorePool}
-use Rattle.driver_exec.specs.declared.client.Client.{Client}
-use Rattle.driver_exec.specs.Client.{store_of}
-use Rattle.driver_actions.specs.declared.call.Call.{Call}
-use Rattle.driver_actions.specs.declared.call.Outcome.{Outcome}
-use Rattle.script_run.specs.declared.running.Run.{Run}
+use Rattle.model_server.specs.ModelState.{ModelState}
+use Rattle.driver_attempt.specs.declared.client.Client.{Client}
+use Rattle.driver_attempt.specs.Client.{store_of}
 use Rattle.driver_script.specs.declared.script.Script.{Script}
-use Rattle.script_run.specs.Distinct.{distinct}
-use Rattle.script_run.specs.Lines.{call_lines, send_lines, entry_lines, newline}
+use Rattle.report_lines.specs.Distinct.{distinct}
+use Rattle.report_lines.specs.Lines.{call_lines, send_lines, entry_lines, newline}
+use Rattle.script_run.specs.declared.running.Run.{Run}
+use Rattle.driver_inputs.specs.declared.call.Call.{Call}
+use Rattle.driver_inputs.specs.declared.call.Outcome.{Outcome}
 
 -- the calls of a script, or none
 abbrev pub calls_of : Option Script → List Call

@@ -1,7 +1,7 @@
 //! Laws of the order of failures, and of the constant that definitions name.
 ghost use Rattle.std.specs.Prelude.{◌≡◌, List};
 ghost use Rattle.driver_error.specs.declared.write.IndexedWriteError.{IndexedWriteError};
-ghost use Rattle.script_run.specs.FailedWrites.{IsInOrder, failed_in_order};
+ghost use Rattle.report_lines.specs.FailedWrites.{IsInOrder, failed_in_order};
 ghost use Rattle.script_run.specs.declared.streams.TheConstants.{LIMIT};
 
 /// The input has so many bytes at most.

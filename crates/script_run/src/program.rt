@@ -13,7 +13,7 @@ use crate::status::Status;
 use crate::streams::{LIMIT, ReadFault, read_all, write_all};
 use bson_lite::{Bytes, Text, TryClone};
 use driver_actions::run_calls;
-use driver_exec::{Client, Outside};
+use driver_attempt::{Client, Outside};
 use driver_link::{CountingIds, Failed, MemClock, Schedule, Setup, Sink, Source};
 use driver_script::{Script, ScriptFault, read_script};
 use driver_session::PlainStore;

@@ -2,13 +2,12 @@
 ghost use Rattle.std.specs.Prelude.{◌≡◌, ◌++◌, string_bytes, IfOk, OnOk, is_some};
 ghost use Rattle.script_run.specs.Report.{calls_of, outcomes_of, drawn_of, ids_line, waiting_line, totals_line, server_lines, report};
 
-use crate::distinct::are_distinct;
-use crate::lines::{push_calls, push_entries, push_sends};
 use crate::running::Run;
 use bson_lite::Bytes;
-use driver_actions::{Call, Outcome};
+use driver_inputs::{Call, Outcome};
 use driver_link::{Send, Server};
 use model_server::new_server;
+use report_lines::{are_distinct, push_calls, push_entries, push_sends};
 use std::alloc::{AllocError, Global};
 
 /// The report of a run. A part that the run lacks has no lines and counts nothing.

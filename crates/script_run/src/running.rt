@@ -2,8 +2,8 @@
 ghost use Rattle.std.specs.Prelude.{◌≡◌, None};
 
 use bson_lite::List;
-use driver_actions::Outcome;
-use driver_exec::Client;
+use driver_attempt::Client;
+use driver_inputs::Outcome;
 use driver_link::CountingIds;
 use driver_script::Script;
 use driver_session::PlainStore;

@@ -2,8 +2,8 @@
 use crate::scripts::ran;
 use crate::writes::{Row, first_wrong, is_reported};
 use bson_lite::{Boxed, ByIndex, Bytes, List, Text};
-use driver_actions::Outcome;
 use driver_error::{Error, ErrorKind, IndexedWriteError, InsertManyError};
+use driver_inputs::Outcome;
 use driver_script::read_script;
 use script_run::{Run, report_text};
 use std::alloc::{AllocError, Global};

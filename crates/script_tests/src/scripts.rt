@@ -1,6 +1,6 @@
 //! Scripts run from a source to a sink: statuses and texts.
 use bson_lite::{Bytes, EncodeFault, List, Text, encode};
-use driver_actions::{Call, SingleWrite};
+use driver_inputs::{Call, SingleWrite};
 use driver_link::{MemSink, MemSource};
 use driver_script::{ScriptFault, read_script};
 use script_run::{Run, run_script, top};

@@ -1,12 +1,12 @@
 //! A fake link, whose servers and answers a row names, and one insert or calls over it.
 use crate::inserting::{Ended, SERVER, Seen, insert};
 use bson_lite::{Bytes, List};
-use driver_actions::{Call, Outcome, run_calls};
+use driver_actions::run_calls;
+use driver_attempt::{Client, Outside};
 use driver_error::IoKind;
-use driver_exec::{Client, Outside};
-use driver_link::{
-    ClientOptions, CountingIds, Description, FakeLink, FakeStep, LinkFault, MemClock,
-};
+use driver_inputs::{Call, Outcome};
+use driver_link::{CountingIds, FakeLink, FakeStep, LinkFault, MemClock};
+use driver_options::{ClientOptions, Description};
 use driver_session::PlainStore;
 use rand_core::SeedableRng;
 use rand_pcg::Pcg32;

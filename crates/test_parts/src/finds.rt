@@ -3,8 +3,8 @@ use crate::writes::{
     Asked, Concern, Part, Shared, array_filters, change_document, database, document_at,
     modifications, namespace, option_at, shared_options, write_concern,
 };
-use driver_actions::SingleWrite;
-use driver_link::{FindOneAndDeleteOptions, FindOneAndReplaceOptions, FindOneAndUpdateOptions};
+use driver_inputs::SingleWrite;
+use driver_options::{FindOneAndDeleteOptions, FindOneAndReplaceOptions, FindOneAndUpdateOptions};
 use std::alloc::{AllocError, Global};
 
 /// The options of a delete that answers a document.

@@ -1,12 +1,12 @@
 //! One write by a new client over a link, and what a row sees of its end. Where a row names no write, it is the
 //! insert of `{_id: 1}`.
 use bson_lite::{Bson, Document, EncodeFault, Namespace, Text};
-use driver_actions::{SingleAnswer, SingleWrite, SingleWrites};
+use driver_actions::SingleWrites;
+use driver_attempt::{Client, Outside};
 use driver_error::{Error, ErrorKind, IoKind, RETRYABLE_WRITE_ERROR, Result, WriteFailure};
-use driver_exec::{Client, Outside};
-use driver_link::{
-    ClientOptions, CountingIds, Description, InsertManyOptions, Link, MemClock, WriteConcern,
-};
+use driver_inputs::{SingleAnswer, SingleWrite};
+use driver_link::{CountingIds, Link, MemClock};
+use driver_options::{ClientOptions, Description, InsertManyOptions, WriteConcern};
 use driver_session::PlainStore;
 use rand_core::SeedableRng;
 use rand_pcg::Pcg32;

@@ -2,8 +2,8 @@
 //! row asks for no others.
 use crate::finds::{find_and_delete, find_and_replace, find_and_update};
 use bson_lite::{Bson, Document, List, Namespace, Text};
-use driver_actions::SingleWrite;
-use driver_link::{
+use driver_inputs::SingleWrite;
+use driver_options::{
     Acknowledgment, DeleteOptions, Hint, InsertManyOptions, UpdateModifications, UpdateOptions,
     WriteConcern,
 };

@@ -2,10 +2,11 @@
 use bson_lite::{Bson, Bytes, List, Namespace, ObjectId, Text};
 use driver_batches::{Limits, split};
 use driver_error::Result;
-use driver_link::InsertManyOptions;
-use driver_ops::{Collection, Insert, Operation, OwnDocument};
+use driver_ops::{Collection, Operation};
+use driver_options::InsertManyOptions;
 use model_server::USUAL_SETUP;
 use std::alloc::{AllocError, Global};
+use write_ops::{Insert, OwnDocument};
 
 /// `{_id: ObjectId, x: 1}`, of 29 bytes.
 const SMALL: &[u8] = b"\x1d\0\0\0\x07_id\0\0\0\0\0\0\0\0\0\0\0\0\x01\x10x\0\x01\0\0\0\0";

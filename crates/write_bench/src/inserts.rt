@@ -2,9 +2,10 @@
 ghost use Rattle.driver_link.specs.WellFormed.{IsWellFormed};
 
 use bson_lite::{Bson, Document, List, Namespace, Text};
-use driver_actions::{Call, SingleWrite};
-use driver_exec::{Client, Outside};
-use driver_link::{ClientOptions, CountingIds, InsertManyOptions, MemClock, Schedule};
+use driver_attempt::{Client, Outside};
+use driver_inputs::{Call, SingleWrite};
+use driver_link::{CountingIds, MemClock, Schedule};
+use driver_options::{ClientOptions, InsertManyOptions};
 use driver_session::PlainStore;
 use rand_core::SeedableRng;
 use rand_pcg::Pcg32;

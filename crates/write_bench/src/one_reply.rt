@@ -1,7 +1,8 @@
 //! A link that answers from memory and keeps nothing, so that what is timed is the driver.
 use bson_lite::{Bytes, Text, TryClone};
 use driver_error::Error;
-use driver_link::{Address, Conn, Frame, Link, LinkError, Place, SelectionCriteria};
+use driver_link::{Frame, Link, LinkError, Place};
+use driver_options::{Address, Conn, SelectionCriteria};
 use model_server::USUAL_SETUP;
 use std::alloc::{AllocError, Global};
 

@@ -5,9 +5,10 @@ use crate::inserts::{all_served, insert, insert_calls, new_client, outside_with}
 use crate::many::{hand_in, insert_at_once};
 use crate::one_reply::OneReply;
 use bson_lite::List;
-use driver_actions::{Call, Outcome, SingleWrites, run_calls};
+use driver_actions::{SingleWrites, run_calls};
+use driver_attempt::Outside;
 use driver_error::Result;
-use driver_exec::Outside;
+use driver_inputs::{Call, Outcome};
 use driver_link::MemClock;
 use model_server::{ModelServer, USUAL_SETUP};
 use rand_pcg::Pcg32;

@@ -15,18 +15,14 @@ use Rattle.driver_link.specs.ServerRun.{ServerRun}
 use Rattle.driver_link.specs.Settled.{Has}
 use Rattle.driver_link.specs.Statements.{entry_of}
 use Rattle.driver_session.specs.Pool.{Pool}
-use Rattle.driver_ops.specs.InsertSpec.{insert_spec}
 use Rattle.driver_ops.specs.Operations.{OperationSpec}
 use Rattle.driver_ops.specs.Served.{AreEntries}
-use Rattle.driver_ops.specs.StatementSpec.{delete_spec, find_spec, update_spec}
 use Rattle.driver_ops.specs.Targets.{in_collection}
+use Rattle.write_ops.specs.InsertSpec.{insert_spec}
+use Rattle.write_ops.specs.StatementSpec.{delete_spec, find_spec, update_spec}
+use Rattle.driver_attempt.specs.Moment.{Moment}
 use Rattle.driver_exec.specs.BetweenCalls.{MaySendPlaces}
 use Rattle.driver_exec.specs.Keeping.{AreWritten, HasEntries, KeepsWhereTold, OkHasEntries, StandsAfter, StandsBefore}
-use Rattle.driver_exec.specs.Moment.{Moment}
-use Rattle.driver_actions.specs.declared.call.SingleAnswer.{SingleAnswer}
-use Rattle.driver_actions.specs.declared.call.SingleAnswer.TheVariants.{Deleted, Found, Inserted, Updated}
-use Rattle.driver_actions.specs.Calls.{IsOwn, answer_by}
-use Rattle.driver_actions.specs.Forms.{WriteForm, asked_in, deletes, finds, inserts, kind_in, updates, written_in}
 use Rattle.driver_actions.specs.SingleCalls.{Made, Makes, Runs, Tells, first_place}
 use Rattle.driver_actions.specs.SingleEntries.{HasOwnEntry, HasOwnEntryWhereTold, HasWritten, IsNewPlace, KeepsSingle, KeepsSingleWhereTold, MayWrite, OkHasEntry}
 use Rattle.driver_actions.specs.Singles.{BecomesSingle}
@@ -34,6 +30,10 @@ use Rattle.driver_actions.specs.Standing.{AllBelow}
 use Rattle.driver_actions.proofs.CallSends.{mid_run, only_write, pool_kept}
 use Rattle.driver_actions.proofs.OwnIds.{OnlyDrew}
 use Rattle.driver_actions.proofs.CallWrites.WritesMade.{made_drew, made_left, made_own, unmade_drew_by}
+use Rattle.driver_inputs.specs.declared.call.SingleAnswer.{SingleAnswer}
+use Rattle.driver_inputs.specs.declared.call.SingleAnswer.TheVariants.{Deleted, Found, Inserted, Updated}
+use Rattle.driver_inputs.specs.Calls.{IsOwn, answer_by}
+use Rattle.driver_inputs.specs.Forms.{WriteForm, asked_in, deletes, finds, inserts, kind_in, updates, written_in}
 
 -- a write in its place
 abbrev pub placed_at : Place → Written → PlacedWrite

@@ -24,8 +24,8 @@ use Rattle.driver_exec.specs.BetweenCalls.{Between, MaySendPlaces, SentUpTo, Sou
 use Rattle.driver_exec.specs.Gentle.{IsLossy}
 use Rattle.driver_exec.proofs.TraceSessions.{lends_holds}
 use Rattle.driver_exec.proofs.InvariantSteps.Sends.{numbered_new, unnumbered_send}
-use Rattle.driver_actions.specs.Forms.{WriteForm, asked_in, command_in, kind_in, ordered_in, send_in}
 use Rattle.driver_actions.proofs.CallWrites.Entries.{placed_at}
+use Rattle.driver_inputs.specs.Forms.{WriteForm, asked_in, command_in, kind_in, ordered_in, send_in}
 
 -- an item without a reply counts nothing
 lossy_counts : (does : WriteKind) (item : Item) → IsLossy item → CountsBy does item

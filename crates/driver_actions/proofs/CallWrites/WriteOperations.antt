@@ -10,35 +10,35 @@ use Rattle.driver_error.specs.declared.error.Error.{Error}
 use Rattle.driver_error.specs.declared.results.DeleteResult.{DeleteResult}
 use Rattle.driver_error.specs.declared.results.InsertManyResult.{InsertManyResult}
 use Rattle.driver_error.specs.declared.results.UpdateResult.{UpdateResult}
-use Rattle.driver_link.specs.declared.find_options.FindAndModifyOptions.{FindAndModifyOptions}
+use Rattle.driver_options.specs.declared.find_options.FindAndModifyOptions.{FindAndModifyOptions}
+use Rattle.driver_options.specs.declared.updates.Modification.{Modification}
+use Rattle.driver_options.specs.declared.updates.UpdateOrReplace.{UpdateOrReplace}
+use Rattle.driver_options.specs.declared.write_options.DeleteOptions.{DeleteOptions}
+use Rattle.driver_options.specs.declared.write_options.InsertManyOptions.{InsertManyOptions}
+use Rattle.driver_options.specs.declared.write_options.UpdateOptions.{UpdateOptions}
 use Rattle.driver_link.specs.declared.machine.Place.{Place}
 use Rattle.driver_link.specs.declared.machine.SendBody.{SendBody}
-use Rattle.driver_link.specs.declared.updates.Modification.{Modification}
-use Rattle.driver_link.specs.declared.updates.UpdateOrReplace.{UpdateOrReplace}
-use Rattle.driver_link.specs.declared.write_options.DeleteOptions.{DeleteOptions}
-use Rattle.driver_link.specs.declared.write_options.InsertManyOptions.{InsertManyOptions}
-use Rattle.driver_link.specs.declared.write_options.UpdateOptions.{UpdateOptions}
-use Rattle.driver_ops.specs.declared.own_document.OwnDocument.{OwnDocument}
 use Rattle.driver_ops.specs.declared.target.OperationTarget.{OperationTarget}
-use Rattle.driver_ops.specs.InsertSpec.{AsksInsert, insert_spec}
 use Rattle.driver_ops.specs.OperationLaw.{NeverOpen}
 use Rattle.driver_ops.specs.Operations.{AsksFor, HasBodies, IsFixed, OperationSpec, StaysFixed, batch_of}
 use Rattle.driver_ops.specs.SendKinds.{SendKind, first}
-use Rattle.driver_ops.specs.StatementSpec.{delete_spec, find_spec, update_spec}
 use Rattle.driver_ops.specs.Targets.{in_collection}
-use Rattle.driver_exec.specs.Causes.{end_of}
-use Rattle.driver_exec.specs.Executing.{Executes}
+use Rattle.write_ops.specs.declared.own_document.OwnDocument.{OwnDocument}
+use Rattle.write_ops.specs.InsertSpec.{AsksInsert, insert_spec}
+use Rattle.write_ops.specs.StatementSpec.{delete_spec, find_spec, update_spec}
+use Rattle.driver_attempt.specs.Causes.{end_of}
+use Rattle.driver_attempt.specs.Executing.{Executes}
+use Rattle.driver_attempt.specs.Moment.{Moment}
 use Rattle.driver_exec.specs.Keeping.{KeepsInvariant, OkHasEntries}
-use Rattle.driver_exec.specs.Moment.{Moment}
 use Rattle.driver_exec.specs.OperationCauses.{Caused}
 use Rattle.driver_exec.specs.Resending.{SendsOneCommand}
 use Rattle.driver_exec.proofs.WholeOperation.{executes_draws, executes_few, executes_lends}
-use Rattle.driver_actions.specs.declared.call.SingleAnswer.{SingleAnswer}
-use Rattle.driver_actions.specs.declared.call.SingleAnswer.TheVariants.{Deleted, Found, Updated}
-use Rattle.driver_actions.specs.Forms.{asked_in, deletes, finds, inserts, updates, written_in}
-use Rattle.driver_actions.specs.Inputs.{IsAccepted}
 use Rattle.driver_actions.specs.SingleCalls.{Made, Runs, Tells}
 use Rattle.driver_actions.specs.Singles.{BecomesSingle}
+use Rattle.driver_inputs.specs.declared.call.SingleAnswer.{SingleAnswer}
+use Rattle.driver_inputs.specs.declared.call.SingleAnswer.TheVariants.{Deleted, Found, Updated}
+use Rattle.driver_inputs.specs.Forms.{asked_in, deletes, finds, inserts, updates, written_in}
+use Rattle.driver_inputs.specs.Inputs.{IsAccepted}
 
 -- the one statement of an operation that was built with one stays
 pub still_one : (old now : Option ℕ) → old ≡ Some 1 → StaysFixed old now → IsFixed now 1

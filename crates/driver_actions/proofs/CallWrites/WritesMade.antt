@@ -9,16 +9,16 @@ use Rattle.driver_session.specs.StoreTells.{Draws, LendsAsBefore}
 use Rattle.driver_ops.specs.Fields.{under}
 use Rattle.driver_ops.specs.Operations.{OperationSpec, batch_of, send_of}
 use Rattle.driver_ops.specs.SendKinds.{first}
+use Rattle.driver_attempt.specs.Moment.{Moment}
+use Rattle.driver_attempt.specs.Readings.{OnlyRead}
 use Rattle.driver_exec.specs.Keeping.{KeepsInvariant}
-use Rattle.driver_exec.specs.Moment.{Moment}
-use Rattle.driver_exec.specs.Readings.{OnlyRead}
 use Rattle.driver_exec.specs.Resending.{Borrows, SentWithin}
 use Rattle.driver_exec.proofs.WholeOperation.{executes_read, executes_words}
-use Rattle.driver_actions.specs.declared.call.SingleAnswer.{SingleAnswer}
-use Rattle.driver_actions.specs.Calls.{IsOwn}
-use Rattle.driver_actions.specs.Forms.{WriteForm, asked_in, deletes, finds, inserts, updates, written_in}
 use Rattle.driver_actions.specs.SingleCalls.{Made, MayDrawFor, Runs}
 use Rattle.driver_actions.proofs.OwnIds.{OnlyDrew, own_drew, unmade_drew}
+use Rattle.driver_inputs.specs.declared.call.SingleAnswer.{SingleAnswer}
+use Rattle.driver_inputs.specs.Calls.{IsOwn}
+use Rattle.driver_inputs.specs.Forms.{WriteForm, asked_in, deletes, finds, inserts, updates, written_in}
 
 -- the session that it borrowed, if any, its sends, and what it kept and read
 pub record LeftBy (before now : Moment) (asked : SendBody) : Type 0 where

@@ -8,11 +8,11 @@ use Rattle.driver_error.specs.declared.error.Error.{Error}
 use Rattle.driver_error.specs.declared.kind.ErrorKind.TheVariants.{Memory}
 use Rattle.driver_error.specs.Error.{kind_of}
 use Rattle.driver_session.specs.StoreTells.{DrawsObjectId, StoreTells}
-use Rattle.driver_ops.specs.declared.own_document.OwnDocument.{OwnDocument}
+use Rattle.write_ops.specs.declared.own_document.OwnDocument.{OwnDocument}
 use Rattle.driver_actions.specs.Causes.{IsOwnError}
 use Rattle.driver_actions.specs.ManyIds.{DrawsOwnIds}
-use Rattle.driver_actions.specs.ManyInputs.{AreTwelve}
 use Rattle.driver_actions.specs.OwnIds.{HasOwnId}
+use Rattle.driver_inputs.specs.ManyInputs.{AreTwelve}
 
 -- a caller's document as it is sent, with its id, which was drawn where it had none
 pub record IsSent (store store_now : StoreTells) (given : List (Pair Bson)) (own : OwnDocument) : Type 0 where

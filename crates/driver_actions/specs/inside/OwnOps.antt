@@ -4,13 +4,13 @@ use Rattle.bson_lite.specs.declared.bson.ObjectId.{ObjectId}
 use Rattle.driver_error.specs.declared.error.Error.{Error}
 use Rattle.driver_error.specs.declared.kind.ErrorKind.TheVariants.{Memory}
 use Rattle.driver_error.specs.Error.{kind_of}
-use Rattle.driver_link.specs.declared.models.WriteModel.{WriteModel}
+use Rattle.driver_options.specs.declared.models.WriteModel.{WriteModel}
 use Rattle.driver_session.specs.StoreTells.{StoreTells}
-use Rattle.driver_ops.specs.declared.own_op.OwnOp.{OwnOp}
-use Rattle.driver_ops.specs.BulkOps.{IsOpOf, op_document}
 use Rattle.driver_ops.specs.Encoding.{IsUnspelled}
+use Rattle.bulk_ops.specs.declared.own_op.OwnOp.{OwnOp}
+use Rattle.bulk_ops.specs.BulkOps.{IsOpOf, op_document}
 use Rattle.driver_actions.specs.BulkIds.{DrawsModelId}
-use Rattle.driver_actions.specs.BulkInputs.{with_model_id}
+use Rattle.driver_inputs.specs.BulkInputs.{with_model_id}
 
 -- a model's op as it is sent, whose document has an id, which was drawn where it had none
 pub record IsSentOp (store now : StoreTells) (given : WriteModel) (own : OwnOp) : Type 0 where

@@ -6,28 +6,28 @@ use Rattle.driver_error.specs.declared.kind.ErrorKind.TheVariants as kind
 use Rattle.driver_error.specs.declared.labels.TheConstants.{RETRYABLE_WRITE_ERROR}
 use Rattle.driver_error.specs.Error.{kind_of, labels_of}
 use Rattle.driver_error.specs.LabelTexts.{has_label}
+use Rattle.driver_options.specs.declared.options.Address.{Address}
 use Rattle.driver_link.specs.Clock.{ClockTells}
 use Rattle.driver_link.specs.declared.fault.LinkError.TheVariants.{Fault}
-use Rattle.driver_link.specs.declared.options.Address.{Address}
 use Rattle.driver_link.specs.LinkState.{server_run, setup_of}
 use Rattle.driver_link.specs.ServerRun.{ServerRun}
 use Rattle.driver_session.specs.StoreTells.{DrawnApart}
-use Rattle.driver_exec.specs.declared.attempt_end.AttemptEnd.{AttemptEnd}
-use Rattle.driver_exec.specs.declared.attempt_end.AttemptEnd.TheVariants.{Done, Ended, Failed, Stopped, Unfit, Unselected}
-use Rattle.driver_exec.specs.declared.failure.AttemptFailure.{AttemptFailure}
-use Rattle.driver_exec.specs.declared.failure.FailurePhase.{FailurePhase}
-use Rattle.driver_exec.specs.Attempting.{AttemptState, EndsAtOnce, FailsIn, MakesAttempt, RefusedAgain, Stops, attempted_operation, besides_out, is_nothing}
-use Rattle.driver_exec.specs.Concerns.{concern_of, concern_refusal}
-use Rattle.driver_exec.specs.Executing.{Attempts, Ends, EndsWith, Executes, Proceeds, first_state, limit_reached}
+use Rattle.driver_attempt.specs.declared.attempt_end.AttemptEnd.{AttemptEnd}
+use Rattle.driver_attempt.specs.declared.attempt_end.AttemptEnd.TheVariants.{Done, Ended, Failed, Stopped, Unfit, Unselected}
+use Rattle.driver_attempt.specs.declared.failure.AttemptFailure.{AttemptFailure}
+use Rattle.driver_attempt.specs.declared.failure.FailurePhase.{FailurePhase}
+use Rattle.driver_attempt.specs.Attempting.{AttemptState, EndsAtOnce, FailsIn, MakesAttempt, RefusedAgain, Stops, attempted_operation, besides_out, is_nothing}
+use Rattle.driver_attempt.specs.Concerns.{concern_of, concern_refusal}
+use Rattle.driver_attempt.specs.Executing.{Attempts, Ends, EndsWith, Executes, Proceeds, first_state, limit_reached}
+use Rattle.driver_attempt.specs.Holding.{number_before}
+use Rattle.driver_attempt.specs.Moment.{Moment}
+use Rattle.driver_attempt.specs.OldDeployment.{reworded}
+use Rattle.driver_attempt.specs.Retry.{RetryState, after_first, avoiding, decide, reworded_failure}
+use Rattle.driver_attempt.specs.inside.Executing.{Reaches}
+use Rattle.driver_attempt.proofs.AttemptSequence.{avoids}
+use Rattle.driver_attempt.proofs.RetryFold.{came_of}
 use Rattle.driver_exec.specs.Gentle.{EndsWell, IsGentlePart}
-use Rattle.driver_exec.specs.Holding.{number_before}
-use Rattle.driver_exec.specs.Moment.{Moment}
-use Rattle.driver_exec.specs.OldDeployment.{reworded}
 use Rattle.driver_exec.specs.OperationCauses.{DrawsNumbers}
-use Rattle.driver_exec.specs.Retry.{RetryState, after_first, avoiding, decide, reworded_failure}
-use Rattle.driver_exec.specs.inside.Executing.{Reaches}
-use Rattle.driver_exec.proofs.AttemptSequence.{avoids}
-use Rattle.driver_exec.proofs.RetryFold.{came_of}
 use Rattle.driver_exec.proofs.HeldSessions.{draws_on, not_both}
 use Rattle.driver_exec.proofs.Moments.{IsBefore, Leads, before_refl, before_twice, connects_lead, fails_lead, leads_same, leads_twice, one_moment, selects_lead}
 use Rattle.driver_exec.proofs.StoreDraws.{back_apart, ends_apart, fails_apart}

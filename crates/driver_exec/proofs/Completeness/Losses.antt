@@ -6,13 +6,13 @@ use Rattle.driver_error.specs.declared.error.Error.{Error}
 use Rattle.driver_error.specs.declared.labels.TheConstants.{RETRYABLE_WRITE_ERROR}
 use Rattle.driver_error.specs.Error.{labels_of}
 use Rattle.driver_error.specs.LabelTexts.{has_label, label_set, with_label}
+use Rattle.driver_options.specs.declared.options.Address.{Address}
+use Rattle.driver_options.specs.declared.options.Conn.{Conn}
 use Rattle.driver_link.specs.declared.fault.LinkError.{LinkError}
 use Rattle.driver_link.specs.declared.fault.LinkError.TheVariants.{Fault}
 use Rattle.driver_link.specs.declared.fault.LinkFault.{LinkFault}
 use Rattle.driver_link.specs.declared.machine.Scheduled.{Scheduled}
 use Rattle.driver_link.specs.declared.machine.Send.{Send}
-use Rattle.driver_link.specs.declared.options.Address.{Address}
-use Rattle.driver_link.specs.declared.options.Conn.{Conn}
 use Rattle.driver_link.specs.Cursors.{Reply}
 use Rattle.driver_link.specs.Exchange.{exchanged, next_step, step_at}
 use Rattle.driver_link.specs.LinkState.{server_run, setup_of}
@@ -23,16 +23,16 @@ use Rattle.driver_session.specs.Session.{Session}
 use Rattle.driver_session.specs.StoreTells.{DrawnApart}
 use Rattle.driver_ops.specs.Fields.{under}
 use Rattle.driver_ops.specs.Operations.{send_of}
-use Rattle.driver_exec.specs.declared.failure.FailurePhase.{FailurePhase}
-use Rattle.driver_exec.specs.declared.failure.FailurePhase.TheVariants.{ConnectionEstablishment, Execution}
-use Rattle.driver_exec.specs.AttemptExchanges.{AsksPages, EndsPages, held_after}
-use Rattle.driver_exec.specs.Attempting.{AttemptState, FailsIn, LosesExchange, NotConnected, NotSelected, Sends, SpellsFailure, asks_session, on_connection}
-use Rattle.driver_exec.specs.Failures.{is_memory}
+use Rattle.driver_attempt.specs.declared.failure.FailurePhase.{FailurePhase}
+use Rattle.driver_attempt.specs.declared.failure.FailurePhase.TheVariants.{ConnectionEstablishment, Execution}
+use Rattle.driver_attempt.specs.AttemptExchanges.{AsksPages, EndsPages, held_after}
+use Rattle.driver_attempt.specs.Attempting.{AttemptState, FailsIn, LosesExchange, NotConnected, NotSelected, Sends, SpellsFailure, asks_session, on_connection}
+use Rattle.driver_attempt.specs.Failures.{is_memory}
+use Rattle.driver_attempt.specs.Holding.{HoldsSession, dirty_session, held_id, needs_session}
+use Rattle.driver_attempt.specs.OldDeployment.{reworded}
+use Rattle.driver_attempt.specs.Retry.{RetryState}
 use Rattle.driver_exec.specs.Gentle.{IsGentlePart, IsLossy, IsOfPart}
-use Rattle.driver_exec.specs.Holding.{HoldsSession, dirty_session, held_id, needs_session}
-use Rattle.driver_exec.specs.OldDeployment.{reworded}
 use Rattle.driver_exec.specs.OperationCauses.{DrawsNumbers, labels_after}
-use Rattle.driver_exec.specs.Retry.{RetryState}
 use Rattle.driver_exec.proofs.FixedNumbers.{MayBeFixed, sends_first}
 use Rattle.driver_exec.proofs.HeldSessions.{draws_on, not_both}
 use Rattle.driver_exec.proofs.Moments.{IsBefore, LeadsCalling, after_before, before_twice, checks_well, longer_after, one_moment, selects_lead, selects_well}

@@ -5,16 +5,16 @@ use Rattle.bson_lite.specs.declared.fault.EncodeFault.{EncodeFault}
 use Rattle.driver_error.specs.declared.error.Error.{Error}
 use Rattle.driver_error.specs.declared.kind.ErrorKind.TheVariants as kind
 use Rattle.driver_error.specs.Error.{kind_of}
+use Rattle.driver_options.specs.declared.concerns.WriteConcern.{WriteConcern}
+use Rattle.driver_options.specs.declared.options.Address.{Address}
+use Rattle.driver_options.specs.declared.options.Conn.{Conn}
+use Rattle.driver_options.specs.declared.options.Description.{Description}
 use Rattle.driver_link.specs.Clock.{ClockTells}
-use Rattle.driver_link.specs.declared.concerns.WriteConcern.{WriteConcern}
 use Rattle.driver_link.specs.declared.machine.Item.{Item}
 use Rattle.driver_link.specs.declared.machine.Scheduled.{Scheduled}
 use Rattle.driver_link.specs.declared.machine.Send.{Send}
 use Rattle.driver_link.specs.declared.machine.SendBody.{SendBody}
 use Rattle.driver_link.specs.declared.machine.Server.{Server}
-use Rattle.driver_link.specs.declared.options.Address.{Address}
-use Rattle.driver_link.specs.declared.options.Conn.{Conn}
-use Rattle.driver_link.specs.declared.options.Description.{Description}
 use Rattle.driver_link.specs.Exchange.{exchanged}
 use Rattle.driver_link.specs.LinkState.{LinkState, server_run, setup_of}
 use Rattle.driver_link.specs.ServerRun.{ServerRun}
@@ -27,13 +27,13 @@ use Rattle.driver_ops.specs.Fields.{SendContext, under}
 use Rattle.driver_ops.specs.OperationLaw.{NeverOpen}
 use Rattle.driver_ops.specs.Operations.{AsksFor, Batch, HasNoSpelling, OperationSpec, Refuses, send_of}
 use Rattle.driver_ops.specs.SendKinds.{SendKind}
-use Rattle.driver_exec.specs.Attempting.{AttemptState, AttemptedOperation, EndsRefused, Readies, asks_session, attempted_operation, may_use, on_connection}
-use Rattle.driver_exec.specs.Concerns.{concern_refusal}
-use Rattle.driver_exec.specs.Executing.{first_state}
+use Rattle.driver_attempt.specs.Attempting.{AttemptState, AttemptedOperation, EndsRefused, Readies, asks_session, attempted_operation, may_use, on_connection}
+use Rattle.driver_attempt.specs.Concerns.{concern_refusal}
+use Rattle.driver_attempt.specs.Executing.{first_state}
+use Rattle.driver_attempt.specs.Holding.{DrawsNumber, DrawsSession, GivesNumber, ExecutionSession, HoldsSession, held_id, holds_nothing, needs_session}
+use Rattle.driver_attempt.specs.Retry.{RetryState}
 use Rattle.driver_exec.specs.Gentle.{IsLossy}
-use Rattle.driver_exec.specs.Holding.{DrawsNumber, DrawsSession, GivesNumber, ExecutionSession, HoldsSession, held_id, holds_nothing, needs_session}
 use Rattle.driver_exec.specs.OperationCauses.{DrawsNumbers}
-use Rattle.driver_exec.specs.Retry.{RetryState}
 use Rattle.driver_exec.proofs.FixedNumbers.{MayBeFixed}
 use Rattle.driver_exec.proofs.HeldSessions.{IsOf, draws_on, is_of, not_both}
 use Rattle.driver_exec.proofs.Moments.{IsBefore, LeadsCalling, before_refl, connects_lead}

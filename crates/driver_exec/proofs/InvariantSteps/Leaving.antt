@@ -17,9 +17,9 @@ use Rattle.driver_session.proofs.IdDraws.{drawn_back}
 use Rattle.driver_session.proofs.PoolTells.{TurnsPool, same_told, turns_told}
 use Rattle.driver_ops.specs.Fields.{under}
 use Rattle.driver_ops.specs.Operations.{send_of}
+use Rattle.driver_attempt.specs.Moment.{Moment}
 use Rattle.driver_exec.specs.BetweenCalls.{Between, SentUpTo, Sound}
 use Rattle.driver_exec.specs.Keeping.{MayPass, StandsBefore}
-use Rattle.driver_exec.specs.Moment.{Moment}
 use Rattle.driver_exec.specs.Resending.{Borrowed, Borrows, LeavesAside, SendsWhereTold, SentTimes}
 use Rattle.driver_exec.proofs.TraceSessions.{Holding, joined_holds, lends_holds, number_raised, taken_between}
 use Rattle.driver_exec.proofs.InvariantSteps.Sends.{Going, begins, between_free, holding_free, numbered_goes, numbered_joins, numbered_new, numbered_onward, numbered_send, unnumbered_goes, unnumbered_joins, unnumbered_new, unnumbered_onward, unnumbered_send}

@@ -22,9 +22,9 @@ use Rattle.driver_ops.specs.declared.operation.Reading.TheVariants.{Done}
 use Rattle.driver_ops.specs.OperationLaw.{FurtherPages, IsLawful, TellsOutput, as_pages}
 use Rattle.driver_ops.specs.Operations.{AsksFor, Batch, OperationSpec, Page, ReadsPages, ReadsPagesOutput, send_of}
 use Rattle.driver_ops.proofs.Entries.{entries_are, entries_stand, told_entries_stand}
-use Rattle.driver_ops.proofs.FailureReading.{failure_told}
+use Rattle.write_ops.proofs.FailureReading.{failure_told}
+use Rattle.driver_attempt.specs.Moment.{Moment}
 use Rattle.driver_exec.specs.Keeping.{AreWritten, HasEntries, KeepsInvariant, KeepsWhereTold, OkHasEntries}
-use Rattle.driver_exec.specs.Moment.{Moment}
 use Rattle.driver_exec.specs.Reporting.{ErrIsReported, IsReported, IsToldBy}
 use Rattle.driver_exec.specs.Resending.{AmongAnswers, AnsweredAmong, AnsweredLast, IsReadFailure, LastAnswer, SendsOneCommand}
 use Rattle.driver_exec.proofs.InvariantSteps.CamePages.{pages_came}

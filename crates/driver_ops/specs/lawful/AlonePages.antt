@@ -8,9 +8,8 @@ use Rattle.driver_link.specs.declared.machine.Server.{Server}
 use Rattle.driver_link.specs.Cursors.{Reply}
 use Rattle.driver_ops.specs.declared.operation.Reading.{Reading}
 use Rattle.driver_ops.specs.declared.operation.Reading.TheVariants.{Page as Further}
-use Rattle.driver_ops.specs.InsertSpec.{ReadsAlone}
+use Rattle.driver_ops.specs.Operations.{ReadsAlone, OperationSpec, Page}
 use Rattle.driver_ops.specs.OperationLaw.{FurtherPages, NeverOpen}
-use Rattle.driver_ops.specs.Operations.{OperationSpec, Page}
 
 -- nothing that is read alone leaves a cursor open
 pub never_open : {A : Type 0} (reads : List (Pair Bson) → Result A Error → Type 0) (pages : List Page) (cursor : ℤ) (namespace : Namespace)

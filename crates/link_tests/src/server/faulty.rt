@@ -2,7 +2,8 @@
 ghost use Rattle.std.specs.Prelude.{◌≡◌, [], IfOk};
 
 use super::*;
-use driver_link::{Address, Conn, Link, Schedule};
+use driver_link::{Link, Schedule};
+use driver_options::{Address, Conn};
 use model_server::{ModelServer, USUAL_SETUP};
 
 /// A list of one number.

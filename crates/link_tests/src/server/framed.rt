@@ -1,7 +1,7 @@
 //! One frame of each command, read and served.
 use super::*;
 use driver_link::{Frame, Sequence};
-use model_server::reading::read_send;
+use frame_reading::reading::read_send;
 
 /// The name of a command, its frame with the documents of its sequences, how many writes it has, and the bytes of
 /// its reply.

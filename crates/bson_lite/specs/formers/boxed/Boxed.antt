@@ -1,4 +1,9 @@
 -- `Boxed` as a holder inside a type that leads back to itself: its one value stands for it.
+use Rattle.std.specs.declared.boxed.Box.{Box}
+use Rattle.std.specs.contracts.boxed.Box as box
+use Rattle.std.specs.declared.alloc.Global.{Global}
+use Rattle.std.specs.contracts.alloc.Global as heap
+use Rattle.std.specs.contracts.impls.GlobalAllocator.TheImpl.{ghosts}
 use mathlib.Core.Path.{refl}
 use mathlib.Core.Former.{Former, this, const, pair, via}
 use base.Stored.{gnil}
@@ -12,11 +17,6 @@ use denote.HolePlaces.{Recodes, struct_places, laid, one_value}
 use denote.Hole.Fix.{over}
 use denote.Param.Weighed.{Weighed}
 use denote.Model.Placed.{view_places}
-use Rattle.std.specs.declared.boxed.Box.{Box}
-use Rattle.std.specs.contracts.boxed.Box as box
-use Rattle.std.specs.declared.alloc.Global.{Global}
-use Rattle.std.specs.contracts.alloc.Global as heap
-use Rattle.std.specs.contracts.impls.GlobalAllocator.TheImpl.{ghosts}
 use Rattle.bson_lite.specs.declared.boxed.Boxed.TheInside.{Inside}
 use Rattle.bson_lite.specs.declared.boxed.Boxed.TheView.{view, invariant}
 use Rattle.bson_lite.specs.contracts.boxed.Boxed as Whole

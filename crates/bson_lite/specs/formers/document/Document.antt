@@ -1,10 +1,14 @@
 -- `Document` as a holder inside a type that leads back to itself: where its values lie, and that
 -- changing them by a function changes nothing else.
+use Rattle.std.specs.Prelude.{ℕ}
+use Rattle.std.specs.Coded.{coded_list, coded_ℕ}
+use Rattle.std.specs.formers.vec.Vec as vec
+use Rattle.std.specs.declared.alloc.Global.{Global}
+use Rattle.std.specs.contracts.alloc.Global as heap
+use Rattle.std.specs.contracts.impls.GlobalAllocator.TheImpl.{ghosts}
 use mathlib.Core.Path.{refl, sym}
 use mathlib.Core.List.{List, [], map}
 use mathlib.Core.Former.{Former, this, list, const, pair, via}
-use Rattle.std.specs.Prelude.{ℕ}
-use Rattle.std.specs.Coded.{coded_list, coded_ℕ}
 use base.Stored.{code_map, gcons}
 use denote.RattleType.{RattleType}
 use denote.HoleLaws.{Alike}
@@ -12,10 +16,6 @@ use denote.HolePlaces.{Recodes, struct_places, laid, stays}
 use denote.Hole.Fix.{over}
 use denote.Param.Weighed.{Weighed, w_list, w_via, w_pair, w_const}
 use denote.Model.Placed.{view_places}
-use Rattle.std.specs.formers.vec.Vec as vec
-use Rattle.std.specs.declared.alloc.Global.{Global}
-use Rattle.std.specs.contracts.alloc.Global as heap
-use Rattle.std.specs.contracts.impls.GlobalAllocator.TheImpl.{ghosts}
 use Rattle.bson_lite.specs.declared.document.Pair.{Pair}
 use Rattle.bson_lite.specs.declared.document.Document.TheInside.{Inside}
 use Rattle.bson_lite.specs.declared.document.Document.TheView.{view, invariant}

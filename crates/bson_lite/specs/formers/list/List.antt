@@ -1,5 +1,9 @@
 -- `List` as a holder inside a type that leads back to itself: where its items lie, and that changing
 -- them by a function changes nothing else.
+use Rattle.std.specs.formers.vec.Vec as vec
+use Rattle.std.specs.declared.alloc.Global.{Global}
+use Rattle.std.specs.contracts.alloc.Global as heap
+use Rattle.std.specs.contracts.impls.GlobalAllocator.TheImpl.{ghosts}
 use mathlib.Core.Path.{◌≡◌, refl, sym}
 use mathlib.Core.List.{List as Listed, []}
 use mathlib.Core.Former.{Former, this, list, via, children}
@@ -11,10 +15,6 @@ use denote.Hole.Carrier.{listed, list-listed}
 use denote.Hole.Fix.{over}
 use denote.Param.Weighed.{Weighed, w_list}
 use denote.Model.Placed.{view_places}
-use Rattle.std.specs.formers.vec.Vec as vec
-use Rattle.std.specs.declared.alloc.Global.{Global}
-use Rattle.std.specs.contracts.alloc.Global as heap
-use Rattle.std.specs.contracts.impls.GlobalAllocator.TheImpl.{ghosts}
 use Rattle.bson_lite.specs.declared.list.List.TheInside.{Inside}
 use Rattle.bson_lite.specs.declared.list.List.TheView.{view, invariant}
 use Rattle.bson_lite.specs.contracts.list.List as Whole

@@ -1,7 +1,7 @@
 -- The next batch is made of the documents that are left, and gathered, or the call ends with an error.
 use Rattle.std.proofs.Common.{drop, length, sym, ap, subst, ◌∙◌}
 use Rattle.driver_ops.specs.declared.target.OperationTarget.TheVariants as target
-use Rattle.driver_exec.specs.Moment.{moment_of}
+use Rattle.driver_attempt.specs.Moment.{moment_of}
 use Rattle.driver_actions.specs.Batches.{goes_on, places_from}
 use Rattle.driver_actions.specs.inside.Batches.{AreSpelled, BatchMade}
 use Rattle.driver_actions.proofs.BatchParts.{comes_behind, gathers, steps_behind, stops_batch, stops_unmade}

@@ -2,7 +2,7 @@
 use Rattle.std.proofs.Common.{drop, length, refl, sym, ap, subst, ◌∙◌, ◌≤◌, arith}
 use Rattle.std.specs.Prelude.{true, false}
 use Rattle.driver_ops.specs.declared.target.OperationTarget.TheVariants as target
-use Rattle.driver_exec.specs.Moment.{moment_of}
+use Rattle.driver_attempt.specs.Moment.{moment_of}
 use Rattle.driver_actions.specs.Batches.{places_from}
 use Rattle.driver_actions.specs.inside.Batches.{GathersBatch, StopsBatches}
 use Rattle.driver_actions.proofs.BatchSequence.{all_done, begins, goes_further, goes_no_further, stops_there}

@@ -1,8 +1,8 @@
 -- The batches so far, each of which lets the next one be begun.
 use Rattle.std.proofs.Common.{◌≡◌, ◌-◌, ◌≤◌, length}
 use Rattle.driver_ops.specs.declared.target.OperationTarget.TheVariants as target
-use Rattle.driver_exec.specs.Client.{options_of}
-use Rattle.driver_exec.specs.Moment.{moment_of}
+use Rattle.driver_attempt.specs.Client.{options_of}
+use Rattle.driver_attempt.specs.Moment.{moment_of}
 use Rattle.driver_actions.specs.Batches.{places_from}
 use Rattle.driver_actions.proofs.BatchSequence.{SoFar}
 use Rattle.driver_actions.proofs.batches.gather_batches.Given as goal

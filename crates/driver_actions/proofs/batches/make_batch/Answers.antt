@@ -1,7 +1,7 @@
 -- A batch was made where its operation was executed.
 use Rattle.std.proofs.Common.{ap, ◌∙◌}
 use Rattle.driver_ops.specs.declared.target.OperationTarget.TheVariants as target
-use Rattle.driver_exec.specs.Moment.{moment_of}
+use Rattle.driver_attempt.specs.Moment.{moment_of}
 use Rattle.driver_actions.proofs.BatchParts.{batch_has, batch_made, kept_client}
 use Rattle.driver_actions.proofs.batches.make_batch.Goals as goal
 

@@ -1,7 +1,7 @@
 -- The answer of the batches of a call.
 use Rattle.std.proofs.lemmas.Result.{err_from_is_err_and}
 use Rattle.driver_ops.specs.declared.target.OperationTarget.TheVariants as target
-use Rattle.driver_exec.specs.Moment.{moment_of}
+use Rattle.driver_attempt.specs.Moment.{moment_of}
 use Rattle.driver_actions.proofs.BatchSequence.{done_answered, short_answered, stopped_answered}
 use Rattle.driver_actions.proofs.batches.make_batches.Goals as goal
 

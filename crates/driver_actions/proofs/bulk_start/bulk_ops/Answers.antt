@@ -1,5 +1,5 @@
 -- The input is refused and nothing was drawn, or the ops were made, or there was no memory for them.
-use Rattle.driver_exec.specs.Client.{store_of}
+use Rattle.driver_attempt.specs.Client.{store_of}
 use Rattle.driver_actions.proofs.BulkJudged.{prepared, unprepared}
 use Rattle.driver_actions.proofs.bulk_start.bulk_ops.Goals as goal
 

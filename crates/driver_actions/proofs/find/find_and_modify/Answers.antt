@@ -2,12 +2,12 @@
 use Rattle.std.proofs.Common.{◌∙◌, refl, inl, inr}
 use Rattle.std.specs.Prelude.{Ok, Err}
 use Rattle.std.proofs.lemmas.Result.{err_from_is_err_and}
-use Rattle.driver_exec.specs.Moment.{moment_of}
-use Rattle.driver_actions.specs.Forms.{finds}
+use Rattle.driver_attempt.specs.Moment.{moment_of}
 use Rattle.driver_actions.proofs.Causes.{caused_input, made_caused}
 use Rattle.driver_actions.proofs.Parts.{unmade_early, unmade_input}
 use Rattle.driver_actions.proofs.CallWrites.WriteOperations.{find_has, find_made}
 use Rattle.driver_actions.proofs.find.find_and_modify.Goals as goal
+use Rattle.driver_inputs.specs.Forms.{finds}
 
 pub returns-in-Some-clause-makes : goal.returns-in-Some-clause-makes
 returns-in-Some-clause-makes g c =

@@ -1,12 +1,12 @@
 -- Where there is no memory for a copy nothing was drawn or asked.
-use Rattle.driver_link.specs.declared.updates.Modification.TheVariants.{Update}
-use Rattle.driver_link.specs.declared.updates.UpdateOrReplace.TheVariants.{Replacement}
-use Rattle.driver_link.specs.FindOptions.{options_of_replace}
-use Rattle.driver_exec.specs.Moment.{moment_of}
-use Rattle.driver_actions.specs.Forms.{finds}
+use Rattle.driver_options.specs.declared.updates.Modification.TheVariants.{Update}
+use Rattle.driver_options.specs.declared.updates.UpdateOrReplace.TheVariants.{Replacement}
+use Rattle.driver_options.specs.FindOptions.{options_of_replace}
+use Rattle.driver_attempt.specs.Moment.{moment_of}
 use Rattle.driver_actions.proofs.Causes.{caused_exit}
 use Rattle.driver_actions.proofs.Parts.{unmade_exit}
 use Rattle.driver_actions.proofs.find.find_one_and_replace.Goals as goal
+use Rattle.driver_inputs.specs.Forms.{finds}
 
 pub returns-in_err-given-clause-makes : goal.returns-in_err-given-clause-makes
 returns-in_err-given-clause-makes g c =

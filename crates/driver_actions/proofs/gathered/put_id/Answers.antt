@@ -2,7 +2,7 @@
 use Rattle.std.proofs.Common.{◌≡◌, ◌+◌, OnOk, ap, subst}
 use Rattle.std.specs.Prelude.{Option}
 use Rattle.bson_lite.specs.declared.bson.Bson.{Bson}
-use Rattle.driver_ops.specs.InsertSpec.{id_beside}
+use Rattle.write_ops.specs.InsertSpec.{id_beside}
 use Rattle.driver_actions.proofs.gathered.put_id.Goals as goal
 
 pub returns-in-None : goal.returns-in-None

@@ -2,14 +2,14 @@
 use Rattle.std.proofs.Common.{◌∙◌, refl, ap, inr}
 use Rattle.std.specs.Prelude.{Ok, Err}
 use Rattle.std.proofs.lemmas.Result.{err_from_is_err_and}
-use Rattle.driver_exec.specs.Moment.{moment_of}
 use Rattle.driver_ops.specs.Targets.{in_collection}
-use Rattle.driver_actions.specs.Forms.{inserts}
+use Rattle.driver_attempt.specs.Moment.{moment_of}
 use Rattle.driver_actions.proofs.Causes.{caused_exit, caused_input, caused_memory, made_caused}
 use Rattle.driver_actions.proofs.Parts.{insert_made, may_draw, unmade_exit, unmade_input, unmade_memory}
-use Rattle.driver_actions.proofs.Refusals.{own_memory}
+use Rattle.driver_actions.proofs.RefusedFirst.{own_memory}
 use Rattle.driver_actions.proofs.CallWrites.WriteOperations.{insert_has, insert_ran}
 use Rattle.driver_actions.proofs.insert.insert_one.Goals as goal
+use Rattle.driver_inputs.specs.Forms.{inserts}
 
 pub returns-in-Some-clause-makes : goal.returns-in-Some-clause-makes
 returns-in-Some-clause-makes g c =

@@ -4,7 +4,7 @@ use Rattle.std.specs.Prelude.{Err}
 use Rattle.std.proofs.lemmas.Result.{err_from_is_err_and}
 use Rattle.driver_ops.specs.declared.target.OperationTarget.TheVariants as target
 use Rattle.driver_ops.specs.Targets.{namespace_of}
-use Rattle.driver_exec.specs.Moment.{moment_of}
+use Rattle.driver_attempt.specs.Moment.{moment_of}
 use Rattle.driver_actions.specs.inside.Batches.{AreSpelled, BatchesMade}
 use Rattle.driver_actions.proofs.ManyParts.{many_caused, many_made, many_refused, many_short, many_unmade, owns_spelled}
 use Rattle.driver_actions.proofs.ManyRefusals.{own_many_memory}

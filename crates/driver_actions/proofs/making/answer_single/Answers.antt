@@ -1,6 +1,6 @@
 -- The cause of a single write is that of its call.
 use Rattle.std.proofs.Common.{rules}
-use Rattle.driver_exec.specs.Moment.{moment_of}
+use Rattle.driver_attempt.specs.Moment.{moment_of}
 use Rattle.driver_actions.proofs.Causes.{call_cause_ok, cause_err}
 use Rattle.driver_actions.proofs.making.answer_single.Goals as goal
 

@@ -1,7 +1,7 @@
 -- The documents are inserted into a copy of the collection.
 use Rattle.std.proofs.Common.{subst}
-use Rattle.driver_exec.specs.Moment.{moment_of}
 use Rattle.driver_ops.specs.Targets.{in_collection}
+use Rattle.driver_attempt.specs.Moment.{moment_of}
 use Rattle.driver_actions.specs.ManyCalls.{MakesMany, ManyCaused}
 use Rattle.driver_actions.proofs.ManyParts.{many_refused_exit, many_unmade_exit}
 use Rattle.driver_actions.proofs.making.insert_into.Goals as goal

@@ -1,7 +1,7 @@
 -- One document more with its id, and what was drawn for those so far.
 use Rattle.std.proofs.Common.{◌+◌, [], ◌∷◌, ◌++◌, refl, ◌∙◌}
 use Rattle.std.proofs.lemmas.Result.{err_from_is_err_and}
-use Rattle.driver_exec.specs.Client.{store_of}
+use Rattle.driver_attempt.specs.Client.{store_of}
 use Rattle.driver_actions.proofs.OwnDocuments.{draws_none, front_may, front_of, owns_more, owns_start, owns_whole, tells_one}
 use Rattle.driver_actions.proofs.own_ids.own_documents.Goals as goal
 

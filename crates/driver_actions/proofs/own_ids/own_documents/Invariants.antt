@@ -1,6 +1,6 @@
 -- The documents so far are sent with their ids.
 use Rattle.std.proofs.Common.{◌≡◌, take}
-use Rattle.driver_exec.specs.Client.{options_of, store_of}
+use Rattle.driver_attempt.specs.Client.{options_of, store_of}
 use Rattle.driver_actions.specs.ManyIds.{OwnsAll}
 use Rattle.driver_actions.proofs.own_ids.own_documents.Given as goal
 

@@ -1,5 +1,5 @@
 -- A document that has an id is sent with it.
-use Rattle.driver_exec.specs.Client.{store_of}
+use Rattle.driver_attempt.specs.Client.{store_of}
 use Rattle.driver_actions.proofs.OwnIds.{if_sent_as_given}
 use Rattle.driver_actions.proofs.own_ids.sent_document.Goals as goal
 

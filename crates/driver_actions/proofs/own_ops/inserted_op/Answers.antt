@@ -1,5 +1,5 @@
 -- The document has its own id, so its op is sent as it is.
-use Rattle.driver_exec.specs.Client.{store_of}
+use Rattle.driver_attempt.specs.Client.{store_of}
 use Rattle.driver_actions.proofs.SentOps.{sent_as_given}
 use Rattle.driver_actions.proofs.own_ops.inserted_op.Goals as goal
 

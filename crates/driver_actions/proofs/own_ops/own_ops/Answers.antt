@@ -1,7 +1,7 @@
 -- One op more, and what was drawn for the models so far.
 use Rattle.std.proofs.Common.{◌+◌, [], ◌∷◌, ◌++◌, refl, ◌∙◌}
 use Rattle.std.proofs.lemmas.Result.{err_from_is_err_and}
-use Rattle.driver_exec.specs.Client.{store_of}
+use Rattle.driver_attempt.specs.Client.{store_of}
 use Rattle.driver_actions.proofs.OwnOps.{models_may, models_none, models_of, ops_more, ops_start, ops_whole, tells_one_model}
 use Rattle.driver_actions.proofs.own_ops.own_ops.Goals as goal
 

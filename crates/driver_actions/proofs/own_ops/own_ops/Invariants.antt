@@ -1,6 +1,6 @@
 -- The ops so far are sent with their ids.
 use Rattle.std.proofs.Common.{◌≡◌, take}
-use Rattle.driver_exec.specs.Client.{options_of, store_of}
+use Rattle.driver_attempt.specs.Client.{options_of, store_of}
 use Rattle.driver_actions.specs.BulkIds.{OwnsOps}
 use Rattle.driver_actions.proofs.own_ops.own_ops.Given as goal
 

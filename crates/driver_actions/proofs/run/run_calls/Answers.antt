@@ -2,8 +2,8 @@
 use Rattle.std.proofs.Common.{◌≤◌, length, refl, sym, ap, subst, ◌∙◌, arith}
 use Rattle.driver_session.proofs.IdDraws.{draws_refl, draws_twice}
 use Rattle.driver_session.proofs.LentSessions.{lends_refl, lends_twice}
-use Rattle.driver_exec.specs.Client.{store_of}
-use Rattle.driver_exec.specs.Moment.{moment_of}
+use Rattle.driver_attempt.specs.Client.{store_of}
+use Rattle.driver_attempt.specs.Moment.{moment_of}
 use Rattle.driver_actions.proofs.CallsInOrder.{began_before, causes_more, causes_start, ended_more, ended_start}
 use Rattle.driver_actions.proofs.ServerMaking.{fresh_replayed, keeps_making_twice, keeps_refl}
 use Rattle.driver_actions.proofs.run.run_calls.Goals as goal

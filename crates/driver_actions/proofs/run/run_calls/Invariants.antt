@@ -1,6 +1,6 @@
 -- The calls that were made have their outcomes and their causes, and the run stands.
 use Rattle.std.proofs.Common.{◌≡◌, ◌≤◌, ◌-◌, length, take}
-use Rattle.driver_exec.specs.Moment.{DrawsInOrder, HasFreshServer, KeepsClient, KeepsLent, moment_of}
+use Rattle.driver_attempt.specs.Moment.{DrawsInOrder, HasFreshServer, KeepsClient, KeepsLent, moment_of}
 use Rattle.driver_actions.specs.CallByCall.{HaveCauses}
 use Rattle.driver_actions.specs.MainTheorem.{Begins, HaveEnded, IsReplayed, KeepsMaking}
 use Rattle.driver_actions.specs.Standing.{RunInvariant}

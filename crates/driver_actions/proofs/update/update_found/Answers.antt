@@ -2,13 +2,13 @@
 use Rattle.std.proofs.Common.{◌∙◌, refl, ap, inr}
 use Rattle.std.specs.Prelude.{Ok, Err}
 use Rattle.std.proofs.lemmas.Result.{err_from_is_err_and}
-use Rattle.driver_exec.specs.Moment.{moment_of}
 use Rattle.driver_ops.specs.Targets.{in_collection}
-use Rattle.driver_actions.specs.Forms.{updates}
+use Rattle.driver_attempt.specs.Moment.{moment_of}
 use Rattle.driver_actions.proofs.Causes.{caused_exit, caused_input, made_caused}
 use Rattle.driver_actions.proofs.Parts.{unmade_exit, unmade_input}
 use Rattle.driver_actions.proofs.CallWrites.WriteOperations.{update_has, update_made}
 use Rattle.driver_actions.proofs.update.update_found.Goals as goal
+use Rattle.driver_inputs.specs.Forms.{updates}
 
 pub returns-in-Some-clause-makes : goal.returns-in-Some-clause-makes
 returns-in-Some-clause-makes g c =

@@ -3,14 +3,14 @@
 use Rattle.std.proofs.Common.{◌≡◌, ℕ, List, refl, sym, ap, inl, inr, subst, ◌∙◌}
 use Rattle.std.specs.Prelude.{Option, None, Some, Err}
 use Rattle.driver_ops.specs.Operations.{batch_of}
-use Rattle.driver_exec.specs.Client.{store_of}
-use Rattle.driver_exec.specs.Concerns.{IsConcernError, concern_of, concern_refusal}
+use Rattle.driver_attempt.specs.Client.{store_of}
+use Rattle.driver_attempt.specs.Concerns.{IsConcernError, concern_of, concern_refusal}
+use Rattle.driver_attempt.proofs.CommandParts.{fixed_some}
+use Rattle.driver_attempt.specs.inside.Attempting.{attempt_state}
 use Rattle.driver_exec.proofs.BuiltCommands.{executes_built}
-use Rattle.driver_exec.proofs.CommandParts.{fixed_some}
 use Rattle.driver_exec.proofs.InvariantSteps.Standing.{one_command_entries, one_command_failures, one_command_keeps}
 use Rattle.driver_exec.proofs.WholeOperation.{executes_caused, executes_sends_one_command}
 use Rattle.driver_exec.proofs.execute.execute_operation.Goals as goal
-use Rattle.driver_exec.specs.inside.Attempting.{attempt_state}
 
 pub returns-clause-executes : goal.returns-clause-executes
 returns-clause-executes g c = λ statements fixed. inr (record {

@@ -1,15 +1,15 @@
 -- Each attempt goes on from the failures before it, and the last one ends the operation.
 use Rattle.std.proofs.Common.{refl, sym, subst, ◌∙◌}
 use Rattle.std.specs.Prelude.{Ok, Err}
-use Rattle.driver_exec.specs.declared.attempt_end.AttemptEnd.TheVariants.{Failed}
 use Rattle.driver_ops.specs.Operations.{batch_of}
-use Rattle.driver_exec.specs.Client.{options_of, store_of}
-use Rattle.driver_exec.specs.Holding.{holds_nothing}
-use Rattle.driver_exec.specs.Retry.{Decides, decide}
-use Rattle.driver_exec.proofs.CommandParts.{bodies_same, counted_twice, fixed_some, fixes_twice}
-use Rattle.driver_exec.proofs.AttemptSequence.{attempt_under_options, attempted_under, decided_fewer, ends_at_limit, ends_last, ends_refused, failed_is, goes_further, may_answer, same_twice}
+use Rattle.driver_attempt.specs.declared.attempt_end.AttemptEnd.TheVariants.{Failed}
+use Rattle.driver_attempt.specs.Client.{options_of, store_of}
+use Rattle.driver_attempt.specs.Holding.{holds_nothing}
+use Rattle.driver_attempt.specs.Retry.{Decides, decide}
+use Rattle.driver_attempt.proofs.CommandParts.{bodies_same, counted_twice, fixed_some, fixes_twice}
+use Rattle.driver_attempt.proofs.AttemptSequence.{attempt_under_options, attempted_under, decided_fewer, ends_at_limit, ends_last, ends_refused, failed_is, goes_further, may_answer, same_twice}
+use Rattle.driver_attempt.specs.inside.Attempting.{attempt_state}
 use Rattle.driver_exec.proofs.execute.execute_operation_with_retry.Goals as goal
-use Rattle.driver_exec.specs.inside.Attempting.{attempt_state}
 
 pub returns-then-limit_reached-clause-attempts : goal.returns-then-limit_reached-clause-attempts
 returns-then-limit_reached-clause-attempts g c = λ statements fixed.

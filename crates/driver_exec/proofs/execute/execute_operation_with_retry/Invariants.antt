@@ -2,13 +2,13 @@
 use Rattle.std.proofs.Common.{◌≡◌, ℕ}
 use Rattle.std.specs.Prelude.{◌⊎◌, IsSome}
 use Rattle.driver_ops.specs.Operations.{HasBodies, IsFixed, SameSpec, StaysFixed, batch_of}
-use Rattle.driver_exec.specs.Attempting.{attempted_operation}
-use Rattle.driver_exec.specs.Client.{options_of, store_of}
-use Rattle.driver_exec.specs.Concerns.{concern_of}
-use Rattle.driver_exec.specs.Holding.{holds_nothing}
-use Rattle.driver_exec.proofs.AttemptSequence.{AtMostOne, SoFar, attempts_left}
+use Rattle.driver_attempt.specs.Attempting.{attempted_operation}
+use Rattle.driver_attempt.specs.Client.{options_of, store_of}
+use Rattle.driver_attempt.specs.Concerns.{concern_of}
+use Rattle.driver_attempt.specs.Holding.{holds_nothing}
+use Rattle.driver_attempt.proofs.AttemptSequence.{AtMostOne, SoFar, attempts_left}
+use Rattle.driver_attempt.specs.inside.Attempting.{attempt_state}
 use Rattle.driver_exec.proofs.execute.execute_operation_with_retry.Given as goal
-use Rattle.driver_exec.specs.inside.Attempting.{attempt_state}
 
 abbrev pub invariant-attempts : goal.invariant-attempts
 invariant-attempts g l = record {

@@ -1,8 +1,8 @@
 -- The members that are left decide.
 use Rattle.std.proofs.Common.{◌≡◌, map}
-use Rattle.serde_json.specs.View.{view, members_view}
 use Rattle.driver_script.specs.Json.{has_only, has_keys_among}
 use Rattle.driver_script.proofs.json.is_object_of.Given as goal
+use Rattle.serde_json.specs.View.{view, members_view}
 
 abbrev pub invariant-loop-key : goal.invariant-loop-key
 invariant-loop-key l =

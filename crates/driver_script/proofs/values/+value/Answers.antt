@@ -1,12 +1,12 @@
 -- A pair is a list of two, and an array is read value by value.
 use Rattle.std.proofs.Common.{rules, ◌≡◌, ◌∙◌, ap}
 use Rattle.std.proofs.lemmas.Result.{err_from_is_err_and}
-use Rattle.serde_json.specs.Data.{array}
-use Rattle.serde_json.specs.View.{view, items_view}
-use Rattle.serde_json.specs.declared.value.Value as value
 use Rattle.driver_script.specs.Values.{pair_of}
 use Rattle.driver_script.proofs.ValueLaws.{two_items, pair_read, pair_wrong, values_more}
 use Rattle.driver_script.proofs.values.+value.Goals as goal
+use Rattle.serde_json.specs.Data.{array}
+use Rattle.serde_json.specs.View.{view, items_view}
+use Rattle.serde_json.specs.declared.value.Value as value
 
 pub read_pair-returns-in_err-read_value-in-None : goal.read_pair-returns-in_err-read_value-in-None
 read_pair-returns-in_err-read_value-in-None t c =

@@ -1,9 +1,9 @@
 -- What was read, then what the definition makes of the rest.
 use Rattle.std.proofs.Common.{◌≡◌, ◌++◌, drop}
 use Rattle.std.specs.Option.{option_map}
-use Rattle.serde_json.specs.View.{items_view}
 use Rattle.driver_script.specs.Values.{pairs_of, values_of}
 use Rattle.driver_script.proofs.values.+value.Given as goal
+use Rattle.serde_json.specs.View.{items_view}
 
 abbrev pub invariant-read_pairs-loop-item : goal.invariant-read_pairs-loop-item
 invariant-read_pairs-loop-item l =

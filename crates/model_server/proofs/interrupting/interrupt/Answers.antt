@@ -1,7 +1,7 @@
 use Rattle.std.proofs.Common.{◌≡◌, List, ap, sym, ◌∙◌, w32}
-use mir.Val.{of_z, to_z}
 use Rattle.std.proofs.lemmas.Int.{to_z-of_z}
 use Rattle.std.proofs.lemmas.Result.{IfOk-weaker}
+use mir.Val.{of_z, to_z}
 use Rattle.driver_link.specs.Cases.{is_decided, known_of}
 use Rattle.driver_link.specs.Exchange.{interrupted_labels}
 use Rattle.driver_link.specs.Gathered.{gathered_by}

@@ -1,8 +1,8 @@
 -- The run of a script.
 use Rattle.std.proofs.Common.{refl, ap, ◌∙◌}
 use Rattle.driver_link.specs.MemClock.{clock_tells}
-use Rattle.model_server.specs.ModelState.{model_tells}
 use Rattle.driver_session.specs.Pool.{empty_pool}
+use Rattle.model_server.specs.ModelState.{model_tells}
 use Rattle.script_run.specs.Ended.{new_model, store_tells}
 use Rattle.script_run.proofs.Made.{run_made}
 use Rattle.script_run.proofs.program.run_of.Goals as goal

@@ -1,5 +1,5 @@
 -- One call is made, its outcome is appended, and the run stands as before.
-use Rattle.driver_exec.specs.Moment.{moment_of}
+use Rattle.driver_attempt.specs.Moment.{moment_of}
 use Rattle.driver_actions.proofs.EachCall.{caused_draws, caused_lends, caused_making, caused_replayed}
 use Rattle.driver_actions.proofs.Completeness.{call_ends}
 use Rattle.driver_actions.proofs.StandingRuns.{caused_at, stands_more}

@@ -1,7 +1,7 @@
 -- An insert of many documents is made, keeps what stands, lists what went in, is cut into the fewest batches, and ends well where all is gentle.
 use Rattle.std.proofs.Common.{subst}
 use Rattle.driver_ops.specs.declared.target.OperationTarget.TheVariants as target
-use Rattle.driver_exec.specs.Moment.{moment_of}
+use Rattle.driver_attempt.specs.Moment.{moment_of}
 use Rattle.driver_actions.specs.ManyCalls.{MakesMany, ManyCaused}
 use Rattle.driver_actions.proofs.ManyCalls.{many_complete, many_fewest, many_keeps, many_listed, many_raises, many_truly}
 use Rattle.driver_actions.proofs.insert_many.InsertMany.run.Goals as goal

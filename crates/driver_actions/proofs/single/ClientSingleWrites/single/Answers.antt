@@ -1,11 +1,11 @@
 -- A write keeps what stands, has its entry where it was done, and ends well where all is gentle.
-use Rattle.driver_exec.specs.Moment.{moment_of}
-use Rattle.driver_actions.specs.Forms.{form_of}
+use Rattle.driver_attempt.specs.Moment.{moment_of}
 use Rattle.driver_actions.specs.SingleCalls.{first_place}
 use Rattle.driver_actions.proofs.CallSends.{makes_raises}
 use Rattle.driver_actions.proofs.Completeness.{single_completes}
 use Rattle.driver_actions.proofs.CallWrites.Entries.{makes_entry, makes_keeps}
 use Rattle.driver_actions.proofs.single.ClientSingleWrites.single.Goals as goal
+use Rattle.driver_inputs.specs.Forms.{form_of}
 
 pub returns-clause-keeps : goal.returns-clause-keeps
 returns-clause-keeps g c =

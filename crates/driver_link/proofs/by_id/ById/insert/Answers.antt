@@ -1,8 +1,8 @@
 use Rattle.std.proofs.Common.{nat_eq, ◌∙◌, ap, sym}
 use Rattle.std.specs.Cmp.Lexicographic.{pointwise, nat_list_cmp_total}
 use Rattle.std.specs.FinMap as map
-use Rattle.driver_link.proofs.SessionIds.{ids_tie}
 use Rattle.bson_lite.proofs.FinMaps.{get-from_hash_map, inserted}
+use Rattle.driver_link.proofs.SessionIds.{ids_tie}
 use Rattle.driver_link.proofs.by_id.ById.insert.Goals as goal
 
 pub returns-in-Ok-clause-ok : goal.returns-in-Ok-clause-ok

@@ -5,8 +5,8 @@ use Rattle.std.specs.FinMap as map
 use Rattle.std.specs.HashMap as hash
 use Rattle.std.specs.HashMap.{HashMap}
 use Rattle.std.specs.Ordering.{eq_by_cmp, nat_cmp}
-use Rattle.driver_link.proofs.SessionIds.{ids_tie}
 use Rattle.bson_lite.proofs.FinMaps.{get-from_hash_map}
+use Rattle.driver_link.proofs.SessionIds.{ids_tie}
 use Rattle.driver_link.proofs.by_id.ById.remove.Goals as goal
 
 -- a `HashMap` that has one value less

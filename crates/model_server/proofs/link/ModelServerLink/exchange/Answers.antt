@@ -1,7 +1,7 @@
 -- The send that was read is the one that the frame reads as.
 use Rattle.std.proofs.Common.{refl, rules, sym, ap, ◌∙◌}
 use Rattle.std.specs.Prelude.{Err}
-use Rattle.model_server.proofs.ReadLaws.{some_same}
+use Rattle.frame_reading.proofs.ReadLaws.{some_same}
 use Rattle.model_server.proofs.ExchangeLaws.{replied, tells_no_frame, was_reset}
 use Rattle.model_server.specs.ModelState.{server_run_of}
 use Rattle.model_server.proofs.link.ModelServerLink.exchange.Goals as goal

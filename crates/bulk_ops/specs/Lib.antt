@@ -1,0 +1,12 @@
+pub mod BulkAnswers
+pub mod BulkEntries
+pub mod BulkFronts
+pub mod BulkLawful
+pub mod BulkOps
+pub mod BulkPages
+pub mod BulkRules
+pub mod BulkSpec
+pub mod BulkWrites
+pub mod Distinct
+pub mod inside
+pub mod lawful

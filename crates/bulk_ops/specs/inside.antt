@@ -1,0 +1,4 @@
+-- What the functions that no other crate calls say of themselves.
+pub mod BulkFronts
+pub mod BulkOps
+pub mod BulkResults

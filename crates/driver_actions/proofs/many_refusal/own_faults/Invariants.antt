@@ -1,8 +1,0 @@
--- The fault so far, and those of the documents that are left.
-use Rattle.std.proofs.Common.{◌≡◌, drop}
-use Rattle.driver_actions.specs.inside.Faults.{first_of}
-use Rattle.driver_actions.specs.inside.ManyFaults.{own_faults}
-use Rattle.driver_actions.proofs.many_refusal.own_faults.Given as goal
-
-abbrev pub invariant-loop-document : goal.invariant-loop-document
-invariant-loop-document l = first_of l.fault (own_faults (drop l.document-index l.documents)) ≡ own_faults l.documents

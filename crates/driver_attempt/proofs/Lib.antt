@@ -1,0 +1,13 @@
+pub mod AttemptSequence
+pub mod Attempts
+pub mod Causes
+pub mod CommandParts
+pub mod Concerns
+pub mod FaultErrors
+pub mod FieldBytes
+pub mod JoinedBodies
+pub mod OneAttempt
+pub mod ReadingPages
+pub mod RetryFold
+pub mod Rewording
+pub mod Sameness

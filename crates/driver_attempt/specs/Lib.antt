@@ -1,0 +1,14 @@
+pub mod AttemptExchanges
+pub mod Attempting
+pub mod Causes
+pub mod Client
+pub mod Concerns
+pub mod Executing
+pub mod Failures
+pub mod Holding
+pub mod LabelTable
+pub mod Moment
+pub mod OldDeployment
+pub mod Readings
+pub mod Retry
+pub mod inside

@@ -1,0 +1,8 @@
+pub mod AttemptExchanges
+pub mod Attempting
+pub mod Executing
+pub mod Failures
+pub mod Holding
+pub mod JoinedBodies
+pub mod OldDeployment
+pub mod Retry

@@ -1,9 +1,0 @@
--- What the functions that no other crate calls say of themselves.
-pub mod AttemptExchanges
-pub mod Attempting
-pub mod Executing
-pub mod Failures
-pub mod Holding
-pub mod JoinedBodies
-pub mod OldDeployment
-pub mod Retry

@@ -1,0 +1,9 @@
+pub mod BulkRefusals
+pub mod FaultsBeside
+pub mod InputFaults
+pub mod InsertLengths
+pub mod ManyFaults
+pub mod ModelFaults
+pub mod ModelNamespaces
+pub mod ModelSizes
+pub mod Refusals

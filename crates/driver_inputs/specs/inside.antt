@@ -1,0 +1,2 @@
+-- What the functions that no other crate calls say of themselves.
+pub mod ModelFaults

@@ -1,7 +1,0 @@
--- What was taken, with what is left, is all.
-use Rattle.driver_ops.specs.inside.BulkResults.{batch_told}
-use Rattle.driver_ops.proofs.TakenResults.{TakesLeft}
-use Rattle.driver_ops.proofs.bulk_results.BulkProgress.take_results.Given as goal
-
-abbrev pub invariant-loop-told : goal.invariant-loop-told
-invariant-loop-told g l = TakesLeft (batch_told g.R.BulkWriteResult.tells l.batch) l.fn.self l.self l.told-iterator.rest.items l.fn.results

@@ -1,6 +1,0 @@
--- Nothing is noted yet.
-use Rattle.driver_ops.proofs.JudgedPages.{seen_none}
-use Rattle.driver_ops.proofs.bulk_results.SeenResults.none.Goals as goal
-
-pub returns : goal.returns
-returns c = seen_none c.args.errors c.new.result c.new.ensures.empty

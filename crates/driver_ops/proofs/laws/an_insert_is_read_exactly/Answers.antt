@@ -1,6 +1,0 @@
--- The law is a lemma.
-use Rattle.driver_ops.proofs.InsertLaw.{read_exactly}
-use Rattle.driver_ops.proofs.laws.an_insert_is_read_exactly.Goals as goal
-
-pub returns : goal.returns
-returns c = read_exactly

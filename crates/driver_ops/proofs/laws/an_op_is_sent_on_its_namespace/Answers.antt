@@ -1,6 +1,0 @@
-use Rattle.driver_ops.proofs.BulkCommand.{op_spelled}
-use Rattle.driver_ops.proofs.laws.an_op_is_sent_on_its_namespace.Goals as goal
-
--- the bytes of an op with its number
-pub returns : goal.returns
-returns c = op_spelled

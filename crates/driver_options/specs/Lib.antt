@@ -1,0 +1,3 @@
+pub mod Concerns
+pub mod FindOptions
+pub mod Models

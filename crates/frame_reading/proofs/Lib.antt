@@ -1,0 +1,5 @@
+pub mod IndexLaws
+pub mod PlainBytes
+pub mod PlainInserts
+pub mod ReadLaws
+pub mod WriteLaws

@@ -1,0 +1,2 @@
+pub mod PlainInserts
+pub mod ReadFrames

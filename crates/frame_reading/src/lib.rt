@@ -1,0 +1,11 @@
+//! What a server makes of a frame: the send that it reads, or that it reads none.
+//!
+//! Each function computes one of the definitions of reading, and its clause is the equation with it.
+#![tactic(auto)]
+
+pub mod asking;
+pub mod body_fields;
+pub mod ops;
+mod plain_insert;
+pub mod reading;
+pub mod writing;

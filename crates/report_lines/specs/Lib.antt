@@ -1,0 +1,4 @@
+pub mod Distinct
+pub mod FailedWrites
+pub mod Lines
+pub mod Words

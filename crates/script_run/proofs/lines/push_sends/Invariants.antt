@@ -1,7 +1,0 @@
--- What was written, then the lines that are left.
-use Rattle.std.proofs.Common.{◌≡◌, ◌++◌, drop, string_bytes}
-use Rattle.script_run.specs.Lines.{send_lines}
-use Rattle.script_run.proofs.lines.push_sends.Given as goal
-
-abbrev pub invariant-loop-at : goal.invariant-loop-at
-invariant-loop-at l = string_bytes l.out ++ send_lines l.at (drop l.at l.sends) ≡ string_bytes l.fn.out ++ send_lines 0 l.sends

@@ -1,0 +1,13 @@
+pub mod FailedStatements
+pub mod FailureReading
+pub mod FindCommand
+pub mod FindLaw
+pub mod InsertCommand
+pub mod InsertCounts
+pub mod InsertFronts
+pub mod InsertIds
+pub mod InsertLaw
+pub mod InsertReading
+pub mod StatementCommand
+pub mod StatementLaw
+pub mod UnfailedIds
