@@ -1,5 +1,6 @@
 #!/usr/bin/env python3
-"""Prints each import of a definition, a lemma, a type, a variant or a constant that the tree does not have.
+"""Prints each import of a definition, a lemma, a type, a variant or a constant that the tree does not have,
+and each of a type or a constant that its crate does not show to others.
 
 It reads `use Rattle.CRATE.PATH.{NAMES}` in .antt and .rt files, for the crates of crates.txt, and looks for each name
 in the file that the path means. It proves nothing and takes a second: a look after a rename, before any check.
@@ -33,6 +34,14 @@ def source(crate, module):
 def defined(crate, path):
     """The text of the file of definitions or lemmas that a path means, or none."""
     return text(f"{ROOT}/crates/{crate}/{path.replace('.', '/')}.antt")
+
+
+def shown(crate, parts):
+    """Whether other crates see an item: each module on the way is public, or the root passes its name on."""
+    root = source(crate, "lib")
+    if any(parts[-1] in re.findall(r"\w+", line) for line in re.findall(r"^pub use ([^;]+);", root, re.M)):
+        return True
+    return all(re.search(rf"^pub mod {module};", body, re.M) for module, body in zip(parts, [root] + [source(crate, ".".join(parts[: n + 1])) or "" for n in range(len(parts))]) if not module[0].isupper())
 
 
 def has_definition(body, name):
@@ -80,6 +89,10 @@ def main():
                     found = USE.match(line)
                     if not found or found.group(1) not in CRATES:
                         continue
+                    cited = re.match(r"specs\.declared\.(.+?)(?:\.The[A-Z]\w*.*)?$", found.group(2))
+                    if cited and found.group(1) != crate and not shown(found.group(1), cited.group(1).split(".")):
+                        count += 1
+                        print(f"{os.path.relpath(path, ROOT)}:{number}: {found.group(1)}.{found.group(2)}: not shown")
                     names = [n.split(" as ")[0].strip() for n in (found.group(3) or "").split(",") if n.strip()]
                     for name in wrong(found.group(1), found.group(2), names):
                         count += 1

@@ -1,1 +1,2 @@
+mod FailureOrder
 pub mod IdSets

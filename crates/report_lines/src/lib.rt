@@ -4,6 +4,7 @@
 mod details;
 mod distinct;
 mod failed_writes;
+pub mod laws;
 mod lines;
 mod numbers;
 mod words;

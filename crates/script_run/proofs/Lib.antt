@@ -1,3 +1,2 @@
-mod FailureOrder
 mod Made
 mod Pieces
