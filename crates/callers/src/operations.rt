@@ -5,8 +5,8 @@ ghost use Rattle.write_ops.specs.Deleting.{delete_command, delete_statement};
 
 use bson_lite::{Bson, Document, ID_KEY};
 use driver_options::DeleteOptions;
-use write_ops::delete_body;
 use std::alloc::{AllocError, Global};
+use write_ops::delete_body;
 
 /// The body of the command that deletes the document with this id, without the executor's fields.
 pub fn delete_by_id(
