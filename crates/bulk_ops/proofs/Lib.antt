@@ -1,3 +1,4 @@
+pub mod AnyOrder
 pub mod BulkAnswered
 pub mod BulkCommand
 pub mod BulkFronts
@@ -9,6 +10,7 @@ pub mod BulkTaken
 pub mod Distinct
 pub mod DistinctSums
 pub mod FirstUses
+pub mod FreeResults
 pub mod JudgedPages
 pub mod NotedResults
 pub mod OpsMade

@@ -3,6 +3,7 @@ use Rattle.std.proofs.Common.{◌≡◌, ℕ, ◌+◌, ◌<◌, Bool, true, fals
 use Rattle.std.specs.Prelude.{ℤ, Option, None, Some}
 use Rattle.std.specs.Ordering.{nat_cmp}
 use Rattle.std.specs.FinMap as finite
+use Rattle.std.proofs.lemmas.Bool.{and_parts}
 use Rattle.bson_lite.specs.declared.bson.Bson.{Bson}
 use Rattle.bson_lite.specs.declared.document.Pair.{Pair}
 use Rattle.bson_lite.specs.declared.namespace.Namespace.{Namespace}
@@ -24,6 +25,7 @@ use Rattle.bulk_ops.specs.BulkAnswers.{BulkBatch, BulkRead, further_read, result
 use Rattle.bulk_ops.specs.BulkPages.{next_page}
 use Rattle.bulk_ops.specs.BulkRules.{are_apart, are_within, is_seen, unseen, verdict}
 use Rattle.bulk_ops.specs.inside.BulkResults.{HasReadPages, IsProgress, IsSeen, IsTaken, JudgesPage, NotesPlaced, ReadsBehind, ReadsPage, TakesResults, batch_told, begun, has_seen, rules_told}
+use Rattle.bulk_ops.proofs.FreeResults.{apart_behind}
 use Rattle.bulk_ops.proofs.PageCounts.{fewer_unseen, open_verdict_is, unseen_same}
 
 abbrev Errors : Type 0
@@ -69,6 +71,13 @@ module _ {R : Type 0} (tells : ResultSpec R) (batch : OpBatch) (only_errors firs
       ap (λ (only : Bool). verdict (rules_told batch only) read.reply.errors first read.results page) (sym only_is)
       ∙ sym (judges.is read.reply.errors read.results known.seen known.placed) ∙ is
 
+  -- the results of a page that is not misplaced are of different ops
+  page_apart : (told : PageVerdict) → found ≡ told → (told ≡ Breaks fault.Misplaced → ⊥) → (read : BulkRead) → IsProgress (batch_told tells batch) read old → are_apart page.results ≡ true
+  page_apart told is other read known =
+      let notes = judges.notes (λ misplaced. other (sym is ∙ misplaced)) in
+      let placed = notes.placed read.reply.errors read.results known.seen known.placed in
+      apart_behind read.results page.results (and_parts (are_within (length batch.ops.now) (read.results ++ page.results)) (are_apart (read.results ++ page.results)) placed).1
+
   module _ (now : BulkProgress R) (takes : TakesResults (batch_told tells batch) mid now page.results) where
     now_is : now ≡ record old { seen = mid.seen; result = now.result; write_errors = now.write_errors }
     now_is = takes.rest ∙ ap (λ (p : BulkProgress R). record p { result = now.result; write_errors = now.write_errors }) mid_is
@@ -84,9 +93,12 @@ module _ {R : Type 0} (tells : ResultSpec R) (batch : OpBatch) (only_errors firs
           ∙ sym (errors_behind batch.first read.results page.results finite.empty);
     }
 
+  module _ (now : BulkProgress R) (gives : are_apart page.results ≡ true → TakesResults (batch_told tells batch) mid now page.results) where
     -- the last page
     pub reads_last : found ≡ Last → (read : BulkRead) → IsProgress (batch_told tells batch) read old → ReadsPage (batch_told tells batch) read first page way.Last now
-    reads_last is read known = (verdict_is Last is read known, is_taken read known)
+    reads_last is read known =
+        let takes = gives (page_apart Last is (λ misplaced. let e : ◌≡◌ {A = PageVerdict} Last (Breaks fault.Misplaced) = misplaced in cc) read known) in
+        (verdict_is Last is read known, is_taken now takes read known)
 
     -- one behind which there is another one
     pub reads_open : (cursor : ℤ) (namespace : Namespace) → found ≡ LeavesOpen → cursor ≡ page.cursor → namespace ≡ page.namespace
@@ -94,12 +106,13 @@ module _ {R : Type 0} (tells : ResultSpec R) (batch : OpBatch) (only_errors firs
     reads_open cursor namespace is cursor_is namespace_is read known =
         let notes : NotesPlaced (length batch.ops.now) old.seen mid.seen page.results =
         judges.notes (λ misplaced. let e : ◌≡◌ {A = PageVerdict} LeavesOpen (Breaks fault.Misplaced) = sym is ∙ misplaced in cc) in
-        let seen_is : now.seen ≡ mid.seen = ap (λ (p : BulkProgress R). p.seen) now_is in (
+        let takes = gives (page_apart LeavesOpen is (λ misplaced. let e : ◌≡◌ {A = PageVerdict} LeavesOpen (Breaks fault.Misplaced) = misplaced in cc) read known) in
+        let seen_is : now.seen ≡ mid.seen = ap (λ (p : BulkProgress R). p.seen) (now_is now takes) in (
           verdict_is LeavesOpen is read known,
           cursor_is,
           namespace_is,
           record {
-            taken = is_taken read known;
+            taken = is_taken now takes read known;
             seen = subst (λ (s : SeenResults). IsSeen read.reply.errors (read.results ++ page.results) s) (sym seen_is) (notes.seen read.reply.errors read.results known.seen known.placed);
             placed = notes.placed read.reply.errors read.results known.seen known.placed;
           },

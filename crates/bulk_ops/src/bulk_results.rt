@@ -3,10 +3,11 @@
 ghost use Rattle.std.specs.Prelude.{◌≡◌, ◌↔◌, ◌<◌, ◌⊎◌, ◌∷◌, ◌==◌, ◌&&◌, [], is_none, nat_eq, length, true, IfErr, IfOk, IsTrue, OnOk};
 ghost use Rattle.std.specs.FinMap as map;
 ghost use Rattle.std.specs.HashSet.{contains};
+ghost use Rattle.std.specs.List.Sorted.{IsPermutation};
 ghost use Rattle.driver_error.specs.declared.kind.ErrorKind.TheVariants.{Memory as NoMemory};
 ghost use Rattle.driver_error.specs.Error.{kind_of};
 ghost use Rattle.bulk_ops.specs.BulkAnswers.{BulkBatch as BatchTold, BulkRead, IsOddPage, IsPageError, IsReadError, concerns, stands_partial, with_work};
-ghost use Rattle.bulk_ops.specs.BulkRules.{are_all_seen, are_within, fault_text, open_verdict};
+ghost use Rattle.bulk_ops.specs.BulkRules.{are_all_seen, are_apart, are_within, fault_text, open_verdict};
 ghost use Rattle.bulk_ops.specs.inside.BulkResults.{EndsOrLacks, IsProgress, IsSeen, IsTaken, JudgesPage, NotesResults, ReadsPage, TakesResults, batch_told, begun, closing_seen, complete_seen, higher, keeps_order_seen, none_left, noted_with, one_error_less, one_more_failed, seen_verdict, within};
 
 use crate::bulk_reply::{BulkReply, OpOutcome, OpResult, ResultsPage};
@@ -313,6 +314,30 @@ fn verdict(
     }
 }
 
+/// Whether results come in the order of their ops.
+fn are_rising(results: &[OpResult]) -> bool {
+    let mut least = 0;
+    for told in results {
+        if told.index < least {
+            return false;
+        }
+        least = told.index;
+    }
+    true
+}
+
+/// Results in the order of their ops.
+fn in_order(results: List<OpResult>) -> std::result::Result<List<OpResult>, AllocError>
+    ensures { IfOk result (λ ordered. IsPermutation results ordered) }
+{
+    if are_rising(results.as_slice()) {
+        return Ok(results);
+    }
+    let mut told = results.into_vec();
+    told.sort_by_key(|told| told.index)?;
+    Ok(List::from_vec(told))
+}
+
 /// What was read so far: what the reply tells beside its counts, the ops whose results came, the result, and the
 /// write errors under the caller's indexes.
 #[derive(Drop)]
@@ -405,17 +430,34 @@ impl<R: BulkWriteResult> BulkProgress<R> {
         match found {
             PageVerdict::Breaks(fault) => Ok(Paged::Breaks(fault)),
             PageVerdict::Last => {
-                self.take_results(alloc, batch, results)?;
+                self.take_page(alloc, batch, results)?;
                 Ok(Paged::Last)
             }
             PageVerdict::LeavesOpen => {
-                self.take_results(alloc, batch, results)?;
+                self.take_page(alloc, batch, results)?;
                 Ok(Paged::Open(cursor, namespace))
             }
         }
     }
 
-    /// Takes the results of a page in order.
+    /// Takes the results of a page, which are of different ops, in the order of these: so each is put behind those
+    /// that are there, in whatever order they came.
+    fn take_page(
+        &mut self,
+        alloc: Global,
+        batch: OpBatch<'_>,
+        results: List<OpResult>,
+    ) -> Result<()>
+        requires { are_within (length batch.ops.now) results ≡ true }
+        ensures takes { OnOk result (are_apart results ≡ true →
+            TakesResults (batch_told R.tells batch.entry) self.old self.new results) }
+        ensures memory { IfErr result (λ error. kind_of error ≡ NoMemory) }
+    {
+        let ordered = in_order(results)?;
+        self.take_results(alloc, batch, ordered)
+    }
+
+    /// Takes results one behind the other.
     #[tactic(auto, using(crate::proofs::TakenResults::left_whole, crate::proofs::TakenResults::left_next, crate::proofs::TakenResults::left_below, crate::proofs::TakenResults::left_nothing))]
     fn take_results(
         &mut self,

@@ -120,3 +120,12 @@ verbose_spec = record {
 pub record AddsCounts {R : Type 0} (tells : ResultSpec R) : Type 0 where
   pub begins : tells.counts tells.nothing ≡ no_counts
   pub adds : (now : R) (more : Counts) → tells.counts (tells.counted now more) ≡ added (tells.counts now) more
+
+-- results of writes at two indexes, and those of writes of two kinds, do not touch each other: which is kept first does not matter
+pub record KeepsApart {R : Type 0} (tells : ResultSpec R) : Type 0 where
+  pub inserts : (i j : ℕ) → (i ≡ j → ⊥) → (a b : InsertOneResult) (now : R) → tells.with_insert (tells.with_insert now j b) i a ≡ tells.with_insert (tells.with_insert now i a) j b
+  pub updates : (i j : ℕ) → (i ≡ j → ⊥) → (a b : UpdateResult) (now : R) → tells.with_update (tells.with_update now j b) i a ≡ tells.with_update (tells.with_update now i a) j b
+  pub deletes : (i j : ℕ) → (i ≡ j → ⊥) → (a b : DeleteResult) (now : R) → tells.with_delete (tells.with_delete now j b) i a ≡ tells.with_delete (tells.with_delete now i a) j b
+  pub insert_update : (i j : ℕ) (a : InsertOneResult) (b : UpdateResult) (now : R) → tells.with_insert (tells.with_update now j b) i a ≡ tells.with_update (tells.with_insert now i a) j b
+  pub insert_delete : (i j : ℕ) (a : InsertOneResult) (b : DeleteResult) (now : R) → tells.with_insert (tells.with_delete now j b) i a ≡ tells.with_delete (tells.with_insert now i a) j b
+  pub update_delete : (i j : ℕ) (a : UpdateResult) (b : DeleteResult) (now : R) → tells.with_update (tells.with_delete now j b) i a ≡ tells.with_delete (tells.with_update now i a) j b

@@ -12,3 +12,4 @@ pub mod Shown
 pub mod ShownLabels
 pub mod SortedLabels
 pub mod inside
+pub mod lawful

@@ -1,7 +1,7 @@
 //! What the two kinds of results of a bulk write have in common.
 ghost use Rattle.std.specs.Prelude.{◌≡◌, SomeIff, IfOk, IfErr, OnErr, OnOk};
 ghost use Rattle.driver_error.specs.declared.kind.ErrorKind.TheVariants.{InvalidResponse, Memory as NoMemory};
-ghost use Rattle.driver_error.specs.BulkResults.{AddsCounts, AllFit, LeavesRange, ResultSpec, added, five, out_of_range_text};
+ghost use Rattle.driver_error.specs.BulkResults.{AddsCounts, AllFit, KeepsApart, LeavesRange, ResultSpec, added, five, out_of_range_text};
 ghost use Rattle.driver_error.specs.Conversions.{IsMade};
 ghost use Rattle.driver_error.specs.Error.{IsAlone};
 ghost use Rattle.driver_error.specs.LabelTexts.{no_labels};
@@ -73,15 +73,21 @@ pub trait BulkWriteResult: Drop {
 
     // The result of no write counts nothing, and counts that are added join those that are there.
     ghost adds: { AddsCounts tells };
+
+    // Results of different writes are kept in any order.
+    ghost apart: { KeepsApart tells };
 }
 
 impl BulkWriteResult for SummaryBulkWriteResult {
     ghost use Rattle.std.specs.Prelude.{refl};
     ghost use Rattle.driver_error.specs.BulkResults.{summary_spec};
+    ghost use Rattle.driver_error.specs.lawful.Apart.{summary_apart};
 
     ghost tells = { summary_spec };
 
     ghost adds = { record { begins = refl; adds = λ now more. refl } };
+
+    ghost apart = { summary_apart };
 
     fn empty(_alloc: Global) -> SummaryBulkWriteResult {
         SummaryBulkWriteResult {
@@ -137,10 +143,13 @@ impl BulkWriteResult for SummaryBulkWriteResult {
 impl BulkWriteResult for VerboseBulkWriteResult {
     ghost use Rattle.std.specs.Prelude.{refl};
     ghost use Rattle.driver_error.specs.BulkResults.{verbose_spec};
+    ghost use Rattle.driver_error.specs.lawful.Apart.{verbose_apart};
 
     ghost tells = { verbose_spec };
 
     ghost adds = { record { begins = refl; adds = λ now more. refl } };
+
+    ghost apart = { verbose_apart };
 
     fn empty(alloc: Global) -> VerboseBulkWriteResult {
         VerboseBulkWriteResult {

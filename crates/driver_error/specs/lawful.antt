@@ -1,0 +1,2 @@
+-- Lemmas that the law of results of a bulk write needs.
+pub mod Apart
