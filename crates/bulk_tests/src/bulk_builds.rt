@@ -2,8 +2,8 @@
 //! command with all six models; and how a batch of these numbers its namespaces.
 use crate::bulk_models::{A_X, A_Z, B_Y, OPS, insert, is_op, let_go, named, number, ops_of, six};
 use bson_lite::{Bson, Document, List, ObjectId, Text, TryClone};
+use bulk_actions::bulk_ops;
 use bulk_ops::BulkWriteOp;
-use driver_actions::bulk_ops;
 use driver_attempt::Client;
 use driver_error::{
     BulkWriteResult, Error, ErrorKind, SummaryBulkWriteResult, VerboseBulkWriteResult,

@@ -2,8 +2,8 @@
 //! tell, and those that a collection makes.
 use crate::bulk_models::{around, insert, let_go, named, number, six};
 use bson_lite::{Bson, Document, List};
+use bulk_actions::{CollectionModels, bulk_ops};
 use bulk_ops::OwnOp;
-use driver_actions::{CollectionModels, bulk_ops};
 use driver_attempt::Client;
 use driver_error::{Error, ErrorKind};
 use driver_link::CountingIds;

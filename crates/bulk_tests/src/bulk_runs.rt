@@ -5,8 +5,8 @@ ghost use Rattle.driver_link.specs.WellFormed.{IsWellFormed};
 
 use crate::bulk_models::{A_X, A_Z, B_Y, OPS, insert, is_op, let_go, named, number, six};
 use bson_lite::{Bson, Document, List};
+use bulk_actions::bulk_ops;
 use bulk_ops::{BulkWriteOp, OwnOp};
-use driver_actions::bulk_ops;
 use driver_attempt::{Client, Outside, Steps};
 use driver_error::{BulkWriteResult, IoKind, Result, SummaryBulkWriteResult};
 use driver_exec::execute_operation;

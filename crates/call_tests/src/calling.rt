@@ -1,6 +1,6 @@
 //! What no clause shows: that a call succeeds with ample memory, over a link whose replies a test chooses.
 use bson_lite::{Bson, Bytes, Document, EncodeFault, List, Namespace, Text, TryClone};
-use driver_actions::{CallRun, run_calls};
+use call_runs::{CallRun, run_calls};
 use driver_attempt::{Client, Outside};
 use driver_error::{Error, ErrorKind, IoKind};
 use driver_inputs::{Answer, Call, Outcome, SingleAnswer, SingleWrite};
@@ -9,9 +9,9 @@ use driver_options::{Address, ClientOptions, Conn, InsertManyOptions, SelectionC
 use driver_session::PlainStore;
 use rand_core::SeedableRng;
 use rand_pcg::Pcg32;
+use test_parts::inserting::SERVER;
 use std::alloc::{AllocError, Global};
 use std::test::Fail;
-use test_parts::inserting::SERVER;
 
 /// A link that gives one reply to each exchange, whatever is sent.
 #[derive(Drop)]

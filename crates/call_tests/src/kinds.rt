@@ -9,7 +9,7 @@ ghost use Rattle.driver_link.specs.WellFormed.{IsWellFormed};
 use crate::meeting::{Meets, items};
 use crate::schedules::{deliver, order, orders, times};
 use bson_lite::{Bson, Document, List, Text};
-use driver_actions::run_calls;
+use call_runs::run_calls;
 use driver_attempt::{Client, Outside};
 use driver_error::{DeleteResult, Error, ErrorKind, IoKind, RETRYABLE_WRITE_ERROR, UpdateResult};
 use driver_inputs::{Answer, Call, Outcome, SingleAnswer};
@@ -21,8 +21,8 @@ use driver_session::PlainStore;
 use model_server::{ModelServer, USUAL_SETUP};
 use rand_core::SeedableRng;
 use rand_pcg::Pcg32;
-use std::alloc::{AllocError, Global};
 use test_parts::writes::{Concern, KINDS, Kind, number, operators, usual, write_of};
+use std::alloc::{AllocError, Global};
 
 /// So many schedules of three items there are, each with a code of three digits.
 const SCHEDULES: u64 = 1000;

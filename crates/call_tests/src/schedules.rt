@@ -4,7 +4,7 @@ ghost use Rattle.std.specs.Prelude.{All, IfOk};
 ghost use Rattle.driver_link.specs.WellFormed.{IsItem, IsWellFormed};
 
 use bson_lite::{Bson, Document, List, Namespace, Text};
-use driver_actions::run_calls;
+use call_runs::run_calls;
 use driver_attempt::{Client, Outside};
 use driver_error::{Error, ErrorKind, IoKind, RETRYABLE_WRITE_ERROR};
 use driver_inputs::{Answer, Call, Outcome, SingleAnswer, SingleWrite};

@@ -1,7 +1,7 @@
 //! A run of one insert with a clock that goes on by a step at each reading: when the call starts and ends, and
 //! when its session is lent and comes back.
 use crate::schedules::calls;
-use driver_actions::run_calls;
+use call_runs::run_calls;
 use driver_attempt::{Client, Outside};
 use driver_inputs::{Call, Outcome};
 use driver_link::{CountingIds, FakeLink, MemClock};
@@ -9,8 +9,8 @@ use driver_options::ClientOptions;
 use driver_session::{PlainStore, StoreEvent};
 use rand_core::SeedableRng;
 use rand_pcg::Pcg32;
-use std::alloc::{AllocError, Global};
 use test_parts::faking::{ALIKE, DONE, Given, fake_link};
+use std::alloc::{AllocError, Global};
 
 /// When the one call started and ended.
 fn times(outcomes: &[Outcome]) -> Option<(u64, u64)> {

@@ -1,10 +1,10 @@
 //! A caller of the driver's calls: a list of writes, and how many of them are Ok.
 ghost use Rattle.std.specs.Prelude.{◌≡◌, count_by, is_ok, IfOk, OnErr};
 ghost use Rattle.driver_attempt.specs.Moment.{moment_of};
-ghost use Rattle.driver_actions.specs.MainTheorem.{Begins, MeetsMainTheorem};
+ghost use Rattle.call_runs.specs.MainTheorem.{Begins, MeetsMainTheorem};
 
 use bson_lite::List;
-use driver_actions::run_calls;
+use call_runs::run_calls;
 use driver_attempt::{Client, Outside};
 use driver_inputs::{Call, Outcome};
 use driver_link::{Clock, Link};

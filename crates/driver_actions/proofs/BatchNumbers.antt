@@ -19,7 +19,7 @@ use Rattle.write_ops.specs.InsertSpec.{AreOwn, insert_spec, statements_fixed}
 use Rattle.driver_attempt.specs.Moment.{Moment}
 use Rattle.driver_exec.specs.Reporting.{HasBuilt}
 use Rattle.driver_actions.specs.Batches.{BatchEnd, MakesBatch, MakesBatches, goes_on}
-use Rattle.driver_actions.specs.MainTheorem.{KeepsMakingWhereTold}
+use Rattle.driver_actions.specs.CallParts.{KeepsMakingWhereTold}
 use Rattle.driver_actions.specs.ManyCompleteness.{RaisesBy}
 use Rattle.driver_actions.specs.Numbers.{numbers_for, server_setup}
 use Rattle.driver_actions.proofs.BatchSizes.{rest_sizes, sizes_length, takes_told}

@@ -25,7 +25,7 @@ use Rattle.write_ops.specs.declared.own_document.OwnDocument.{OwnDocument}
 use Rattle.write_ops.specs.InsertSpec.{AreOwn, insert_spec}
 use Rattle.driver_exec.specs.BetweenCalls.{MaySendPlaces}
 use Rattle.driver_actions.specs.Batches.{places_from, rest_of}
-use Rattle.driver_actions.specs.MainTheorem.{HasWriteOf, IsSendOf}
+use Rattle.driver_actions.specs.CallParts.{HasWriteOf, IsSendOf}
 
 -- a place of a call
 abbrev pub place_in : ℕ → ℕ → Place

@@ -43,7 +43,7 @@ use Rattle.driver_exec.proofs.InvariantSteps.Leaving.{Left, left_of}
 use Rattle.driver_exec.proofs.InvariantSteps.Standing.{one_command_keeps}
 use Rattle.driver_exec.proofs.WholeOperation.{executes_draws, executes_lends, executes_read, executes_words}
 use Rattle.driver_actions.specs.Batches.{BatchEnd, MakesBatch, MakesBatches, goes_on, rest_of, tells_documents}
-use Rattle.driver_actions.specs.MainTheorem.{KeepsMakingWhereTold}
+use Rattle.driver_actions.specs.CallParts.{KeepsMakingWhereTold}
 use Rattle.driver_actions.proofs.BatchWrites.{EachIs, IsNewFrom, IsOf, IsOfCall, batch_asks, batch_body, batch_may_send, batch_send_of, batch_write, of_limited, own_rest, rest_is}
 use Rattle.driver_actions.proofs.CallMoves.{CallMoves, GainsOwn, gains_counted, gains_sent, left_moves, moves_more, moves_refl, moves_twice}
 use Rattle.driver_actions.proofs.CallWrites.WritesMade.{LeftBy}

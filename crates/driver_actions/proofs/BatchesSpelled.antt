@@ -32,7 +32,7 @@ use Rattle.driver_exec.specs.Resending.{GivesPages, SendsWhereTold}
 use Rattle.driver_exec.proofs.Moves.{keeps_fold, keeps_making}
 use Rattle.driver_exec.proofs.PassesBy.{keeps_server_twice}
 use Rattle.driver_actions.specs.Batches.{BatchEnd, MakesBatch, MakesBatches, places_from}
-use Rattle.driver_actions.specs.MainTheorem.{IsReplayedWhereTold, KeepsMakingWhereTold}
+use Rattle.driver_actions.specs.CallParts.{IsReplayedWhereTold, KeepsMakingWhereTold}
 use Rattle.driver_actions.specs.ManyTold.{IsSpelled}
 use Rattle.driver_actions.proofs.BatchWrites.{EachIs, IsNewFrom, batch_body, own_rest, rest_is}
 use Rattle.driver_actions.proofs.BatchesListed.{built_failure, told_failures}

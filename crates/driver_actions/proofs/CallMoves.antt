@@ -26,7 +26,7 @@ use Rattle.driver_exec.specs.Resending.{Borrows, SendsWhereTold, SentTimes}
 use Rattle.driver_exec.proofs.ClockReadings.{read_same, read_twice}
 use Rattle.driver_exec.proofs.Moves.{keeps_fold, keeps_making}
 use Rattle.driver_exec.proofs.SessionNumbers.{borrows_within}
-use Rattle.driver_actions.specs.MainTheorem.{IsReplayed, IsReplayedWhereTold, IsSendOf, KeepsMaking, KeepsMakingWhereTold, SendsOwn}
+use Rattle.driver_actions.specs.CallParts.{IsReplayed, IsReplayedWhereTold, IsSendOf, KeepsMaking, KeepsMakingWhereTold, SendsOwn}
 use Rattle.driver_actions.specs.ManyCompleteness.{RaisesBy, RaisesByWhereTold}
 use Rattle.driver_actions.proofs.ServerMaking.{keeps_making_twice, told_refl}
 use Rattle.driver_actions.proofs.CallWrites.WritesMade.{LeftBy}

@@ -1,5 +1,5 @@
 -- The causes of ends, from those of their parts.
-use Rattle.std.proofs.Common.{◌≡◌, ℕ, refl, sym, ap, subst, ◌∙◌, inl, inr}
+use Rattle.std.proofs.Common.{◌≡◌, refl, sym, ap, subst, ◌∙◌, inl, inr}
 use Rattle.std.specs.Prelude.{IsErrAnd, Some, Result, Ok, Err}
 use Rattle.driver_error.specs.declared.error.Error.{Error}
 use Rattle.driver_error.specs.declared.kind.ErrorKind.TheVariants as kind
@@ -13,16 +13,13 @@ use Rattle.driver_ops.specs.Targets.{in_collection}
 use Rattle.write_ops.specs.StatementSpec.{delete_spec, find_spec, update_spec}
 use Rattle.driver_attempt.specs.Causes.{end_of, outline_of}
 use Rattle.driver_attempt.specs.Moment.{Moment}
-use Rattle.driver_actions.specs.CallMaking.{HasCause}
 use Rattle.driver_actions.specs.Causes.{BecomesEnd, EndsAsCaused, EndsEarly, OperationCaused, RefusesFirst, WriteCaused}
 use Rattle.driver_actions.specs.SingleCalls.{Made, Runs, Tells}
 use Rattle.driver_actions.specs.Singles.{BecomesSingle}
 use Rattle.driver_actions.proofs.RefusedFirst.{input_first, refuses_nothing}
 use Rattle.driver_inputs.specs.declared.call.Answer.TheVariants as answer
-use Rattle.driver_inputs.specs.declared.call.Call.TheVariants.{Single}
 use Rattle.driver_inputs.specs.declared.call.SingleAnswer.{SingleAnswer}
-use Rattle.driver_inputs.specs.declared.call.SingleWrite.{SingleWrite}
-use Rattle.driver_inputs.specs.Forms.{WriteForm, deletes, finds, form_of, inserts, updates}
+use Rattle.driver_inputs.specs.Forms.{WriteForm, deletes, finds, inserts, updates}
 use Rattle.driver_inputs.specs.Inputs.{IsAccepted, TellsInput}
 
 -- input that was refused before anything was asked
@@ -143,7 +140,7 @@ told_same (Err error) (Err found) same = ap (λ e. Some (outline_of e)) (sym sam
 told_same (Ok given) (Err error) same = absurd same
 told_same (Err error) (Ok given) same = absurd same
 
-cause_same : {A B : Type 0} (before now : Moment) (form : WriteForm) (given : Result A Error) (result : Result B Error) → SameEnd given result → WriteCaused before now form given
+pub cause_same : {A B : Type 0} (before now : Moment) (form : WriteForm) (given : Result A Error) (result : Result B Error) → SameEnd given result → WriteCaused before now form given
     → WriteCaused before now form result
 cause_same before now form given result same cause = record {
   caused = elim cause.caused [
@@ -152,13 +149,3 @@ cause_same before now form given result same cause = record {
   ];
   refused = subst (RefusesFirst before now form) (told_same given result same) cause.refused;
 }
-
--- the cause of a single write is that of its call, with its answer
-pub call_cause_ok : (before now : Moment) (write : SingleWrite) (number : ℕ) (given : SingleAnswer) → WriteCaused {A = SingleAnswer} before now (form_of write) (Ok given)
-    → HasCause before now (Single write) number (Ok (answer.Single given))
-call_cause_ok before now write number given cause = cause_same before now (form_of write) (Ok given) (Ok (answer.Single given)) tt cause
-
--- or with its error
-pub cause_err : (before now : Moment) (write : SingleWrite) (number : ℕ) (error : Error) → WriteCaused {A = SingleAnswer} before now (form_of write) (Err error)
-    → HasCause before now (Single write) number (Err error)
-cause_err before now write number error cause = cause_same before now (form_of write) (Err error) (Err error) refl cause

@@ -1,24 +1,17 @@
 -- A valid call whose part of the schedule is gentle ends well.
-use Rattle.std.proofs.Common.{◌≡◌, ℕ, ◌<◌, ◌≤◌, List, [], ◌∷◌, ◌++◌, length, take, refl, sym, ap, subst, ◌∙◌, inl, inr, arith}
+use Rattle.std.proofs.Common.{◌≡◌, ℕ, List, [], ◌∷◌, ◌++◌, refl, sym, ap, subst, ◌∙◌, inl, inr, arith}
 use Rattle.std.specs.Prelude.{ℤ, pos, ◌+ℤ◌, ◌<ℤ◌, ◌≤ℤ◌, true, Option, None, Some, IfSome, Result, Ok, Err}
 use Rattle.std.proofs.lemmas.Int.{ints}
-use Rattle.std.proofs.lemmas.List.{length-take-le}
-use Rattle.bson_lite.specs.declared.bson.Bson.{Bson}
-use Rattle.bson_lite.specs.declared.document.Pair.{Pair}
 use Rattle.bson_lite.specs.declared.fault.EncodeFault.{EncodeFault}
 use Rattle.bson_lite.specs.declared.namespace.Namespace.{Namespace}
 use Rattle.bson_lite.specs.Spelling.{Spells, refusal}
 use Rattle.driver_error.specs.declared.error.Error.{Error}
 use Rattle.driver_error.specs.declared.kind.ErrorKind.TheVariants as kind
-use Rattle.driver_error.specs.declared.results.InsertManyResult.{InsertManyResult}
 use Rattle.driver_error.specs.Conversions.{ConvertsKind}
 use Rattle.driver_error.specs.Error.{kind_of}
 use Rattle.driver_options.specs.Concerns.{else_concern}
 use Rattle.driver_options.specs.declared.concerns.WriteConcern.{WriteConcern}
 use Rattle.driver_options.specs.declared.options.Description.{Description}
-use Rattle.driver_options.specs.declared.write_options.InsertManyOptions.{InsertManyOptions}
-use Rattle.driver_link.specs.Clock.{ClockTells}
-use Rattle.driver_link.specs.declared.machine.Item.{Item}
 use Rattle.driver_link.specs.declared.machine.Place.{Place}
 use Rattle.driver_link.specs.declared.machine.Scheduled.{Scheduled}
 use Rattle.driver_link.specs.declared.machine.Server.{Server}
@@ -30,7 +23,7 @@ use Rattle.driver_link.specs.ServerRun.{ServerRun}
 use Rattle.driver_link.proofs.RetriedSends.{inserted_is}
 use Rattle.driver_session.specs.Pool.{Pool}
 use Rattle.driver_session.specs.Session.{Session, last_number}
-use Rattle.driver_session.specs.StoreTells.{DrawnApart, DrawnApartIn, GainsDrawn, LendsSession, StoreTells}
+use Rattle.driver_session.specs.StoreTells.{DrawnApart, DrawnApartIn, LendsSession, StoreTells}
 use Rattle.driver_ops.specs.declared.command.Command.{Command}
 use Rattle.driver_ops.specs.Features.{feature_of}
 use Rattle.driver_ops.specs.Fields.{SendContext, executor_fields}
@@ -60,40 +53,20 @@ use Rattle.driver_exec.proofs.Completeness.Sessions.{KnownCommand}
 use Rattle.driver_exec.proofs.FixedNumbers.{MayBeFixed}
 use Rattle.driver_exec.proofs.HeldSessions.{IsOf}
 use Rattle.driver_exec.proofs.SessionNumbers.{lent_within}
-use Rattle.driver_actions.specs.CallByCall.{CallCaused, with_clock}
-use Rattle.driver_actions.specs.CallMaking.{MakesCall}
-use Rattle.driver_actions.specs.MainTheorem.{CallCompletes, CallEnds, FitsAlone, IsValidWrite, SendsOwn, all_numbers_of}
-use Rattle.driver_actions.specs.ManyCalls.{MakesMany}
-use Rattle.driver_actions.specs.ManyCompleteness.{CarrySame, InsertsHaveNumbers, IsGentleCallPart, IsGentleCallWhereTold, IsValidMany, MayCompleteCallWhereTold, ServesInserts}
-use Rattle.driver_actions.specs.ManyEntries.{AnswerStands, AnswerStandsWhereTold, MayWriteCall}
-use Rattle.driver_actions.specs.ManyLeft.{LeavesByCall, LeavesMany}
-use Rattle.driver_actions.specs.ManyTold.{IsToldTruly, IsToldWhereTold}
+use Rattle.driver_actions.specs.CallParts.{FitsAlone, IsValidWrite}
 use Rattle.driver_actions.specs.SingleCompleteness.{CompletesSingle, MayCompleteWhereTold}
 use Rattle.driver_actions.specs.SingleEntries.{IsNewPlace}
 use Rattle.driver_actions.specs.Singles.{BecomesSingle}
-use Rattle.driver_actions.specs.Standing.{AllBelow, LeavesWhereTold, RunInvariant, RunState}
-use Rattle.driver_actions.specs.SingleCalls.{Made, Makes, Runs, Tells, first_place}
-use Rattle.driver_actions.proofs.CallSends.{makes_alike, pool_kept}
-use Rattle.driver_actions.proofs.EachCall.{caused_own, caused_replayed}
+use Rattle.driver_actions.specs.SingleCalls.{Made, Makes, Runs, Tells}
+use Rattle.driver_actions.proofs.CallSends.{pool_kept}
 use Rattle.driver_actions.proofs.InsertFit.{insert_unrefused, served_setup}
-use Rattle.driver_actions.proofs.FewestCuts.{many_fewest}
-use Rattle.driver_actions.proofs.ManyCompleteness.{many_complete}
-use Rattle.driver_actions.proofs.ManyMade.{many_listed, many_moves}
-use Rattle.driver_actions.proofs.ManySpelled.{many_truly}
 use Rattle.driver_actions.proofs.OwnIds.{OnlyDrew}
-use Rattle.driver_actions.proofs.CallWrites.Entries.{may_send, new_place, placed_at}
+use Rattle.driver_actions.proofs.CallWrites.Entries.{may_send, placed_at}
 use Rattle.driver_actions.proofs.CallWrites.Readiness.{MayGo, bare_goes, go_again, go_answered, lent_goes}
 use Rattle.driver_actions.proofs.CallWrites.WritesMade.{made_drew}
-use Rattle.driver_actions.proofs.StandingRuns.{stands_count}
-use Rattle.driver_inputs.specs.declared.call.Answer.{Answer}
-use Rattle.driver_inputs.specs.declared.call.Answer.TheVariants as answer
-use Rattle.driver_inputs.specs.declared.call.Call.{Call}
-use Rattle.driver_inputs.specs.declared.call.Call.TheVariants.{InsertMany, Single}
-use Rattle.driver_inputs.specs.declared.call.Outcome.{Outcome}
 use Rattle.driver_inputs.specs.declared.call.SingleAnswer.{SingleAnswer}
 use Rattle.driver_inputs.specs.declared.call.SingleAnswer.TheVariants.{Deleted, Found, Inserted, Updated}
-use Rattle.driver_inputs.specs.declared.call.SingleWrite.{SingleWrite}
-use Rattle.driver_inputs.specs.Forms.{WriteForm, asked_in, body_in, command_body, command_in, concern_in, deletes, finds, form_of, inserts, kind_in, namespace_in, repeats_in, send_in, updates}
+use Rattle.driver_inputs.specs.Forms.{WriteForm, asked_in, body_in, command_body, command_in, concern_in, deletes, finds, inserts, kind_in, namespace_in, repeats_in, send_in, updates}
 use Rattle.driver_inputs.specs.Inputs.{IsAccepted, TellsInput}
 use Rattle.driver_inputs.proofs.Refusals.{accepted_not_refused}
 
@@ -112,11 +85,11 @@ single_quiet (Err error) (Err now) becomes memory =
     let same : now ≡ error = subst (λ why. ConvertsKind why error now) memory becomes in ap kind_of same ∙ memory
 
 -- what holds before a write in a place, over a told pool and a told server
-record Ready (made : ℕ) (place : Place) (pool : Pool) (told : ServerRun) : Type 0 where
-  between : Between pool told.server.trace
-  sound : Sound told.server
-  new : IsNewPlace told.server.trace place
-  numbers : NumbersWithin (pos made) pool.idle
+pub record Ready (made : ℕ) (place : Place) (pool : Pool) (told : ServerRun) : Type 0 where
+  pub between : Between pool told.server.trace
+  pub sound : Sound told.server
+  pub new : IsNewPlace told.server.trace place
+  pub numbers : NumbersWithin (pos made) pool.idle
 
 -- a session that has no further number is past the calls that were made
 past_end : (made : ℕ) (number : ℤ) → number ≡ last_number → number ≤ℤ pos made → pos made <ℤ last_number → ⊥
@@ -282,7 +255,7 @@ made_well made place before now (finds namespace filter modification options) va
     run.ended run.runs (λ output. Found output) error run.tells
 
 -- each end of a write is well
-single_well : (made : ℕ) (place : Place) (before now : Moment) (form : WriteForm) (valid : IsValidWrite made before.client.options (setup_of before.link) form) (pool : Pool) (told told_now : ServerRun)
+pub single_well : (made : ℕ) (place : Place) (before now : Moment) (form : WriteForm) (valid : IsValidWrite made before.client.options (setup_of before.link) form) (pool : Pool) (told told_now : ServerRun)
     (ready : Ready made place pool told) → before.store.pool ≡ Some pool → server_run before.link ≡ Some told → server_run now.link ≡ Some told_now → DrawnApart now.store
     → IsGentlePart (IsGentleItem (kind_in form)) (DrawsNumbers true (repeats_in form before.client.options) (setup_of before.link)) told told_now
     → (result : Result SingleAnswer Error) → Makes before now form place result → EndsWell result
@@ -309,152 +282,3 @@ single_completes place before now form result makes most may valid gentle =
     of_told None store_now link link_now pool_is pool_now_is link_is now_is may gentle = absurd may
     of_told (Some pool) None link link_now pool_is pool_now_is link_is now_is may gentle = absurd may
     of_told (Some pool) (Some pool_now) None link_now pool_is pool_now_is link_is now_is may gentle = absurd may
-
--- a part of a schedule that is gentle for a call is so for one write, where all that it sent carries the same
-pub gentle_alike : (Serves : Item → Type 0) (repeats : Type 0) (told told_now : ServerRun) → IsGentleCallPart Serves repeats told told_now
-    → ((a b : ℕ) → length told.server.trace ≤ a → length told.server.trace ≤ b → CarrySame told_now a b) → IsGentlePart Serves repeats told told_now
-gentle_alike Serves repeats told told_now gentle alike = record {
-  selects = gentle.selects;
-  check_outs = gentle.check_outs;
-  overloaded = gentle.overloaded;
-  items = gentle.items;
-  one = λ a b of_part also_of loses other. gentle.one a b of_part also_of loses other (alike a b of_part.0 also_of.0);
-}
-
--- a single write in its call
-single_call_well : (most number : ℕ) (before now : Moment) (form : WriteForm) (valid : IsValidWrite most before.client.options (setup_of before.link) form) (pool : Pool) (told told_now : ServerRun)
-    (ready : Ready most (first_place number) pool told) → before.store.pool ≡ Some pool → server_run before.link ≡ Some told → server_run now.link ≡ Some told_now → DrawnApart now.store
-    → IsGentleCallPart (IsGentleItem (kind_in form)) (DrawsNumbers true (repeats_in form before.client.options) (setup_of before.link)) told told_now
-    → (result : Result SingleAnswer Error) → Makes before now form (first_place number) result → EndsWell result
-single_call_well most number before now form valid pool told told_now ready pool_is link_is now_is apart gentle result makes =
-    let part = gentle_alike (IsGentleItem (kind_in form)) (DrawsNumbers true (repeats_in form before.client.options) (setup_of before.link)) told told_now gentle
-    (λ a b above also_above. makes_alike before now told told_now link_is now_is a b above also_above form (first_place number) result makes) in
-    single_well most (first_place number) before now form valid pool told told_now ready pool_is link_is now_is apart part result makes
-
--- the same of a run that stands
-module _ (run : RunState) (calls : List Call) (before now : Moment) (left : LeavesWhereTold (take run.made calls) run.outcomes before.store.pool (server_run before.link))
-    (count : length run.outcomes ≡ run.made) (apart : DrawnApart now.store) where
-  -- the numbers that the calls before it take at most
-  abbrev most : ℕ
-  most = all_numbers_of (setup_of before.link) (take run.made calls)
-
-  -- no idle session's number is above them, where the link tells its server
-  most_within : (pool : Pool) (told : ServerRun) → server_run before.link ≡ Some told → NumbersWithin (pos (all_numbers_of (Some told.setup) (take run.made calls))) pool.idle → NumbersWithin (pos most) pool.idle
-  most_within pool told link_is within = subst (λ s. NumbersWithin (pos (all_numbers_of s (take run.made calls))) pool.idle) (sym (served_setup before.link.making told link_is)) within
-
-  -- a single write, by what is told
-  single_told : (store : Option Pool) (link link_now : Option ServerRun) → before.store.pool ≡ store → server_run before.link ≡ link → server_run now.link ≡ link_now
-      → LeavesWhereTold (take run.made calls) run.outcomes store link → (write : SingleWrite) (result : Result SingleAnswer Error)
-      → Makes before now (form_of write) (first_place run.made) result → IsValidWrite most before.client.options (setup_of before.link) (form_of write)
-      → IsGentleCallWhereTold (IsGentleItem (kind_in (form_of write))) (DrawsNumbers true (repeats_in (form_of write) before.client.options) (setup_of before.link)) link link_now → EndsWell result
-  single_told None link link_now pool_is link_is now_is leaves write result makes valid gentle = absurd leaves
-  single_told (Some pool) None link_now pool_is link_is now_is leaves write result makes valid gentle = absurd leaves
-  single_told (Some pool) (Some told) None pool_is link_is now_is leaves write result makes valid gentle = absurd gentle
-  single_told (Some pool) (Some told) (Some told_now) pool_is link_is now_is leaves write result makes valid gentle =
-      let ready : Ready most (first_place run.made) pool told = record {
-        between = leaves.between;
-        sound = leaves.sound;
-        new = new_place run.made told.server.trace (subst (λ n. AllBelow n told.server.trace) count leaves.below);
-        numbers = most_within pool told link_is leaves.numbers;
-      } in
-      single_call_well most run.made before now (form_of write) valid pool told told_now ready pool_is link_is now_is apart gentle result makes
-
-  -- an insert of many documents may be made, by what is told
-  many_told : (store store_now : Option Pool) (link link_now : Option ServerRun) → before.store.pool ≡ store → now.store.pool ≡ store_now → server_run before.link ≡ link
-      → server_run now.link ≡ link_now → (ids : List (List ℕ)) → GainsDrawn store store_now ids → LeavesWhereTold (take run.made calls) run.outcomes store link
-      → MayCompleteCallWhereTold most store store_now link run.made
-  many_told None store_now link link_now pool_is pool_now_is link_is now_is ids gains leaves = absurd leaves
-  many_told (Some pool) None link link_now pool_is pool_now_is link_is now_is ids gains leaves = absurd gains
-  many_told (Some pool) (Some pool_now) None link_now pool_is pool_now_is link_is now_is ids gains leaves = absurd leaves
-  many_told (Some pool) (Some pool_now) (Some told) link_now pool_is pool_now_is link_is now_is ids gains leaves =
-      let below = subst (λ n. AllBelow n told.server.trace) count leaves.below in
-      record {
-        writes = record {
-          between = leaves.between;
-          sound = leaves.sound;
-          new = λ earlier at write has stands of_call. let under : write.place.call < run.made = below earlier at write has stands in absurd (omega (arith, under, of_call));
-          apart = subst DrawnApartIn pool_now_is apart;
-        };
-        numbers = most_within pool told link_is leaves.numbers;
-      }
-
-  -- one that is made ends well where it is valid and its part is gentle
-  many_well : (namespace : Namespace) (documents : List (List (Pair Bson))) (options : InsertManyOptions) (result : Result InsertManyResult Error)
-      → MakesMany before now (in_collection namespace) documents options run.made result → IsValidMany most before.client.options (setup_of before.link) (in_collection namespace) documents options
-      → IsGentleCallWhereTold ServesInserts (InsertsHaveNumbers before.client.options (setup_of before.link)) (server_run before.link) (server_run now.link) → EndsWell result
-  many_well namespace documents options result makes valid gentle =
-      let moves = many_moves before now (in_collection namespace) documents options run.made result makes in
-      many_complete before now (in_collection namespace) documents options run.made result makes most
-      (many_told before.store.pool now.store.pool (server_run before.link) (server_run now.link) refl refl refl refl moves.draws.more moves.draws.drawn left) valid gentle
-
-  -- what holds of the server that is told after a call before which all stood
-  by_told : (P : ServerRun → ServerRun → Type 0) (Q : Option Pool → Option Pool → Option ServerRun → Option ServerRun → Type 0)
-      → ((pool pool_now : Pool) (told told_now : ServerRun) → Q (Some pool) (Some pool_now) (Some told) (Some told_now) → MayWriteCall pool pool_now told run.made → P told told_now)
-      → (store store_now : Option Pool) (link link_now : Option ServerRun) → Q store store_now link link_now → MayCompleteCallWhereTold most store store_now link run.made → IfSome link (λ told. IfSome link_now (λ told_now. P told told_now))
-  by_told P Q gives store store_now None link_now holds may = tt
-  by_told P Q gives store store_now (Some told) None holds may = tt
-  by_told P Q gives None store_now (Some told) (Some told_now) holds may = absurd may
-  by_told P Q gives (Some pool) None (Some told) (Some told_now) holds may = absurd may
-  by_told P Q gives (Some pool) (Some pool_now) (Some told) (Some told_now) holds may = gives pool pool_now told told_now holds may.writes
-
-  -- what an insert of many documents that was made left
-  leaves_many : (namespace : Namespace) (documents : List (List (Pair Bson))) (options : InsertManyOptions) (result : Result InsertManyResult Error)
-      → MakesMany before now (in_collection namespace) documents options run.made result → LeavesMany run.made before now namespace documents options result
-  leaves_many namespace documents options result makes =
-      let moves = many_moves before now (in_collection namespace) documents options run.made result makes in
-      let may = many_told before.store.pool now.store.pool (server_run before.link) (server_run now.link) refl refl refl refl moves.draws.more moves.draws.drawn left in
-      record {
-        stand = by_told (λ told told_now. AnswerStands namespace documents run.made told_now.server.log result) (λ s t l m. AnswerStandsWhereTold namespace documents run.made s t l m result)
-            (λ pool pool_now told told_now stands writes. stands writes) before.store.pool now.store.pool (server_run before.link) (server_run now.link)
-            (many_listed before now (in_collection namespace) documents options run.made result makes) may;
-        told = λ first clock made. by_told (λ told told_now. IsToldTruly namespace documents run.made told told_now made.ends result) (λ s t l m. IsToldWhereTold namespace documents run.made s t l m made.ends result)
-            (λ pool pool_now told told_now truly writes. truly writes) before.store.pool now.store.pool (server_run before.link) (server_run now.link)
-            (many_truly (with_clock before first) (with_clock now clock) (in_collection namespace) documents options run.made result made) may;
-        fewest = many_fewest before now (in_collection namespace) documents options run.made result makes;
-      }
-
-  -- and what each call did
-  leaves : (call : Call) (result : Result Answer Error) → MakesCall before now call run.made result → LeavesByCall run.made before now call result
-  leaves (Single write) result makes = tt
-  leaves (InsertMany namespace documents options) (Ok (answer.Many output)) makes = leaves_many namespace documents options (Ok output) makes
-  leaves (InsertMany namespace documents options) (Ok (answer.Single given)) makes = absurd makes
-  leaves (InsertMany namespace documents options) (Err error) makes = leaves_many namespace documents options (Err error) makes
-
-  -- a call that is made ends well where it is valid and its part is gentle
-  completes : (call : Call) (result : Result Answer Error) → MakesCall before now call run.made result → CallCompletes (take run.made calls) before now call result
-  completes (Single write) (Ok given) makes valid gentle = tt
-  completes (Single write) (Err error) makes valid gentle =
-      single_told before.store.pool (server_run before.link) (server_run now.link) refl refl refl left write (Err error) makes valid gentle
-  completes (InsertMany namespace documents options) (Ok given) makes valid gentle = tt
-  completes (InsertMany namespace documents options) (Err error) makes valid gentle = many_well namespace documents options (Err error) makes valid gentle
-
--- its end does not depend on the readings of the clock
-completes_read : (earlier : List Call) (began clock : ClockTells) (before now : Moment) (call : Call) (result : Result Answer Error)
-    → CallCompletes earlier (with_clock before began) (with_clock now clock) call result → CallCompletes earlier before now call result
-completes_read earlier began clock before now (Single write) result completes = completes
-completes_read earlier began clock before now (InsertMany namespace documents options) result completes = completes
-
--- nor does what it left
-leaves_read : (number : ℕ) (began clock : ClockTells) (before now : Moment) (call : Call) (result : Result Answer Error) → LeavesByCall number (with_clock before began) (with_clock now clock) call result
-    → LeavesByCall number before now call result
-leaves_read number began clock before now (Single write) result leaves = tt
-leaves_read number began clock before now (InsertMany namespace documents options) (Ok (answer.Many output)) leaves = record { stand = leaves.stand; told = leaves.told; fewest = leaves.fewest }
-leaves_read number began clock before now (InsertMany namespace documents options) (Ok (answer.Single given)) leaves = absurd leaves
-leaves_read number began clock before now (InsertMany namespace documents options) (Err error) leaves = record { stand = leaves.stand; told = leaves.told; fewest = leaves.fewest }
-
--- a call of a run that stands
-pub call_ends : (run : RunState) (calls : List Call) (before now : Moment) → RunInvariant run calls before → DrawnApart now.store → (call : Call) (outcome : Outcome)
-    → CallCaused run.made before now call outcome → CallEnds (take run.made calls) before now call outcome
-call_ends run calls before now stands apart call outcome caused =
-    let read = with_clock before caused.first in
-    let last = with_clock now caused.clock in
-    let count : run.made ≡ length (take run.made calls) = sym (length-take-le run.made calls stands.within) in
-    record {
-      caused = subst (λ n. CallCaused n before now call outcome) count caused;
-      complete = completes_read (take run.made calls) caused.first caused.clock before now call outcome.result
-          (completes run calls read last stands.left (stands_count run calls before stands) apart call outcome.result caused.makes);
-      sends_own = subst (λ n. SendsOwn n (server_run before.link) (server_run now.link)) count (caused_own run.made before now call outcome caused);
-      replayed = caused_replayed run.made before now call outcome caused;
-      leaves = subst (λ n. LeavesByCall n before now call outcome.result) count (leaves_read run.made caused.first caused.clock before now call outcome.result
-          (leaves run calls read last stands.left (stands_count run calls before stands) apart call outcome.result caused.makes));
-    }

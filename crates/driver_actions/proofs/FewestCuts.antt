@@ -36,7 +36,7 @@ use Rattle.driver_exec.specs.Resending.{AnsweredLast, LastAnswer, SendsOneComman
 use Rattle.driver_actions.specs.declared.gathered.Gathered.{Gathered}
 use Rattle.driver_actions.specs.Batches.{BatchEnd, MakesBatch, MakesBatches, goes_on, places_from, rest_of}
 use Rattle.driver_actions.specs.FewestBatches.{AreSendsOf, GoesOut, IsFewestCut, IsFewestCutWhereTold, OkIsFewestCut, places_of, sent_sizes}
-use Rattle.driver_actions.specs.MainTheorem.{KeepsMakingWhereTold}
+use Rattle.driver_actions.specs.CallParts.{KeepsMakingWhereTold}
 use Rattle.driver_actions.specs.ManyAnswers.{AllOfDocuments, count_of, gathered, nothing_gathered, with_result}
 use Rattle.driver_actions.specs.ManyCalls.{MadeMany, MakesMany, RanShort}
 use Rattle.driver_actions.proofs.BatchSizes.{ids_each, rest_sizes, sizes_are, sizes_length, takes_longest}

@@ -22,7 +22,7 @@ use Rattle.write_ops.specs.InsertFronts.{IsFrontOf, RefusesFront, insert_limits}
 use Rattle.write_ops.specs.InsertSpec.{insert_spec}
 use Rattle.driver_exec.proofs.FixedNumbers.{MayBeFixed}
 use Rattle.driver_exec.proofs.HeldSessions.{IsOf}
-use Rattle.driver_actions.specs.MainTheorem.{FitsAlone}
+use Rattle.driver_actions.specs.CallParts.{FitsAlone}
 use Rattle.driver_inputs.specs.Forms.{inserts}
 
 -- a link that tells its server tells its setup

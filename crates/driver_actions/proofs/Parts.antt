@@ -1,5 +1,5 @@
 -- One call of a single write, from its parts.
-use Rattle.std.proofs.Common.{◌≡◌, ℕ, List, [], ◌∷◌, refl, ap, subst, inl, inr}
+use Rattle.std.proofs.Common.{◌≡◌, List, [], ◌∷◌, refl, ap, subst, inl, inr}
 use Rattle.std.specs.Prelude.{IsErrAnd, IsSome, Some, Result, Ok, Err}
 use Rattle.bson_lite.specs.declared.bson.Bson.{Bson}
 use Rattle.bson_lite.specs.declared.document.Pair.{Pair}
@@ -14,7 +14,6 @@ use Rattle.driver_error.specs.Error.{IsAlone, kind_of}
 use Rattle.driver_error.specs.LabelTexts.{no_labels}
 use Rattle.driver_options.specs.declared.options.ClientOptions.{ClientOptions}
 use Rattle.driver_options.specs.declared.write_options.InsertManyOptions.{InsertManyOptions}
-use Rattle.driver_link.specs.Clock.{ClockTells, ReadsClock}
 use Rattle.driver_link.specs.declared.machine.Place.{Place}
 use Rattle.driver_link.specs.declared.machine.SendBody.{SendBody}
 use Rattle.driver_session.specs.StoreTells.{MayDrawObjectId, StoreTells}
@@ -22,12 +21,8 @@ use Rattle.driver_ops.specs.Targets.{in_collection}
 use Rattle.write_ops.specs.declared.own_document.OwnDocument.{OwnDocument}
 use Rattle.write_ops.specs.InsertSpec.{insert_spec}
 use Rattle.driver_attempt.specs.Moment.{Moment}
-use Rattle.driver_actions.specs.CallByCall.{CallCaused, with_clock}
-use Rattle.driver_actions.specs.CallMaking.{HasCause, MakesCall}
 use Rattle.driver_actions.specs.OwnIds.{DrawsOwn, MayDrawId, Owns}
 use Rattle.driver_actions.specs.SingleCalls.{Made, Makes, MayDrawFor, Runs, Tells}
-use Rattle.driver_inputs.specs.declared.call.Call.{Call}
-use Rattle.driver_inputs.specs.declared.call.Outcome.{Outcome}
 use Rattle.driver_inputs.specs.declared.call.SingleAnswer.{SingleAnswer}
 use Rattle.driver_inputs.specs.declared.call.SingleAnswer.TheVariants.{Inserted}
 use Rattle.driver_inputs.specs.Forms.{WriteForm, asked_in, deletes, finds, inserts, updates, written_in}
@@ -104,11 +99,3 @@ unmade_exit before form place (Err error) exits = unmade_early before form place
 pub unmade_memory : (before now : Moment) (namespace : Namespace) (document : List (Pair Bson)) (options : InsertManyOptions) (place : Place) (error : Error) → MayDrawId before now document
     → kind_of error ≡ kind.Memory → Makes before now (inserts namespace document options) place (Err error)
 unmade_memory before now namespace document options place error draws memory = inl (record { draws = inr (memory, draws); why = inl memory })
-
--- a call between two readings of the clock
-pub call_caused : (before now : Moment) (first last : ClockTells) (call : Call) (number : ℕ) (outcome : Outcome)
-    → ReadsClock before.clock first outcome.started_ms → ReadsClock last now.clock outcome.ended_ms
-    → MakesCall (with_clock before first) (with_clock now last) call number outcome.result
-    → HasCause (with_clock before first) (with_clock now last) call number outcome.result → CallCaused number before now call outcome
-call_caused before now first last call number outcome started ended makes cause =
-    record { first = first; started = started; clock = last; ended = ended; makes = makes; cause = cause }

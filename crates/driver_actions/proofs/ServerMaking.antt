@@ -6,7 +6,7 @@ use Rattle.driver_link.specs.Exchange.{empty_server, replayed}
 use Rattle.driver_link.specs.LinkState.{server_run}
 use Rattle.driver_link.specs.ServerRun.{IsFresh, ServerRun}
 use Rattle.driver_attempt.specs.Moment.{Moment}
-use Rattle.driver_actions.specs.MainTheorem.{IsReplayed, IsReplayedWhereTold, KeepsMaking, KeepsMakingWhereTold}
+use Rattle.driver_actions.specs.CallParts.{IsReplayed, IsReplayedWhereTold, KeepsMaking, KeepsMakingWhereTold}
 
 -- a making that stays twice stays
 told_twice : (a b c : Option ServerRun) → KeepsMakingWhereTold a b → KeepsMakingWhereTold b c → KeepsMakingWhereTold a c

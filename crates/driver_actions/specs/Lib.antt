@@ -1,17 +1,14 @@
 pub mod BatchTells
 pub mod Batches
-pub mod BulkIds
-pub mod CallByCall
-pub mod CallMaking
+pub mod Below
+pub mod CallParts
 pub mod Causes
 pub mod FewestBatches
-pub mod MainTheorem
 pub mod ManyAnswers
 pub mod ManyCalls
 pub mod ManyCompleteness
 pub mod ManyEntries
 pub mod ManyIds
-pub mod ManyLeft
 pub mod ManyTold
 pub mod Numbers
 pub mod OwnIds
@@ -19,5 +16,4 @@ pub mod SingleCalls
 pub mod SingleCompleteness
 pub mod SingleEntries
 pub mod Singles
-pub mod Standing
 pub mod inside

@@ -10,7 +10,7 @@ use Rattle.driver_attempt.specs.Moment.{Moment}
 use Rattle.driver_exec.specs.BetweenCalls.{NumbersWithin}
 use Rattle.driver_exec.specs.Gentle.{EndsWell, IsGentleWhereTold}
 use Rattle.driver_exec.specs.OperationCauses.{DrawsNumbers}
-use Rattle.driver_actions.specs.MainTheorem.{IsValidWrite}
+use Rattle.driver_actions.specs.CallParts.{IsValidWrite}
 use Rattle.driver_actions.specs.SingleEntries.{MayWrite}
 use Rattle.driver_inputs.specs.declared.call.SingleAnswer.{SingleAnswer}
 use Rattle.driver_inputs.specs.Forms.{WriteForm, kind_in, repeats_in}

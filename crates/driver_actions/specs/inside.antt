@@ -1,5 +1,4 @@
 -- What the functions that no other crate calls say of themselves.
 pub mod Batches
 pub mod OwnDocuments
-pub mod OwnOps
 pub mod Taking

@@ -21,7 +21,7 @@ use std::alloc::Global;
 /// Inserts documents into a collection, in as few batches as the server's limits allow. Their input is judged before
 /// anything is drawn, then each gets its id, once for the whole call, and then the batches are made. Document i has
 /// the place (`outside.call`, i).
-pub(crate) fn insert_all<S: SessionStore, L: Link, K: Clock, R: Rng>(
+pub fn insert_all<S: SessionStore, L: Link, K: Clock, R: Rng>(
     alloc: Global,
     client: &mut Client<S>,
     outside: &mut Outside<L, K, R>,

@@ -1,6 +1,5 @@
-//! Laws: of one call and its times, of a run between two of its calls, of one exchange, of what the batches of an
-//! insert tell together, and of how many there are.
-ghost use Rattle.std.specs.Prelude.{◌≡◌, ◌≤◌, ◌++◌, ◌∷◌, ℕ, List, [], length, take, Ok, Result, Some};
+//! Laws: of what the batches of an insert tell together, and of how many there are.
+ghost use Rattle.std.specs.Prelude.{◌≡◌, ◌≤◌, ℕ, List, length, take, Ok, Result, Some};
 ghost use Rattle.std.specs.FinMap as finite;
 ghost use Rattle.bson_lite.specs.declared.bson.Bson.{Bson};
 ghost use Rattle.bson_lite.specs.declared.document.Pair.{Pair};
@@ -11,57 +10,16 @@ ghost use Rattle.driver_options.specs.declared.write_options.InsertManyOptions.{
 ghost use Rattle.driver_batches.specs.declared.sizes.Limits.{Limits};
 ghost use Rattle.driver_batches.specs.Batches.{IsPartition};
 ghost use Rattle.driver_batches.specs.Sizes.{Fits};
-ghost use Rattle.driver_link.specs.declared.machine.Scheduled.{Scheduled};
-ghost use Rattle.driver_link.specs.declared.machine.Send.{Send};
-ghost use Rattle.driver_link.specs.declared.machine.Server.{Server};
-ghost use Rattle.driver_link.specs.Exchange.{after_picks, exchanged};
-ghost use Rattle.driver_link.specs.Settled.{Has, IsOrderly, IsPlain, IsSettled, MayJoin};
+ghost use Rattle.driver_link.specs.Settled.{Has};
 ghost use Rattle.driver_ops.specs.declared.target.OperationTarget.{OperationTarget};
 ghost use Rattle.write_ops.specs.declared.own_document.OwnDocument.{OwnDocument};
 ghost use Rattle.write_ops.specs.InsertAnswers.{all_ids};
 ghost use Rattle.driver_attempt.specs.Moment.{Moment};
 ghost use Rattle.driver_actions.specs.BatchTells.{AllOk, AllWentIn, AreInOrder, TellsId, all_errors, last_concern, some_failed, some_labelled};
 ghost use Rattle.driver_actions.specs.Batches.{BatchEnd, MakesBatch, MakesBatches};
-ghost use Rattle.driver_actions.specs.CallByCall.{CallCaused, IsTimed};
 ghost use Rattle.driver_actions.specs.ManyAnswers.{gathered, nothing_gathered};
 ghost use Rattle.driver_actions.specs.ManyCalls.{MadeMany, RanShort};
 ghost use Rattle.driver_actions.specs.Numbers.{runs_of};
-ghost use Rattle.driver_actions.specs.Standing.{RunInvariant, RunState};
-ghost use Rattle.driver_inputs.specs.declared.call.Call.{Call};
-ghost use Rattle.driver_inputs.specs.declared.call.Outcome.{Outcome};
-
-/// Calls that are appended to the list change nothing of a run that stands.
-#[tactic(auto, using(crate::proofs::StandingRuns::stands_appended))]
-pub fn appended_calls_change_nothing()
-    ensures { (run : RunState) (calls more : List Call) (now : Moment) →
-        RunInvariant run calls now → RunInvariant run (calls ++ more) now }
-{}
-
-/// A call of a run is timed by the clock, which it only reads, and it draws no random word.
-pub fn a_call_only_reads_the_clock()
-    ensures { (number : ℕ) (before now : Moment) (call : Call) (outcome : Outcome) →
-        CallCaused number before now call outcome → IsTimed before now outcome }
-{}
-
-/// A send under a number that went out may go out again, however often it did.
-pub fn a_numbered_send_may_go_out_again()
-    ensures { (trace : List Send) (send : Send) →
-        Has trace send → IsPlain send → IsOrderly trace → MayJoin trace send }
-{}
-
-/// The exchange of a send that may go out keeps what the server makes of the sends, whatever the schedule
-/// gives it.
-pub fn an_exchange_keeps_the_invariant()
-    ensures { (trace : List Send) (server : Server) (send : Send) (step : Scheduled) →
-        MayJoin trace send → IsSettled trace server →
-        IsSettled (trace ++ send ∷ []) (exchanged server send step) }
-{}
-
-/// Waiting sends that arrive keep it, whichever they are and in whatever order.
-pub fn late_arrivals_keep_the_invariant()
-    ensures { (trace : List Send) (server : Server) (picks : List ℕ) →
-        IsOrderly trace → IsSettled trace server → IsSettled trace (after_picks server picks) }
-{}
 
 /// Where batches one after another all went in, from the first document to the last, the ids that are gathered are
 /// those of all documents, by the indexes of the caller's list.

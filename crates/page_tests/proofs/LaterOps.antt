@@ -18,7 +18,7 @@ use Rattle.bulk_ops.specs.declared.own_op.OwnOp.{OwnOp}
 use Rattle.bulk_ops.specs.BulkOps.{AreOps, IsUndotted}
 use Rattle.bulk_ops.specs.BulkSpec.{bulk_spec}
 use Rattle.bulk_ops.proofs.BulkCommand.{bulk_bodies_of}
-use Rattle.driver_actions.specs.BulkIds.{PreparesOps}
+use Rattle.bulk_actions.specs.BulkIds.{PreparesOps}
 use Rattle.driver_inputs.specs.BulkInputs.{bulk_argument_refusal, database_refusal, first_text, no_models_text, replacement_refusal, update_refusal, with_model_ids}
 use Rattle.driver_inputs.specs.Inputs.{dotted_text, else_text, has_dot}
 use Rattle.driver_inputs.proofs.ModelNamespaces.{same_namespace}

@@ -2,8 +2,8 @@
 ghost use Rattle.std.specs.Prelude.{◌≡◌, ◌<◌, drop, IfOk, length};
 
 use bson_lite::{Bson, Document, List, Namespace, Text};
+use bulk_actions::bulk_ops;
 use bulk_ops::{BulkWriteOp, OwnOp};
-use driver_actions::bulk_ops;
 use driver_attempt::{Client, Outside, Steps};
 use driver_error::{BulkWriteResult, Error, Result};
 use driver_exec::execute_operation;

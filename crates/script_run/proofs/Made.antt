@@ -17,7 +17,8 @@ use Rattle.model_server.specs.ModelState.{ModelState, model_tells}
 use Rattle.driver_attempt.specs.declared.client.Client.{Client}
 use Rattle.driver_attempt.specs.Client.{options_of, store_of}
 use Rattle.driver_attempt.specs.Moment.{Moment}
-use Rattle.driver_actions.specs.MainTheorem.{Begins, HaveEnded, IsReplayed, KeepsMaking, MainTheorem, MeetsMainTheorem}
+use Rattle.driver_actions.specs.CallParts.{IsReplayed, KeepsMaking}
+use Rattle.call_runs.specs.MainTheorem.{Begins, HaveEnded, MainTheorem, MeetsMainTheorem}
 use Rattle.driver_script.specs.declared.script.Script.{Script}
 use Rattle.script_run.specs.Ended.{IsFirstMoment, IsMomentOf, IsRunOf, new_store, store_tells}
 use Rattle.driver_inputs.specs.declared.call.Call.{Call}

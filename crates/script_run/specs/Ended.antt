@@ -11,7 +11,7 @@ use Rattle.model_server.specs.ModelState.{ModelState, model_tells, no_calls}
 use Rattle.driver_attempt.specs.Client.{options_of, store_of}
 use Rattle.driver_attempt.specs.Moment.{Moment}
 use Rattle.driver_attempt.specs.declared.client.Client.{Client}
-use Rattle.driver_actions.specs.MainTheorem.{HaveEnded, MainTheorem}
+use Rattle.call_runs.specs.MainTheorem.{HaveEnded, MainTheorem}
 use Rattle.driver_script.specs.declared.script.TheConstants.{MOST_CALLS}
 use Rattle.driver_script.specs.declared.script.Script.{Script}
 use Rattle.driver_script.specs.Script.{script}

@@ -12,7 +12,7 @@ use crate::running::Run;
 use crate::status::Status;
 use crate::streams::{LIMIT, ReadFault, read_all, write_all};
 use bson_lite::{Bytes, Text, TryClone};
-use driver_actions::run_calls;
+use call_runs::run_calls;
 use driver_attempt::{Client, Outside};
 use driver_link::{CountingIds, Failed, MemClock, Schedule, Setup, Sink, Source};
 use driver_script::{Script, ScriptFault, read_script};

@@ -1,7 +1,7 @@
 //! A fake link, whose servers and answers a row names, and one insert or calls over it.
 use crate::inserting::{Ended, SERVER, Seen, insert};
 use bson_lite::{Bytes, List};
-use driver_actions::run_calls;
+use call_runs::run_calls;
 use driver_attempt::{Client, Outside};
 use driver_error::IoKind;
 use driver_inputs::{Call, Outcome};

@@ -5,7 +5,8 @@ use crate::inserts::{all_served, insert, insert_calls, new_client, outside_with}
 use crate::many::{hand_in, insert_at_once};
 use crate::one_reply::OneReply;
 use bson_lite::List;
-use driver_actions::{SingleWrites, run_calls};
+use call_runs::run_calls;
+use driver_actions::SingleWrites;
 use driver_attempt::Outside;
 use driver_error::Result;
 use driver_inputs::{Call, Outcome};

@@ -26,7 +26,7 @@ use Rattle.driver_exec.specs.Keeping.{AreWritten, HasEntries, KeepsWhereTold, Ok
 use Rattle.driver_actions.specs.SingleCalls.{Made, Makes, Runs, Tells, first_place}
 use Rattle.driver_actions.specs.SingleEntries.{HasOwnEntry, HasOwnEntryWhereTold, HasWritten, IsNewPlace, KeepsSingle, KeepsSingleWhereTold, MayWrite, OkHasEntry}
 use Rattle.driver_actions.specs.Singles.{BecomesSingle}
-use Rattle.driver_actions.specs.Standing.{AllBelow}
+use Rattle.driver_actions.specs.Below.{AllBelow}
 use Rattle.driver_actions.proofs.CallSends.{mid_run, only_write, pool_kept}
 use Rattle.driver_actions.proofs.OwnIds.{OnlyDrew}
 use Rattle.driver_actions.proofs.CallWrites.WritesMade.{made_drew, made_left, made_own, unmade_drew_by}

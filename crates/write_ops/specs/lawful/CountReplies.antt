@@ -1,4 +1,5 @@
 -- What the machine's replies to an update and a delete of one statement tell, where they are read as done: that statement ran now or
+-- had its kept result, and its counts are those that are read.
 use Rattle.std.proofs.Common.{◌≡◌, ℕ, List, [], ◌∷◌, ◌++◌, refl, sym, ap, subst, ◌∙◌}
 use Rattle.std.specs.Prelude.{ℤ, pos, ◌+ℤ◌, Option, None, Some, Ok, unwrap_or}
 use Rattle.std.specs.Option.{option_and_then, option_map}

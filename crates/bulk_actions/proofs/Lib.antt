@@ -1,0 +1,5 @@
+pub mod BulkBodies
+pub mod BulkJudged
+pub mod OpsSpelled
+pub mod OwnOps
+pub mod SentOps

@@ -1,0 +1,2 @@
+pub mod BulkIds
+pub mod inside

@@ -1,0 +1,12 @@
+pub mod AppendedCalls
+pub mod CallCauses
+pub mod CallCompleteness
+pub mod CallParts
+pub mod CallTimes
+pub mod CallsInOrder
+pub mod EachCall
+pub mod LogEntries
+pub mod ManyInLog
+pub mod RunSteps
+pub mod SpelledAnswers
+pub mod StandingRuns

@@ -1,0 +1,5 @@
+pub mod CallByCall
+pub mod CallMaking
+pub mod MainTheorem
+pub mod ManyLeft
+pub mod Standing

@@ -1,0 +1,155 @@
+//! One call of a list.
+ghost use Rattle.std.specs.Prelude.{◌≡◌};
+ghost use Rattle.driver_ops.specs.Targets.{in_collection};
+ghost use Rattle.driver_attempt.specs.Client.{options_of};
+ghost use Rattle.driver_attempt.specs.Moment.{moment_of};
+ghost use Rattle.driver_actions.specs.Causes.{WriteCaused};
+ghost use Rattle.driver_actions.specs.ManyCalls.{MakesMany, ManyCaused};
+ghost use Rattle.driver_actions.specs.SingleCalls.{Makes, first_place};
+ghost use Rattle.call_runs.specs.CallByCall.{CallCaused};
+ghost use Rattle.call_runs.specs.CallMaking.{HasCause, MakesCall, OfMany, OfSingle};
+ghost use Rattle.driver_inputs.specs.Forms.{form_of};
+
+use bson_lite::{Document, List, Namespace, TryClone};
+use driver_actions::SingleWrites;
+use driver_actions::insert_all::insert_all;
+use driver_attempt::{Client, Outside};
+use driver_error::{InsertManyResult, Result};
+use driver_inputs::{Answer, Call, Outcome, SingleWrite};
+use driver_link::{Clock, Link};
+use driver_ops::Collection;
+use driver_options::InsertManyOptions;
+use driver_session::SessionStore;
+use rand_core::Rng;
+use std::alloc::Global;
+
+/// Makes a call, whose number is that of the current one (`outside.call`), and reads the clock before and
+/// after it.
+pub(crate) fn make_call<S: SessionStore, L: Link, K: Clock, R: Rng>(
+    alloc: Global,
+    client: &mut Client<S>,
+    outside: &mut Outside<L, K, R>,
+    call: &Call,
+) -> Outcome
+    ensures caused { CallCaused outside.old.call
+        (moment_of S.tells L.tells K.tells R.stream client.old outside.old)
+        (moment_of S.tells L.tells K.tells R.stream client.new outside.new)
+        call.now result }
+    ensures options { options_of client.new ≡ options_of client.old }
+    ensures call { outside.new.call ≡ outside.old.call }
+{
+    let started_ms = outside.clock.now_ms();
+    let result = answer_call(alloc, client, outside, call);
+    let ended_ms = outside.clock.now_ms();
+    Outcome {
+        result,
+        started_ms,
+        ended_ms,
+    }
+}
+
+/// Makes a call: a single write has the first place of its call, and document i of an insert of many place i.
+fn answer_call<S: SessionStore, L: Link, K: Clock, R: Rng>(
+    alloc: Global,
+    client: &mut Client<S>,
+    outside: &mut Outside<L, K, R>,
+    call: &Call,
+) -> Result<Answer>
+    ensures makes { MakesCall
+        (moment_of S.tells L.tells K.tells R.stream client.old outside.old)
+        (moment_of S.tells L.tells K.tells R.stream client.new outside.new)
+        call.now outside.old.call result }
+    ensures cause { HasCause
+        (moment_of S.tells L.tells K.tells R.stream client.old outside.old)
+        (moment_of S.tells L.tells K.tells R.stream client.new outside.new)
+        call.now outside.old.call result }
+    ensures options { options_of client.new ≡ options_of client.old }
+    ensures call { outside.new.call ≡ outside.old.call }
+{
+    match call {
+        Call::Single { write } => answer_single(alloc, client, outside, write),
+        Call::InsertMany {
+            namespace,
+            documents,
+            options,
+        } => answer_many(alloc, client, outside, namespace, documents, options),
+    }
+}
+
+/// Makes a single write.
+fn answer_single<S: SessionStore, L: Link, K: Clock, R: Rng>(
+    alloc: Global,
+    client: &mut Client<S>,
+    outside: &mut Outside<L, K, R>,
+    write: &SingleWrite,
+) -> Result<Answer>
+    ensures makes { OfSingle (Makes
+        (moment_of S.tells L.tells K.tells R.stream client.old outside.old)
+        (moment_of S.tells L.tells K.tells R.stream client.new outside.new)
+        (form_of write.now) (first_place outside.old.call)) result }
+    ensures cause { WriteCaused
+        (moment_of S.tells L.tells K.tells R.stream client.old outside.old)
+        (moment_of S.tells L.tells K.tells R.stream client.new outside.new)
+        (form_of write.now) result }
+    ensures options { options_of client.new ≡ options_of client.old }
+    ensures call { outside.new.call ≡ outside.old.call }
+{
+    match client.single(alloc, write, outside) {
+        Ok(answer) => Ok(Answer::Single(answer)),
+        Err(error) => Err(error),
+    }
+}
+
+/// Makes an insert of many documents.
+fn answer_many<S: SessionStore, L: Link, K: Clock, R: Rng>(
+    alloc: Global,
+    client: &mut Client<S>,
+    outside: &mut Outside<L, K, R>,
+    namespace: &Namespace,
+    documents: &List<Document>,
+    options: &InsertManyOptions,
+) -> Result<Answer>
+    ensures makes { OfMany (MakesMany
+        (moment_of S.tells L.tells K.tells R.stream client.old outside.old)
+        (moment_of S.tells L.tells K.tells R.stream client.new outside.new)
+        (in_collection namespace.now) documents.now options.now outside.old.call) result }
+    ensures cause { OfMany (ManyCaused
+        (moment_of S.tells L.tells K.tells R.stream client.old outside.old)
+        (moment_of S.tells L.tells K.tells R.stream client.new outside.new)
+        (in_collection namespace.now) documents.now options.now outside.old.call) result }
+    ensures options { options_of client.new ≡ options_of client.old }
+    ensures call { outside.new.call ≡ outside.old.call }
+{
+    match insert_into(alloc, client, outside, namespace, documents, options) {
+        Ok(output) => Ok(Answer::Many(output)),
+        Err(failure) => Err(failure),
+    }
+}
+
+/// Inserts documents into a collection that has no concern of its own.
+fn insert_into<S: SessionStore, L: Link, K: Clock, R: Rng>(
+    alloc: Global,
+    client: &mut Client<S>,
+    outside: &mut Outside<L, K, R>,
+    namespace: &Namespace,
+    documents: &List<Document>,
+    options: &InsertManyOptions,
+) -> Result<InsertManyResult>
+    ensures makes { MakesMany
+        (moment_of S.tells L.tells K.tells R.stream client.old outside.old)
+        (moment_of S.tells L.tells K.tells R.stream client.new outside.new)
+        (in_collection namespace.now) documents.now options.now outside.old.call result }
+    ensures cause { ManyCaused
+        (moment_of S.tells L.tells K.tells R.stream client.old outside.old)
+        (moment_of S.tells L.tells K.tells R.stream client.new outside.new)
+        (in_collection namespace.now) documents.now options.now outside.old.call result }
+    ensures options { options_of client.new ≡ options_of client.old }
+    ensures call { outside.new.call ≡ outside.old.call }
+{
+    let collection = Collection {
+        namespace: namespace.try_clone(alloc)?,
+        write_concern: None,
+    };
+    let documents = documents.as_slice();
+    insert_all(alloc, client, outside, &collection, documents, options)
+}

@@ -1,6 +1,0 @@
--- The law is a lemma.
-use Rattle.driver_actions.proofs.CallTimes.{caused_timed}
-use Rattle.driver_actions.proofs.laws.a_call_only_reads_the_clock.Goals as goal
-
-pub returns : goal.returns
-returns c = caused_timed

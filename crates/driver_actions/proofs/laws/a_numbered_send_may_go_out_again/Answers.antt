@@ -1,6 +1,0 @@
--- It is a lemma of the machine.
-use Rattle.driver_link.proofs.OrderlyTraces.{orderly_again}
-use Rattle.driver_actions.proofs.laws.a_numbered_send_may_go_out_again.Goals as goal
-
-pub returns : goal.returns
-returns c = orderly_again

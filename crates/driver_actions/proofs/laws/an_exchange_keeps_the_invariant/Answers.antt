@@ -1,6 +1,0 @@
--- It is a lemma of the machine.
-use Rattle.driver_link.proofs.SettledExchanges.{exchanged_settled}
-use Rattle.driver_actions.proofs.laws.an_exchange_keeps_the_invariant.Goals as goal
-
-pub returns : goal.returns
-returns c = exchanged_settled

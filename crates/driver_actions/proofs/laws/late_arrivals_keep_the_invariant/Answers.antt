@@ -1,6 +1,0 @@
--- It is a lemma of the machine.
-use Rattle.driver_link.proofs.SettledExchanges.{after_settled}
-use Rattle.driver_actions.proofs.laws.late_arrivals_keep_the_invariant.Goals as goal
-
-pub returns : goal.returns
-returns c = after_settled
