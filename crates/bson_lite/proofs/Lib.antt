@@ -12,4 +12,5 @@ pub mod Rising
 pub mod Sound
 pub mod Steps
 pub mod Takes
+pub mod Uniting
 pub mod Wholeness

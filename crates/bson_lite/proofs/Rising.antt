@@ -44,7 +44,7 @@ less_of x y Greater is below = absurd below
 rank_rises : (a b q : ℕ) → a ≤ b → ordering_index (nat_cmp a q) ≤ ordering_index (nat_cmp b q)
 rank_rises a b q rise = grind (arith, nat_tests)
 
-abbrev first_of : {X : Type 0} → Option X → Option X → Option X
+abbrev pub first_of : {X : Type 0} → Option X → Option X → Option X
 first_of None o = o
 first_of (Some v) o = Some v
 
@@ -294,7 +294,8 @@ module _ {X : Type 0} where
       let same : q ≡ e.0 = eqb-true q e.0 (unsigned_ties q e.0 ∙ ties) in
       subst (λ (key : ℕ). finite.find nat_cmp key es ≡ None) (sym same) (find_above e.0 es below)
 
-  get_each : (m : finite.FinMap nat_cmp X) (es : List (ℕ × X)) → T (finite.is_sorted nat_cmp es) → (q : ℕ)
+  -- what is found where entries in order were put in
+  pub get_each : (m : finite.FinMap nat_cmp X) (es : List (ℕ × X)) → T (finite.is_sorted nat_cmp es) → (q : ℕ)
       → finite.get (insert_each m es) q ≡ first_of (finite.find nat_cmp q es) (finite.get m q)
   unfolding insert_each
   get_each m [] sorted q = refl

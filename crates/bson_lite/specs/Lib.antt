@@ -11,5 +11,6 @@ pub mod Same
 pub mod Sameness
 pub mod Spelling
 pub mod Stamps
+pub mod Unions
 pub mod Writing
 pub mod formers

@@ -5,6 +5,7 @@ ghost use Rattle.std.specs.Option.{option_copied};
 ghost use Rattle.std.specs.Ordering.{nat_cmp};
 ghost use Rattle.std.specs.Vec.{vec_capacity, vec_len};
 ghost use Rattle.bson_lite.specs.Indexed.{insert_each, IsAt, IsGap, IsRising};
+ghost use Rattle.bson_lite.specs.Unions.{union};
 
 use std::alloc::{AllocError, Global};
 use std::fmt;
@@ -85,6 +86,86 @@ impl<T: Drop> ByIndex<T> {
         put_all(&mut self.entries, more);
         Ok(())
     }
+
+    /// Puts each value of another map at its index, in place of the one there. A refusal leaves the map as
+    /// it was.
+    pub fn unite(&mut self, more: ByIndex<T>) -> Result<(), AllocError>
+        ensures ok { OnOk result (self.new ≡ union self.old more) }
+        ensures err { OnErr result (self.new ≡ self.old) }
+    {
+        let ByIndex { entries } = more;
+        self.extend(entries)
+    }
+}
+
+/// Puts the values of two maps into two others, each at its index, in place of the one there. Room is made
+/// first, so a refusal leaves both as they were.
+fn unite_two<A: Drop, B: Drop>(
+    first: &mut ByIndex<A>,
+    more_first: ByIndex<A>,
+    second: &mut ByIndex<B>,
+    more_second: ByIndex<B>,
+) -> Result<(), AllocError>
+    ensures first { OnOk result (first.new ≡ union first.old more_first) }
+    ensures second { OnOk result (second.new ≡ union second.old more_second) }
+    ensures first_stays { OnErr result (first.new ≡ first.old) }
+    ensures second_stays { OnErr result (second.new ≡ second.old) }
+{
+    let ByIndex { entries } = more_first;
+    first.entries.reserve(entries.len())?;
+    second.unite(more_second)?;
+    put_all(&mut first.entries, entries);
+    Ok(())
+}
+
+/// The same of three maps.
+pub fn unite_three<A: Drop, B: Drop, C: Drop>(
+    first: &mut ByIndex<A>,
+    more_first: ByIndex<A>,
+    second: &mut ByIndex<B>,
+    more_second: ByIndex<B>,
+    third: &mut ByIndex<C>,
+    more_third: ByIndex<C>,
+) -> Result<(), AllocError>
+    ensures first { OnOk result (first.new ≡ union first.old more_first) }
+    ensures second { OnOk result (second.new ≡ union second.old more_second) }
+    ensures third { OnOk result (third.new ≡ union third.old more_third) }
+    ensures first_stays { OnErr result (first.new ≡ first.old) }
+    ensures second_stays { OnErr result (second.new ≡ second.old) }
+    ensures third_stays { OnErr result (third.new ≡ third.old) }
+{
+    let ByIndex { entries } = more_first;
+    first.entries.reserve(entries.len())?;
+    unite_two(second, more_second, third, more_third)?;
+    put_all(&mut first.entries, entries);
+    Ok(())
+}
+
+/// The same of four maps.
+pub fn unite_four<A: Drop, B: Drop, C: Drop, D: Drop>(
+    first: &mut ByIndex<A>,
+    more_first: ByIndex<A>,
+    second: &mut ByIndex<B>,
+    more_second: ByIndex<B>,
+    third: &mut ByIndex<C>,
+    more_third: ByIndex<C>,
+    fourth: &mut ByIndex<D>,
+    more_fourth: ByIndex<D>,
+) -> Result<(), AllocError>
+    ensures first { OnOk result (first.new ≡ union first.old more_first) }
+    ensures second { OnOk result (second.new ≡ union second.old more_second) }
+    ensures third { OnOk result (third.new ≡ union third.old more_third) }
+    ensures fourth { OnOk result (fourth.new ≡ union fourth.old more_fourth) }
+    ensures first_stays { OnErr result (first.new ≡ first.old) }
+    ensures second_stays { OnErr result (second.new ≡ second.old) }
+    ensures third_stays { OnErr result (third.new ≡ third.old) }
+    ensures fourth_stays { OnErr result (fourth.new ≡ fourth.old) }
+{
+    let ByIndex { entries } = more_first;
+    first.entries.reserve(entries.len())?;
+    unite_three(second, more_second, third, more_third, fourth, more_fourth)?;
+    put_all(&mut first.entries, entries);
+    Ok(())
 }
 
 /// Entries that print as those of a map.

@@ -1,11 +1,16 @@
-//! The laws of the spelling, of what spells no document, and of the order of timestamps.
+//! The laws of the spelling, of what spells no document, of the order of timestamps, and of maps put
+//! together.
 ghost use Rattle.std.specs.Prelude.{◌≡◌, ◌↔◌, ℕ, List, Ok, Err};
+ghost use Rattle.std.specs.FinMap as finite;
+ghost use Rattle.std.specs.Option.{option_or};
+ghost use Rattle.std.specs.Ordering.{nat_cmp};
 ghost use Rattle.bson_lite.specs.FirstBroken.{IsFirstBroken};
 ghost use Rattle.bson_lite.specs.Reading.{read};
 ghost use Rattle.bson_lite.specs.Spelling.{HasSpelling, Spells, spelling};
 ghost use Rattle.bson_lite.specs.declared.bson.Bson.{Bson};
 ghost use Rattle.bson_lite.specs.declared.document.Pair.{Pair};
 ghost use Rattle.bson_lite.specs.Stamps.{by_time_then_increment};
+ghost use Rattle.bson_lite.specs.Unions.{union};
 
 use crate::bson::Timestamp;
 use std::cmp::Ordering;
@@ -31,3 +36,10 @@ pub fn order_of_timestamps(a: Timestamp, b: Timestamp) -> Ordering
 {
     a.cmp(&b)
 }
+
+/// In two maps put together each index has the later one's value, and where that has none the earlier one's.
+pub fn union_by_index<T>()
+    ensures { (earlier later : finite.FinMap nat_cmp T) (index : ℕ)
+        → finite.get (union earlier later) index
+        ≡ option_or (finite.get later index) (finite.get earlier index) }
+{}

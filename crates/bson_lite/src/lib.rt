@@ -26,7 +26,7 @@ pub mod text;
 
 pub use boxed::Boxed;
 pub use bson::{Binary, Bson, ObjectId, Regex, Timestamp};
-pub use by_index::ByIndex;
+pub use by_index::{ByIndex, unite_four, unite_three};
 pub use copy::TryClone;
 pub use decoding::decode;
 pub use document::{Document, Pair};
@@ -35,7 +35,9 @@ pub use fault::{DecodeFault, EncodeFault};
 pub use fields::{
     ID_KEY, get_int, get_or_prepend_id_field, replacement_document_check, update_document_check,
 };
-pub use laws::{breaks_at_first_broken, order_of_timestamps, read_is_spelled, round_trip};
+pub use laws::{
+    breaks_at_first_broken, order_of_timestamps, read_is_spelled, round_trip, union_by_index,
+};
 pub use list::List;
 pub use namespace::Namespace;
 pub use raw::RawDocumentBuf;

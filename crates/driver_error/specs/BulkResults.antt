@@ -1,8 +1,9 @@
 -- What the result of a bulk write is made of: its five counts, and in a verbose one the result of each write by its index.
-use Rattle.std.specs.Prelude.{◌≡◌, ℕ, ℤ, pos, ◌+ℤ◌, Bool, true, false, List, codes, FitsSigned}
+use Rattle.std.specs.Prelude.{◌≡◌, ℕ, ℤ, pos, ◌+ℤ◌, ◌≤ℤ◌, ◌⊎◌, Bool, true, false, List, codes, FitsSigned}
 use Rattle.std.specs.Int.{w64}
 use Rattle.std.specs.Ordering.{nat_cmp}
 use Rattle.std.specs.FinMap as finite
+use Rattle.bson_lite.specs.Unions.{AreDisjoint, union}
 use Rattle.driver_error.specs.declared.error.Error.{Error}
 use Rattle.driver_error.specs.declared.kind.ErrorKind.TheVariants as kind
 use Rattle.driver_error.specs.declared.results.DeleteResult.{DeleteResult}
@@ -13,6 +14,7 @@ use Rattle.driver_error.specs.declared.results.SummaryBulkWriteResult.{SummaryBu
 use Rattle.driver_error.specs.declared.results.UpdateResult.{UpdateResult}
 use Rattle.driver_error.specs.declared.results.VerboseBulkWriteResult.{VerboseBulkWriteResult}
 use Rattle.driver_error.specs.Conversions.{IsMade}
+use Rattle.driver_error.specs.Error.{IsAlone}
 use Rattle.driver_error.specs.LabelTexts.{no_labels}
 
 -- the five counts; they are integers without a bound here
@@ -59,9 +61,21 @@ pub record LeavesRange (sums : Counts) (error : Error) : Type 0 where
   pub some_sum : AllFit sums → ⊥
   pub says : IsMade (kind.InvalidResponse out_of_range_text) no_labels error
 
+-- why results are not merged: a sum of their counts has more than 64 bits, or there was no memory
+abbrev pub RefusesMerge : Counts → Error → Type 0
+RefusesMerge sums error = LeavesRange sums error ⊎ IsAlone kind.Memory no_labels error
+
+-- no count is negative
+pub record AreCounted (counts : Counts) : Type 0 where
+  pub inserted : pos 0 ≤ℤ counts.inserted_count
+  pub matched : pos 0 ≤ℤ counts.matched_count
+  pub modified : pos 0 ≤ℤ counts.modified_count
+  pub upserted : pos 0 ≤ℤ counts.upserted_count
+  pub deleted : pos 0 ≤ℤ counts.deleted_count
+
 -- what a kind of result tells of itself: whether it keeps counts and no result of a write; its five counts; the result of no
--- write; the same with these counts added, and with the result of one more insert, update or delete at its index; and the result
--- as that of a bulk write that failed
+-- write; the same with these counts added, and with the result of one more insert, update or delete at its index; what a result
+-- and a later one are together; and the result as that of a bulk write that failed
 pub record ResultSpec (R : Type 0) : Type 0 where
   pub only_errors : Bool
   pub counts : R → Counts
@@ -70,6 +84,7 @@ pub record ResultSpec (R : Type 0) : Type 0 where
   pub with_insert : R → ℕ → InsertOneResult → R
   pub with_update : R → ℕ → UpdateResult → R
   pub with_delete : R → ℕ → DeleteResult → R
+  pub merged : R → R → R
   pub partial : R → PartialBulkWriteResult
 
 -- the result stays, whatever result of a write comes
@@ -86,6 +101,7 @@ summary_spec = record {
   with_insert = unchanged;
   with_update = unchanged;
   with_delete = unchanged;
+  merged = added;
   partial = λ now. partly.Summary now;
 }
 
@@ -103,6 +119,21 @@ verbose_update now index value = record now { update_results = finite.insert now
 abbrev pub verbose_delete : VerboseBulkWriteResult → ℕ → DeleteResult → VerboseBulkWriteResult
 verbose_delete now index value = record now { delete_results = finite.insert now.delete_results index value }
 
+-- the sums of the counts, and the results of both by index; at an index that both have, the later one
+abbrev pub merged_verbose : VerboseBulkWriteResult → VerboseBulkWriteResult → VerboseBulkWriteResult
+merged_verbose earlier later = record {
+  summary = added earlier.summary later.summary;
+  insert_results = union earlier.insert_results later.insert_results;
+  update_results = union earlier.update_results later.update_results;
+  delete_results = union earlier.delete_results later.delete_results;
+}
+
+-- no insert, no update and no delete of the two has the same index
+pub record AreApart (a b : VerboseBulkWriteResult) : Type 0 where
+  pub inserts : AreDisjoint a.insert_results b.insert_results
+  pub updates : AreDisjoint a.update_results b.update_results
+  pub deletes : AreDisjoint a.delete_results b.delete_results
+
 -- a verbose result has a summary, and results by their indexes
 abbrev pub verbose_spec : ResultSpec VerboseBulkWriteResult
 verbose_spec = record {
@@ -113,6 +144,7 @@ verbose_spec = record {
   with_insert = verbose_insert;
   with_update = verbose_update;
   with_delete = verbose_delete;
+  merged = merged_verbose;
   partial = λ now. partly.Verbose now;
 }
 

@@ -1,3 +1,4 @@
+pub mod BulkErrors
 pub mod BulkResults
 pub mod Chains
 pub mod CommandText

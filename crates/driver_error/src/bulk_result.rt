@@ -1,7 +1,8 @@
 //! What the two kinds of results of a bulk write have in common.
 ghost use Rattle.std.specs.Prelude.{◌≡◌, SomeIff, IfOk, IfErr, OnErr, OnOk};
 ghost use Rattle.driver_error.specs.declared.kind.ErrorKind.TheVariants.{InvalidResponse, Memory as NoMemory};
-ghost use Rattle.driver_error.specs.BulkResults.{AddsCounts, AllFit, KeepsApart, LeavesRange, ResultSpec, added, five, out_of_range_text};
+ghost use Rattle.driver_error.specs.BulkErrors.{MergesResults};
+ghost use Rattle.driver_error.specs.BulkResults.{AddsCounts, AllFit, KeepsApart, LeavesRange, RefusesMerge, ResultSpec, added, five, out_of_range_text};
 ghost use Rattle.driver_error.specs.Conversions.{IsMade};
 ghost use Rattle.driver_error.specs.Error.{IsAlone};
 ghost use Rattle.driver_error.specs.LabelTexts.{no_labels};
@@ -12,7 +13,7 @@ use crate::results::{
     DeleteResult, InsertOneResult, PartialBulkWriteResult, SummaryBulkWriteResult, UpdateResult,
     VerboseBulkWriteResult,
 };
-use bson_lite::{ByIndex, Text};
+use bson_lite::{ByIndex, Text, unite_three};
 use std::alloc::Global;
 
 /// A sum of counts has more than 64 bits.
@@ -71,23 +72,38 @@ pub trait BulkWriteResult: Drop {
         ensures err { OnErr result (self.new ≡ self.old) }
         ensures why { IfErr result (λ error. IsAlone NoMemory no_labels error) };
 
+    /// Takes over what a later part of the bulk write answered: its counts are added, and its results stand
+    /// at their indexes, in place of those there. Refused, it changes nothing.
+    fn merge(&mut self, alloc: Global, other: Self) -> Result<()>
+        ensures ok { OnOk result (self.new ≡ tells.merged self.old other) }
+        ensures fit { OnOk result (AllFit (added (tells.counts self.old) (tells.counts other))) }
+        ensures err { OnErr result (self.new ≡ self.old) }
+        ensures why { IfErr result (λ error. RefusesMerge
+            (added (tells.counts self.old) (tells.counts other)) error) };
+
     // The result of no write counts nothing, and counts that are added join those that are there.
     ghost adds: { AddsCounts tells };
 
     // Results of different writes are kept in any order.
     ghost apart: { KeepsApart tells };
+
+    // How results are grouped as they are merged does not matter, and that of no write adds nothing.
+    ghost merges: { MergesResults tells };
 }
 
 impl BulkWriteResult for SummaryBulkWriteResult {
     ghost use Rattle.std.specs.Prelude.{refl};
     ghost use Rattle.driver_error.specs.BulkResults.{summary_spec};
     ghost use Rattle.driver_error.specs.lawful.Apart.{summary_apart};
+    ghost use Rattle.driver_error.specs.lawful.Merging.{summary_merges};
 
     ghost tells = { summary_spec };
 
     ghost adds = { record { begins = refl; adds = λ now more. refl } };
 
     ghost apart = { summary_apart };
+
+    ghost merges = { summary_merges };
 
     fn empty(_alloc: Global) -> SummaryBulkWriteResult {
         SummaryBulkWriteResult {
@@ -138,18 +154,32 @@ impl BulkWriteResult for SummaryBulkWriteResult {
     fn add_delete_result(&mut self, _index: usize, _value: DeleteResult) -> Result<()> {
         Ok(())
     }
+
+    fn merge(&mut self, alloc: Global, other: SummaryBulkWriteResult) -> Result<()>
+        // These stand in place of the trait's: memory is wanted for the words of a refusal alone.
+        ensures ok { OnOk result (self.new ≡ added self.old other) }
+        ensures fit { OnOk result (AllFit (added self.old other)) }
+        ensures err { OnErr result (self.new ≡ self.old) }
+        ensures why { IfErr result (λ error. LeavesRange (added self.old other) error) }
+    {
+        *self = added_counts(alloc, *self, other)?;
+        Ok(())
+    }
 }
 
 impl BulkWriteResult for VerboseBulkWriteResult {
     ghost use Rattle.std.specs.Prelude.{refl};
     ghost use Rattle.driver_error.specs.BulkResults.{verbose_spec};
     ghost use Rattle.driver_error.specs.lawful.Apart.{verbose_apart};
+    ghost use Rattle.driver_error.specs.lawful.Merging.{verbose_merges};
 
     ghost tells = { verbose_spec };
 
     ghost adds = { record { begins = refl; adds = λ now more. refl } };
 
     ghost apart = { verbose_apart };
+
+    ghost merges = { verbose_merges };
 
     fn empty(alloc: Global) -> VerboseBulkWriteResult {
         VerboseBulkWriteResult {
@@ -196,6 +226,26 @@ impl BulkWriteResult for VerboseBulkWriteResult {
         self.delete_results.insert(index, value)?;
         Ok(())
     }
+
+    fn merge(&mut self, alloc: Global, other: VerboseBulkWriteResult) -> Result<()> {
+        let VerboseBulkWriteResult {
+            summary,
+            insert_results,
+            update_results,
+            delete_results,
+        } = other;
+        let sums = added_counts(alloc, self.summary, summary)?;
+        unite_three(
+            &mut self.insert_results,
+            insert_results,
+            &mut self.update_results,
+            update_results,
+            &mut self.delete_results,
+            delete_results,
+        )?;
+        self.summary = sums;
+        Ok(())
+    }
 }
 
 /// Each count with the other's, where all five sums have 64 bits.
@@ -226,7 +276,7 @@ fn out_of_range(alloc: Global) -> Error
 }
 
 /// Each count with the other's. It is refused exactly where a sum has more than 64 bits.
-fn added_counts(
+pub(crate) fn added_counts(
     alloc: Global,
     counts: SummaryBulkWriteResult,
     more: SummaryBulkWriteResult,

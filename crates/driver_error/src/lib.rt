@@ -4,6 +4,7 @@
 //! `specs/Error.antt`, read one level of it.
 #![tactic(auto)]
 
+mod bulk_error;
 pub mod bulk_result;
 mod codes;
 pub mod command;
