@@ -45,8 +45,10 @@ def shown(crate, parts):
 
 
 def has_definition(body, name):
-    """Whether a file of definitions or lemmas has a name."""
+    """Whether a file of definitions or lemmas has a name, or hands it on."""
     word = re.escape(name)
+    if re.search(rf"^pub use [\w.+]+\.\{{(?:[^}}]*[ ,])?{word}[,}}]", body, re.M):
+        return True
     return re.search(rf"^(?:\s*)(?:unfoldable |abbrev |pub |data |record |postulate )*{word}(?: :| \(| \{{|\s*:)", body, re.M) or re.search(rf"^\s+(?:pub )?{word} :", body, re.M)
 
 

@@ -1,5 +1,5 @@
 -- One batch of an insert: what its operation was made of, what it came to, and what is gathered of it.
-use Rattle.std.proofs.Common.{◌≡◌, ℕ, ◌+◌, ◌<◌, ◌≤◌, List, [], ◌∷◌, drop, length, refl, sym, ap, subst, ◌∙◌, inl, inr, arith}
+use Rattle.std.proofs.Common.{◌≡◌, ℕ, ◌<◌, List, [], ◌∷◌, drop, length, refl, sym, ap, subst, ◌∙◌, inl, inr, arith}
 use Rattle.std.proofs.lemmas.List.{length-drop}
 use Rattle.std.specs.Prelude.{Bool, true, false, Option, None, Some, IfSome, ◌⊎◌, Result, Ok, Err}
 use Rattle.driver_error.specs.declared.error.Error.{Error}
@@ -26,15 +26,16 @@ use Rattle.driver_attempt.proofs.CommandParts.{fixed_some}
 use Rattle.driver_exec.specs.OperationCauses.{Caused}
 use Rattle.driver_exec.specs.Reporting.{HasBuilt, HasRun}
 use Rattle.driver_exec.specs.Resending.{IsReadFailure, SendsOneCommand}
-use Rattle.driver_exec.proofs.WholeOperation.{executes_client, executes_few}
+use Rattle.driver_exec.proofs.WholeOperation.{executes_client}
 use Rattle.driver_actions.specs.declared.behind.Behind.{Behind}
 use Rattle.driver_actions.specs.declared.behind.Behind.TheVariants.{Next, Over, Stopped}
 use Rattle.driver_actions.specs.declared.gathered.Gathered.{Gathered}
-use Rattle.driver_actions.specs.Batches.{goes_on, is_of_documents, places_from, rest_of, tells_documents}
+use Rattle.driver_actions.specs.Batches.{goes_on, insert_plan, is_of_documents, places_from, rest_of, tells_documents}
 use Rattle.driver_actions.specs.ManyAnswers.{with_result}
 use Rattle.driver_actions.specs.inside.Batches.{AreSpelled, BatchMade, ComesBehind, GathersBatch, IsCount, NextBehind, StepsWithin, StopsBatches}
 use Rattle.driver_actions.proofs.BatchPlaces.{places_length}
 use Rattle.driver_actions.proofs.CallWrites.WriteOperations.{of_insert}
+use Rattle.driver_actions.proofs.PlannedParts.{planned_made}
 
 -- an error that tells of its documents is one that only a reply spells
 read_documents : (why : ErrorKind) → tells_documents why ≡ true → IsReadFailure why
@@ -61,19 +62,10 @@ counts_documents target index own options before fixed fixed_now count (Ok outpu
 counts_documents target index own options before fixed fixed_now count (Err error) ran told documents =
     built_documents target index own options before fixed fixed_now count (ran (read_documents (kind_of error) documents)) told
 
--- two sends more than none are two
-two_at_most : (count : ℕ) → count ≤ 0 + 2 → count ≤ 2
-two_at_most count within = omega (arith, within)
-
 -- a batch was made where its operation was executed
 module _ (target : OperationTarget) (options : InsertManyOptions) (call index : ℕ) (own : List OwnDocument) (before now : Moment) (sends : ℕ) (fixed_now : Option ℕ) (came : Result InsertManyResult Error)
     (executes : (statements : ℕ) → IsFixed fixed_now statements
     → Executes (insert_spec target index own options) (rest_of call index own statements) send.first before now 0 sends (statements_fixed own None) fixed_now came) where
-  made_few : sends ≤ 2
-  made_few =
-      let some = fixed_some fixed_now in
-      two_at_most sends (executes_few (insert_spec target index own options) (rest_of call index own some.0) send.first before now 0 sends (statements_fixed own None) fixed_now came (executes some.0 some.1))
-
   batch_of_parts : (count : ℕ) → 0 < length own
       → ((statements : ℕ) → IsFixed fixed_now statements → SendsOneCommand (insert_spec target index own options) (rest_of call index own statements) before now came)
       → Caused (insert_spec target index own options) send.first (statements_fixed own None) before now (end_of came)
@@ -81,15 +73,7 @@ module _ (target : OperationTarget) (options : InsertManyOptions) (call index : 
       → IfSome fixed_now (λ statements. count ≡ statements) → BatchMade target options call index own before now count came
   batch_of_parts count left one_command caused ran told = record {
     end = record { first = index; statements = fixed_now; result = came };
-    makes = record {
-      begins = refl;
-      left = left;
-      count = sends;
-      twice = made_few;
-      executes = executes;
-      one_command = one_command;
-      caused = caused;
-    };
+    makes = planned_made (insert_plan target options) call index own before now sends fixed_now came executes left one_command caused;
     result_is = refl;
     counted = counts_documents target index own options before (statements_fixed own None) fixed_now count came ran told;
   }

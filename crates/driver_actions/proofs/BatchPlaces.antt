@@ -1,4 +1,4 @@
--- The places of a call's documents, of which the first are left out, and the documents that are left.
+-- The places of a call's writes, of which the first are left out, and the documents that are left.
 use Rattle.std.proofs.Common.{◌≡◌, ℕ, zero, suc, ◌+◌, ◌-◌, ◌<◌, ◌≤◌, List, [], ◌∷◌, ◌++◌, drop, length, take, refl, sym, ap, ◌∙◌, arith}
 use Rattle.std.proofs.lemmas.List.{length-drop, take_all}
 use Rattle.bson_lite.specs.declared.bson.Bson.{Bson}
@@ -42,8 +42,8 @@ pub places_length : (call start count : ℕ) → length (places_from call start 
 places_length call start zero = refl
 places_length call start (suc count) = ap suc (places_length call (start + 1) count)
 
--- so an index of the documents is one of theirs
-pub covers : (call at : ℕ) (own : List OwnDocument) (places : List Place) → places ≡ places_from call 0 (length own) → at < length own → at ≤ length places
+-- so an index of the writes is one of theirs
+pub covers : {W : Type 0} (call at : ℕ) (own : List W) (places : List Place) → places ≡ places_from call 0 (length own) → at < length own → at ≤ length places
 covers call at own places is within =
     let same : length places ≡ length own = ap length is ∙ places_length call 0 (length own) in
     omega (arith, same, within)
@@ -62,8 +62,8 @@ places_behind call start (suc index) (suc count) =
     let fewer : count - index ≡ suc count - suc index = omega arith in
     places_behind call (start + 1) index count ∙ ap (λ n. places_from call n (count - index)) there ∙ ap (places_from call (start + suc index)) fewer
 
--- the places of the documents that are left
-pub places_left : (call index : ℕ) (own : List OwnDocument) → drop index (places_from call 0 (length own)) ≡ places_from call index (length (drop index own))
+-- the places of the writes that are left
+pub places_left : {W : Type 0} (call index : ℕ) (own : List W) → drop index (places_from call 0 (length own)) ≡ places_from call index (length (drop index own))
 places_left call index own =
     let here : 0 + index ≡ index = omega arith in
     places_behind call 0 index (length own) ∙ ap (λ n. places_from call n (length own - index)) here ∙ ap (places_from call index) (sym (length-drop index own))

@@ -1,7 +1,7 @@
--- Batches one after another: those so far, and how the next one goes on or ends the call.
+-- Batches of an insert one after another: those so far, and how the next one goes on or ends the call.
 use Rattle.std.proofs.Common.{◌≡◌, ℕ, ◌+◌, ◌≤◌, List, [], ◌∷◌, ◌++◌, drop, length, refl, sym, ap, subst, ◌∙◌, inl, inr}
 use Rattle.std.proofs.lemmas.List.{drop-drop, drop_all}
-use Rattle.std.specs.Prelude.{Bool, true, false, IsErrAnd, Some, Result, Ok, Err}
+use Rattle.std.specs.Prelude.{Bool, true, false, IsErrAnd, Result, Ok, Err}
 use Rattle.driver_error.specs.declared.error.Error.{Error}
 use Rattle.driver_error.specs.declared.kind.ErrorKind.TheVariants as kind
 use Rattle.driver_error.specs.declared.results.InsertManyResult.{InsertManyResult}
@@ -9,101 +9,20 @@ use Rattle.driver_error.specs.Error.{IsAlone, kind_of}
 use Rattle.driver_error.specs.LabelTexts.{no_labels}
 use Rattle.driver_options.specs.declared.write_options.InsertManyOptions.{InsertManyOptions}
 use Rattle.driver_ops.specs.declared.target.OperationTarget.{OperationTarget}
-use Rattle.driver_ops.specs.Inserts.{insert_is_ordered}
 use Rattle.write_ops.specs.declared.own_document.OwnDocument.{OwnDocument}
 use Rattle.driver_attempt.specs.Moment.{Moment}
 use Rattle.driver_actions.specs.declared.gathered.Gathered.{Gathered}
-use Rattle.driver_actions.specs.Batches.{BatchEnd, GoesOn, MakesBatch, MakesBatches, goes_on}
+use Rattle.driver_actions.specs.Batches.{BatchEnd, insert_plan}
 use Rattle.driver_actions.specs.ManyAnswers.{AllOfDocuments, AnswersMany, EndsAlone, TellsGathered, count_of, gathered, nothing_gathered, with_result}
 use Rattle.driver_actions.specs.ManyCalls.{RanShort}
 use Rattle.driver_actions.specs.inside.Batches.{AllGathered, BatchesMade, GathersBatch, StopsBatches}
 use Rattle.driver_actions.specs.inside.Taking.{AnswersTold}
 use Rattle.driver_actions.proofs.ConcernLabels.{HasItsLabels, answers_gathered, batches_gathered}
+use Rattle.driver_actions.proofs.PlannedSequence as planned
 
 -- batches of which each lets the next one be begun, from an index and the documents that are left there to another
 abbrev pub MakesFront : OperationTarget → InsertManyOptions → ℕ → ℕ → List OwnDocument → List BatchEnd → ℕ → List OwnDocument → Moment → Moment → Type 0
-MakesFront target options call index own [] reached left before now = (now ≡ before) × ((reached ≡ index) × (left ≡ own))
-MakesFront target options call index own (end ∷ ends) reached left before now =
-    (mid : Moment) × (MakesBatch target options call index own before mid end
-    × GoesOn (λ later rest. MakesFront target options call later rest ends reached left mid now) (insert_is_ordered options) index own end)
-
-module _ (target : OperationTarget) (options : InsertManyOptions) (call : ℕ) where
-  -- one batch more
-  front_more : (index : ℕ) (own : List OwnDocument) (ends : List BatchEnd) (reached : ℕ) (left : List OwnDocument) (before mid now : Moment) (end : BatchEnd) (count : ℕ)
-      → MakesFront target options call index own ends reached left before mid → MakesBatch target options call reached left mid now end
-      → goes_on (insert_is_ordered options) end.result ≡ true → end.statements ≡ Some count
-      → MakesFront target options call index own (ends ++ end ∷ []) (reached + count) (drop count left) before now
-  front_more index own [] reached left before mid now end count front makes on told =
-      let here : MakesBatch target options call index own before now end =
-      subst (λ m. MakesBatch target options call index own m now end) front.0
-      (subst (λ n. MakesBatch target options call n own mid now end) front.1.0
-      (subst (λ l. MakesBatch target options call reached l mid now end) front.1.1 makes)) in (
-        now,
-        (
-          here,
-          record {
-            on = on;
-            statements = count;
-            told = told;
-            rest = (refl, (ap (λ n. n + count) front.1.0, ap (drop count) front.1.1));
-          },
-        ),
-      )
-  front_more index own (one ∷ ends) reached left before mid now end count front makes on told =
-      let goes = front.1.1 in (
-        front.0,
-        (
-          front.1.0,
-          record {
-            on = goes.on;
-            statements = goes.statements;
-            told = goes.told;
-            rest = front_more (index + goes.statements) (drop goes.statements own) ends reached left front.0 mid now end count goes.rest makes on told;
-          },
-        ),
-      )
-
-  -- then what comes behind them
-  front_then : (short : Type 0) (index : ℕ) (own : List OwnDocument) (ends : List BatchEnd) (reached : ℕ) (left : List OwnDocument) (before mid now : Moment) (later : List BatchEnd)
-      → MakesFront target options call index own ends reached left before mid → MakesBatches short target options call reached left later mid now
-      → MakesBatches short target options call index own (ends ++ later) before now
-  front_then short index own [] reached left before mid now later front rest =
-      subst (λ m. MakesBatches short target options call index own later m now) front.0
-      (subst (λ n. MakesBatches short target options call n own later mid now) front.1.0
-      (subst (λ l. MakesBatches short target options call reached l later mid now) front.1.1 rest))
-  front_then short index own (one ∷ ends) reached left before mid now later front rest =
-      let goes = front.1.1 in (
-        front.0,
-        (
-          front.1.0,
-          inl (record {
-            on = goes.on;
-            statements = goes.statements;
-            told = goes.told;
-            rest = front_then short (index + goes.statements) (drop goes.statements own) ends reached left front.0 mid now later goes.rest rest;
-          }),
-        ),
-      )
-
-  -- batches behind which no document is left are so in a call that ran short too
-  never_short : (short : Type 0) (index : ℕ) (own : List OwnDocument) (ends : List BatchEnd) (before now : Moment)
-      → MakesBatches ⊥ target options call index own ends before now → MakesBatches short target options call index own ends before now
-  never_short short index own [] before now made = (made.0, elim made.1 [ inl none ↦ inl none | inr never ↦ absurd never ])
-  never_short short index own (end ∷ ends) before now made = (
-    made.0,
-    (
-      made.1.0,
-      elim made.1.1 [
-        | inl goes ↦ inl (record {
-          on = goes.on;
-          statements = goes.statements;
-          told = goes.told;
-          rest = never_short short (index + goes.statements) (drop goes.statements own) ends made.0 now goes.rest;
-        })
-        | inr stops ↦ inr stops
-      ],
-    ),
-  )
+MakesFront target options call index own ends reached left before now = planned.MakesFront (insert_plan target options) call index own ends reached left before now
 
 -- what is told of batches, and of others behind them
 gathered_then : (so_far : Gathered) (ends later : List BatchEnd) → gathered so_far (ends ++ later) ≡ gathered (gathered so_far ends) later
@@ -152,7 +71,7 @@ module _ (target : OperationTarget) (options : InsertManyOptions) (call : ℕ) (
   goes_further now later count next = record {
     ends = far.ends ++ next.end ∷ [];
     front = subst (λ l. MakesFront target options call 0 own (far.ends ++ next.end ∷ []) (reached + count) l before now) (drop-drop count reached own)
-        (front_more target options call 0 own far.ends reached (drop reached own) before mid now next.end count far.front next.makes next.goes next.counted.told);
+        (planned.front_more (insert_plan target options) call 0 own far.ends reached (drop reached own) before mid now next.end count far.front next.makes next.goes next.counted.told);
     documents = all_then far.ends (next.end ∷ []) far.documents (next.of_documents, tt);
     told_is = gathered_more now later true count next;
   }
@@ -162,7 +81,7 @@ module _ (target : OperationTarget) (options : InsertManyOptions) (call : ℕ) (
       → AllGathered target options call own before now later
   goes_no_further now later count next = record {
     ends = far.ends ++ next.end ∷ [];
-    batches = front_then target options call ⊥ 0 own far.ends reached (drop reached own) before mid now (next.end ∷ []) far.front
+    batches = planned.front_then (insert_plan target options) call ⊥ 0 own far.ends reached (drop reached own) before mid now (next.end ∷ []) far.front
         (now, (next.makes, inr (record { over = next.goes; none = refl; same = refl })));
     documents = all_then far.ends (next.end ∷ []) far.documents (next.of_documents, tt);
     told_is = gathered_more now later false count next;
@@ -172,7 +91,7 @@ module _ (target : OperationTarget) (options : InsertManyOptions) (call : ℕ) (
   pub stops_there : (now : Moment) (error : Error) → StopsBatches target options call reached (drop reached own) mid now error → StopsBatches target options call 0 own before now error
   stops_there now error stops = record {
     ends = far.ends ++ stops.ends;
-    makes = front_then target options call (kind_of error ≡ kind.Memory) 0 own far.ends reached (drop reached own) before mid now stops.ends far.front stops.makes;
+    makes = planned.front_then (insert_plan target options) call (kind_of error ≡ kind.Memory) 0 own far.ends reached (drop reached own) before mid now stops.ends far.front stops.makes;
     why = elim stops.why [ inl memory ↦ inl memory | inr alone ↦ inr (alone_then far.ends stops.ends error alone) ];
   }
 
@@ -180,7 +99,7 @@ module _ (target : OperationTarget) (options : InsertManyOptions) (call : ℕ) (
   pub all_done : length own ≤ reached → AllGathered target options call own before mid told
   all_done all = record {
     ends = far.ends ++ [];
-    batches = front_then target options call ⊥ 0 own far.ends reached (drop reached own) before mid mid [] far.front (refl, inl (drop_all reached own all));
+    batches = planned.front_then (insert_plan target options) call ⊥ 0 own far.ends reached (drop reached own) before mid mid [] far.front (refl, inl (drop_all reached own all));
     documents = all_then far.ends [] far.documents tt;
     told_is = far.told_is ∙ sym (gathered_then nothing_gathered far.ends []);
   }
@@ -201,7 +120,7 @@ module _ (target : OperationTarget) (options : InsertManyOptions) (call : ℕ) (
       → BatchesMade target options call own before now result
   done_answered told result all answers = record {
     ends = all.ends;
-    batches = never_short target options call (RanShort result) 0 own all.ends before now all.batches;
+    batches = planned.never_short (insert_plan target options) call (RanShort result) 0 own all.ends before now all.batches;
     answers = answers_told all.ends told result all.documents all.told_is (answers_gathered told result (all_labelled told all) answers);
   }
 

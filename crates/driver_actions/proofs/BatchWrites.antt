@@ -12,24 +12,20 @@ use Rattle.driver_link.specs.declared.machine.SendBody.{SendBody}
 use Rattle.driver_link.specs.declared.machine.SendBody.TheVariants.{Write}
 use Rattle.driver_link.specs.declared.machine.SendCommand.TheVariants as command
 use Rattle.driver_link.specs.declared.machine.WriteKind.TheVariants as write_kind
-use Rattle.driver_link.specs.Cases.{body_writes, writes_of}
-use Rattle.driver_link.specs.Settled.{Has}
+use Rattle.driver_link.specs.Cases.{body_writes}
 use Rattle.driver_link.specs.Writes.{write_on}
 use Rattle.driver_link.proofs.Lists.{none_is_some, some_is_some}
 use Rattle.driver_ops.specs.declared.target.OperationTarget.{OperationTarget}
-use Rattle.driver_ops.specs.Fields.{SendContext}
 use Rattle.driver_ops.specs.Inserts.{insert_is_ordered, insert_write, insert_writes}
-use Rattle.driver_ops.specs.Operations.{AsksFor, send_of}
+use Rattle.driver_ops.specs.Operations.{AsksFor}
 use Rattle.driver_ops.specs.Targets.{namespace_of}
 use Rattle.write_ops.specs.declared.own_document.OwnDocument.{OwnDocument}
 use Rattle.write_ops.specs.InsertSpec.{AreOwn, insert_spec}
 use Rattle.driver_exec.specs.BetweenCalls.{MaySendPlaces}
 use Rattle.driver_actions.specs.Batches.{places_from, rest_of}
-use Rattle.driver_actions.specs.CallParts.{HasWriteOf, IsSendOf}
-
--- a place of a call
-abbrev pub place_in : ℕ → ℕ → Place
-place_in call index = record { call = call; index = index }
+use Rattle.driver_actions.specs.CallParts.{HasWriteOf}
+use Rattle.driver_actions.proofs.PlannedBatches.{IsBelow, StandsAt, standing_may_send}
+pub use Rattle.driver_actions.proofs.PlannedBatches.{IsNewFrom, place_in}
 
 -- the places of so many documents are so many
 pub places_length : (call index count : ℕ) → length (places_from call index count) ≡ count
@@ -120,13 +116,14 @@ pub record IsOfCall (G : ℕ → List (Pair Bson) → Type 0) (namespace : Names
   pub of_call : write.place.call ≡ call
   pub is : write.written ≡ write_on write_kind.Insert namespace document
 
-pub of_limited : (G : ℕ → List (Pair Bson) → Type 0) (namespace : Namespace) (call limit : ℕ) (write : PlacedWrite) → IsOf G namespace call limit write → IsOfCall G namespace call write
-of_limited G namespace call limit write is_of = record { document = is_of.document; given = is_of.given; of_call = is_of.of_call; is = is_of.is }
+-- a write of the call in a place below a limit is one below that limit
+pub of_limited : (G : ℕ → List (Pair Bson) → Type 0) (namespace : Namespace) (call limit : ℕ) (write : PlacedWrite) → IsBelow (IsOfCall G namespace call) call limit write → IsOf G namespace call limit write
+of_limited G namespace call limit write below =
+    record { document = below.is.document; given = below.is.given; of_call = below.of_call; below = below.below; is = below.is.is }
 
--- no write of a trace has a place of a call from an index on
-abbrev pub IsNewFrom : List Send → ℕ → ℕ → Type 0
-IsNewFrom trace call index =
-    (earlier : Send) (at : ℕ) (write : PlacedWrite) → Has trace earlier → slice_get (writes_of earlier) at ≡ Some write → write.place.call ≡ call → write.place.index < index
+-- any write
+abbrev AnyWrite : PlacedWrite → Type 0
+AnyWrite write = Unit {0}
 
 -- the insert of so many of the documents that remain
 module _ (target : OperationTarget) (options : InsertManyOptions) (call index : ℕ) (documents : List (List (Pair Bson))) (own : List OwnDocument) (are : AreOwn documents own) (count : ℕ) where
@@ -164,50 +161,33 @@ module _ (target : OperationTarget) (options : InsertManyOptions) (call index : 
         below = front.0;
       }
 
-  -- so it is one of the call's writes
-  pub batch_write : (G : ℕ → List (Pair Bson) → Type 0) → EachIs G index documents → (at : ℕ) (write : PlacedWrite) → slice_get batch_writes at ≡ Some write
-      → IsOf G (namespace_of target) call (index + count) write
-  batch_write G each at write is =
+  -- so it stands in the place of its index, as one of the call's writes
+  pub batch_stands : (G : ℕ → List (Pair Bson) → Type 0) → EachIs G index documents → (at : ℕ) (write : PlacedWrite) → slice_get batch_writes at ≡ Some write
+      → StandsAt (IsOfCall G (namespace_of target) call) call index count at write
+  batch_stands G each at write is =
       let found = at_position at write is in
       let index_is : write.place.index ≡ index + at = ap (λ place. place.index) found.place_is in
       record {
-        document = found.document;
-        given = subst (λ n. G n found.document) (sym index_is) (each at found.document found.stands);
-        of_call = ap (λ place. place.call) found.place_is;
-        below = omega (arith, index_is, found.below);
-        is = found.is;
+        place_is = found.place_is;
+        below = found.below;
+        is = record {
+          document = found.document;
+          given = subst (λ n. G n found.document) (sym index_is) (each at found.document found.stands);
+          of_call = ap (λ place. place.call) found.place_is;
+          is = found.is;
+        };
       }
 
   -- the places may be sent where none of them, nor any behind them, was
   pub batch_may_send : (trace : List Send) → IsNewFrom trace call index → MaySendPlaces trace batch_body
-  batch_may_send trace new = record {
-    writes = tt;
-    apart = λ i j one other at_i at_j same.
-        let first = at_position i one at_i in
-        let second = at_position j other at_j in
-        let same_index : index + i ≡ index + j = ap (λ place. place.index) (sym first.place_is ∙ same ∙ second.place_is) in
-        omega (arith, same_index);
-    new = λ earlier i j one other has stands also same.
-        let found = at_position j other also in
-        let here : one.place ≡ place_in call (index + j) = same ∙ found.place_is in
-        let before : one.place.index < index = new earlier i one has stands (ap (λ place. place.call) here) in
-        let index_is : one.place.index ≡ index + j = ap (λ place. place.index) here in
-        absurd (omega (arith, before, index_is));
-  }
+  batch_may_send trace new = standing_may_send AnyWrite call index count trace batch_body tt
+      (λ at write stands. let found = at_position at write stands in record { place_is = found.place_is; below = found.below; is = tt }) new
 
 -- where there is a document, and there is one in the batch, its send has a write of the call
-batch_of_call : (target : OperationTarget) (options : InsertManyOptions) (call index : ℕ) (documents : List (List (Pair Bson))) (own : List OwnDocument) (are : AreOwn documents own) (count : ℕ)
+pub batch_of_call : (target : OperationTarget) (options : InsertManyOptions) (call index : ℕ) (documents : List (List (Pair Bson))) (own : List OwnDocument) (are : AreOwn documents own) (count : ℕ)
     → 0 < count → 0 < length own → HasWriteOf call (body_writes (batch_body target options call index documents own are count))
 batch_of_call target options call index [] [] are count some there = absurd (omega (arith, there))
 batch_of_call target options call index [] (first ∷ own) are count some there = absurd are
 batch_of_call target options call index (document ∷ documents) [] are count some there = absurd are
 batch_of_call target options call index (document ∷ documents) (first ∷ own) are zero some there = absurd (omega (arith, some))
 batch_of_call target options call index (document ∷ documents) (first ∷ own) are (suc count) some there = inl refl
-
--- so its send carries writes of the call alone
-pub batch_send_of : (target : OperationTarget) (options : InsertManyOptions) (call index : ℕ) (documents : List (List (Pair Bson))) (own : List OwnDocument) (are : AreOwn documents own) (count : ℕ)
-    → 0 < count → 0 < length own → (context : SendContext) → IsSendOf call (send_of context (batch_body target options call index documents own are count))
-batch_send_of target options call index documents own are count some there context = record {
-  some = batch_of_call target options call index documents own are count some there;
-  all = λ at write stands. ap (λ place. place.call) (at_position target options call index documents own are count at write stands).place_is;
-}

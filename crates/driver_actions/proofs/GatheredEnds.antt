@@ -381,7 +381,7 @@ end_ok so_far first count (Ok output) ends of_documents unfailed = (output, refl
 end_ok so_far first count (Err error) ends of_documents unfailed =
     absurd (let denied : ◌≡◌ {A = Bool} true false = sym (kind_fails so_far first count (labels_of error) (kind_of error) ends of_documents) ∙ unfailed in cc)
 
-all_ok : (so_far : Gathered) (ends : List BatchEnd) → AllOfDocuments ends → (gathered so_far ends).failed ≡ false → AllOk ends
+pub all_ok : (so_far : Gathered) (ends : List BatchEnd) → AllOfDocuments ends → (gathered so_far ends).failed ≡ false → AllOk ends
 all_ok so_far [] of_documents unfailed = tt
 all_ok so_far (end ∷ ends) of_documents unfailed = (
   end_ok so_far end.first (count_of end.statements) end.result ends of_documents.0 unfailed,

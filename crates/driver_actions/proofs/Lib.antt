@@ -31,9 +31,14 @@ pub mod ManyNumbers
 pub mod ManyParts
 pub mod ManyRefusals
 pub mod ManySpelled
+pub mod MovesBeside
 pub mod OwnDocuments
 pub mod OwnIds
 pub mod Parts
+pub mod PlannedBatches
+pub mod PlannedCuts
+pub mod PlannedParts
+pub mod PlannedSequence
 pub mod RefusedFirst
 pub mod RunCounts
 pub mod ServerMaking

@@ -15,6 +15,7 @@ use Rattle.driver_error.specs.Error.{ErrorKind, kind_of, labels_of}
 use Rattle.driver_error.specs.LabelTexts.{has_label}
 use Rattle.write_ops.specs.declared.own_document.OwnDocument.{OwnDocument}
 use Rattle.write_ops.specs.InsertAnswers.{all_ids}
+use Rattle.driver_actions.specs.BatchPlans.{AllDone}
 use Rattle.driver_actions.specs.Batches.{BatchEnd, is_of_documents, tells_documents}
 use Rattle.driver_actions.specs.ManyAnswers.{count_of, moved_error, told_errors}
 
@@ -104,5 +105,4 @@ AllWentIn index own (end ∷ ends) = WentIn (λ later left. AllWentIn later left
 
 -- each end is Ok
 abbrev pub AllOk : List BatchEnd → Type 0
-AllOk [] = Unit {0}
-AllOk (end ∷ ends) = ((output : InsertManyResult) × (end.result ≡ Ok output)) × AllOk ends
+AllOk ends = AllDone ends

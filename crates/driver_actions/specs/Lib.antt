@@ -1,3 +1,4 @@
+pub mod BatchPlans
 pub mod BatchTells
 pub mod Batches
 pub mod Below

@@ -19,10 +19,10 @@ use driver_ops::{Collection, Operation};
 use driver_options::InsertManyOptions;
 use driver_session::SessionStore;
 use rand_core::Rng;
+use write_ops::{Insert, OwnDocument};
 use std::alloc::{AllocError, Global};
 use std::marker::Brand;
 use std::sync::ledger::{Blank, Ledger};
-use write_ops::{Insert, OwnDocument};
 
 /// The places of so many documents of a call, from the first one on.
 #[tactic(auto, using(crate::proofs::BatchPlaces::places_more))]

@@ -1,36 +1,27 @@
 -- What each single write that was made left, whatever it does.
-use Rattle.std.proofs.Common.{◌≡◌, ℕ, List, [], ◌∷◌, refl, sym, ap, subst, inl}
-use Rattle.std.specs.Prelude.{ℤ, false, Option, Some, Result}
+use Rattle.std.proofs.Common.{◌≡◌, [], ◌∷◌, refl, sym, ap, subst, inl}
+use Rattle.std.specs.Prelude.{false, Some, Result}
 use Rattle.driver_error.specs.declared.error.Error.{Error}
 use Rattle.driver_link.specs.declared.machine.Place.{Place}
 use Rattle.driver_link.specs.declared.machine.SendBody.{SendBody}
 use Rattle.driver_link.specs.LinkState.{server_run}
-use Rattle.driver_session.specs.StoreTells.{Draws, LendsAsBefore}
 use Rattle.driver_ops.specs.Fields.{under}
 use Rattle.driver_ops.specs.Operations.{OperationSpec, batch_of, send_of}
 use Rattle.driver_ops.specs.SendKinds.{first}
 use Rattle.driver_attempt.specs.Moment.{Moment}
-use Rattle.driver_attempt.specs.Readings.{OnlyRead}
 use Rattle.driver_exec.specs.Keeping.{KeepsInvariant}
-use Rattle.driver_exec.specs.Resending.{Borrows, SentWithin}
+use Rattle.driver_exec.specs.Resending.{SentWithin}
 use Rattle.driver_exec.proofs.WholeOperation.{executes_read, executes_words}
 use Rattle.driver_actions.specs.SingleCalls.{Made, MayDrawFor, Runs}
+use Rattle.driver_actions.proofs.MovesBeside as beside
 use Rattle.driver_actions.proofs.OwnIds.{OnlyDrew, own_drew, unmade_drew}
 use Rattle.driver_inputs.specs.declared.call.SingleAnswer.{SingleAnswer}
 use Rattle.driver_inputs.specs.Calls.{IsOwn}
 use Rattle.driver_inputs.specs.Forms.{WriteForm, asked_in, deletes, finds, inserts, updates, written_in}
 
--- the session that it borrowed, if any, its sends, and what it kept and read
-pub record LeftBy (before now : Moment) (asked : SendBody) : Type 0 where
-  pub session : Option (List ℕ)
-  pub number : Option ℤ
-  pub borrows : Borrows before.store now.store session number
-  pub sends : SentWithin false 2 (server_run before.link) (server_run now.link) (send_of (under session number) asked)
-  pub keeps : KeepsInvariant false before now asked
-  pub lent : LendsAsBefore before.store now.store
-  pub drawn : Draws before.store now.store
-  pub read : OnlyRead before.clock now.clock
-  pub words : now.words ≡ before.words
+-- the session that it borrowed, if any, its sends, all of which are its own, and what it kept and read
+abbrev pub LeftBy : Moment → Moment → SendBody → Type 0
+LeftBy before now asked = beside.LeftBy false before now asked
 
 -- an operation that was executed left this
 pub runs_left : {A : Type 0} {spec : OperationSpec A} {asked : SendBody} {place : Place} {before now : Moment} {ended : Result A Error} → spec.paged ≡ false → Runs spec asked place before now ended → LeftBy before now asked
