@@ -1,5 +1,6 @@
 pub mod Chains
 pub mod Equality
+mod Failing
 pub mod LabelSets
 pub mod Merging
 pub mod Redacting

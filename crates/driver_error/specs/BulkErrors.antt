@@ -1,13 +1,13 @@
 -- What the errors of two parts of a bulk write are together.
-use Rattle.std.specs.Prelude.{◌≡◌, ⊤, ◌++◌, Option, None, Some}
+use Rattle.std.specs.Prelude.{◌≡◌, ⊤, ◌++◌, Option, None, Some, IfSome, Result, Ok, Err}
 use Rattle.bson_lite.specs.Unions.{union}
 use Rattle.driver_error.specs.declared.error.Error.{Error}
 use Rattle.driver_error.specs.declared.kind.ErrorKind.TheVariants as kind
 use Rattle.driver_error.specs.declared.results.PartialBulkWriteResult.{PartialBulkWriteResult}
 use Rattle.driver_error.specs.declared.results.PartialBulkWriteResult.TheVariants as partly
 use Rattle.driver_error.specs.declared.write.BulkWriteError.{BulkWriteError}
-use Rattle.driver_error.specs.BulkResults.{Counts, RefusesMerge, ResultSpec, added, merged_verbose}
-use Rattle.driver_error.specs.Error.{IsAlone}
+use Rattle.driver_error.specs.BulkResults.{AllFit, Counts, RefusesMerge, ResultSpec, added, merged_verbose}
+use Rattle.driver_error.specs.Error.{ErrorKind, IsAlone, kind_of, labels_of, response_of, source_of, wire_version_of}
 use Rattle.driver_error.specs.LabelTexts.{no_labels}
 
 -- two results are both summaries or both verbose
@@ -67,3 +67,52 @@ pub record MergesResults {R : Type 0} (tells : ResultSpec R) : Type 0 where
   pub one_kind : (a b : R) → AreOfOneKind (tells.partial a) (tells.partial b)
   pub partials : (a b : R) → merged_partial (tells.partial a) (tells.partial b) ≡ tells.partial (tells.merged a b)
   pub same_counts : (a : R) → partial_counts (tells.partial a) ≡ tells.counts a
+
+-- the same error as one of a bulk write that tells of these failures
+pub record TellsFailures (failures : BulkWriteError) (old now : Error) : Type 0 where
+  pub kind_is : kind_of now ≡ kind.BulkWrite failures
+  pub labels : labels_of now ≡ labels_of old
+  pub version : wire_version_of now ≡ wire_version_of old
+  pub source : source_of now ≡ source_of old
+  pub response : response_of now ≡ response_of old
+
+-- the failures that an error of a bulk write tells of
+abbrev pub failures_in : ErrorKind → Option BulkWriteError
+failures_in (kind.BulkWrite failures) = Some failures
+failures_in _ = None
+
+-- a result may be merged into that of failures, where there are some
+abbrev pub IsAlikeIn : Option BulkWriteError → Option PartialBulkWriteResult → Type 0
+IsAlikeIn (Some failures) partial = AreAlike failures.partial_result partial
+IsAlikeIn None partial = ⊤
+
+-- the result of failures, where there are some, may be merged into this one
+abbrev pub IsAlikeBefore : Option BulkWriteError → Option PartialBulkWriteResult → Type 0
+IsAlikeBefore (Some failures) partial = AreAlike partial failures.partial_result
+IsAlikeBefore None partial = ⊤
+
+-- there are failures, and where there are others too, their results may be merged
+abbrev pub AreMergeable : Option BulkWriteError → Option BulkWriteError → Type 0
+AreMergeable (Some before) (Some failures) = AreAlike before.partial_result failures.partial_result
+AreMergeable (Some before) None = ⊤
+AreMergeable None _ = ⊥
+
+-- failures of two parts became one, unless a sum has more than 64 bits or there was no memory
+abbrev pub Joins : BulkWriteError → BulkWriteError → Error → Result Error Error → Type 0
+Joins earlier later old (Ok now) = TellsFailures (merged_errors earlier later) old now × IfSome (joint_sums earlier.partial_result later.partial_result) AllFit
+Joins earlier later old (Err error) = RefusesSums (joint_sums earlier.partial_result later.partial_result) error
+
+-- what a later part of a bulk write failed with, or what succeeded in it, came to its error; no other error takes it
+abbrev pub JoinsLater : Option BulkWriteError → BulkWriteError → Error → Result Error Error → Type 0
+JoinsLater (Some failures) later old result = Joins failures later old result
+JoinsLater None later old result = result ≡ Ok old
+
+-- the same of an earlier part
+abbrev pub JoinsEarlier : Option BulkWriteError → BulkWriteError → Error → Result Error Error → Type 0
+JoinsEarlier (Some failures) earlier old result = Joins earlier failures old result
+JoinsEarlier None earlier old result = result ≡ Ok old
+
+-- an error of a bulk write was taken apart into its failures and its source; another one was handed back
+abbrev pub TakesApart : Option BulkWriteError → Error → Result (BulkWriteError × Option Error) Error → Type 0
+TakesApart found old (Ok parts) = (found ≡ Some parts.0) × (parts.1 ≡ source_of old)
+TakesApart found old (Err now) = (found ≡ None) × (now ≡ old)

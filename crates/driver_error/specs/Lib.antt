@@ -12,5 +12,6 @@ pub mod Redaction
 pub mod Shown
 pub mod ShownLabels
 pub mod SortedLabels
+pub mod Status
 pub mod inside
 pub mod lawful

@@ -1,14 +1,17 @@
 //! How the errors of two parts of a bulk write become one.
-ghost use Rattle.std.specs.Prelude.{◌≡◌, IfSome, IfErr, OnErr, OnOk};
+ghost use Rattle.std.specs.Prelude.{◌≡◌, IfSome, IfErr, IfOk, OnErr, OnOk};
+ghost use Rattle.driver_error.specs.declared.kind.ErrorKind.TheVariants.{BulkWrite};
 ghost use Rattle.bson_lite.specs.Unions.{union};
-ghost use Rattle.driver_error.specs.BulkErrors.{AreAlike, AreOfOneKind, RefusesSums, joint_sums, merged_errors, merged_partial, merged_partials, partial_counts};
+ghost use Rattle.driver_error.specs.Error.{kind_of};
+ghost use Rattle.driver_error.specs.BulkErrors.{IsAlikeBefore, IsAlikeIn, JoinsEarlier, JoinsLater, TakesApart, AreAlike, AreOfOneKind, RefusesSums, failures_in, joint_sums, merged_errors, merged_partial, merged_partials, partial_counts};
 ghost use Rattle.driver_error.specs.BulkResults.{AllFit, RefusesMerge, added, merged_verbose};
 
 use crate::bulk_result::added_counts;
-use crate::error::Result;
+use crate::error::{Error, Result};
+use crate::kind::ErrorKind;
 use crate::results::{PartialBulkWriteResult, SummaryBulkWriteResult, VerboseBulkWriteResult};
 use crate::write::{BulkWriteError, WriteError};
-use bson_lite::{ByIndex, unite_four};
+use bson_lite::{Boxed, ByIndex, unite_four};
 use std::alloc::Global;
 
 impl BulkWriteError {
@@ -44,6 +47,134 @@ impl BulkWriteError {
             }
         }
     }
+}
+
+impl Error {
+    /// This error of a bulk write with what a later part of it failed with, or what succeeded in that:
+    /// labels, wire version, source and response stay. An error of another kind stays as it is. The results
+    /// of both are of one kind where both are there. It is refused where a sum of counts has more than 64
+    /// bits, and for want of memory.
+    pub fn with_later(self, alloc: Global, later: BulkWriteError) -> Result<Error>
+        requires { IsAlikeIn (failures_in (kind_of self)) later.partial_result }
+        ensures { JoinsLater (failures_in (kind_of self)) later self result }
+    {
+        let Error {
+            kind,
+            labels,
+            wire_version,
+            source,
+            server_response,
+        } = self;
+        match kind {
+            ErrorKind::BulkWrite(failures) => {
+                let kind = joined(alloc, failures.into_inner(), later)?;
+                Ok(Error {
+                    kind,
+                    labels,
+                    wire_version,
+                    source,
+                    server_response,
+                })
+            }
+            kind => {
+                drop(later);
+                Ok(Error {
+                    kind,
+                    labels,
+                    wire_version,
+                    source,
+                    server_response,
+                })
+            }
+        }
+    }
+}
+
+impl Error {
+    /// This error of a bulk write with what an earlier part of it failed with, or what succeeded in that, in
+    /// the same way.
+    pub fn with_earlier(self, alloc: Global, earlier: BulkWriteError) -> Result<Error>
+        requires { IsAlikeBefore (failures_in (kind_of self)) earlier.partial_result }
+        ensures { JoinsEarlier (failures_in (kind_of self)) earlier self result }
+    {
+        let Error {
+            kind,
+            labels,
+            wire_version,
+            source,
+            server_response,
+        } = self;
+        match kind {
+            ErrorKind::BulkWrite(failures) => {
+                let kind = joined(alloc, earlier, failures.into_inner())?;
+                Ok(Error {
+                    kind,
+                    labels,
+                    wire_version,
+                    source,
+                    server_response,
+                })
+            }
+            kind => {
+                drop(earlier);
+                Ok(Error {
+                    kind,
+                    labels,
+                    wire_version,
+                    source,
+                    server_response,
+                })
+            }
+        }
+    }
+
+    /// What this error of a bulk write tells of its failures, and its source. An error of another kind is
+    /// handed back.
+    pub fn into_bulk_write(self) -> std::result::Result<(BulkWriteError, Option<Error>), Error>
+        ensures { TakesApart (failures_in (kind_of self)) self result }
+    {
+        let Error {
+            kind,
+            labels,
+            wire_version,
+            source,
+            server_response,
+        } = self;
+        match kind {
+            ErrorKind::BulkWrite(failures) => Ok((failures.into_inner(), unboxed(source))),
+            kind => Err(Error {
+                kind,
+                labels,
+                wire_version,
+                source,
+                server_response,
+            }),
+        }
+    }
+}
+
+/// The error in a place of its own.
+fn unboxed(source: Option<Boxed<Error>>) -> Option<Error>
+    ensures { result ≡ source }
+{
+    match source {
+        Some(source) => Some(source.into_inner()),
+        None => None,
+    }
+}
+
+/// The failures of two parts as a kind of error.
+fn joined(alloc: Global, earlier: BulkWriteError, later: BulkWriteError) -> Result<ErrorKind>
+    requires { AreAlike earlier.partial_result later.partial_result }
+    ensures kind { IfOk result (λ kind. kind ≡ BulkWrite (merged_errors earlier later)) }
+    ensures fit { IfOk result (λ kind. IfSome
+        (joint_sums earlier.partial_result later.partial_result) AllFit) }
+    ensures why { IfErr result (λ error. RefusesSums
+        (joint_sums earlier.partial_result later.partial_result) error) }
+{
+    let mut failures = earlier;
+    failures.merge(alloc, later)?;
+    Ok(ErrorKind::BulkWrite(Boxed::new(alloc, failures)?))
 }
 
 /// Merges results that may not be there, and puts write errors at their indexes. Refused, it changes neither.

@@ -21,7 +21,8 @@ pub mod redact;
 pub mod redaction;
 pub mod results;
 pub mod specifications;
-pub mod write;
+pub mod status;
+mod write;
 
 pub use bulk_result::BulkWriteResult;
 pub use command::{CommandError, CommandErrorBody};
@@ -42,6 +43,7 @@ pub use results::{
 pub use specifications::{
     CollectionSpecification, CollectionSpecificationInfo, CollectionType, DatabaseSpecification,
 };
+pub use status::ExecutionStatus;
 pub use write::{
     BulkWriteError, IndexedWriteError, InsertManyError, WriteConcernError, WriteError, WriteFailure,
 };
