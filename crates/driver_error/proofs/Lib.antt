@@ -5,3 +5,4 @@ pub mod LabelSets
 pub mod Merging
 pub mod Redacting
 pub mod SortedLabels
+mod Standing

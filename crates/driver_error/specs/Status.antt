@@ -26,6 +26,11 @@ abbrev pub IsBulkOfKind : {R : Type 0} → ResultSpec R → Option BulkWriteErro
 IsBulkOfKind tells (Some failures) = IsOfKind tells failures.partial_result
 IsBulkOfKind tells None = ⊤
 
+-- the result in an error that stands is of that variant
+abbrev pub HasKind : {R : Type 0} → ResultSpec R → ExecutionStatus R → Type 0
+HasKind tells (status.Error standing) = IsBulkOfKind tells (failures_in (kind_of standing))
+HasKind tells _ = ⊤
+
 -- there are failures, with a result of that variant, and no source beside them
 abbrev pub IsOpen : {R : Type 0} → ResultSpec R → Option BulkWriteError → Option Error → Type 0
 IsOpen tells (Some failures) source = (source ≡ None) × IsOfKind tells failures.partial_result

@@ -1,13 +1,15 @@
 //! Laws of the constants that definitions name, of labels in order, of the equalities that are derived,
 //! and of results that are merged.
-ghost use Rattle.std.specs.Prelude.{◌≡◌, ◌↔◌, ℕ, List, IsTrue};
+ghost use Rattle.std.specs.Prelude.{◌≡◌, ◌↔◌, ℕ, Bool, true, List, IsTrue};
 ghost use Rattle.std.specs.FinMap as finite;
 ghost use Rattle.std.specs.Option.{option_or};
 ghost use Rattle.driver_error.specs.declared.results.VerboseBulkWriteResult.{VerboseBulkWriteResult};
+ghost use Rattle.driver_error.specs.declared.status.ExecutionStatus.{ExecutionStatus};
 ghost use Rattle.driver_error.specs.BulkResults.{AllFit, AreApart, AreCounted, Counts, added, merged_verbose};
 ghost use Rattle.driver_error.specs.LabelTexts.{LabelSet, in_order};
 ghost use Rattle.driver_error.specs.Labelling.{HaveTexts};
 ghost use Rattle.driver_error.specs.SortedLabels.{Lists};
+ghost use Rattle.driver_error.specs.Status.{HasKind, Stands, goes_on};
 
 use crate::bulk_result::BulkWriteResult;
 use crate::kind::IoKind;
@@ -118,4 +120,10 @@ pub fn merged_by_index()
     ensures deletes { (a b : VerboseBulkWriteResult) (index : ℕ)
         → finite.get (merged_verbose a b).delete_results index
         ≡ option_or (finite.get b.delete_results index) (finite.get a.delete_results index) }
+{}
+
+/// Behind what stands where a next batch is made, what comes of it may be put into what stands.
+pub fn what_is_followed_stands<R: BulkWriteResult>()
+    ensures { (ordered : Bool) (before : ExecutionStatus R) → goes_on ordered before ≡ true
+        → HasKind R.tells before → Stands R.tells before }
 {}
