@@ -1,15 +1,18 @@
 //! Laws of the constants that definitions name, of labels in order, of the equalities that are derived,
 //! and of results that are merged.
-ghost use Rattle.std.specs.Prelude.{◌≡◌, ◌↔◌, ℕ, Bool, true, List, IsTrue};
+ghost use Rattle.std.specs.Prelude.{◌≡◌, ◌↔◌, ℕ, Bool, true, List, IsTrue, Ok};
 ghost use Rattle.std.specs.FinMap as finite;
 ghost use Rattle.std.specs.Option.{option_or};
+ghost use Rattle.driver_error.specs.declared.error.Error.{Error};
 ghost use Rattle.driver_error.specs.declared.results.VerboseBulkWriteResult.{VerboseBulkWriteResult};
 ghost use Rattle.driver_error.specs.declared.status.ExecutionStatus.{ExecutionStatus};
+ghost use Rattle.driver_error.specs.BulkErrors.{failures_in};
 ghost use Rattle.driver_error.specs.BulkResults.{AllFit, AreApart, AreCounted, Counts, added, merged_verbose};
+ghost use Rattle.driver_error.specs.Error.{kind_of};
 ghost use Rattle.driver_error.specs.LabelTexts.{LabelSet, in_order};
 ghost use Rattle.driver_error.specs.Labelling.{HaveTexts};
 ghost use Rattle.driver_error.specs.SortedLabels.{Lists};
-ghost use Rattle.driver_error.specs.Status.{HasKind, Stands, goes_on};
+ghost use Rattle.driver_error.specs.Status.{FailsWith, HasKind, IsBulkOfKind, Stands, Succeeds, goes_on};
 
 use crate::bulk_result::BulkWriteResult;
 use crate::kind::IoKind;
@@ -126,4 +129,13 @@ pub fn merged_by_index()
 pub fn what_is_followed_stands<R: BulkWriteResult>()
     ensures { (ordered : Bool) (before : ExecutionStatus R) → goes_on ordered before ≡ true
         → HasKind R.tells before → Stands R.tells before }
+{}
+
+/// The result in what stands keeps its variant, whether a batch more was answered Ok or failed.
+pub fn what_stands_keeps_its_kind<R: BulkWriteResult>()
+    ensures success { (before : ExecutionStatus R) (found : R) (now : ExecutionStatus R) → Stands R.tells before
+        → Succeeds R.tells before found (Ok now) → HasKind R.tells now }
+    ensures failure { (before : ExecutionStatus R) (memory : Bool) (error : Error) (now : ExecutionStatus R)
+        → Stands R.tells before → IsBulkOfKind R.tells (failures_in (kind_of error))
+        → FailsWith R.tells before memory error (Ok now) → HasKind R.tells now }
 {}
