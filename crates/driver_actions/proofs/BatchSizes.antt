@@ -38,7 +38,7 @@ sizes_are (document ∷ documents) (front ∷ own) are =
     ap (λ (bytes : List ℕ). length bytes ∷ map (λ d. length (spelling d)) documents) (sym are.0.is) ∙ ap (λ sizes. length front.bytes ∷ sizes) (sizes_are documents own are.2)
 
 -- a document with an id is as long as its size says, whichever id that is
-with_id_size : (id : ObjectId) (document : List (Pair Bson)) → length id.bytes ≡ 12 → length (spelling (with_id id document)) ≡ size_with_id document
+pub with_id_size : (id : ObjectId) (document : List (Pair Bson)) → length id.bytes ≡ 12 → length (spelling (with_id id document)) ≡ size_with_id document
 with_id_size id document twelve =
     elim (is_some (value_of id_key document))
     as (λ (has : Bool). length (spelling (if has then document else id_pair id ∷ document)) ≡ (if has then length (spelling document) else length (spelling document) + 17)) [

@@ -42,7 +42,7 @@ of_kind (kind.InsertMany failures) told = tt
 of_kind _ told = absurd (let e : false ≡ true = told in cc)
 
 -- so is one behind which a batch is begun
-on_reads : (ordered : Bool) (error : Error) → goes_on ordered (Err error) ≡ true → IsReadFailure (kind_of error)
+pub on_reads : (ordered : Bool) (error : Error) → goes_on ordered (Err error) ≡ true → IsReadFailure (kind_of error)
 on_reads true error on = absurd (let e : false ≡ true = on in cc)
 on_reads false error on = of_kind (kind_of error) on
 

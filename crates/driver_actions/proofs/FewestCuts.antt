@@ -38,7 +38,7 @@ use Rattle.driver_actions.proofs.ManyMade.{IsGiven, made_moves, sent, sent_each}
 use Rattle.driver_actions.proofs.PlannedCuts.{PlanCuts, RunsWent, batches_cut}
 
 -- the places at the front of a call's are so many
-places_front : (call index count all : ℕ) → count ≤ all → take count (places_from call index all) ≡ places_from call index count
+pub places_front : (call index count all : ℕ) → count ≤ all → take count (places_from call index all) ≡ places_from call index count
 places_front call index zero all within = refl
 places_front call index (suc count) zero within = absurd (omega (arith, within))
 places_front call index (suc count) (suc all) within = ap (λ rest. record { call = call; index = index } ∷ rest) (places_front call (index + 1) count all (omega (arith, within)))
@@ -61,7 +61,7 @@ batch_places target options call index documents own are count within =
     ∙ places_front call index count (length own) within
 
 -- one send or two of the same
-once_or_twice : (send : Send) (later : List Send) (earlier : ℕ) → earlier ≤ 1 → GoesOut send later (copies (suc earlier) send ++ later)
+pub once_or_twice : (send : Send) (later : List Send) (earlier : ℕ) → earlier ≤ 1 → GoesOut send later (copies (suc earlier) send ++ later)
 once_or_twice send later zero within = inl refl
 once_or_twice send later (suc zero) within = inr refl
 once_or_twice send later (suc (suc earlier)) within = absurd (omega (arith, within))

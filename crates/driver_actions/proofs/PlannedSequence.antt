@@ -69,11 +69,11 @@ module _ {W A : Type 0} (plan : BatchPlan W A) (call : ℕ) where
         ),
       )
 
-  -- batches behind which no write is left are so in a call that ran short too
-  pub never_short : (short : Type 0) (index : ℕ) (own : List W) (ends : List (PlannedEnd A)) (before now : Moment)
-      → MakesAllPlanned ⊥ plan call index own ends before now → MakesAllPlanned short plan call index own ends before now
-  never_short short index own [] before now made = (made.0, elim made.1 [ inl none ↦ inl none | inr never ↦ absurd never ])
-  never_short short index own (end ∷ ends) before now made = (
+  -- where there was one reason to leave writes without a batch, there is another
+  pub short_as : (short other : Type 0) → (short → other) → (index : ℕ) (own : List W) (ends : List (PlannedEnd A)) (before now : Moment)
+      → MakesAllPlanned short plan call index own ends before now → MakesAllPlanned other plan call index own ends before now
+  short_as short other why index own [] before now made = (made.0, elim made.1 [ inl none ↦ inl none | inr ran ↦ inr (why ran) ])
+  short_as short other why index own (end ∷ ends) before now made = (
     made.0,
     (
       made.1.0,
@@ -82,9 +82,14 @@ module _ {W A : Type 0} (plan : BatchPlan W A) (call : ℕ) where
           on = goes.on;
           statements = goes.statements;
           told = goes.told;
-          rest = never_short short (index + goes.statements) (drop goes.statements own) ends made.0 now goes.rest;
+          rest = short_as short other why (index + goes.statements) (drop goes.statements own) ends made.0 now goes.rest;
         })
         | inr stops ↦ inr stops
       ],
     ),
   )
+
+  -- batches behind which no write is left are so in a call that ran short too
+  pub never_short : (short : Type 0) (index : ℕ) (own : List W) (ends : List (PlannedEnd A)) (before now : Moment)
+      → MakesAllPlanned ⊥ plan call index own ends before now → MakesAllPlanned short plan call index own ends before now
+  never_short short index own ends before now made = short_as ⊥ short (λ never. absurd never) index own ends before now made

@@ -25,6 +25,12 @@ pub record PlannedEnd (A : Type 0) : Type 0 where
   pub statements : Option ℕ
   pub result : Result A Error
 
+-- so many of these writes are in a command: one at least
+pub record IsCount {W : Type 0} (own : List W) (statements : Option ℕ) (count : ℕ) : Type 0 where
+  pub told : statements ≡ Some count
+  pub some : 0 < count
+  pub within : count ≤ length own
+
 -- the places of so many writes of a call, from an index on
 abbrev pub places_from : ℕ → ℕ → ℕ → List Place
 places_from call index zero = []

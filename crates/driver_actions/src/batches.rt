@@ -19,14 +19,14 @@ use driver_ops::{Collection, Operation};
 use driver_options::InsertManyOptions;
 use driver_session::SessionStore;
 use rand_core::Rng;
-use write_ops::{Insert, OwnDocument};
 use std::alloc::{AllocError, Global};
 use std::marker::Brand;
 use std::sync::ledger::{Blank, Ledger};
+use write_ops::{Insert, OwnDocument};
 
-/// The places of so many documents of a call, from the first one on.
+/// The places of so many writes of a call, from the first one on. It answers want of memory alone.
 #[tactic(auto, using(crate::proofs::BatchPlaces::places_more))]
-fn places_from(
+pub fn places_from(
     alloc: Global,
     call: u64,
     count: usize,
@@ -45,7 +45,7 @@ fn places_from(
 
 /// What is left of a list from an index on.
 #[tactic(auto, using(crate::proofs::BatchPlaces::left_whole))]
-fn left<T>(all: &[T], first: usize) -> &[T]
+pub fn rest_from<T>(all: &[T], first: usize) -> &[T]
     requires { first ≤ length all.now }
     ensures { result.now ≡ drop first all.now }
 {
@@ -169,8 +169,8 @@ fn gather_batch<S: SessionStore, L: Link, K: Clock, R: Rng>(
     ensures options { options_of client.new ≡ options_of client.old }
     ensures call { outside.new.call ≡ outside.old.call }
 {
-    let rest = left(own, first);
-    let their = left(places, first);
+    let rest = rest_from(own, first);
+    let their = rest_from(places, first);
     let blank = Blank::new(1);
     let made = match make_batch::<S, L, K, R, Brand>(
         alloc, client, outside, collection, first, rest, their, options, blank,

@@ -17,10 +17,10 @@ use driver_ops::Collection;
 use driver_options::InsertManyOptions;
 use driver_session::SessionStore;
 use rand_core::Rng;
-use write_ops::Insert;
 use std::alloc::Global;
 use std::marker::Brand;
 use std::sync::ledger::Blank;
+use write_ops::Insert;
 
 /// Inserts one document, whose place is given.
 pub(crate) fn insert_one<S: SessionStore, L: Link, K: Clock, R: Rng>(

@@ -16,5 +16,6 @@ mod single;
 mod single_operation;
 mod update;
 
+pub use batches::{places_from, rest_from};
 pub use insert_many::{InsertMany, ManyInserts};
 pub use single::SingleWrites;

@@ -14,8 +14,8 @@ use driver_attempt::Client;
 use driver_error::{InsertOneResult, Result};
 use driver_ops::{encode_document, encode_document_with_id};
 use driver_session::SessionStore;
-use write_ops::OwnDocument;
 use std::alloc::Global;
+use write_ops::OwnDocument;
 
 /// A document as it is sent, and the answer that tells its id.
 #[derive(Drop)]

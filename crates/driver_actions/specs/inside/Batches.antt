@@ -12,6 +12,7 @@ use Rattle.driver_ops.specs.Inserts.{insert_is_ordered}
 use Rattle.write_ops.specs.declared.own_document.OwnDocument.{OwnDocument}
 use Rattle.write_ops.specs.InsertSpec.{AreOwn}
 use Rattle.driver_attempt.specs.Moment.{Moment}
+pub use Rattle.driver_actions.specs.BatchPlans.{IsCount}
 use Rattle.driver_actions.specs.declared.behind.Behind.{Behind}
 use Rattle.driver_actions.specs.declared.behind.Behind.TheVariants.{Next, Over, Stopped}
 use Rattle.driver_actions.specs.declared.gathered.Gathered.{Gathered}
@@ -23,12 +24,6 @@ use Rattle.driver_actions.specs.ManyCalls.{RanShort}
 pub record AreSpelled (own : List OwnDocument) : Type 0 where
   pub documents : List (List (Pair Bson))
   pub are_own : AreOwn documents own
-
--- so many of these documents are in a command: one at least
-pub record IsCount (own : List OwnDocument) (statements : Option ℕ) (count : ℕ) : Type 0 where
-  pub told : statements ≡ Some count
-  pub some : 0 < count
-  pub within : count ≤ length own
 
 -- a batch was made of the documents that are left, and came to this; where that is an end of documents, so many are in it
 pub record BatchMade (target : OperationTarget) (options : InsertManyOptions) (call index : ℕ) (own : List OwnDocument) (before now : Moment) (count : ℕ) (came : Result InsertManyResult Error) : Type 0 where
