@@ -88,3 +88,12 @@ union_empty m = alike _ _ (λ q.
 pub empty_union : {X : Type 0} (m : finite.FinMap nat_cmp X) → union finite.empty m ≡ m
 empty_union m = alike _ _ (λ q.
     get-union finite.empty m q ∙ ap (option_or (finite.get m q)) (finite.get-empty nat_cmp q) ∙ or_none (finite.get m q))
+
+-- one more value in the later map is one more in both
+pub union_insert : {X : Type 0} (m n : finite.FinMap nat_cmp X) (k : ℕ) (v : X) → union m (finite.insert n k v) ≡ finite.insert (union m n) k v
+union_insert m n k v = alike _ _ (λ q.
+    get-union m (finite.insert n k v) q
+    ∙ ap (λ found. option_or found (finite.get m q)) (finite.get-insert nat_cmp_total n k v q)
+    ∙ sym (or-cond (eq_by_cmp nat_cmp q k) v (finite.get n q) (finite.get m q))
+    ∙ ap (cond (eq_by_cmp nat_cmp q k) (Some v)) (sym (get-union m n q))
+    ∙ sym (finite.get-insert nat_cmp_total (union m n) k v q))

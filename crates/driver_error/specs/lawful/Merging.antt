@@ -1,10 +1,13 @@
 -- The laws of a merging of results.
-use Rattle.std.specs.Prelude.{◌≡◌, refl}
+use Rattle.std.proofs.Common.{◌≡◌, ℕ, refl, sym}
 use Rattle.std.proofs.Math.IntN.{+ℤ_assoc, +ℤ_idl, +ℤ_idr}
-use Rattle.bson_lite.proofs.Uniting.{empty_union, union_assoc, union_empty}
+use Rattle.bson_lite.proofs.Uniting.{empty_union, union_assoc, union_empty, union_insert}
+use Rattle.driver_error.specs.declared.results.DeleteResult.{DeleteResult}
+use Rattle.driver_error.specs.declared.results.InsertOneResult.{InsertOneResult}
+use Rattle.driver_error.specs.declared.results.UpdateResult.{UpdateResult}
 use Rattle.driver_error.specs.declared.results.VerboseBulkWriteResult.{VerboseBulkWriteResult}
 use Rattle.driver_error.specs.BulkErrors.{MergesResults}
-use Rattle.driver_error.specs.BulkResults.{Counts, added, five, merged_verbose, no_counts, no_writes, summary_spec, verbose_spec}
+use Rattle.driver_error.specs.BulkResults.{Counts, added, five, merged_verbose, no_counts, no_writes, summary_spec, verbose_delete, verbose_insert, verbose_spec, verbose_update}
 
 -- ---- counts
 added_assoc : (a b c : Counts) → added (added a b) c ≡ added a (added b c)
@@ -56,6 +59,16 @@ merged_none a = λ i. record {
   delete_results = union_empty a.delete_results i;
 }
 
+-- one more result of the later one is one more of both
+later_insert : (a b : VerboseBulkWriteResult) (index : ℕ) (value : InsertOneResult) → merged_verbose a (verbose_insert b index value) ≡ verbose_insert (merged_verbose a b) index value
+later_insert a b index value = λ i. record (merged_verbose a b) { insert_results = union_insert a.insert_results b.insert_results index value i }
+
+later_update : (a b : VerboseBulkWriteResult) (index : ℕ) (value : UpdateResult) → merged_verbose a (verbose_update b index value) ≡ verbose_update (merged_verbose a b) index value
+later_update a b index value = λ i. record (merged_verbose a b) { update_results = union_insert a.update_results b.update_results index value i }
+
+later_delete : (a b : VerboseBulkWriteResult) (index : ℕ) (value : DeleteResult) → merged_verbose a (verbose_delete b index value) ≡ verbose_delete (merged_verbose a b) index value
+later_delete a b index value = λ i. record (merged_verbose a b) { delete_results = union_insert a.delete_results b.delete_results index value i }
+
 -- ---- the law of either kind
 pub summary_merges : MergesResults summary_spec
 summary_merges = record {
@@ -66,6 +79,15 @@ summary_merges = record {
   one_kind = λ a b. tt;
   partials = λ a b. refl;
   same_counts = λ a. refl;
+  counted_later = λ a b more. sym (added_assoc a b more);
+  inserted_later = λ a b index value. refl;
+  updated_later = λ a b index value. refl;
+  deleted_later = λ a b index value. refl;
+  counted_none = added_none;
+  counted_twice = λ a one more. added_assoc a one more;
+  counted_inserted = λ a index value more. refl;
+  counted_updated = λ a index value more. refl;
+  counted_deleted = λ a index value more. refl;
 }
 
 pub verbose_merges : MergesResults verbose_spec
@@ -77,4 +99,13 @@ verbose_merges = record {
   one_kind = λ a b. tt;
   partials = λ a b. refl;
   same_counts = λ a. refl;
+  counted_later = λ a b more. (λ i. record (merged_verbose a b) { summary = sym (added_assoc a.summary b.summary more) i });
+  inserted_later = later_insert;
+  updated_later = later_update;
+  deleted_later = later_delete;
+  counted_none = λ a. (λ i. record a { summary = added_none a.summary i });
+  counted_twice = λ a one more. (λ i. record a { summary = added_assoc a.summary one more i });
+  counted_inserted = λ a index value more. refl;
+  counted_updated = λ a index value more. refl;
+  counted_deleted = λ a index value more. refl;
 }
