@@ -51,7 +51,7 @@ all_undotted (id ∷ ids) (model ∷ models) is = (
 )
 
 -- so it is where the arguments are in order
-accepted_undotted : (ids : List ObjectId) (models : List WriteModel) → bulk_argument_refusal models ≡ None → AllByRecursion IsUndotted (with_model_ids ids models)
+pub accepted_undotted : (ids : List ObjectId) (models : List WriteModel) → bulk_argument_refusal models ≡ None → AllByRecursion IsUndotted (with_model_ids ids models)
 accepted_undotted ids [] is = absurd (none_is_some no_models_text (sym is))
 accepted_undotted ids (model ∷ models) is =
     all_undotted ids (model ∷ models)

@@ -21,7 +21,6 @@ use Rattle.bulk_ops.specs.BulkWrites.{bulk_command}
 use Rattle.bulk_actions.specs.BulkIds.{DrawsForModels, OwnsOps, PreparesOps}
 use Rattle.bulk_actions.specs.inside.OwnOps.{TellsOneModel}
 use Rattle.bulk_actions.proofs.OpsSpelled.{op_has_spelling}
-use Rattle.bulk_actions.proofs.OwnOps.{models_none}
 use Rattle.driver_inputs.specs.BulkInputs.{IsBulkAccepted, RefusesBulkValues, TellsBulkInput, is_long_model, model_values, with_model_id, with_model_ids}
 use Rattle.driver_inputs.specs.Inputs.{is_deep, is_long, value_list, values_refusal}
 use Rattle.driver_inputs.specs.ManyInputs.{AreTwelve}
@@ -32,19 +31,19 @@ use Rattle.driver_inputs.proofs.FaultsBeside.{both_none}
 use Rattle.driver_inputs.proofs.ModelFaults.{model_tested, models_tested, refused_values}
 
 -- an id of zeros for each model
-abbrev zero_ids : List WriteModel → List ObjectId
+abbrev pub zero_ids : List WriteModel → List ObjectId
 zero_ids [] = []
 zero_ids (model ∷ models) = zero_id ∷ zero_ids models
 
-zero_length : (models : List WriteModel) → length (zero_ids models) ≡ length models
+pub zero_length : (models : List WriteModel) → length (zero_ids models) ≡ length models
 zero_length [] = refl
 zero_length (model ∷ models) = ap suc (zero_length models)
 
-zero_is_twelve : length zero_id.bytes ≡ 12
+pub zero_is_twelve : length zero_id.bytes ≡ 12
 unfolding zero_id
 zero_is_twelve = refl
 
-zero_twelve : (models : List WriteModel) → AreTwelve (zero_ids models)
+pub zero_twelve : (models : List WriteModel) → AreTwelve (zero_ids models)
 zero_twelve [] = tt
 zero_twelve (model ∷ models) = (zero_is_twelve, zero_twelve models)
 
@@ -100,13 +99,10 @@ models_memory models options error accepted tells = elim tells [
 -- input that is refused, after which nothing was drawn
 pub unprepared : (store : StoreTells) (models : List WriteModel) (options : BulkWriteOptions) (error : Error) → TellsBulkInput models options error
     → PreparesOps store store models options (Err error)
-unprepared store models options error tells = elim tells [
-  | inl memory ↦ inr (memory, models_none store models)
-  | inr refused ↦ inl (refl, refused)
-]
+unprepared store models options error tells = inl (refl, tells)
 
 -- input that is accepted, and its ops
 pub prepared : (store now : StoreTells) (models : List WriteModel) (options : BulkWriteOptions) (made : Result (List OwnOp) Error) → IsBulkAccepted models options
     → IfOk made (λ own. OwnsOps store now models own) → IfErr made (λ error. TellsOneModel models error) → DrawsForModels store now models → PreparesOps store now models options made
 prepared store now models options (Ok own) accepted owns refusal draws = (accepted, owns)
-prepared store now models options (Err error) accepted owns refusal draws = inr (models_memory models options error accepted refusal, draws)
+prepared store now models options (Err error) accepted owns refusal draws = inr (accepted, (models_memory models options error accepted refusal, draws))

@@ -1,5 +1,17 @@
+pub mod BulkAnswers
 pub mod BulkBodies
+pub mod BulkEnds
 pub mod BulkJudged
+pub mod BulkKept
+pub mod BulkNumbers
+pub mod BulkParts
+pub mod BulkPlanned
+pub mod BulkSequence
+pub mod BulkTold
+pub mod FewestBulk
+pub mod Following
+pub mod OpRuns
+pub mod OpsLeft
 pub mod OpsSpelled
 pub mod OwnOps
 pub mod SentOps

@@ -12,7 +12,7 @@ use Rattle.driver_session.specs.StoreTells.{StoreTells}
 use Rattle.bulk_ops.specs.declared.own_op.OwnOp.{OwnOp}
 use Rattle.bulk_ops.specs.BulkOps.{AreOps}
 use Rattle.driver_actions.specs.OwnIds.{DrawsOwnId}
-use Rattle.driver_inputs.specs.BulkInputs.{IsBulkAccepted, IsBulkInputError, with_model_ids}
+use Rattle.driver_inputs.specs.BulkInputs.{IsBulkAccepted, TellsBulkInput, with_model_ids}
 use Rattle.driver_inputs.specs.ManyInputs.{AreTwelve}
 
 -- for a model that inserts a document without an id this one is drawn, the next to come; for another nothing is
@@ -41,8 +41,9 @@ pub record DrawsForModels (store now : StoreTells) (given : List WriteModel) : T
   pub twelve : AreTwelve ids
   pub draws : DrawsModelIds store now (take count given) ids
 
--- the input was accepted and the ops were made; or it is refused, and nothing was drawn; or there was no memory
+-- the input was accepted and the ops were made; or nothing was drawn, and the error tells why the input is refused, or of want of
+-- memory; or there was no memory for the ops of an accepted one
 abbrev pub PreparesOps : StoreTells → StoreTells → List WriteModel → BulkWriteOptions → Result (List OwnOp) Error → Type 0
 PreparesOps store now models options (Ok own) = IsBulkAccepted models options × OwnsOps store now models own
 PreparesOps store now models options (Err error) =
-    ((now ≡ store) × IsBulkInputError models options error) ⊎ ((kind_of error ≡ Memory) × DrawsForModels store now models)
+    ((now ≡ store) × TellsBulkInput models options error) ⊎ (IsBulkAccepted models options × ((kind_of error ≡ Memory) × DrawsForModels store now models))

@@ -1,1 +1,2 @@
+pub mod BulkBatches
 pub mod OwnOps

@@ -1,6 +1,7 @@
 pub mod AnyOrder
 pub mod BulkAnswered
 pub mod BulkCommand
+pub mod BulkErrorKinds
 pub mod BulkFronts
 pub mod BulkNumbers
 pub mod BulkSizes
