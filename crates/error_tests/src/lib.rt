@@ -9,8 +9,14 @@ mod copies;
 #[cfg(test)]
 mod errors;
 #[cfg(test)]
+mod failures;
+#[cfg(test)]
 mod kinds;
 #[cfg(test)]
+mod merging;
+#[cfg(test)]
 mod results;
+#[cfg(test)]
+mod standing;
 #[cfg(test)]
 mod texts;
