@@ -16,9 +16,8 @@ use driver_session::SessionStore;
 use rand_core::Rng;
 use std::alloc::Global;
 
-/// Makes a bulk write of models, in as few batches as the server's limits allow. Their input is judged before anything is
-/// drawn, then each inserted document gets its id, once for the whole call, and then the batches are made. Model i has the
-/// place (`outside.call`, i).
+/// Makes a bulk write of models: their input is judged before anything is drawn, then each inserted document without an id
+/// gets one, once for the whole call, and then the batches are made. Model i has the place (`outside.call`, i).
 pub fn bulk_all<S: SessionStore, L: Link, K: Clock, R: Rng, T: BulkWriteResult>(
     alloc: Global,
     client: &mut Client<S>,

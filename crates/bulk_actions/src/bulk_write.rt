@@ -237,13 +237,15 @@ impl<'a, S, T> BulkWrite<'a, S, T> {
 }
 
 impl<'a, S: SessionStore, T: BulkWriteResult> BulkWrite<'a, S, T> {
-    /// Makes the bulk write: its input is judged before anything is drawn or asked of the link, each inserted document gets
-    /// its id once, and the batches go out one after another (`makes`), and each end has its cause (`cause`). Model i has the
-    /// place (`outside.call`, i). Where store and link tell, and the call may be made there, it keeps what stands between the
-    /// operations of one client (`keeps`), and an Ok is what the log spells (`logged`); an Ok was cut into no more batches than the limits ask for (`fewest`), and the numbers of
-    /// idle sessions rise by one at most for each batch, where the server is told, and else for each model (`raises`). Errors: InvalidArgument and BsonSerialization for its input, BulkWrite for writes that
-    /// failed, a write concern that was not met, or a later batch or page that failed behind what stands, which is then its
-    /// source, InvalidResponse for sums of counts that leave 64 bits, and those of `execute_operation` at the first batch.
+    /// Makes the bulk write: its input is judged before anything is drawn or asked of the link, each inserted document without
+    /// an id gets one, once, and the batches go out one after another (`makes`), and each end has its cause (`cause`). Model i
+    /// has the place (`outside.call`, i). Where store and link tell, and the call may be made there, it keeps what stands
+    /// between the operations of one client (`keeps`), and an Ok is what the log spells (`logged`); where the server is told an
+    /// Ok was cut into no more batches than its limits ask for (`fewest`); and the numbers of idle sessions rise by one at most
+    /// for each batch into which the models are cut, where the server is told, and else for each model (`raises`). Errors:
+    /// InvalidArgument and BsonSerialization for its input; BulkWrite for writes that failed, a write concern that was not met,
+    /// or a later batch or a page that failed behind what stands, which is then its source; InvalidResponse for sums of counts
+    /// that leave 64 bits; want of memory; and those of `execute_operation` at the first batch.
     pub fn run<L: Link, K: Clock, R: Rng>(
         self,
         alloc: Global,

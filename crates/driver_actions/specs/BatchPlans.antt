@@ -66,7 +66,7 @@ pub record EndsBehind {A : Type 0} (goes_on : Result A Error → Bool) (ends : L
   pub same : now ≡ mid
 
 -- batches one after another, each begun at the first write that is left and on what the one before left, as long as there are
--- writes and the batch before lets it go on; memory may run out between two of them
+-- writes and the batch before lets it go on; where the call ended short, for want of memory say, none may be made although some are left
 abbrev pub MakesAllPlanned : {W A : Type 0} → Type 0 → BatchPlan W A → ℕ → ℕ → List W → List (PlannedEnd A) → Moment → Moment → Type 0
 MakesAllPlanned short plan call index own [] before now = (now ≡ before) × ((own ≡ []) ⊎ short)
 MakesAllPlanned short plan call index own (end ∷ ends) before now =

@@ -19,7 +19,7 @@ use std::alloc::Global;
 pub enum ExecutionStatus<R> {
     /// Each was answered Ok: the result of all.
     Success(R),
-    /// One failed: why, with what succeeded.
+    /// One failed: why, with what succeeded, unless memory ran out or it was the first and failed otherwise.
     Error(Error),
     /// There was none yet.
     None,
