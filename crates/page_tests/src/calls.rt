@@ -25,7 +25,7 @@ use std::test::Fail;
 enum Meets {
     Served,
     /// Its statement at this position fails with code 11000.
-    Failed(u64),
+    FailedAt(u64),
     /// It is served, and its write concern was not met, with code 64.
     Concern,
     /// It is served, and the first page holds so many results.
@@ -101,7 +101,7 @@ const ROWS: &[Row] = &[
         inserts: 5,
         verbose: false,
         unordered: false,
-        meets: &[Meets::Served, Meets::Failed(0)],
+        meets: &[Meets::Served, Meets::FailedAt(0)],
         ends: Ended::Bulk(Failed(1, Some((2, 11000)), 0, Some([2, 0, 0, 0, 0]), Source::None, false, true)),
         sent: &[Sent::Bulk(0, 2, 1), Sent::Bulk(2, 2, 2)],
         entries: 2,
@@ -111,7 +111,7 @@ const ROWS: &[Row] = &[
         inserts: 5,
         verbose: false,
         unordered: true,
-        meets: &[Meets::Served, Meets::Failed(0)],
+        meets: &[Meets::Served, Meets::FailedAt(0)],
         ends: Ended::Bulk(Failed(1, Some((2, 11000)), 0, Some([4, 0, 0, 0, 0]), Source::None, false, true)),
         sent: &[Sent::Bulk(0, 2, 1), Sent::Bulk(2, 2, 2), Sent::Bulk(4, 1, 3)],
         entries: 4,
@@ -121,7 +121,7 @@ const ROWS: &[Row] = &[
         inserts: 4,
         verbose: true,
         unordered: true,
-        meets: &[Meets::Failed(1), Meets::Failed(0)],
+        meets: &[Meets::FailedAt(1), Meets::FailedAt(0)],
         ends: Ended::Bulk(Failed(2, Some((1, 11000)), 0, Some([2, 0, 0, 0, 0]), Source::None, false, true)),
         sent: &[Sent::Bulk(0, 2, 1), Sent::Bulk(2, 2, 2)],
         entries: 2,
@@ -151,7 +151,7 @@ const ROWS: &[Row] = &[
         inserts: 5,
         verbose: false,
         unordered: true,
-        meets: &[Meets::Failed(0), Meets::Refused],
+        meets: &[Meets::FailedAt(0), Meets::Refused],
         ends: Ended::Bulk(Failed(1, Some((0, 11000)), 0, Some([1, 0, 0, 0, 0]), Source::Command(43), false, true)),
         sent: &[Sent::Bulk(0, 2, 1), Sent::Bulk(2, 2, 2)],
         entries: 1,
@@ -191,7 +191,7 @@ const ROWS: &[Row] = &[
         inserts: 1,
         verbose: false,
         unordered: false,
-        meets: &[Meets::Lost, Meets::Failed(0)],
+        meets: &[Meets::Lost, Meets::FailedAt(0)],
         ends: Ended::Reset,
         sent: &[Sent::Bulk(0, 1, 1), Sent::Bulk(0, 1, 1)],
         entries: 0,
@@ -212,7 +212,7 @@ const ROWS: &[Row] = &[
         verbose: false,
         unordered: false,
         meets: &[],
-        ends: Ended::Other,
+        ends: Ended::NoModels,
         sent: &[],
         entries: 0,
     },
@@ -253,7 +253,7 @@ fn item(alloc: Global, meets: Meets) -> Result<Item, AllocError>
 {
     match meets {
         Meets::Served => serve(alloc, None, false, None),
-        Meets::Failed(at) => serve(alloc, Some(at), false, None),
+        Meets::FailedAt(at) => serve(alloc, Some(at), false, None),
         Meets::Concern => serve(alloc, None, true, None),
         Meets::Page(count) => serve(alloc, None, false, Some(count)),
         Meets::FailedBehindPage => serve(alloc, Some(0), false, Some(0)),

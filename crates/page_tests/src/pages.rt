@@ -57,6 +57,7 @@ pub(crate) enum Ended {
     Invalid(Cause),
     Command(i32),
     Reset,
+    NoModels,
     Other,
 }
 
@@ -537,6 +538,15 @@ fn failure_told(error: &Error, found: &BulkWriteError) -> Failed {
     )
 }
 
+/// What is wrong with the input by the message about it.
+fn argument_named(message: &str) -> Ended {
+    if message == "bulk_write must be provided at least one write operation" {
+        Ended::NoModels
+    } else {
+        Ended::Other
+    }
+}
+
 /// How a bulk write ended by its error.
 fn ended_with(error: &Error) -> Ended {
     match error.kind() {
@@ -544,6 +554,7 @@ fn ended_with(error: &Error) -> Ended {
         ErrorKind::InvalidResponse { message } => Ended::Invalid(rule_named(message.as_str())),
         ErrorKind::Command(found) => Ended::Command(found.code),
         ErrorKind::Io(IoKind::ConnectionReset) => Ended::Reset,
+        ErrorKind::InvalidArgument { message } => argument_named(message.as_str()),
         _ => Ended::Other,
     }
 }
