@@ -91,8 +91,8 @@ aside_gain told now (send ∷ sends) passes =
     let mid = passes.0 in
     let rest = aside_gain (run_after mid send) now sends passes.1.2 in (
       rest.0
-      ∙ ap (λ (t : List Send). t ++ sends) (after_one mid send ∙ ap (λ s. s.trace ++ send ∷ []) passes.1.0.server)
-      ∙ append_assoc told.server.trace (send ∷ []) sends,
+          ∙ ap (λ (t : List Send). t ++ sends) (after_one mid send ∙ ap (λ s. s.trace ++ send ∷ []) passes.1.0.server)
+          ∙ append_assoc told.server.trace (send ∷ []) sends,
       own_none send sends (of_cursor send.body passes.1.1.cursor) ∙ rest.1,
     )
 

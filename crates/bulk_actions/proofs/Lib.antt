@@ -9,6 +9,7 @@ pub mod BulkPlanned
 pub mod BulkSequence
 pub mod BulkTold
 pub mod FewestBulk
+pub mod FewestRuns
 pub mod Following
 pub mod OpRuns
 pub mod OpsLeft

@@ -22,7 +22,7 @@ next_taken (suc m) (y ∷ xs) x after is = ap (λ rest. y ∷ rest) (next_taken 
 
 module _ (limits : Limits) where
   -- the front of a run that keeps to them does
-  front_within : 0 < limits.each → (run more : List SizedOp) → FitsOps limits (run ++ more) → keeps_within limits run ≡ true
+  pub front_within : 0 < limits.each → (run more : List SizedOp) → FitsOps limits (run ++ more) → keeps_within limits run ≡ true
   front_within each run more fits =
       let items = fits.items in
       let bytes = fits.bytes in
@@ -31,7 +31,7 @@ module _ (limits : Limits) where
       (and_from (nat_lt 0 limits.each) (nat_le (bytes_of run) limits.bytes) (lt-ltb 0 limits.each each) (le-leb (bytes_of run) limits.bytes (omega (arith, bytes_front run more, bytes))))
 
   -- a run with one op more that is told to keep to them does
-  pushed_fits : (run : List SizedOp) (op : SizedOp) → FitsOps limits run → keeps_within limits (run ++ op ∷ []) ≡ true → FitsOps limits (run ++ op ∷ [])
+  pub pushed_fits : (run : List SizedOp) (op : SizedOp) → FitsOps limits run → keeps_within limits (run ++ op ∷ []) ≡ true → FitsOps limits (run ++ op ∷ [])
   pushed_fits run op fits is =
       let first = and_parts (nat_le (length (run ++ op ∷ [])) limits.items) (nat_lt 0 limits.each && nat_le (bytes_of (run ++ op ∷ [])) limits.bytes) is in
       let rest = and_parts (nat_lt 0 limits.each) (nat_le (bytes_of (run ++ op ∷ [])) limits.bytes) first.1 in record {
@@ -72,9 +72,9 @@ module _ (limits : Limits) where
       let each : 0 < limits.each = All-head (λ op. 0 < limits.each) op (take m ops) fits.each in
       let blocked : (next : SizedOp) (after : List SizedOp) → drop m ops ≡ next ∷ after → keeps_within limits ((op ∷ take m ops) ++ next ∷ []) ≡ false
       = λ next after is. blocked_by (op ∷ take m ops) next fits (λ more.
-          let long : length ops - m ≡ suc (length after) = sym (length-drop m ops) ∙ ap length is in
-          let taken : take (suc (suc m)) (op ∷ ops) ≡ (op ∷ take m ops) ++ next ∷ [] = ap (λ rest. op ∷ rest) (next_taken m ops next after is) in
-          longest.longest (suc (suc m)) (omega arith) (omega (arith, long)) (subst (FitsOps limits) (sym taken) more)) in
+      let long : length ops - m ≡ suc (length after) = sym (length-drop m ops) ∙ ap length is in
+      let taken : take (suc (suc m)) (op ∷ ops) ≡ (op ∷ take m ops) ++ next ∷ [] = ap (λ rest. op ∷ rest) (next_taken m ops next after is) in
+      longest.longest (suc (suc m)) (omega arith) (omega (arith, long)) (subst (FitsOps limits) (sym taken) more)) in
       let same : runs_beside limits (op ∷ []) ops ≡ op_runs limits (drop m ops)
       = ap (runs_beside limits (op ∷ [])) (sym (take-append-drop m ops))
       ∙ run_takes each (take m ops) (drop m ops) (op ∷ []) fits

@@ -12,9 +12,7 @@ ghost use Rattle.bulk_actions.specs.OwnModels.{KeepsBulk};
 use crate::bulk_all::bulk_all;
 use bson_lite::{Bson, Document};
 use driver_attempt::{Client, Outside};
-use driver_error::{
-    BulkWriteResult, Result, SummaryBulkWriteResult, VerboseBulkWriteResult,
-};
+use driver_error::{BulkWriteResult, Result, SummaryBulkWriteResult, VerboseBulkWriteResult};
 use driver_link::{Clock, Link};
 use driver_options::{BulkWriteOptions, WriteConcern, WriteModel};
 use driver_session::SessionStore;

@@ -9,9 +9,9 @@ use driver_options::{Address, ClientOptions, Conn, InsertManyOptions, SelectionC
 use driver_session::PlainStore;
 use rand_core::SeedableRng;
 use rand_pcg::Pcg32;
-use test_parts::inserting::SERVER;
 use std::alloc::{AllocError, Global};
 use std::test::Fail;
+use test_parts::inserting::SERVER;
 
 /// A link that gives one reply to each exchange, whatever is sent.
 #[derive(Drop)]

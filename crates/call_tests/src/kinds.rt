@@ -21,8 +21,8 @@ use driver_session::PlainStore;
 use model_server::{ModelServer, USUAL_SETUP};
 use rand_core::SeedableRng;
 use rand_pcg::Pcg32;
-use test_parts::writes::{Concern, KINDS, Kind, number, operators, usual, write_of};
 use std::alloc::{AllocError, Global};
+use test_parts::writes::{Concern, KINDS, Kind, number, operators, usual, write_of};
 
 /// So many schedules of three items there are, each with a code of three digits.
 const SCHEDULES: u64 = 1000;

@@ -9,8 +9,8 @@ use driver_options::ClientOptions;
 use driver_session::{PlainStore, StoreEvent};
 use rand_core::SeedableRng;
 use rand_pcg::Pcg32;
-use test_parts::faking::{ALIKE, DONE, Given, fake_link};
 use std::alloc::{AllocError, Global};
+use test_parts::faking::{ALIKE, DONE, Given, fake_link};
 
 /// When the one call started and ended.
 fn times(outcomes: &[Outcome]) -> Option<(u64, u64)> {

@@ -83,7 +83,11 @@ const ROWS: &[Row] = &[
         unordered: false,
         meets: &[],
         ends: Ended::Done([5, 0, 0, 0, 0], 0),
-        sent: &[Sent::Bulk(0, 2, 1), Sent::Bulk(2, 2, 2), Sent::Bulk(4, 1, 3)],
+        sent: &[
+            Sent::Bulk(0, 2, 1),
+            Sent::Bulk(2, 2, 2),
+            Sent::Bulk(4, 1, 3),
+        ],
         entries: 5,
     },
     Row {
@@ -93,7 +97,11 @@ const ROWS: &[Row] = &[
         unordered: false,
         meets: &[],
         ends: Ended::Done([5, 0, 0, 0, 0], 5),
-        sent: &[Sent::Bulk(0, 2, 1), Sent::Bulk(2, 2, 2), Sent::Bulk(4, 1, 3)],
+        sent: &[
+            Sent::Bulk(0, 2, 1),
+            Sent::Bulk(2, 2, 2),
+            Sent::Bulk(4, 1, 3),
+        ],
         entries: 5,
     },
     Row {
@@ -102,7 +110,15 @@ const ROWS: &[Row] = &[
         verbose: false,
         unordered: false,
         meets: &[Meets::Served, Meets::FailedAt(0)],
-        ends: Ended::Bulk(Failed(1, Some((2, 11000)), 0, Some([2, 0, 0, 0, 0]), Source::None, false, true)),
+        ends: Ended::Bulk(Failed(
+            1,
+            Some((2, 11000)),
+            0,
+            Some([2, 0, 0, 0, 0]),
+            Source::None,
+            false,
+            true,
+        )),
         sent: &[Sent::Bulk(0, 2, 1), Sent::Bulk(2, 2, 2)],
         entries: 2,
     },
@@ -112,8 +128,20 @@ const ROWS: &[Row] = &[
         verbose: false,
         unordered: true,
         meets: &[Meets::Served, Meets::FailedAt(0)],
-        ends: Ended::Bulk(Failed(1, Some((2, 11000)), 0, Some([4, 0, 0, 0, 0]), Source::None, false, true)),
-        sent: &[Sent::Bulk(0, 2, 1), Sent::Bulk(2, 2, 2), Sent::Bulk(4, 1, 3)],
+        ends: Ended::Bulk(Failed(
+            1,
+            Some((2, 11000)),
+            0,
+            Some([4, 0, 0, 0, 0]),
+            Source::None,
+            false,
+            true,
+        )),
+        sent: &[
+            Sent::Bulk(0, 2, 1),
+            Sent::Bulk(2, 2, 2),
+            Sent::Bulk(4, 1, 3),
+        ],
         entries: 4,
     },
     Row {
@@ -122,7 +150,15 @@ const ROWS: &[Row] = &[
         verbose: true,
         unordered: true,
         meets: &[Meets::FailedAt(1), Meets::FailedAt(0)],
-        ends: Ended::Bulk(Failed(2, Some((1, 11000)), 0, Some([2, 0, 0, 0, 0]), Source::None, false, true)),
+        ends: Ended::Bulk(Failed(
+            2,
+            Some((1, 11000)),
+            0,
+            Some([2, 0, 0, 0, 0]),
+            Source::None,
+            false,
+            true,
+        )),
         sent: &[Sent::Bulk(0, 2, 1), Sent::Bulk(2, 2, 2)],
         entries: 2,
     },
@@ -142,7 +178,15 @@ const ROWS: &[Row] = &[
         verbose: false,
         unordered: true,
         meets: &[Meets::Served, Meets::Refused],
-        ends: Ended::Bulk(Failed(0, None, 0, Some([2, 0, 0, 0, 0]), Source::Command(43), false, false)),
+        ends: Ended::Bulk(Failed(
+            0,
+            None,
+            0,
+            Some([2, 0, 0, 0, 0]),
+            Source::Command(43),
+            false,
+            false,
+        )),
         sent: &[Sent::Bulk(0, 2, 1), Sent::Bulk(2, 2, 2)],
         entries: 2,
     },
@@ -152,7 +196,15 @@ const ROWS: &[Row] = &[
         verbose: false,
         unordered: true,
         meets: &[Meets::FailedAt(0), Meets::Refused],
-        ends: Ended::Bulk(Failed(1, Some((0, 11000)), 0, Some([1, 0, 0, 0, 0]), Source::Command(43), false, true)),
+        ends: Ended::Bulk(Failed(
+            1,
+            Some((0, 11000)),
+            0,
+            Some([1, 0, 0, 0, 0]),
+            Source::Command(43),
+            false,
+            true,
+        )),
         sent: &[Sent::Bulk(0, 2, 1), Sent::Bulk(2, 2, 2)],
         entries: 1,
     },
@@ -172,7 +224,15 @@ const ROWS: &[Row] = &[
         verbose: true,
         unordered: true,
         meets: &[Meets::Page(1), Meets::Refused],
-        ends: Ended::Bulk(Failed(0, None, 0, Some([2, 0, 0, 0, 0]), Source::Command(43), false, true)),
+        ends: Ended::Bulk(Failed(
+            0,
+            None,
+            0,
+            Some([2, 0, 0, 0, 0]),
+            Source::Command(43),
+            false,
+            true,
+        )),
         sent: &[Sent::Bulk(0, 2, 1), Sent::More, Sent::Kill],
         entries: 2,
     },
@@ -182,7 +242,15 @@ const ROWS: &[Row] = &[
         verbose: false,
         unordered: false,
         meets: &[Meets::FailedBehindPage, Meets::Lost],
-        ends: Ended::Bulk(Failed(0, None, 0, Some([0, 0, 0, 0, 0]), Source::Reset, false, true)),
+        ends: Ended::Bulk(Failed(
+            0,
+            None,
+            0,
+            Some([0, 0, 0, 0, 0]),
+            Source::Reset,
+            false,
+            true,
+        )),
         sent: &[Sent::Bulk(0, 2, 1), Sent::More],
         entries: 0,
     },
@@ -203,7 +271,11 @@ const ROWS: &[Row] = &[
         unordered: false,
         meets: &[Meets::Served, Meets::Lost],
         ends: Ended::Done([3, 0, 0, 0, 0], 0),
-        sent: &[Sent::Bulk(0, 2, 1), Sent::Bulk(2, 1, 2), Sent::Bulk(2, 1, 2)],
+        sent: &[
+            Sent::Bulk(0, 2, 1),
+            Sent::Bulk(2, 1, 2),
+            Sent::Bulk(2, 1, 2),
+        ],
         entries: 3,
     },
     Row {
@@ -266,10 +338,7 @@ fn item(alloc: Global, meets: Meets) -> Result<Item, AllocError>
 }
 
 /// The items of what exchanges meet, one after the other.
-fn items(
-    alloc: Global,
-    meets: &[Meets],
-) -> Result<List<Scheduled>, AllocError>
+fn items(alloc: Global, meets: &[Meets]) -> Result<List<Scheduled>, AllocError>
     ensures { IfOk result (λ steps. All (λ step. IsItem step.item) steps) }
 {
     let mut steps = List::new(alloc);
@@ -407,7 +476,11 @@ fn a_client_makes_bulk_writes_of_either_kind(rt: HostRuntime) -> Result<(), Fail
         words: Pcg32::seed_from_u64(1),
         call: 0,
     };
-    let counts = how_ended(client.bulk_write(models.as_slice()).run(alloc, &mut outside));
+    let counts = how_ended(
+        client
+            .bulk_write(models.as_slice())
+            .run(alloc, &mut outside),
+    );
     outside.call = 1;
     let all = how_ended(
         client
