@@ -1,12 +1,11 @@
 -- How many runs ops are cut into is how many the fewest cut has.
-use Rattle.std.proofs.Common.{◌≡◌, ℕ, zero, suc, ◌+◌, ◌-◌, ◌<◌, ◌≤◌, ◌⊎◌, Bool, true, false, List, [], ◌∷◌, ◌++◌, length, length-append, take, refl, sym, ap, subst, ◌∙◌, append_assoc, inl, inr, arith}
-use Rattle.std.proofs.lemmas.List.{append-nil, take_at}
+use Rattle.std.proofs.Common.{◌≡◌, ℕ, suc, ◌+◌, ◌-◌, ◌<◌, ◌≤◌, Bool, true, false, List, [], ◌∷◌, ◌++◌, length, length-append, take, refl, sym, ap, subst, ◌∙◌, append_assoc, inl, inr, arith}
+use Rattle.std.proofs.lemmas.List.{take_at}
 use Rattle.std.proofs.lemmas.List.Elements.{All-head}
 use Rattle.std.specs.List.{AllByRecursion, flat_map}
 use Rattle.std.specs.Prelude.{if◌then◌else◌}
 use Rattle.driver_batches.specs.declared.sizes.Limits.{Limits}
-use Rattle.driver_batches.specs.Batches.{CutsFront, IsFewest, IsGreedyCut, IsPartition}
-use Rattle.driver_batches.specs.Fronts.{IsLongestFront}
+use Rattle.driver_batches.specs.Batches.{CutsFront, IsFewest, IsGreedyCut}
 use Rattle.driver_batches.proofs.Greedy.{greedy_law}
 use Rattle.bulk_ops.specs.declared.own_op.SizedOp.{SizedOp}
 use Rattle.bulk_ops.specs.BulkFronts.{FitsOps}
@@ -60,12 +59,17 @@ module _ (limits : Limits) where
   cut_counted : (run ops : List SizedOp) → length (cut_beside run ops) ≡ suc (runs_beside limits run ops)
   unfolding cut_beside
   cut_counted run [] = refl
-  cut_counted run (op ∷ ops) = by_fit (keeps_within limits (run ++ op ∷ []))
-    where
-      by_fit : (b : Bool) → length (if b then cut_beside (run ++ op ∷ []) ops else run ∷ cut_beside (op ∷ []) ops)
-          ≡ suc (if b then runs_beside limits (run ++ op ∷ []) ops else suc (runs_beside limits (op ∷ []) ops))
-      by_fit true = cut_counted (run ++ op ∷ []) ops
-      by_fit false = ap suc (cut_counted (op ∷ []) ops)
+  cut_counted run (op ∷ ops) =
+      elim (keeps_within limits (run ++ op ∷ [])) as (λ (b : Bool). length (if b then cut_beside (run ++ op ∷ []) ops else run ∷ cut_beside (op ∷ []) ops)
+      ≡ suc (if b then runs_beside limits (run ++ op ∷ []) ops else suc (runs_beside limits (op ∷ []) ops))) [
+        | true ↦ cut_counted (run ++ op ∷ []) ops
+        | false ↦ ap suc (cut_counted (op ∷ []) ops)
+      ]
+
+  -- a front with an op that keeps to them says that a document may have a byte
+  each_of : (front : List SizedOp) → (front ≡ [] → ⊥) → (rest : List SizedOp) → FitsOps limits (front ++ rest) → 0 < limits.each
+  each_of [] some rest fits = absurd (some refl)
+  each_of (first ∷ front) some rest fits = All-head (λ (op : SizedOp). 0 < limits.each) first (front ++ rest) fits.each
 
   -- a run that keeps to the limits, and not with the next op, is the longest front
   is_front : (run : List SizedOp) (op : SizedOp) (ops : List SizedOp) → (run ≡ [] → ⊥) → FitsOps limits run → keeps_within limits (run ++ op ∷ []) ≡ false → CutsFront (FitsOps limits) (run ++ op ∷ ops) run (op ∷ ops)
@@ -90,10 +94,6 @@ module _ (limits : Limits) where
               let each : 0 < limits.each = each_of (run ++ op ∷ []) (not_nothing run op) (take rest ops) fits_more in
               let e : true ≡ false = sym (front_within limits each (run ++ op ∷ []) (take rest ops) fits_more) ∙ blocked in cc
 
-          each_of : (front : List SizedOp) → (front ≡ [] → ⊥) → (rest : List SizedOp) → FitsOps limits (front ++ rest) → 0 < limits.each
-          each_of [] some rest fits = absurd (some refl)
-          each_of (first ∷ front) some rest fits = All-head (λ (op : SizedOp). 0 < limits.each) first (front ++ rest) fits.each
-
   -- so the runs are cut as longest fronts, one after another
   cut_greedy : (run ops : List SizedOp) → (run ≡ [] → ⊥) → FitsOps limits run → AllByRecursion IsAlone ops → IsGreedyCut (FitsOps limits) (run ++ ops) (cut_beside run ops)
   unfolding cut_beside
@@ -110,13 +110,14 @@ module _ (limits : Limits) where
     },
     refl,
   )
-  cut_greedy run (op ∷ ops) some fits alone = by_fit (keeps_within limits (run ++ op ∷ [])) refl
-    where
-      by_fit : (b : Bool) → keeps_within limits (run ++ op ∷ []) ≡ b → IsGreedyCut (FitsOps limits) (run ++ op ∷ ops) (if b then cut_beside (run ++ op ∷ []) ops else run ∷ cut_beside (op ∷ []) ops)
-      by_fit true is =
-          subst (λ list. IsGreedyCut (FitsOps limits) list (cut_beside (run ++ op ∷ []) ops)) (append_assoc run (op ∷ []) ops)
-          (cut_greedy (run ++ op ∷ []) ops (not_nothing run op) (pushed_fits limits run op fits is) alone.1)
-      by_fit false is = (op ∷ ops, is_front run op ops some fits is, cut_greedy (op ∷ []) ops (not_nothing [] op) alone.0 alone.1)
+  cut_greedy run (op ∷ ops) some fits alone =
+      elim (keeps_within limits (run ++ op ∷ [])) as (λ (b : Bool). keeps_within limits (run ++ op ∷ []) ≡ b
+      → IsGreedyCut (FitsOps limits) (run ++ op ∷ ops) (if b then cut_beside (run ++ op ∷ []) ops else run ∷ cut_beside (op ∷ []) ops)) [
+        | true ↦ λ is.
+            subst (λ list. IsGreedyCut (FitsOps limits) list (cut_beside (run ++ op ∷ []) ops)) (append_assoc run (op ∷ []) ops)
+            (cut_greedy (run ++ op ∷ []) ops (not_nothing run op) (pushed_fits limits run op fits is) alone.1)
+        | false ↦ λ is. (op ∷ ops, is_front run op ops some fits is, cut_greedy (op ∷ []) ops (not_nothing [] op) alone.0 alone.1)
+      ] refl
 
   -- so they are the fewest
   counted_fewest : (ops : List SizedOp) (runs : List (List SizedOp)) → AllByRecursion IsAlone ops → IsFewest (FitsOps limits) ops runs → op_runs limits ops ≡ length runs

@@ -20,7 +20,6 @@ pub fn the_last_end_decides<T: BulkWriteResult>()
 {}
 
 /// Into how many runs ops are cut by limits, each as long as it may be, is how many runs the fewest cut has.
-#[tactic(auto, using(crate::proofs::FewestRuns::runs_are_fewest))]
 pub fn no_cut_has_fewer_runs()
     ensures { (limits : Limits) (ops : List SizedOp) (runs : List (List SizedOp)) →
         IsFewest (FitsOps limits) ops runs → op_runs limits ops ≡ length runs }
