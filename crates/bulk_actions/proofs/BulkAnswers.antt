@@ -1,5 +1,5 @@
 -- The answer of a call of a bulk write, and why it ended so.
-use Rattle.std.proofs.Common.{◌≡◌, ℕ, zero, suc, ◌<◌, List, [], ◌∷◌, length, refl, sym, ap, subst, ◌∙◌, inl, inr, arith}
+use Rattle.std.proofs.Common.{◌≡◌, ℕ, ◌<◌, List, [], ◌∷◌, length, refl, sym, ap, subst, ◌∙◌, inl, inr, arith}
 use Rattle.std.specs.Prelude.{◌⊎◌, IsErrAnd, Option, None, Some, Result, Ok, Err}
 use Rattle.bson_lite.specs.declared.bson.ObjectId.{ObjectId}
 use Rattle.bson_lite.specs.declared.fault.EncodeFault.{EncodeFault}
@@ -22,9 +22,9 @@ use Rattle.driver_inputs.specs.BulkInputs.{BulkInputRefused, IsBulkAccepted, Ref
 use Rattle.driver_actions.specs.BatchPlans.{PlannedEnd}
 use Rattle.driver_actions.proofs.PlannedSequence as planned
 use Rattle.bulk_actions.specs.BulkBatches.{ComesTo, bulk_plan}
-use Rattle.bulk_actions.specs.BulkCalls.{AnswersBatches, AnswersBulkCall, AnswersStanding, BulkCaused, EndsShort, MadeBulk, MakesBulk, RefusesBulkFirst, UnmadeBulk}
+use Rattle.bulk_actions.specs.BulkCalls.{AnswersBulkCall, AnswersStanding, BulkCaused, EndsShort, MadeBulk, MakesBulk, RefusesBulkFirst}
 use Rattle.bulk_actions.specs.BulkIds.{DrawsModelIds, OwnsOps, PreparesOps}
-use Rattle.bulk_actions.specs.inside.BulkBatches.{MakesBatches, StandsBehindAll, StopsBulk}
+use Rattle.bulk_actions.specs.inside.BulkBatches.{StandsBehindAll, StopsBulk}
 use Rattle.bulk_actions.proofs.BulkJudged.{zero_ids, zero_length, zero_twelve}
 
 -- ---- the input of a bulk write has one error at most
@@ -121,8 +121,8 @@ module _ {R : Type 0} (tells : ResultSpec R) (before : Moment) (models : List Wr
   stopped_answers : (error : Error) (ends : List (PlannedEnd R)) → (kind_of error ≡ kind.Memory) ⊎ ComesTo tells status.None ends (Err error) → AnswersBulkCall tells ends (Err error)
   stopped_answers error ends why = elim why [ inl memory ↦ inl memory | inr comes ↦ inr (record { standing = Err error; comes = comes; answers = refl }) ]
 
-  pub stopped_made : (now : Moment) (error : Error) → StopsBulk tells options call 0 own mid now status.None error → MakesBulk tells before now models options call (Err error)
-  stopped_made now error stops = inr (record {
+  stopped_with : (now : Moment) (error : Error) → StopsBulk tells options call 0 own mid now status.None error → MakesBulk tells before now models options call (Err error)
+  stopped_with now error stops = inr (record {
     accepted = accepted;
     mid = mid;
     own = own;
@@ -133,8 +133,12 @@ module _ {R : Type 0} (tells : ResultSpec R) (before : Moment) (models : List Wr
     answers = stopped_answers error stops.ends stops.why;
   })
 
-  pub stopped_caused : (now : Moment) (error : Error) → StopsBulk tells options call 0 own mid now status.None error → BulkCaused tells before now models options call (Err error)
-  stopped_caused now error stops = caused_by now (Err error) (stopped_made now error stops)
+  -- the same of ops that are equal
+  pub stopped_made : (given : List OwnOp) → given ≡ own → (now : Moment) (error : Error) → StopsBulk tells options call 0 given mid now status.None error → MakesBulk tells before now models options call (Err error)
+  stopped_made given is now error stops = stopped_with now error (subst (λ ops. StopsBulk tells options call 0 ops mid now status.None error) is stops)
+
+  pub stopped_caused : (given : List OwnOp) → given ≡ own → (now : Moment) (error : Error) → StopsBulk tells options call 0 given mid now status.None error → BulkCaused tells before now models options call (Err error)
+  stopped_caused given is now error stops = caused_by now (Err error) (stopped_made given is now error stops)
 
   -- they were made, and this stands behind them
   made_of : (now : Moment) (standing : ExecutionStatus R) (result : Result R Error) → StandsBehindAll tells options call own mid now standing → AnswersStanding (Ok standing) result

@@ -1,7 +1,7 @@
 -- How a batch of a bulk write ends: the result in an error of it is of the kind that was asked for, and behind an end that goes on its
 -- command was built.
-use Rattle.std.proofs.Common.{◌≡◌, ℕ, ◌<◌, ◌≤◌, Bool, true, false, List, [], ◌∷◌, ◌++◌, length, refl, sym, ap, subst, ◌∙◌, inl, inr, arith}
-use Rattle.std.specs.Prelude.{◌⊎◌, Option, None, Some, IfSome, Result, Ok, Err, if◌then◌else◌}
+use Rattle.std.proofs.Common.{◌≡◌, ℕ, Bool, true, false, List, [], ◌∷◌, ◌++◌, refl, sym, ap, subst, ◌∙◌, inl, inr, arith}
+use Rattle.std.specs.Prelude.{Option, None, Some, IfSome, Result, Ok, Err}
 use Rattle.driver_error.specs.declared.error.Error.{Error}
 use Rattle.driver_error.specs.declared.kind.ErrorKind.TheVariants as kind
 use Rattle.driver_error.specs.BulkErrors.{failures_in}
@@ -13,7 +13,7 @@ use Rattle.driver_options.specs.declared.write_options.BulkWriteOptions.{BulkWri
 use Rattle.driver_link.specs.declared.fault.Answered.{Answered}
 use Rattle.driver_link.specs.declared.fault.Answered.TheVariants as answer
 use Rattle.driver_ops.specs.declared.target.OperationTarget.{OperationTarget}
-use Rattle.driver_ops.specs.Operations.{MayRefuse, OperationSpec, Page, ReadsPages}
+use Rattle.driver_ops.specs.Operations.{MayRefuse, Page, ReadsPages}
 use Rattle.driver_ops.specs.Responses.{Said, SpellsError, TellsResponse, breaks, done, fails, said}
 use Rattle.driver_ops.specs.SendKinds.{first}
 use Rattle.bulk_ops.specs.declared.own_op.OwnOp.{OwnOp}

@@ -1,6 +1,6 @@
 -- A bulk write keeps what stands between the operations of one client.
-use Rattle.std.proofs.Common.{◌≡◌, ℕ, zero, suc, ◌+◌, ◌≤◌, true, List, [], ◌∷◌, length, take, refl, sym, ap, subst, ◌∙◌, inl, inr, arith}
-use Rattle.std.specs.Prelude.{Option, None, Some, ◌⊎◌, Result, Ok, Err, slice_get}
+use Rattle.std.proofs.Common.{◌≡◌, ℕ, zero, suc, ◌+◌, true, List, [], ◌∷◌, length, take, refl, sym, ap, subst, ◌∙◌, inl, inr, arith}
+use Rattle.std.specs.Prelude.{Option, None, Some, Result, Ok, Err, slice_get}
 use Rattle.bson_lite.specs.declared.bson.ObjectId.{ObjectId}
 use Rattle.bson_lite.specs.Fields.{id_key, value_of}
 use Rattle.driver_error.specs.declared.error.Error.{Error}
@@ -15,8 +15,7 @@ use Rattle.driver_link.proofs.Lists.{none_is_some, some_is_some}
 use Rattle.driver_session.specs.Pool.{Pool}
 use Rattle.driver_session.specs.StoreTells.{DrawnApart, DrawnApartIn, Draws, StoreTells}
 use Rattle.driver_session.proofs.IdDraws.{draws_staying, draws_twice}
-use Rattle.bulk_ops.specs.declared.own_op.OwnOp.{OwnOp}
-use Rattle.bulk_ops.specs.BulkOps.{AreOps, model_written}
+use Rattle.bulk_ops.specs.BulkOps.{model_written}
 use Rattle.driver_attempt.specs.Moment.{Moment}
 use Rattle.driver_inputs.specs.BulkInputs.{with_model_id, with_model_ids}
 use Rattle.driver_inputs.specs.Calls.{IsOwn}
@@ -27,7 +26,7 @@ use Rattle.driver_actions.proofs.MovesBeside.{CallMoves, DrewIds, moves_drew, mo
 use Rattle.driver_actions.proofs.OwnIds.{own_drawn}
 use Rattle.driver_actions.proofs.PlannedBatches.{Advances, IsNewFrom, batches_advance, batches_move}
 use Rattle.bulk_actions.specs.BulkBatches.{bulk_plan}
-use Rattle.bulk_actions.specs.BulkCalls.{EndsShort, MadeBulk, MakesBulk, UnmadeBulk}
+use Rattle.bulk_actions.specs.BulkCalls.{EndsShort, MadeBulk, MakesBulk}
 use Rattle.bulk_actions.specs.BulkIds.{DrawsModelId, DrawsModelIds, PreparesOps}
 use Rattle.bulk_actions.specs.OwnModels.{IsOwnModel, KeepsBulk, KeepsBulkWhereTold}
 use Rattle.bulk_actions.proofs.BulkBodies.{accepted_undotted}

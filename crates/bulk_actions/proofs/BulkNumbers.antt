@@ -1,10 +1,9 @@
 -- A bulk write raises the numbers of idle sessions by one at most for each of its batches.
-use Rattle.std.proofs.Common.{◌≡◌, ℕ, ◌+◌, ◌<◌, ◌≤◌, true, List, [], ◌∷◌, drop, length, map, refl, sym, ap, subst, ◌∙◌, inl, inr, arith}
+use Rattle.std.proofs.Common.{◌≡◌, ℕ, ◌+◌, ◌<◌, ◌≤◌, true, List, [], ◌∷◌, length, refl, sym, ap, subst, ◌∙◌, inl, inr, arith}
 use Rattle.std.specs.Prelude.{Option, Result, Ok, Err}
 use Rattle.bson_lite.specs.declared.bson.ObjectId.{ObjectId}
 use Rattle.bson_lite.specs.Fields.{with_id}
 use Rattle.bson_lite.specs.Namespace.{dotted}
-use Rattle.bson_lite.specs.Spelling.{spelling}
 use Rattle.driver_error.specs.declared.error.Error.{Error}
 use Rattle.driver_error.specs.BulkResults.{ResultSpec}
 use Rattle.driver_options.specs.declared.models.WriteModel.{WriteModel}
@@ -12,11 +11,8 @@ use Rattle.driver_options.specs.declared.models.WriteModel.TheVariants.{DeleteMa
 use Rattle.driver_options.specs.declared.write_options.BulkWriteOptions.{BulkWriteOptions}
 use Rattle.driver_link.specs.declared.machine.Setup.{Setup}
 use Rattle.driver_link.specs.LinkState.{server_run}
-use Rattle.driver_session.specs.StoreTells.{StoreTells}
 use Rattle.bulk_ops.specs.declared.own_op.OwnOp.{OwnOp}
-use Rattle.bulk_ops.specs.declared.own_op.SizedOp.{SizedOp}
 use Rattle.bulk_ops.specs.BulkFronts.{sized_ops}
-use Rattle.bulk_ops.specs.BulkOps.{op_document}
 use Rattle.bulk_ops.specs.BulkSpec.{is_verbose}
 use Rattle.bulk_ops.proofs.BulkFronts.{length_sized}
 use Rattle.bulk_ops.proofs.BulkSizes.{insert_length}
@@ -31,7 +27,6 @@ use Rattle.driver_actions.proofs.MovesBeside.{moves_drew, raises_more}
 use Rattle.driver_actions.proofs.PlannedBatches.{PlanNumbers, batches_raise}
 use Rattle.bulk_actions.specs.BulkBatches.{bulk_plan}
 use Rattle.bulk_actions.specs.BulkCalls.{EndsShort, MadeBulk, MakesBulk}
-use Rattle.bulk_actions.specs.BulkIds.{DrawsModelIds}
 use Rattle.bulk_actions.specs.BulkNumbers.{RaisesByBulk, bulk_numbers, numbers_for, sized_with_ids}
 use Rattle.bulk_actions.specs.FewestBulk.{sent_models, sized_model}
 use Rattle.bulk_actions.proofs.BulkJudged.{zero_is_twelve}

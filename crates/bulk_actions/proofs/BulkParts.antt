@@ -1,14 +1,14 @@
 -- One batch of a bulk write: what its operation was made of, what it came to, and what stands behind it.
 use Rattle.std.proofs.Common.{◌≡◌, ℕ, ◌<◌, Bool, true, false, List, [], ◌∷◌, drop, length, refl, sym, ap, subst, ◌∙◌, inl, inr, arith}
 use Rattle.std.proofs.lemmas.List.{length-drop}
-use Rattle.std.specs.Prelude.{◌⊎◌, min, IsErrAnd, Option, None, Some, IfSome, Result, Ok, Err, if◌then◌else◌}
+use Rattle.std.specs.Prelude.{◌⊎◌, min, Option, None, Some, IfSome, Result, Ok, Err, if◌then◌else◌}
 use Rattle.driver_error.specs.declared.error.Error.{Error}
 use Rattle.driver_error.specs.declared.kind.ErrorKind.TheVariants as kind
 use Rattle.driver_error.specs.declared.status.ExecutionStatus.{ExecutionStatus}
 use Rattle.driver_error.specs.BulkResults.{ResultSpec}
-use Rattle.driver_error.specs.Error.{IsAlone, kind_of}
-use Rattle.driver_error.specs.LabelTexts.{no_labels}
-use Rattle.driver_error.specs.Status.{goes_on}
+use Rattle.driver_error.specs.Error.{kind_of}
+use Rattle.driver_error.specs.BulkErrors.{failures_in}
+use Rattle.driver_error.specs.Status.{FailsWith, HasKind, IsBulkOfKind, Stands, Succeeds, goes_on, is_memory}
 use Rattle.driver_options.specs.declared.write_options.BulkWriteOptions.{BulkWriteOptions}
 use Rattle.driver_link.specs.declared.machine.Place.{Place}
 use Rattle.driver_ops.specs.declared.target.OperationTarget.{OperationTarget}
@@ -24,11 +24,10 @@ use Rattle.driver_attempt.specs.Moment.{Moment}
 use Rattle.driver_exec.specs.OperationCauses.{Caused}
 use Rattle.driver_exec.specs.Reporting.{HasRun}
 use Rattle.driver_exec.specs.Resending.{SendsOneCommand}
-use Rattle.driver_actions.specs.BatchPlans.{IsCount, MakesAllPlanned, places_from, rest_of}
+use Rattle.driver_actions.specs.BatchPlans.{IsCount, MakesAllPlanned, places_from}
 use Rattle.driver_actions.proofs.PlannedParts.{planned_made}
-use Rattle.bulk_actions.specs.declared.bulk_batches.Behind.{Behind}
 use Rattle.bulk_actions.specs.BulkBatches.{ComesTo, Takes, bulk_plan, end_goes_on}
-use Rattle.bulk_actions.specs.inside.BulkBatches.{BulkBatchMade, ComesBehind, NextWithin, StepsTo, StopsBulk, TakesBatch}
+use Rattle.bulk_actions.specs.inside.BulkBatches.{BulkBatchMade, ComesBehind, EndHasKind, NextWithin, StopsBulk, TakesBatch}
 use Rattle.bulk_actions.proofs.BulkEnds.{counts_ops, end_has}
 use Rattle.bulk_actions.proofs.Following.{end_decides}
 
@@ -70,6 +69,22 @@ module _ {R : Type 0} (tells : ResultSpec R) (one : IsOne tells) (call : ℕ) wh
       (subst (λ n. BulkRan tells target at held given places before now n sends None fixed_now came) none
       (subst (λ b. BulkRan tells target at held given places before now from sends b fixed_now came) unbuilt ran))))))) told
 
+-- what is followed by a batch may take what comes of it
+abbrev pub FollowedStands : {R : Type 0} → ResultSpec R → Type 0
+FollowedStands {R} tells = (ordered : Bool) (before : ExecutionStatus R) → goes_on ordered before ≡ true → HasKind tells before → Stands tells before
+
+-- the result in what stands keeps its variant, whether a batch more succeeded or failed
+pub record KeepsKind {R : Type 0} (tells : ResultSpec R) : Type 0 where
+  pub success : (before : ExecutionStatus R) (found : R) (now : ExecutionStatus R) → Stands tells before → Succeeds tells before found (Ok now) → HasKind tells now
+  pub failure : (before : ExecutionStatus R) (memory : Bool) (error : Error) (now : ExecutionStatus R) → Stands tells before → IsBulkOfKind tells (failures_in (kind_of error))
+      → FailsWith tells before memory error (Ok now) → HasKind tells now
+
+-- so it does behind any batch
+kind_behind : {R : Type 0} (tells : ResultSpec R) (keeps : KeepsKind tells) (standing : ExecutionStatus R) (came : Result R Error) (later : ExecutionStatus R) → Stands tells standing → EndHasKind tells came
+    → Takes tells standing came (Ok later) → HasKind tells later
+kind_behind tells keeps standing (Ok found) later stands kind takes = keeps.success standing found later stands takes
+kind_behind tells keeps standing (Err error) later stands kind takes = keeps.failure standing (is_memory (kind_of error)) error later stands kind takes
+
 -- a batch whose result what stood took over
 module _ {R : Type 0} (tells : ResultSpec R) (options : BulkWriteOptions) (call index : ℕ) (own : List OwnOp) (before now : Moment) (standing : ExecutionStatus R) (count : ℕ) (came : Result R Error)
     (made : BulkBatchMade tells options call index (drop index own) before now count came) where
@@ -108,6 +123,26 @@ module _ {R : Type 0} (tells : ResultSpec R) (options : BulkWriteOptions) (call 
       subst (NextWithin index (length own)) (sym next_is)
       (within_by on within (λ goes_so. made.counted (sym (end_decides tells (bulk_is_ordered options) standing came later goes takes) ∙ sym is ∙ goes_so)))
 
+  -- where the next one is made, what stands may take what comes of that
+  stands_by : (later : ExecutionStatus R) (on : Bool) → (on ≡ true → Stands tells later) → IfSome (if on then Some count else None) (λ so_many. Stands tells later)
+  stands_by later true stands = stands refl
+  stands_by later false stands = tt
+
+  pub stands_behind : (followed : FollowedStands tells) (keeps : KeepsKind tells) (later : ExecutionStatus R) (on : Bool) (next : Option ℕ) → Stands tells standing → Takes tells standing came (Ok later)
+      → on ≡ goes_on (bulk_is_ordered options) later → next ≡ if on then Some count else None → IfSome next (λ so_many. Stands tells later)
+  stands_behind followed keeps later on next stands takes is next_is =
+      subst (λ n. IfSome n (λ so_many. Stands tells later)) (sym next_is)
+      (stands_by later on (λ on_is. followed (bulk_is_ordered options) later (sym is ∙ on_is) (kind_behind tells keeps standing came later stands made.of_kind takes)))
+
+  -- and so it goes on
+  goes_by : (later : ExecutionStatus R) (on : Bool) → on ≡ goes_on (bulk_is_ordered options) later → IfSome (if on then Some count else None) (λ so_many. goes_on (bulk_is_ordered options) later ≡ true)
+  goes_by later true is = sym is
+  goes_by later false is = tt
+
+  pub goes_behind : (later : ExecutionStatus R) (on : Bool) (next : Option ℕ) → on ≡ goes_on (bulk_is_ordered options) later → next ≡ if on then Some count else None
+      → IfSome next (λ so_many. goes_on (bulk_is_ordered options) later ≡ true)
+  goes_behind later on next is next_is = subst (λ n. IfSome n (λ so_many. goes_on (bulk_is_ordered options) later ≡ true)) (sym next_is) (goes_by later on is)
+
   -- one whose result could not be taken over
   pub stops_refused : (error : Error) (on : Bool) → Takes tells standing came (Err error) → end_goes_on (bulk_is_ordered options) came ≡ on
       → StopsBulk tells options call index (drop index own) before now standing error
@@ -135,9 +170,3 @@ module _ {R : Type 0} (tells : ResultSpec R) (options : BulkWriteOptions) (call 
 pub stops_unmade : {R : Type 0} (tells : ResultSpec R) (options : BulkWriteOptions) (call index : ℕ) (own : List OwnOp) (before now : Moment) (standing : ExecutionStatus R) (error : Error) → now ≡ before
     → kind_of error ≡ kind.Memory → StopsBulk tells options call index own before now standing error
 stops_unmade tells options call index own before now standing error same memory = record { ends = []; makes = (same, inr (inl memory)); why = inl memory }
-
--- what the exit of a `?` returns there
-pub unmade_steps : {R : Type 0} (tells : ResultSpec R) (options : BulkWriteOptions) (call index : ℕ) (own : List OwnOp) (before now : Moment) (standing : ExecutionStatus R) (result : Result (Behind R) Error) → now ≡ before
-    → IsErrAnd result (λ error. IsAlone kind.Memory no_labels error) → StepsTo tells options call index own before now standing result
-unmade_steps tells options call index own before now standing (Ok behind) same exits = absurd exits
-unmade_steps tells options call index own before now standing (Err error) same exits = stops_unmade tells options call index (drop index own) before now standing error same exits.kind_is

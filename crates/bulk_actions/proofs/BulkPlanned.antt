@@ -1,8 +1,7 @@
 -- The batches of a bulk write as a plan: what each asks for, of the models that are left, in the places of their indexes.
-use Rattle.std.proofs.Common.{◌≡◌, ℕ, zero, suc, ◌+◌, ◌<◌, ◌≤◌, Bool, true, false, List, [], ◌∷◌, drop, length, take, refl, sym, ap, subst, ◌∙◌, inl, arith}
-use Rattle.std.specs.Prelude.{Option, None, Some, slice_get, Err}
+use Rattle.std.proofs.Common.{◌≡◌, ℕ, zero, suc, ◌+◌, ◌<◌, true, List, [], ◌∷◌, drop, length, take, refl, sym, ap, subst, ◌∙◌, inl, arith}
+use Rattle.std.specs.Prelude.{Some, slice_get}
 use Rattle.std.specs.List.{AllByRecursion}
-use Rattle.driver_error.specs.declared.error.Error.{Error}
 use Rattle.driver_error.specs.BulkResults.{ResultSpec}
 use Rattle.driver_error.specs.Error.{kind_of, source_of}
 use Rattle.driver_options.specs.declared.models.WriteModel.{WriteModel}

@@ -1,7 +1,7 @@
 -- Batches of a bulk write one after another: those so far, and how the next one goes on or ends the call.
-use Rattle.std.proofs.Common.{◌≡◌, ℕ, ◌+◌, ◌<◌, ◌≤◌, Bool, true, false, List, [], ◌∷◌, ◌++◌, drop, length, refl, sym, ap, subst, ◌∙◌, inl, inr, arith}
+use Rattle.std.proofs.Common.{◌≡◌, ℕ, ◌+◌, ◌<◌, ◌≤◌, Bool, true, false, List, [], ◌∷◌, ◌++◌, drop, length, refl, subst, inl, inr, arith}
 use Rattle.std.proofs.lemmas.List.{drop-drop, drop_all}
-use Rattle.std.specs.Prelude.{◌⊎◌, Option, None, Some, Result, Ok, Err}
+use Rattle.std.specs.Prelude.{◌⊎◌, None, Result, Ok, Err}
 use Rattle.driver_error.specs.declared.error.Error.{Error}
 use Rattle.driver_error.specs.declared.kind.ErrorKind.TheVariants as kind
 use Rattle.driver_error.specs.declared.status.ExecutionStatus.{ExecutionStatus}
@@ -13,7 +13,7 @@ use Rattle.bulk_ops.specs.declared.own_op.OwnOp.{OwnOp}
 use Rattle.driver_attempt.specs.Moment.{Moment}
 use Rattle.driver_actions.specs.BatchPlans.{PlannedEnd}
 use Rattle.driver_actions.proofs.PlannedSequence as planned
-use Rattle.bulk_actions.specs.BulkBatches.{ComesTo, StandsBehind, Takes, bulk_plan}
+use Rattle.bulk_actions.specs.BulkBatches.{ComesTo, StandsBehind, bulk_plan}
 use Rattle.bulk_actions.specs.inside.BulkBatches.{IsBegun, StandsBehindAll, StopsBulk, TakesBatch, TakesCounted}
 use Rattle.bulk_actions.proofs.Following.{begun_behind}
 
@@ -79,7 +79,7 @@ module _ {R : Type 0} (tells : ResultSpec R) (options : BulkWriteOptions) (call 
   }
 
   -- the call ended with an error there
-  pub stops_there : (now : Moment) (error : Error) → StopsBulk tells options call reached (drop reached own) mid now standing error → StopsBulk tells options call 0 own before now status.None error
+  stops_there : (now : Moment) (error : Error) → StopsBulk tells options call reached (drop reached own) mid now standing error → StopsBulk tells options call 0 own before now status.None error
   stops_there now error stops =
       let behind : ComesTo tells standing stops.ends (Err error) → ComesTo tells status.None (far.ends ++ stops.ends) (Err error)
       = λ comes. come_then tells far.ends stops.ends status.None standing (Err error) far.comes comes in
@@ -91,6 +91,10 @@ module _ {R : Type 0} (tells : ResultSpec R) (options : BulkWriteOptions) (call 
             (planned.front_then (bulk_plan tells options) call ((kind_of error ≡ kind.Memory) ⊎ ComesTo tells standing stops.ends (Err error)) 0 own far.ends reached (drop reached own) before mid now stops.ends far.front stops.makes);
         why = elim stops.why [ inl memory ↦ inl memory | inr comes ↦ inr (behind comes) ];
       }
+
+  -- the same of a call's number that is equal
+  pub stops_at : (number : ℕ) → number ≡ call → (now : Moment) (error : Error) → StopsBulk tells options number reached (drop reached own) mid now standing error → StopsBulk tells options call 0 own before now status.None error
+  stops_at number is now error stops = stops_there now error (subst (λ n. StopsBulk tells options n reached (drop reached own) mid now standing error) is stops)
 
   -- no op is left
   pub all_done : 0 < length own → length own ≤ reached → StandsBehindAll tells options call own before mid standing

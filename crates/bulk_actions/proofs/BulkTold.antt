@@ -1,8 +1,8 @@
 -- The entries of a bulk write that was answered Ok: those of its batches one after another, which tell the answer.
-use Rattle.std.proofs.Common.{◌≡◌, ℕ, zero, suc, ◌+◌, ◌<◌, ◌≤◌, Bool, true, false, List, [], ◌∷◌, ◌++◌, drop, length, take, take-append-drop, refl, sym, ap, subst, ◌∙◌, inl, inr, arith}
+use Rattle.std.proofs.Common.{◌≡◌, ℕ, zero, suc, ◌+◌, ◌≤◌, Bool, true, false, List, [], ◌∷◌, ◌++◌, drop, length, take, take-append-drop, refl, sym, ap, subst, ◌∙◌, inl, inr, arith}
 use Rattle.std.proofs.Math.IntN.{+ℤ_assoc, +ℤ_idl}
 use Rattle.std.proofs.lemmas.List.{length-take-le}
-use Rattle.std.specs.Prelude.{ℤ, pos, ◌+ℤ◌, Option, None, Some, ◌⊎◌, Result, Ok, Err, slice_get, if◌then◌else◌}
+use Rattle.std.specs.Prelude.{ℤ, pos, ◌+ℤ◌, Option, None, Some, ◌⊎◌, Result, Ok, Err, if◌then◌else◌}
 use Rattle.bson_lite.specs.declared.bson.ObjectId.{ObjectId}
 use Rattle.driver_error.specs.declared.error.Error.{Error}
 use Rattle.driver_error.specs.declared.status.ExecutionStatus.{ExecutionStatus}
@@ -23,10 +23,9 @@ use Rattle.driver_link.specs.Settled.{Has}
 use Rattle.driver_link.proofs.Lists.{has_either, has_left}
 use Rattle.driver_session.specs.Pool.{Pool}
 use Rattle.driver_session.specs.StoreTells.{DrawnApart, DrawnApartIn}
-use Rattle.driver_ops.specs.Operations.{AsksFor}
 use Rattle.driver_ops.specs.Served.{AreEntries}
 use Rattle.bulk_ops.specs.declared.own_op.OwnOp.{OwnOp}
-use Rattle.bulk_ops.specs.BulkEntries.{TellsBulk, counts_by, entries_told, kept_told, kind_told, matched_by, sum_of_kind, upserted_by}
+use Rattle.bulk_ops.specs.BulkEntries.{counts_by, entries_told, kept_told, kind_told, matched_by, sum_of_kind, upserted_by}
 use Rattle.bulk_ops.specs.BulkLawful.{bulk_lawful}
 use Rattle.bulk_ops.specs.BulkOps.{AreOps, model_writes, model_written}
 use Rattle.bulk_ops.specs.BulkSpec.{admin_target, bulk_spec}
@@ -41,10 +40,10 @@ use Rattle.driver_inputs.specs.ManyInputs.{AreTwelve}
 use Rattle.driver_actions.specs.BatchPlans.{AllDone, MakesAllPlanned, MakesPlanned, PlannedEnd, places_from, rest_of}
 use Rattle.driver_actions.specs.ManyEntries.{MayWriteCall}
 use Rattle.driver_actions.proofs.PlannedBatches as planned
-use Rattle.driver_actions.proofs.PlannedBatches.{Advances, IsNewFrom, MidTold, fixed_or_one, mid_told, next_new, place_in, told_as}
+use Rattle.driver_actions.proofs.PlannedBatches.{IsNewFrom, fixed_or_one, mid_told, next_new, place_in, told_as}
 use Rattle.bulk_actions.specs.BulkBatches.{ComesTo, StandsBehind, Takes, bulk_plan}
 use Rattle.bulk_actions.specs.BulkCalls.{AnswersStanding, EndsShort, MadeBulk, MakesBulk}
-use Rattle.bulk_actions.specs.BulkTold.{AreEntriesOf, HasToldAll, IsEntryOf, OkIsLogged, ToldWhereTold}
+use Rattle.bulk_actions.specs.BulkTold.{AreEntriesOf, HasToldAll, OkIsLogged, ToldWhereTold}
 use Rattle.bulk_actions.proofs.BulkKept.{IsGivenModel, good, made_drew, own_written}
 use Rattle.bulk_actions.proofs.BulkPlanned.{GoodModels, IsOfModel, bulk_asks, bulk_body, bulk_planned}
 use Rattle.bulk_actions.proofs.FewestBulk.{as_many, ids_each, ok_done}

@@ -1,15 +1,14 @@
 -- The sends of writes of a bulk write that was answered Ok are the runs of the fewest batches that the server's limits allow.
-use Rattle.std.proofs.Common.{◌≡◌, ℕ, zero, suc, ◌+◌, ◌≤◌, Bool, true, false, List, [], ◌∷◌, ◌++◌, drop, length, map, take, refl, sym, ap, subst, ◌∙◌, append_assoc, inl, inr, arith}
+use Rattle.std.proofs.Common.{◌≡◌, ℕ, zero, suc, ◌+◌, ◌≤◌, Bool, true, false, List, [], ◌∷◌, ◌++◌, drop, length, map, take, refl, sym, ap, subst, ◌∙◌, append_assoc, arith}
 use Rattle.std.proofs.lemmas.List.{append-nil, length-take-le}
 use Rattle.std.specs.Prelude.{⊤, Option, None, Some, Result, Ok, Err, if◌then◌else◌}
 use Rattle.bson_lite.specs.declared.bson.ObjectId.{ObjectId}
-use Rattle.bson_lite.specs.Spelling.{Spells, spelling}
 use Rattle.driver_error.specs.declared.error.Error.{Error}
 use Rattle.driver_error.specs.declared.status.ExecutionStatus.{ExecutionStatus}
 use Rattle.driver_error.specs.declared.status.ExecutionStatus.TheVariants as status
 use Rattle.driver_error.specs.BulkResults.{ResultSpec}
 use Rattle.driver_error.specs.Error.{kind_of}
-use Rattle.driver_error.specs.Status.{FailsWith, Succeeds, is_memory}
+use Rattle.driver_error.specs.Status.{FailsWith, is_memory}
 use Rattle.driver_options.specs.declared.models.WriteModel.{WriteModel}
 use Rattle.driver_options.specs.declared.options.Description.{Description}
 use Rattle.driver_options.specs.declared.write_options.BulkWriteOptions.{BulkWriteOptions}
@@ -31,7 +30,7 @@ use Rattle.driver_session.specs.StoreTells.{StoreTells}
 use Rattle.bulk_ops.specs.declared.own_op.OwnOp.{OwnOp}
 use Rattle.bulk_ops.specs.declared.own_op.SizedOp.{SizedOp}
 use Rattle.bulk_ops.specs.BulkFronts.{FitsOps, TakesBulk, bulk_limits, sized_ops}
-use Rattle.bulk_ops.specs.BulkOps.{AreOps, IsOpOf, model_writes, op_document}
+use Rattle.bulk_ops.specs.BulkOps.{AreOps, model_writes}
 use Rattle.bulk_ops.specs.BulkSpec.{is_verbose}
 use Rattle.bulk_ops.proofs.BulkFronts.{length_sized}
 use Rattle.bulk_ops.proofs.DistinctSums.{ops_keep_fit}
@@ -49,7 +48,7 @@ use Rattle.bulk_actions.specs.BulkBatches.{ComesTo, StandsBehind, Takes, bulk_pl
 use Rattle.bulk_actions.specs.BulkCalls.{AnswersStanding, EndsShort, MadeBulk, MakesBulk}
 use Rattle.bulk_actions.specs.BulkIds.{DrawsModelIds}
 use Rattle.bulk_actions.specs.FewestBulk.{IsFewestBulkCut, IsFewestBulkWhereTold, OkIsFewestBulk, is_of_writes, own_sends, sent_models, sized_model}
-use Rattle.bulk_actions.proofs.BulkKept.{IsGivenModel, good, made_drew, made_moves}
+use Rattle.bulk_actions.proofs.BulkKept.{IsGivenModel, good, made_moves}
 use Rattle.bulk_actions.proofs.BulkPlanned.{GoodModels, IsOfModel, bulk_planned}
 
 -- ---- the sends of writes among others

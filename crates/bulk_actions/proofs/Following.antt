@@ -12,7 +12,7 @@ use Rattle.driver_error.specs.declared.status.ExecutionStatus.{ExecutionStatus}
 use Rattle.driver_error.specs.declared.status.ExecutionStatus.TheVariants as status
 use Rattle.driver_error.specs.declared.write.BulkWriteError.{BulkWriteError}
 use Rattle.driver_error.specs.declared.write.WriteError.{WriteError}
-use Rattle.driver_error.specs.BulkErrors.{Joins, JoinsLater, failures_in, merged_errors}
+use Rattle.driver_error.specs.BulkErrors.{JoinsLater, failures_in, merged_errors}
 use Rattle.driver_error.specs.BulkResults.{ResultSpec}
 use Rattle.driver_error.specs.Error.{ErrorKind, kind_of, source_of}
 use Rattle.driver_error.specs.Status.{FailsAgain, FailsBehind, FailsWith, Succeeds, goes_on, is_followed, is_memory, succeeded_alone}

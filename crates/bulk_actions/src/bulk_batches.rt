@@ -1,5 +1,5 @@
 //! The batches of a bulk write, one operation each, and what stands behind them.
-ghost use Rattle.std.specs.Prelude.{◌≡◌, ◌<◌, true, drop, length, IfOk, IfSome, OnErr};
+ghost use Rattle.std.specs.Prelude.{◌≡◌, ◌<◌, true, drop, length, IfOk, IfSome, OnErr, None as Unset, Some as Set, if◌then◌else◌};
 ghost use Rattle.driver_error.specs.Status.{Stands, goes_on};
 ghost use Rattle.bulk_ops.specs.BulkWrites.{bulk_is_ordered};
 ghost use Rattle.driver_attempt.specs.Client.{options_of};
@@ -11,7 +11,8 @@ ghost use Rattle.bulk_actions.specs.inside.BulkBatches.{AreBulkOps, BulkBatchMad
 use bulk_ops::{BulkWriteOp, OwnOp};
 use driver_actions::rest_from;
 use driver_attempt::{Client, Outside, Steps};
-use driver_error::{BulkWriteResult, ExecutionStatus, Result};
+use driver_error::laws::{what_is_followed_stands, what_stands_keeps_its_kind};
+use driver_error::{BulkWriteResult, Error, ErrorKind, ExecutionStatus, Result};
 use driver_exec::execute_operation;
 use driver_link::{Clock, Link, Place};
 use driver_ops::Operation;
@@ -96,6 +97,13 @@ fn taken<T: BulkWriteResult>(
     }
 }
 
+/// Behind how many ops the next batch is made, where there is one.
+fn count_behind(on: bool, count: usize) -> Option<usize>
+    ensures { result ≡ if on then Set count else Unset }
+{
+    if on { Some(count) } else { None }
+}
+
 /// Makes the next batch of a call's ops, from an index on, and says what stands behind it.
 #[tactic(auto, using(driver_actions::proofs::BatchPlaces::covers))]
 fn next_batch<S: SessionStore, L: Link, K: Clock, R: Rng, T: BulkWriteResult>(
@@ -124,17 +132,26 @@ fn next_batch<S: SessionStore, L: Link, K: Clock, R: Rng, T: BulkWriteResult>(
     ensures options { options_of client.new ≡ options_of client.old }
     ensures call { outside.new.call ≡ outside.old.call }
 {
+    // laws, which do nothing: what stands where a next batch is made can take what comes of it
+    what_is_followed_stands::<T>();
+    what_stands_keeps_its_kind::<T>();
     let their = rest_from(places, first);
     let blank = Blank::new(1);
-    let made = make_batch::<S, L, K, R, T, Brand>(
+    let made = match make_batch::<S, L, K, R, T, Brand>(
         alloc, client, outside, first, own, their, options, blank,
-    )?;
+    ) {
+        Ok(made) => made,
+        Err(_refused) => {
+            drop(standing);
+            return Err(Error::from_kind(ErrorKind::Memory));
+        }
+    };
     let MadeBatch { count, came } = made;
-    let standing = taken(alloc, standing, came)?;
-    let on = standing.should_continue(is_ordered(options));
+    let later = taken(alloc, standing, came)?;
+    let on = later.should_continue(is_ordered(options));
     Ok(Behind {
-        standing,
-        next: if on { Some(count) } else { None },
+        standing: later,
+        next: count_behind(on, count),
     })
 }
 

@@ -282,6 +282,8 @@ impl<'a, S: SessionStore, T: BulkWriteResult> BulkWrite<'a, S, T> {
             options,
             results: _,
         } = self;
-        bulk_all::<S, L, K, R, T>(alloc, client, outside, models, &options)
+        let result = bulk_all::<S, L, K, R, T>(alloc, client, outside, models, &options);
+        drop(options);
+        result
     }
 }

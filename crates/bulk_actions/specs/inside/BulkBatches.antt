@@ -8,7 +8,7 @@ use Rattle.driver_error.specs.declared.status.ExecutionStatus.TheVariants as sta
 use Rattle.driver_error.specs.BulkErrors.{failures_in}
 use Rattle.driver_error.specs.BulkResults.{ResultSpec}
 use Rattle.driver_error.specs.Error.{kind_of}
-use Rattle.driver_error.specs.Status.{HasKind, IsBulkOfKind, Stands}
+use Rattle.driver_error.specs.Status.{IsBulkOfKind}
 use Rattle.driver_options.specs.declared.models.WriteModel.{WriteModel}
 use Rattle.driver_options.specs.declared.write_options.BulkWriteOptions.{BulkWriteOptions}
 use Rattle.bulk_ops.specs.declared.own_op.OwnOp.{OwnOp}

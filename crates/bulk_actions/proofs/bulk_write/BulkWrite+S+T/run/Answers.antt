@@ -9,23 +9,23 @@ use Rattle.bulk_actions.proofs.bulk_write.BulkWrite+S+T.run.Goals as goal
 pub returns-clause-keeps : goal.returns-clause-keeps
 returns-clause-keeps g c =
     let before = moment_of g.S.SessionStore.tells g.L.Link.tells g.K.Clock.tells g.R.Rng.stream c.args.self.client.now c.args.outside.now in
-    let now = moment_of g.S.SessionStore.tells g.L.Link.tells g.K.Clock.tells g.R.Rng.stream c.bulk_all.new.client c.bulk_all.new.outside in
-    bulk_keeps g.T.BulkWriteResult.tells before now c.args.self.models.now c.args.self.options c.args.outside.now.call c.bulk_all.result c.bulk_all.ensures.makes
+    let now = moment_of g.S.SessionStore.tells g.L.Link.tells g.K.Clock.tells g.R.Rng.stream c.bulk_all-result.new.client c.bulk_all-result.new.outside in
+    bulk_keeps g.T.BulkWriteResult.tells before now c.args.self.models.now c.args.self.options c.args.outside.now.call c.bulk_all-result.result c.bulk_all-result.ensures.makes
 
 pub returns-clause-fewest : goal.returns-clause-fewest
 returns-clause-fewest g c =
     let before = moment_of g.S.SessionStore.tells g.L.Link.tells g.K.Clock.tells g.R.Rng.stream c.args.self.client.now c.args.outside.now in
-    let now = moment_of g.S.SessionStore.tells g.L.Link.tells g.K.Clock.tells g.R.Rng.stream c.bulk_all.new.client c.bulk_all.new.outside in
-    bulk_fewest g.T.BulkWriteResult.tells before now c.args.self.models.now c.args.self.options c.args.outside.now.call c.bulk_all.result c.bulk_all.ensures.makes
+    let now = moment_of g.S.SessionStore.tells g.L.Link.tells g.K.Clock.tells g.R.Rng.stream c.bulk_all-result.new.client c.bulk_all-result.new.outside in
+    bulk_fewest g.T.BulkWriteResult.tells before now c.args.self.models.now c.args.self.options c.args.outside.now.call c.bulk_all-result.result c.bulk_all-result.ensures.makes
 
 pub returns-clause-raises : goal.returns-clause-raises
 returns-clause-raises g c =
     let before = moment_of g.S.SessionStore.tells g.L.Link.tells g.K.Clock.tells g.R.Rng.stream c.args.self.client.now c.args.outside.now in
-    let now = moment_of g.S.SessionStore.tells g.L.Link.tells g.K.Clock.tells g.R.Rng.stream c.bulk_all.new.client c.bulk_all.new.outside in
-    bulk_raises g.T.BulkWriteResult.tells before now c.args.self.models.now c.args.self.options c.args.outside.now.call c.bulk_all.result c.bulk_all.ensures.makes
+    let now = moment_of g.S.SessionStore.tells g.L.Link.tells g.K.Clock.tells g.R.Rng.stream c.bulk_all-result.new.client c.bulk_all-result.new.outside in
+    bulk_raises g.T.BulkWriteResult.tells before now c.args.self.models.now c.args.self.options c.args.outside.now.call c.bulk_all-result.result c.bulk_all-result.ensures.makes
 
 pub returns-clause-logged : goal.returns-clause-logged
 returns-clause-logged g c =
     let before = moment_of g.S.SessionStore.tells g.L.Link.tells g.K.Clock.tells g.R.Rng.stream c.args.self.client.now c.args.outside.now in
-    let now = moment_of g.S.SessionStore.tells g.L.Link.tells g.K.Clock.tells g.R.Rng.stream c.bulk_all.new.client c.bulk_all.new.outside in
-    bulk_logged g.T.BulkWriteResult.tells g.met.T.BulkWriteResult.merges before now c.args.self.models.now c.args.self.options c.args.outside.now.call c.bulk_all.result c.bulk_all.ensures.makes
+    let now = moment_of g.S.SessionStore.tells g.L.Link.tells g.K.Clock.tells g.R.Rng.stream c.bulk_all-result.new.client c.bulk_all-result.new.outside in
+    bulk_logged g.T.BulkWriteResult.tells g.met.T.BulkWriteResult.merges before now c.args.self.models.now c.args.self.options c.args.outside.now.call c.bulk_all-result.result c.bulk_all-result.ensures.makes
