@@ -366,7 +366,7 @@ fn schedule(alloc: Global, meets: &[Meets]) -> Result<Schedule, AllocError>
 }
 
 /// A command as a row tells it.
-fn sent(send: &Send) -> Sent {
+fn sent_as(send: &Send) -> Sent {
     match &send.body {
         SendBody::Write {
             command: SendCommand::BulkWrite,
@@ -389,7 +389,7 @@ fn are_sent(server: &Server, expected: &[Sent]) -> bool {
     }
     for (at, one) in expected.iter().enumerate() {
         match server.trace.get(at) {
-            Some(send) if sent(send) == *one => {}
+            Some(send) if sent_as(send) == *one => {}
             _ => return false,
         }
     }
