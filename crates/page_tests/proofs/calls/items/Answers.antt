@@ -1,0 +1,18 @@
+-- One step more, whose item a model server takes.
+use Rattle.std.proofs.Common.{[], ◌∷◌, subst, sym}
+use Rattle.std.specs.List.{All}
+use Rattle.std.proofs.lemmas.List.Elements.{All-append, All-cons, All-nil}
+use Rattle.driver_link.specs.declared.machine.Scheduled.{Scheduled}
+use Rattle.driver_link.specs.WellFormed.{IsItem}
+use Rattle.page_tests.proofs.calls.items.Goals as goal
+
+-- a step has an item that a model server takes
+abbrev IsStep : Scheduled → Type 0
+IsStep step = IsItem step.item
+
+pub items-init : goal.items-init
+items-init c = subst (All IsStep) (sym c.new-steps.ensures) (All-nil IsStep)
+
+pub items-preserved : goal.items-preserved
+items-preserved c =
+    subst (All IsStep) (sym c.in_ok-push.ensures.ok) (All-append IsStep c.items.steps (_ ∷ []) c.items.invariant (All-cons IsStep _ [] c.in_ok-item.ensures (All-nil IsStep)))
