@@ -207,7 +207,7 @@ module _ (target : OperationTarget) (options : InsertManyOptions) (call : ℕ) (
       link = besides_out before.link;
       link_is = run_is;
       repeats = λ send. InsertsHaveNumbers before.client.options (setup_of before.link);
-      repeats_numbered = λ send draws. draws;
+      repeats_numbered = λ session number draws. draws;
       Ready = MayGo;
       ready_answers = answers;
       pages_well = λ last part session number came end begins ends may built is serves bytes replied error fails.

@@ -182,7 +182,7 @@ module _ (made : ℕ) (place : Place) (before now : Moment) (form : WriteForm) (
             link = besides_out mid.link;
             link_is = mid_link;
             repeats = λ send. DrawsNumbers true (repeats_in form mid.client.options) (setup_of mid.link);
-            repeats_numbered = λ send draws. draws;
+            repeats_numbered = λ session number draws. draws;
             Ready = MayGo form place sent;
             ready_answers = λ session number server step may command is serves. answers session number server step may serves;
             pages_well = λ last part session number before end begins ends may command is serves bytes replied error fails.

@@ -21,7 +21,7 @@ reached_by : (most at part whole : ℕ) → min (at + 1) most ≤ part → min p
 reached_by most at part whole within above = omega arith
 
 -- what stands before the end of a list stands there in a longer one
-before_more : {A : Type 0} (xs more : List A) (at : ℕ) → at < length xs → slice_get (xs ++ more) at ≡ slice_get xs at
+pub before_more : {A : Type 0} (xs more : List A) (at : ℕ) → at < length xs → slice_get (xs ++ more) at ≡ slice_get xs at
 before_more [] more at below = absurd (omega (arith, below))
 before_more (x ∷ xs) more zero below = refl
 before_more (x ∷ xs) more (suc at) below = before_more xs more at (omega (arith, below))

@@ -214,7 +214,7 @@ exchange_leads spec body asks a before now conn context result is exchanges =
 stays_lead : (a : ServerRun) (before now : LinkState) → server_run before ≡ Some a → now ≡ before → Leads a before now
 stays_lead a before now is same = subst (λ l. Leads a before l) (sym same) (leads_same a before is)
 
-asked_leads : (a : ServerRun) (before now : LinkState) (conn : Conn) (session : Option (List ℕ)) (asked : PageAsked) → server_run before ≡ Some a → AsksPage conn session before now asked → Leads a before now
+pub asked_leads : (a : ServerRun) (before now : LinkState) (conn : Conn) (session : Option (List ℕ)) (asked : PageAsked) → server_run before ≡ Some a → AsksPage conn session before now asked → Leads a before now
 asked_leads a before now conn session asked is asks = elim asks [
   | inl out ↦ exchange_leads (more_spec (at_namespace asked.namespace) asked.cursor) (More asked.cursor) (is_asked (More asked.cursor)) a before now conn (under session None) out.result is out.exchanges
   | inr lacks ↦ stays_lead a before now is lacks.same
@@ -231,13 +231,13 @@ where_leads true a before now conn asked is ends = cursor_leads a before now con
 where_leads false a before now conn asked is same = stays_lead a before now is same
 
 module _ {A : Type 0} (spec : OperationSpec A) (statements : ℕ) (bytes : List ℕ) (conn : Conn) where
-  pages_lead : (session : Option (List ℕ)) (a : ServerRun) (before : LinkState) → server_run before ≡ Some a → (asked : List PageAsked) (mid : LinkState) → AsksPages spec statements bytes conn session before asked mid → Leads a before mid
+  pub pages_lead : (session : Option (List ℕ)) (a : ServerRun) (before : LinkState) → server_run before ≡ Some a → (asked : List PageAsked) (mid : LinkState) → AsksPages spec statements bytes conn session before asked mid → Leads a before mid
   pages_lead session a before is [] mid same = stays_lead a before mid is same
   pages_lead session a before is (last ∷ earlier) mid asks =
       let leads = pages_lead session a before is earlier asks.0 asks.1.0 in
       leads_twice a before asks.0 mid leads (asked_leads leads.moment asks.0 mid conn session last leads.is asks.1.2)
 
-  pages_end_leads : (a : ServerRun) (before now : LinkState) → server_run before ≡ Some a → (asked : List PageAsked) (answer : Result A Error) → EndsPages spec statements bytes conn before now asked answer → Leads a before now
+  pub pages_end_leads : (a : ServerRun) (before now : LinkState) → server_run before ≡ Some a → (asked : List PageAsked) (answer : Result A Error) → EndsPages spec statements bytes conn before now asked answer → Leads a before now
   pages_end_leads a before now is [] answer ends = stays_lead a before now is ends.1
   pages_end_leads a before now is (last ∷ earlier) (Ok output) ends = stays_lead a before now is ends.1
   pages_end_leads a before now is (last ∷ earlier) (Err error) ends = elim ends [

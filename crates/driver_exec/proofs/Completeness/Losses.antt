@@ -157,7 +157,7 @@ module _ {A : Type 0} (known : KnownCommand A) where
           | inl serves ↦
               let here = ready_answers (held_id sends.numbered) sends.number before.server step ready_here sends.exchanges.framed.command sends.exchanges.framed.built.is (subst (λ s. Serves send s.item) step_is serves) in
               absurd (none_is_some here.reply (sym none ∙ here.is))
-          | inr loses ↦ (repeats_numbered send loses.0, loses.1)
+          | inr loses ↦ (repeats_numbered (held_id sends.numbered) sends.number loses.0, loses.1)
         ]
 
         -- the setup stays

@@ -60,9 +60,9 @@ pub record KnownCommand (A : Type 0) : Type 1 where
   pub told : ServerRun
   pub link : LinkState
   pub link_is : server_run link ≡ Some told
-  -- a send may go out again; then the sends of its command have numbers
+  -- a send may go out again; then those of its command have numbers
   pub repeats : Send → Type 0
-  pub repeats_numbered : (send : Send) → repeats send → DrawsNumbers true retryability (setup_of link)
+  pub repeats_numbered : (session : Option (List ℕ)) (number : Option ℤ) → repeats (send_of (under session number) body) → DrawsNumbers true retryability (setup_of link)
   -- a send may go out to a server
   pub Ready : Send → Server → Type 0
   -- then a gentle step answers it plainly, once its command was built
