@@ -49,7 +49,7 @@ same_sized id twelve (DeleteOne model) = refl
 same_sized id twelve (DeleteMany model) = refl
 
 -- so models count for the same under all ids
-all_sized : (ids : List ObjectId) (models : List WriteModel) → length ids ≡ length models → AreTwelve ids → sent_models ids models ≡ sized_with_ids models
+pub all_sized : (ids : List ObjectId) (models : List WriteModel) → length ids ≡ length models → AreTwelve ids → sent_models ids models ≡ sized_with_ids models
 unfolding sized_with_ids
 all_sized [] [] same twelve = refl
 all_sized [] (model ∷ models) same twelve = absurd (omega (arith, same))

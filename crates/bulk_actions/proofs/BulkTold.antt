@@ -122,17 +122,17 @@ module _ {R : Type 0} (tells : ResultSpec R) (laws : MergesResults tells) where
       ]
 
   -- a result with those of entries and their counts
-  abbrev with_entries : ℕ → List Entry → R → R
+  abbrev pub with_entries : ℕ → List Entry → R → R
   with_entries index es a = kept_told tells index es (tells.counted a (counts_by es))
 
   -- what was answered before, and what entries tell by themselves
-  later_with : (a : R) (index : ℕ) (es : List Entry) → tells.merged a (with_entries index es tells.nothing) ≡ with_entries index es a
+  pub later_with : (a : R) (index : ℕ) (es : List Entry) → tells.merged a (with_entries index es tells.nothing) ≡ with_entries index es a
   later_with a index es =
       later_kept a (tells.counted tells.nothing (counts_by es)) index es
       ∙ ap (kept_told tells index es) (laws.counted_later a tells.nothing (counts_by es) ∙ ap (λ b. tells.counted b (counts_by es)) (laws.after a))
 
   -- entries and others behind them
-  with_append : (a : R) (index : ℕ) (es fs : List Entry) → with_entries index (es ++ fs) a ≡ with_entries (index + length es) fs (with_entries index es a)
+  pub with_append : (a : R) (index : ℕ) (es fs : List Entry) → with_entries index (es ++ fs) a ≡ with_entries (index + length es) fs (with_entries index es a)
   with_append a index es fs =
       ap (λ counts. kept_told tells index (es ++ fs) (tells.counted a counts)) (counts_append es fs)
       ∙ ap (kept_told tells index (es ++ fs)) (sym (laws.counted_twice a (counts_by es) (counts_by fs)))
@@ -140,25 +140,25 @@ module _ {R : Type 0} (tells : ResultSpec R) (laws : MergesResults tells) where
       ∙ ap (kept_told tells (index + length es) fs) (sym (counted_kept (tells.counted a (counts_by es)) (counts_by fs) index es))
 
 -- ---- the entries of models as they are sent
-record IsSent (model : WriteModel) (call index : ℕ) (entry : Entry) : Type 0 where
-  place : entry.place ≡ place_in call index
-  written : entry.written ≡ model_written model
+pub record IsSent (model : WriteModel) (call index : ℕ) (entry : Entry) : Type 0 where
+  pub place : entry.place ≡ place_in call index
+  pub written : entry.written ≡ model_written model
 
-abbrev AreSent : List WriteModel → ℕ → ℕ → List Entry → Type 0
+abbrev pub AreSent : List WriteModel → ℕ → ℕ → List Entry → Type 0
 AreSent [] call index [] = Unit {0}
 AreSent [] call index (entry ∷ entries) = ⊥
 AreSent (model ∷ models) call index [] = ⊥
 AreSent (model ∷ models) call index (entry ∷ entries) = IsSent model call index entry × AreSent models call (index + 1) entries
 
 -- there are as many
-sent_length : (models : List WriteModel) (call index : ℕ) (entries : List Entry) → AreSent models call index entries → length entries ≡ length models
+pub sent_length : (models : List WriteModel) (call index : ℕ) (entries : List Entry) → AreSent models call index entries → length entries ≡ length models
 sent_length [] call index [] are = refl
 sent_length [] call index (entry ∷ entries) are = absurd are
 sent_length (model ∷ models) call index [] are = absurd are
 sent_length (model ∷ models) call index (entry ∷ entries) are = ap suc (sent_length models call (index + 1) entries are.1)
 
 -- those of models and of others behind them
-sent_append : (xs ys : List WriteModel) (call index : ℕ) (es fs : List Entry) → AreSent xs call index es → AreSent ys call (index + length es) fs → AreSent (xs ++ ys) call index (es ++ fs)
+pub sent_append : (xs ys : List WriteModel) (call index : ℕ) (es fs : List Entry) → AreSent xs call index es → AreSent ys call (index + length es) fs → AreSent (xs ++ ys) call index (es ++ fs)
 sent_append [] ys call index [] fs are more = let here : index + 0 ≡ index = omega arith in subst (λ n. AreSent ys call n fs) here more
 sent_append [] ys call index (e ∷ es) fs are more = absurd are
 sent_append (x ∷ xs) ys call index [] fs are more = absurd are
@@ -181,7 +181,7 @@ sent_by session number call (suc count) (model ∷ models) (suc all) index (entr
 )
 
 -- and of the caller's models they are his own
-own_sent : (ids : List ObjectId) (models : List WriteModel) (call index : ℕ) (entries : List Entry) → length ids ≡ length models → AreTwelve ids → AreSent (with_model_ids ids models) call index entries
+pub own_sent : (ids : List ObjectId) (models : List WriteModel) (call index : ℕ) (entries : List Entry) → length ids ≡ length models → AreTwelve ids → AreSent (with_model_ids ids models) call index entries
     → AreEntriesOf models call index entries
 own_sent [] [] call index [] same twelve are = tt
 own_sent [] [] call index (entry ∷ entries) same twelve are = absurd are
@@ -195,12 +195,12 @@ own_sent (id ∷ ids) (model ∷ models) call index (entry ∷ entries) same twe
 
 -- ---- what stands before a batch that is followed by an answer that is Ok
 -- the result that stands
-abbrev result_in : {R : Type 0} → ResultSpec R → ExecutionStatus R → R
+abbrev pub result_in : {R : Type 0} → ResultSpec R → ExecutionStatus R → R
 result_in tells (status.Success found) = found
 result_in tells _ = tells.nothing
 
 -- a success, or no batch
-abbrev IsSuccess : {R : Type 0} → ExecutionStatus R → Type 0
+abbrev pub IsSuccess : {R : Type 0} → ExecutionStatus R → Type 0
 IsSuccess (status.Error error) = ⊥
 IsSuccess _ = Unit {0}
 
@@ -219,13 +219,13 @@ module _ {R : Type 0} (tells : ResultSpec R) (laws : MergesResults tells) (optio
         (planned.command_here true (bulk_plan tells options) call (GoodModels G) Is (bulk_planned tells options call G) index own good before now end made)
 
     -- what its entries are
-    record BatchEntries (log : List Entry) (output : R) : Type 0 where
-      entries : List Entry
-      are : AreSent (take count good.models) call index entries
-      stand : (entry : Entry) → Has entries entry → Has log entry
-      told : output ≡ with_entries tells laws index entries tells.nothing
+    pub record BatchEntries (log : List Entry) (output : R) : Type 0 where
+      pub entries : List Entry
+      pub are : AreSent (take count good.models) call index entries
+      pub stand : (entry : Entry) → Has entries entry → Has log entry
+      pub told : output ≡ with_entries tells laws index entries tells.nothing
 
-    batch_entries : (pool pool_now : Pool) (run run_now : ServerRun) → before.store.pool ≡ Some pool → now.store.pool ≡ Some pool_now → server_run before.link ≡ Some run → server_run now.link ≡ Some run_now
+    pub batch_entries : (pool pool_now : Pool) (run run_now : ServerRun) → before.store.pool ≡ Some pool → now.store.pool ≡ Some pool_now → server_run before.link ≡ Some run → server_run now.link ≡ Some run_now
         → Between pool run.server.trace → Sound run.server → IsNewFrom run.server.trace call index → AllApart pool_now.drawn → (output : R) → end.result ≡ Ok output → BatchEntries run_now.server.log output
     batch_entries pool pool_now run run_now pool_is pool_now_is run_is run_now_is between sound new apart output is =
         let body = bulk_body tells options call G index own good count in
@@ -251,7 +251,7 @@ module _ {R : Type 0} (tells : ResultSpec R) (laws : MergesResults tells) (optio
     told : output ≡ with_entries tells laws index entries standing
 
   -- a batch that was Ok behind a success
-  takes_ok : (before : ExecutionStatus R) (index : ℕ) (entries : List Entry) (found : R) (now : ExecutionStatus R) → IsSuccess before → found ≡ with_entries tells laws index entries tells.nothing
+  pub takes_ok : (before : ExecutionStatus R) (index : ℕ) (entries : List Entry) (found : R) (now : ExecutionStatus R) → IsSuccess before → found ≡ with_entries tells laws index entries tells.nothing
       → Takes tells before (Ok found) (Ok now) → (IsSuccess now × (result_in tells now ≡ with_entries tells laws index entries (result_in tells before)))
   takes_ok status.None index entries found now success told is =
       subst (λ s. IsSuccess s × (result_in tells s ≡ with_entries tells laws index entries tells.nothing)) (sym is) (tt, told)

@@ -1,13 +1,21 @@
 pub mod BulkAnswers
 pub mod BulkBodies
+pub mod BulkCompleteness
 pub mod BulkEnds
+pub mod BulkFit
 pub mod BulkJudged
 pub mod BulkKept
 pub mod BulkNumbers
+pub mod BulkPagesWell
 pub mod BulkParts
 pub mod BulkPlanned
+pub mod BulkRunWell
+pub mod BulkSends
 pub mod BulkSequence
+pub mod BulkServed
 pub mod BulkTold
+pub mod BulkWell
+pub mod CursorsAhead
 pub mod FewestBulk
 pub mod FewestRuns
 pub mod Following
@@ -16,3 +24,4 @@ pub mod OpsLeft
 pub mod OpsSpelled
 pub mod OwnOps
 pub mod SentOps
+pub mod SpelledQuestions

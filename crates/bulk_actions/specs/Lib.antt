@@ -1,5 +1,6 @@
 pub mod BulkBatches
 pub mod BulkCalls
+pub mod BulkCompleteness
 pub mod BulkIds
 pub mod BulkNumbers
 pub mod BulkTold

@@ -19,3 +19,4 @@ pub mod PageCounts
 pub mod ReadBulk
 pub mod ReadPages
 pub mod TakenResults
+pub mod WholePages

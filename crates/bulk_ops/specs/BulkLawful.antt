@@ -159,7 +159,7 @@ module _ {R : Type 0} (batch : BulkBatch R) where
       by_fields (Some found) read answers = by_verdict found read (first_verdict batch found) refl answers
 
   -- what was read of a reply whose cursor is open
-  opened_read : (reply : Reply) (found : BulkReply) → bulk_reply reply ≡ Some found → first_verdict batch found ≡ LeavesOpen → read_open batch (Ok reply ∷ []) ≡ Some (first_read found)
+  pub opened_read : (reply : Reply) (found : BulkReply) → bulk_reply reply ≡ Some found → first_verdict batch found ≡ LeavesOpen → read_open batch (Ok reply ∷ []) ≡ Some (first_read found)
   unfolding read_open
   opened_read reply found read is =
       ap (option_and_then (λ fields. where_open (first_verdict batch fields) (first_read fields))) read
@@ -216,12 +216,12 @@ module _ {R : Type 0} (batch : BulkBatch R) where
       behind_open (read_open batch (as_pages (other ∷ pages) ++ Ok reply ∷ [])) page cursor namespace answers
 
 -- the first page and what is left are all
-pages_whole : (page : Option ℕ) (results : List Reply) → first_page page results ++ pages_left page results ≡ results
+pub pages_whole : (page : Option ℕ) (results : List Reply) → first_page page results ++ pages_left page results ≡ results
 pages_whole None results = append-nil results
 pages_whole (Some most) results = take-append-drop most results
 
 -- no cursor is open where none is told
-none_is_left : (left : List Reply) (cursors : List (Option (List Reply))) → int_eq (pos (cursor_number left cursors)) (pos 0) ≡ true → left ≡ []
+pub none_is_left : (left : List Reply) (cursors : List (Option (List Reply))) → int_eq (pos (cursor_number left cursors)) (pos 0) ≡ true → left ≡ []
 none_is_left [] cursors is = refl
 none_is_left (first ∷ left) cursors is = absurd (no_number (length cursors) (cc ((Decides-int_eq (pos (cursor_number (first ∷ left) cursors)) (pos 0)).0 is)))
   where

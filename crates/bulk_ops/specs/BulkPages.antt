@@ -79,6 +79,10 @@ op_results_of value = option_and_then op_results (array_of value)
 unfoldable pub cursor_namespace : List (Pair Bson) → Option Namespace
 cursor_namespace document = option_and_then cut (needed text_of CURSOR_NAMESPACE.now document)
 
+-- the namespace that the pages of a bulk write's results are asked for under
+abbrev pub bulk_namespace : Namespace
+bulk_namespace = record { db = codes "admin"; coll = codes "$cmd.bulkWrite" }
+
 -- the cursor of a page: its number, the namespace that it is asked for under, and under a key the results
 unfoldable pub cursor_in : List ℕ → List (Pair Bson) → Option ResultsPage
 cursor_in batch document =

@@ -10,6 +10,7 @@ use Rattle.driver_error.specs.declared.results.InsertManyResult.{InsertManyResul
 use Rattle.driver_options.specs.declared.write_options.InsertManyOptions.{InsertManyOptions}
 use Rattle.driver_link.specs.Clock.{ClockTells}
 use Rattle.driver_link.specs.declared.machine.Item.{Item}
+use Rattle.driver_link.specs.declared.machine.Send.{Send}
 use Rattle.driver_link.specs.Retried.{IsGentleItem}
 use Rattle.driver_link.specs.LinkState.{server_run, setup_of}
 use Rattle.driver_link.specs.ServerRun.{ServerRun}
@@ -53,7 +54,7 @@ use Rattle.driver_inputs.specs.declared.call.SingleWrite.{SingleWrite}
 use Rattle.driver_inputs.specs.Forms.{WriteForm, form_of, kind_in, repeats_in}
 
 -- a part of a schedule that is gentle for a call is so for one write, where all that it sent carries the same
-pub gentle_alike : (Serves : Item → Type 0) (repeats : Type 0) (told told_now : ServerRun) → IsGentleCallPart Serves repeats told told_now
+pub gentle_alike : (Serves : Send → Item → Type 0) (repeats : Send → Type 0) (told told_now : ServerRun) → IsGentleCallPart Serves repeats told told_now
     → ((a b : ℕ) → length told.server.trace ≤ a → length told.server.trace ≤ b → CarrySame told_now a b) → IsGentlePart Serves repeats told told_now
 gentle_alike Serves repeats told told_now gentle alike = record {
   selects = gentle.selects;
@@ -66,10 +67,10 @@ gentle_alike Serves repeats told told_now gentle alike = record {
 -- a single write in its call
 single_call_well : (most number : ℕ) (before now : Moment) (form : WriteForm) (valid : IsValidWrite most before.client.options (setup_of before.link) form) (pool : Pool) (told told_now : ServerRun)
     (ready : Ready most (first_place number) pool told) → before.store.pool ≡ Some pool → server_run before.link ≡ Some told → server_run now.link ≡ Some told_now → DrawnApart now.store
-    → IsGentleCallPart (IsGentleItem (kind_in form)) (DrawsNumbers true (repeats_in form before.client.options) (setup_of before.link)) told told_now
+    → IsGentleCallPart (λ send. IsGentleItem (kind_in form)) (λ send. DrawsNumbers true (repeats_in form before.client.options) (setup_of before.link)) told told_now
     → (result : Result SingleAnswer Error) → Makes before now form (first_place number) result → EndsWell result
 single_call_well most number before now form valid pool told told_now ready pool_is link_is now_is apart gentle result makes =
-    let part = gentle_alike (IsGentleItem (kind_in form)) (DrawsNumbers true (repeats_in form before.client.options) (setup_of before.link)) told told_now gentle
+    let part = gentle_alike (λ send. IsGentleItem (kind_in form)) (λ send. DrawsNumbers true (repeats_in form before.client.options) (setup_of before.link)) told told_now gentle
     (λ a b above also_above. makes_alike before now told told_now link_is now_is a b above also_above form (first_place number) result makes) in
     single_well most (first_place number) before now form valid pool told told_now ready pool_is link_is now_is apart part result makes
 
@@ -88,7 +89,7 @@ module _ (run : RunState) (calls : List Call) (before now : Moment) (left : Leav
   single_told : (store : Option Pool) (link link_now : Option ServerRun) → before.store.pool ≡ store → server_run before.link ≡ link → server_run now.link ≡ link_now
       → LeavesWhereTold (take run.made calls) run.outcomes store link → (write : SingleWrite) (result : Result SingleAnswer Error)
       → Makes before now (form_of write) (first_place run.made) result → IsValidWrite most before.client.options (setup_of before.link) (form_of write)
-      → IsGentleCallWhereTold (IsGentleItem (kind_in (form_of write))) (DrawsNumbers true (repeats_in (form_of write) before.client.options) (setup_of before.link)) link link_now → EndsWell result
+      → IsGentleCallWhereTold (λ send. IsGentleItem (kind_in (form_of write))) (λ send. DrawsNumbers true (repeats_in (form_of write) before.client.options) (setup_of before.link)) link link_now → EndsWell result
   single_told None link link_now pool_is link_is now_is leaves write result makes valid gentle = absurd leaves
   single_told (Some pool) None link_now pool_is link_is now_is leaves write result makes valid gentle = absurd leaves
   single_told (Some pool) (Some told) None pool_is link_is now_is leaves write result makes valid gentle = absurd gentle
@@ -123,7 +124,7 @@ module _ (run : RunState) (calls : List Call) (before now : Moment) (left : Leav
   -- one that is made ends well where it is valid and its part is gentle
   many_well : (namespace : Namespace) (documents : List (List (Pair Bson))) (options : InsertManyOptions) (result : Result InsertManyResult Error)
       → MakesMany before now (in_collection namespace) documents options run.made result → IsValidMany most before.client.options (setup_of before.link) (in_collection namespace) documents options
-      → IsGentleCallWhereTold ServesInserts (InsertsHaveNumbers before.client.options (setup_of before.link)) (server_run before.link) (server_run now.link) → EndsWell result
+      → IsGentleCallWhereTold (λ send. ServesInserts) (λ send. InsertsHaveNumbers before.client.options (setup_of before.link)) (server_run before.link) (server_run now.link) → EndsWell result
   many_well namespace documents options result makes valid gentle =
       let moves = many_moves before now (in_collection namespace) documents options run.made result makes in
       many_complete before now (in_collection namespace) documents options run.made result makes most

@@ -6,6 +6,7 @@ use Rattle.std.specs.Option.{option_and_then}
 use Rattle.std.specs.Result.{result_ok}
 use Rattle.driver_error.specs.declared.error.Error.{Error}
 use Rattle.driver_link.specs.declared.machine.Item.{Item}
+use Rattle.driver_link.specs.declared.machine.Send.{Send}
 use Rattle.driver_link.specs.declared.machine.Server.{Server}
 use Rattle.driver_link.specs.declared.machine.Setup.{Setup}
 use Rattle.driver_link.specs.Exchange.{after_picks, replayed}
@@ -57,16 +58,16 @@ IsValid most before (Single write) = IsValidWrite most before.client.options (se
 IsValid most before (InsertMany namespace documents options) =
     IsValidMany most before.client.options (setup_of before.link) (in_collection namespace) documents options
 
--- the sends of a call's command have numbers: the link tells that its connections take sessions and retryable writes, the write
--- may be repeated, and the client's options do not forbid it
-abbrev pub MayRepeat : Moment → Call → Type 0
-MayRepeat before (Single write) = DrawsNumbers true (repeats_in (form_of write) before.client.options) (setup_of before.link)
-MayRepeat before (InsertMany namespace documents options) = InsertsHaveNumbers before.client.options (setup_of before.link)
+-- a send of a call's command may go out again, as such sends have numbers: the link tells that its connections take sessions and
+-- retryable writes, the write may be repeated, and the client's options do not forbid it
+abbrev pub MayRepeat : Moment → Call → (Send → Type 0)
+MayRepeat before (Single write) = λ send. DrawsNumbers true (repeats_in (form_of write) before.client.options) (setup_of before.link)
+MayRepeat before (InsertMany namespace documents options) = λ send. InsertsHaveNumbers before.client.options (setup_of before.link)
 
--- the items that serve a call's commands as usual
-abbrev pub ServesCall : Call → (Item → Type 0)
-ServesCall (Single write) = IsGentleItem (kind_in (form_of write))
-ServesCall (InsertMany namespace documents options) = ServesInserts
+-- the items that serve a send of a call's commands as usual
+abbrev pub ServesCall : Call → (Send → Item → Type 0)
+ServesCall (Single write) = λ send. IsGentleItem (kind_in (form_of write))
+ServesCall (InsertMany namespace documents options) = λ send. ServesInserts
 
 -- the part of a schedule that a call takes is gentle: none of its selections and check-outs fails, and each of its sends is
 -- served as usual; where its sends have numbers one of each command may get no reply instead

@@ -15,10 +15,10 @@ use Rattle.driver_link.specs.declared.machine.Send.{Send}
 use Rattle.driver_link.specs.declared.machine.SendBody.{SendBody}
 use Rattle.driver_link.specs.declared.machine.Server.{Server}
 use Rattle.driver_link.specs.declared.machine.Setup.{Setup}
-use Rattle.driver_link.specs.Exchange.{exchanged}
+use Rattle.driver_link.specs.Exchange.{exchanged, next_step}
 use Rattle.driver_link.specs.LinkState.{server_run, setup_of}
 use Rattle.driver_link.specs.Retried.{IsNewNumber}
-use Rattle.driver_link.specs.ServerRun.{ServerRun}
+use Rattle.driver_link.specs.ServerRun.{ServerRun, run_after}
 use Rattle.driver_link.specs.Settled.{IsPlain, IsUnnumbered}
 use Rattle.driver_session.specs.Pool.{Pool}
 use Rattle.driver_session.specs.Session.{Session, last_number}
@@ -42,7 +42,7 @@ use Rattle.driver_exec.specs.BetweenCalls.{Between, NumbersWithin, Sound}
 use Rattle.driver_exec.specs.Gentle.{EndsWell, IsGentlePart, IsLossy, IsOfPart}
 use Rattle.driver_exec.specs.Resending.{SendsWhereTold, SentTimes}
 use Rattle.driver_exec.proofs.Completeness.Course.{gentle_ends}
-use Rattle.driver_exec.proofs.Completeness.Ends.{AnswersPlainly}
+use Rattle.driver_exec.proofs.Completeness.Ends.{AnswersPlainly, alone_memory}
 use Rattle.driver_exec.proofs.Completeness.Sessions.{KnownCommand}
 use Rattle.driver_exec.proofs.InvariantSteps.Sends.{numbered_new, unnumbered_send}
 use Rattle.driver_exec.proofs.Moments.{IsBefore, before_refl, before_twice}
@@ -197,9 +197,8 @@ module _ (target : OperationTarget) (options : InsertManyOptions) (call : ℕ) (
       fixed = statements_fixed own None;
       which = first;
       body = asked;
-      Serves = ServesInserts;
+      Serves = λ send. ServesInserts;
       asked = batch_asks target options call index documents own are count;
-      alone = (insert_lawful target index own options).alone refl;
       retryability = own_of_insert before.client.options;
       concern = many_concern target options before.client.options;
       accepted = ap (λ (given : ClientOptions). concern_refusal (many_concern target options given)) client_is ∙ concerned;
@@ -207,8 +206,15 @@ module _ (target : OperationTarget) (options : InsertManyOptions) (call : ℕ) (
       told = run;
       link = besides_out before.link;
       link_is = run_is;
+      repeats = λ send. InsertsHaveNumbers before.client.options (setup_of before.link);
+      repeats_numbered = λ session number draws. draws;
       Ready = MayGo;
       ready_answers = answers;
+      pages_well = λ last part session number came end begins ends may built is serves bytes replied error fails.
+          let send = send_of (under session number) asked in
+          let step = next_step came.schedule came.server in
+          alone_memory spec ((insert_lawful target index own options).alone refl) count came.server send step (answers session number came.server step may built is serves) bytes replied session (run_after came send) end error
+          fails;
       ready_again = again;
       first_ready = first_goes;
       bare_ready = λ session. inr (unnumbered_send session asked tt);
@@ -220,12 +226,12 @@ module _ (target : OperationTarget) (options : InsertManyOptions) (call : ℕ) (
     }
 
     -- so it ends well, where its part is gentle
-    pub batch_well : IsGentlePart ServesInserts (InsertsHaveNumbers client (Some setup)) run run_now → EndsWell end.result
+    pub batch_well : IsGentlePart (λ send. ServesInserts) (λ send. InsertsHaveNumbers client (Some setup)) run run_now → EndsWell end.result
     unfolding known
     batch_well gentle =
-        let part : IsGentlePart ServesInserts (InsertsHaveNumbers before.client.options (setup_of before.link)) run run_now
-        = subst (λ c. IsGentlePart ServesInserts (InsertsHaveNumbers c (setup_of before.link)) run run_now) (sym client_is)
-        (subst (λ s. IsGentlePart ServesInserts (InsertsHaveNumbers client s) run run_now) (sym setup_is) gentle) in
+        let part : IsGentlePart (λ send. ServesInserts) (λ send. InsertsHaveNumbers before.client.options (setup_of before.link)) run run_now
+        = subst (λ c. IsGentlePart (λ send. ServesInserts) (λ send. InsertsHaveNumbers c (setup_of before.link)) run run_now) (sym client_is)
+        (subst (λ s. IsGentlePart (λ send. ServesInserts) (λ send. InsertsHaveNumbers client s) run run_now) (sym setup_is) gentle) in
         gentle_ends known before now run_now refl refl refl refl run_now_is apart part 0 made.count end.statements end.result (made.executes count (is_fixed_or_one end.statements))
 
     -- it leads on
@@ -243,10 +249,11 @@ module _ (target : OperationTarget) (options : InsertManyOptions) (call : ℕ) (
         command_alike run run_now last send left.sends.count later sent gained one other of_part also_of
 
     -- so it ends well within a call whose part is gentle
-    pub well_within : (told last : ServerRun) → IsGentleCallPart ServesInserts (InsertsHaveNumbers client (Some setup)) told last → IsBefore told run → IsBefore run_now last → (later : List Send)
+    pub well_within : (told last : ServerRun) → IsGentleCallPart (λ send. ServesInserts) (λ send. InsertsHaveNumbers client (Some setup)) told last → IsBefore told run → IsBefore run_now last → (later : List Send)
         → last.server.trace ≡ run_now.server.trace ++ later → EndsWell end.result
     well_within told last gentle begins ends later gained =
-        batch_well (part_gentle ServesInserts (InsertsHaveNumbers client (Some setup)) told run run_now last gentle begins batch_before ends (sends_alike last later gained))
+        batch_well (part_gentle (λ send. ServesInserts) (λ send. InsertsHaveNumbers client (Some setup)) told run run_now last gentle begins batch_before ends
+        (λ one other of_part also_of loses also_loses. sends_alike last later gained one other of_part also_of))
 
   -- a batch keeps the client's options
   client_kept : (index : ℕ) (own : List OwnDocument) (before now : Moment) (end : BatchEnd) → MakesBatch target options call index own before now end → before.client.options ≡ client → now.client.options ≡ client
@@ -277,7 +284,7 @@ module _ (target : OperationTarget) (options : InsertManyOptions) (call : ℕ) (
       ]
 
   -- within a call whose part is gentle they end well, where a session has numbers enough for the batches that are left
-  pub batches_well : (told last : ServerRun) → IsGentleCallPart ServesInserts (InsertsHaveNumbers client (Some setup)) told last → (short : Type 0) (ends : List BatchEnd) (index : ℕ) (documents : List (List (Pair Bson)))
+  pub batches_well : (told last : ServerRun) → IsGentleCallPart (λ send. ServesInserts) (λ send. InsertsHaveNumbers client (Some setup)) told last → (short : Type 0) (ends : List BatchEnd) (index : ℕ) (documents : List (List (Pair Bson)))
       (own : List OwnDocument) → AreOwn documents own → EachIs FitsHere index documents → (before now : Moment) → before.client.options ≡ client → setup_of before.link ≡ Some setup
       → (pool : Pool) (run : ServerRun) → before.store.pool ≡ Some pool → server_run before.link ≡ Some run → server_run now.link ≡ Some last → Between pool run.server.trace → Sound run.server
       → IsNewFrom run.server.trace call index → DrawnApart now.store → (most : ℕ) → NumbersWithin (pos most) pool.idle

@@ -18,8 +18,9 @@ use Rattle.driver_link.specs.declared.machine.Server.{Server}
 use Rattle.driver_link.specs.declared.machine.Written.{Written}
 use Rattle.driver_link.specs.Cursors.{Reply}
 use Rattle.driver_link.specs.Retried.{IsDoneReply, IsGentleItem, one_inserted}
+use Rattle.driver_link.specs.Exchange.{next_step}
 use Rattle.driver_link.specs.LinkState.{server_run, setup_of}
-use Rattle.driver_link.specs.ServerRun.{ServerRun}
+use Rattle.driver_link.specs.ServerRun.{ServerRun, run_after}
 use Rattle.driver_link.proofs.RetriedSends.{inserted_is}
 use Rattle.driver_session.specs.Pool.{Pool}
 use Rattle.driver_session.specs.Session.{Session, last_number}
@@ -48,7 +49,7 @@ use Rattle.driver_exec.specs.BetweenCalls.{Between, NumbersWithin, Sound}
 use Rattle.driver_exec.specs.Gentle.{EndsWell, IsGentlePart, IsGentleWhereTold}
 use Rattle.driver_exec.specs.OperationCauses.{DrawsNumbers}
 use Rattle.driver_exec.proofs.Completeness.Course.{gentle_ends}
-use Rattle.driver_exec.proofs.Completeness.Ends.{AnswersPlainly}
+use Rattle.driver_exec.proofs.Completeness.Ends.{AnswersPlainly, alone_memory}
 use Rattle.driver_exec.proofs.Completeness.Sessions.{KnownCommand}
 use Rattle.driver_exec.proofs.FixedNumbers.{MayBeFixed}
 use Rattle.driver_exec.proofs.HeldSessions.{IsOf}
@@ -98,7 +99,7 @@ past_end made number is within below = omega (arith, ints)
 module _ (made : ℕ) (place : Place) (before now : Moment) (form : WriteForm) (valid : IsValidWrite made before.client.options (setup_of before.link) form) where
   -- the part of the schedule of the call is gentle
   abbrev IsGentleCall : ServerRun → ServerRun → Type 0
-  IsGentleCall told told_now = IsGentlePart (IsGentleItem (kind_in form)) (DrawsNumbers true (repeats_in form before.client.options) (setup_of before.link)) told told_now
+  IsGentleCall told told_now = IsGentlePart (λ send. IsGentleItem (kind_in form)) (λ send. DrawsNumbers true (repeats_in form before.client.options) (setup_of before.link)) told told_now
 
   -- over what is told
   module _ (pool : Pool) (told told_now : ServerRun) (ready : Ready made place pool told) (pool_is : before.store.pool ≡ Some pool) (link_is : server_run before.link ≡ Some told)
@@ -132,9 +133,9 @@ module _ (made : ℕ) (place : Place) (before now : Moment) (form : WriteForm) (
           past_end made session.number is (lent_within made mid.store lent pool mid_pool at session lends ready.numbers) valid.number
 
       -- the part is gentle from the moment of the operation on
-      gentle_mid : IsGentlePart (IsGentleItem (kind_in form)) (DrawsNumbers true (repeats_in form mid.client.options) (setup_of mid.link)) told told_now
+      gentle_mid : IsGentlePart (λ send. IsGentleItem (kind_in form)) (λ send. DrawsNumbers true (repeats_in form mid.client.options) (setup_of mid.link)) told told_now
       gentle_mid =
-          subst (λ moment. IsGentlePart (IsGentleItem (kind_in form)) (DrawsNumbers true (repeats_in form moment.client.options) (setup_of moment.link)) told told_now) (sym drew.rest) gentle
+          subst (λ moment. IsGentlePart (λ send. IsGentleItem (kind_in form)) (λ send. DrawsNumbers true (repeats_in form moment.client.options) (setup_of moment.link)) told told_now) (sym drew.rest) gentle
 
       -- what the operation tells, and that it reads a reply which says that its command was done
       module _ {A : Type 0} (spec : OperationSpec A) (never : NeverOpen spec) (sessions : spec.sessions ≡ true) (own_is : repeats_in form mid.client.options ≡ spec.retryability mid.client.options)
@@ -171,9 +172,8 @@ module _ (made : ℕ) (place : Place) (before now : Moment) (form : WriteForm) (
             fixed = Some 1;
             which = first;
             body = asked_in form place sent;
-            Serves = IsGentleItem (kind_in form);
+            Serves = λ send. IsGentleItem (kind_in form);
             asked = runs.asks;
-            alone = never;
             retryability = repeats_in form mid.client.options;
             concern = concern_in form mid.client.options;
             accepted = accepted;
@@ -181,8 +181,13 @@ module _ (made : ℕ) (place : Place) (before now : Moment) (form : WriteForm) (
             told = told;
             link = besides_out mid.link;
             link_is = mid_link;
+            repeats = λ send. DrawsNumbers true (repeats_in form mid.client.options) (setup_of mid.link);
+            repeats_numbered = λ session number draws. draws;
             Ready = MayGo form place sent;
             ready_answers = λ session number server step may command is serves. answers session number server step may serves;
+            pages_well = λ last part session number before end begins ends may command is serves bytes replied error fails.
+                alone_memory spec never 1 before.server (send_in session number form place sent) (next_step before.schedule before.server)
+                (answers session number before.server (next_step before.schedule before.server) may serves) bytes replied session (run_after before (send_in session number form place sent)) end error fails;
             ready_again = λ id number server step may lossy. go_again form place sent id number server step may lossy;
             first_ready = first_goes;
             bare_ready = λ session. bare_goes form place sent session told.server;
@@ -215,7 +220,7 @@ feature_else (Some concern) namespace given = refl
 -- a write that was made ends well, whatever it does
 made_well : (made : ℕ) (place : Place) (before now : Moment) (form : WriteForm) (valid : IsValidWrite made before.client.options (setup_of before.link) form) (pool : Pool) (told told_now : ServerRun) (ready : Ready made place pool told)
     → before.store.pool ≡ Some pool → server_run before.link ≡ Some told → server_run now.link ≡ Some told_now → DrawnApart now.store
-    → IsGentlePart (IsGentleItem (kind_in form)) (DrawsNumbers true (repeats_in form before.client.options) (setup_of before.link)) told told_now
+    → IsGentlePart (λ send. IsGentleItem (kind_in form)) (λ send. DrawsNumbers true (repeats_in form before.client.options) (setup_of before.link)) told told_now
     → (error : Error) → Made before now form place (Err error) → kind_of error ≡ kind.Memory
 made_well made place before now (inserts namespace document options) valid pool told told_now ready pool_is link_is now_is apart gentle error write =
     let form = inserts namespace document options in
@@ -257,7 +262,7 @@ made_well made place before now (finds namespace filter modification options) va
 -- each end of a write is well
 pub single_well : (made : ℕ) (place : Place) (before now : Moment) (form : WriteForm) (valid : IsValidWrite made before.client.options (setup_of before.link) form) (pool : Pool) (told told_now : ServerRun)
     (ready : Ready made place pool told) → before.store.pool ≡ Some pool → server_run before.link ≡ Some told → server_run now.link ≡ Some told_now → DrawnApart now.store
-    → IsGentlePart (IsGentleItem (kind_in form)) (DrawsNumbers true (repeats_in form before.client.options) (setup_of before.link)) told told_now
+    → IsGentlePart (λ send. IsGentleItem (kind_in form)) (λ send. DrawsNumbers true (repeats_in form before.client.options) (setup_of before.link)) told told_now
     → (result : Result SingleAnswer Error) → Makes before now form place result → EndsWell result
 single_well made place before now form valid pool told told_now ready pool_is link_is now_is apart gentle (Ok given) makes = tt
 single_well made place before now form valid pool told told_now ready pool_is link_is now_is apart gentle (Err error) makes = elim makes [
@@ -273,7 +278,7 @@ single_completes place before now form result makes most may valid gentle =
   where
     of_told : (store store_now : Option Pool) (link link_now : Option ServerRun) → before.store.pool ≡ store → now.store.pool ≡ store_now → server_run before.link ≡ link
         → server_run now.link ≡ link_now → MayCompleteWhereTold most store store_now link place
-        → IsGentleWhereTold (IsGentleItem (kind_in form)) (DrawsNumbers true (repeats_in form before.client.options) (setup_of before.link)) link link_now → EndsWell result
+        → IsGentleWhereTold (λ send. IsGentleItem (kind_in form)) (λ send. DrawsNumbers true (repeats_in form before.client.options) (setup_of before.link)) link link_now → EndsWell result
     of_told (Some pool) (Some pool_now) (Some told) (Some told_now) pool_is pool_now_is link_is now_is may gentle =
         let ready : Ready most place pool told = record { between = may.writes.between; sound = may.writes.sound; new = may.writes.new; numbers = may.numbers } in
         let apart : DrawnApart now.store = subst (λ p. DrawnApartIn p) (sym pool_now_is) may.writes.apart in

@@ -21,7 +21,7 @@ reached_by : (most at part whole : ℕ) → min (at + 1) most ≤ part → min p
 reached_by most at part whole within above = omega arith
 
 -- what stands before the end of a list stands there in a longer one
-before_more : {A : Type 0} (xs more : List A) (at : ℕ) → at < length xs → slice_get (xs ++ more) at ≡ slice_get xs at
+pub before_more : {A : Type 0} (xs more : List A) (at : ℕ) → at < length xs → slice_get (xs ++ more) at ≡ slice_get xs at
 before_more [] more at below = absurd (omega (arith, below))
 before_more (x ∷ xs) more zero below = refl
 before_more (x ∷ xs) more (suc at) below = before_more xs more at (omega (arith, below))
@@ -37,7 +37,7 @@ command_alike told now whole send count later sends trace a b here there = λ on
     ap (λ s. s.body) (sym one_is ∙ other_is)
 
 -- a part from one moment to another, within one that is gentle for a call
-module _ (Serves : Item → Type 0) (repeats : Type 0) (told a b told_now : ServerRun) (gentle : IsGentleCallPart Serves repeats told told_now) (first_part : IsBefore told a) (part : IsBefore a b) (last_part : IsBefore b told_now) where
+module _ (Serves : Send → Item → Type 0) (repeats : Send → Type 0) (told a b told_now : ServerRun) (gentle : IsGentleCallPart Serves repeats told told_now) (first_part : IsBefore told a) (part : IsBefore a b) (last_part : IsBefore b told_now) where
   -- the numbers of calls of a kind that are listed
   none_listed : (numbers kept : List ℕ) (from from_part to_part to : ℕ) → kept ≡ numbers → min from (2 ^ 64 - 1) ≤ from_part → min to_part (2 ^ 64 - 1) ≤ to → NoneListed numbers from to
       → NoneListed kept from_part to_part
@@ -52,8 +52,9 @@ module _ (Serves : Item → Type 0) (repeats : Type 0) (told a b told_now : Serv
       let ends = last_part.trace in
       (omega (arith, begins, of_part.0), omega (arith, ends, of_part.1))
 
-  -- so the part is gentle for one command, where what it sent carries the same
-  pub part_gentle : ((one other : ℕ) → IsOfPart a b one → IsOfPart a b other → CarrySame told_now one other) → IsGentlePart Serves repeats a b
+  -- so the part is gentle for one command, where its sends that get no reply carry the same
+  pub part_gentle : ((one other : ℕ) → IsOfPart a b one → IsOfPart a b other → IsLossy (step_at told.schedule one).item → IsLossy (step_at told.schedule other).item → CarrySame told_now one other)
+      → IsGentlePart Serves repeats a b
   part_gentle alike = record {
     selects = none_listed told.schedule.selects a.schedule.selects told.counts.selects a.counts.selects b.counts.selects told_now.counts.selects (ap (λ s. s.selects) first_part.schedule) first_part.selects
         last_part.selects gentle.selects;
@@ -61,9 +62,11 @@ module _ (Serves : Item → Type 0) (repeats : Type 0) (told a b told_now : Serv
         (ap (λ s. s.check_outs) first_part.schedule) first_part.check_outs last_part.check_outs gentle.check_outs;
     overloaded = none_listed told.schedule.overloaded_check_outs a.schedule.overloaded_check_outs told.counts.check_outs a.counts.check_outs b.counts.check_outs told_now.counts.check_outs
         (ap (λ s. s.overloaded_check_outs) first_part.schedule) first_part.check_outs last_part.check_outs gentle.overloaded;
-    items = λ at of_part.
-        subst (λ s. Serves (step_at s at).item ⊎ (repeats × IsLossy (step_at s at).item)) (sym first_part.schedule) (gentle.items at (of_whole at of_part));
+    items = λ at send of_part is.
+        subst (λ s. Serves send (step_at s at).item ⊎ (repeats send × IsLossy (step_at s at).item)) (sym first_part.schedule)
+        (gentle.items at send (of_whole at of_part) (last_part.stays at send is));
     one = λ one other of_part also_of loses also_loses.
-        gentle.one one other (of_whole one of_part) (of_whole other also_of) (subst (λ s. IsLossy (step_at s one).item) first_part.schedule loses)
-        (subst (λ s. IsLossy (step_at s other).item) first_part.schedule also_loses) (alike one other of_part also_of);
+        let here = subst (λ s. IsLossy (step_at s one).item) first_part.schedule loses in
+        let there = subst (λ s. IsLossy (step_at s other).item) first_part.schedule also_loses in
+        gentle.one one other (of_whole one of_part) (of_whole other also_of) here there (alike one other of_part also_of here there);
   }

@@ -1,6 +1,6 @@
 -- A gentle exchange of inserts counts each document: the first time, again after a first exchange whose effect or reply was lost or
 -- came late, and without a number.
-use Rattle.std.proofs.Common.{◌≡◌, ℕ, suc, ◌+◌, Bool, true, false, List, [], ◌∷◌, ◌++◌, length, refl, sym, ap, subst, ◌∙◌, arith}
+use Rattle.std.proofs.Common.{◌≡◌, ℕ, suc, ◌+◌, Bool, true, false, List, [], ◌∷◌, length, refl, sym, ap, ◌∙◌, arith}
 use Rattle.std.specs.Prelude.{ℤ, pos, ◌+ℤ◌, ◌&&◌, Option, None, Some, if◌then◌else◌}
 use Rattle.std.specs.FinMap as finite
 use Rattle.std.specs.Ordering.{nat_cmp}
@@ -22,24 +22,28 @@ use Rattle.driver_link.specs.Cases.{case_of, is_ordered, known_of, outside, resu
 use Rattle.driver_link.specs.Cursors.{Reply}
 use Rattle.driver_link.specs.Exchange.{after_picks, answered, exchanged, plan_of, reply, traced}
 use Rattle.driver_link.specs.Replies.{results_in, served_reply, sum_of}
-use Rattle.driver_link.specs.Retried.{IsGreatest, IsNewNumber}
+use Rattle.driver_link.specs.Retried.{IsNewNumber}
 use Rattle.driver_link.specs.Serving.{done_in}
 use Rattle.driver_link.specs.Sessions.{is_below}
 use Rattle.driver_link.specs.Settled.{IsPlain, IsSettled, IsUnnumbered, MayJoin}
 use Rattle.driver_link.specs.Statements.{Results, code_at, counts_by_plan, has_failed, is_failed, no_results, planned_at, statement_at, statement_of, statements}
-use Rattle.driver_link.proofs.Keeping.{greatest_above, new_is_greatest, sent_is_greatest}
-use Rattle.driver_link.proofs.Lists.{has_last, none_is_some}
-use Rattle.driver_link.proofs.OrderlyTraces.{orderly_again}
+use Rattle.driver_link.proofs.Lists.{none_is_some}
 use Rattle.driver_link.proofs.Plain.{case_above, known, plain_known, results_here}
-use Rattle.driver_link.proofs.Replays.{exchanged_trace}
 use Rattle.driver_link.proofs.ServedSends.{taken_is}
-use Rattle.driver_link.proofs.SettledExchanges.{after_settled, exchanged_settled, orderly_front}
 use Rattle.driver_link.proofs.Unnumbered.{case_free, results_free}
 use Rattle.driver_ops.specs.Served.{case_statements, met_statements, statements_in}
 use Rattle.write_ops.specs.InsertLaw.{AddsUp, CountsDocuments, concern_of}
 use Rattle.driver_exec.specs.Gentle.{IsLossy}
 use Rattle.driver_actions.specs.ManyCompleteness.{CountOneEach, ServesInserts}
-use Rattle.driver_actions.proofs.InsertsKept.{CountsOnes, KeepsOnes, after_keep_ones, exchanged_keep_ones, new_keeps_ones, taken_ones}
+use Rattle.driver_actions.proofs.KeptCounts.{KeepsEach, MayGoUnder, PlansEach, RunsEach, again_under, first_under, meets_kept, taken_each}
+
+-- a result of one document
+abbrev pub CountsOne : Counted → Type 0
+CountsOne result = result.n ≡ pos 1
+
+-- without a plan each statement counts one
+pub usual_one : PlansEach CountsOne []
+usual_one does at = refl
 
 -- a statement did not fail, and counts one document
 abbrev IsOne : Statement → Type 0
@@ -133,11 +137,11 @@ served_counted server send results fail concern page kept is_outside is_kept ser
 
 -- inserts under a number that is not below the greatest
 plain_counted : (server : Server) (send : Send) (plain : IsPlain send) (item : Item) → is_below plain.number (finite.get server.sessions plain.id) ≡ false
-    → KeepsOnes plain.id plain.number server → ServesInserts item → MeetsInserts server send item
+    → KeepsEach CountsOne plain.id plain.number server → ServesInserts item → MeetsInserts server send item
 unfolding known
 plain_counted server send plain (Serve results fail concern page) above keeps serves =
     served_counted server send results fail concern page (plain_known plain.id plain.number server).kept (case_above send plain server above) (results_here send plain server) serves
-    (taken_ones plain.id plain.number server (plain_known plain.id plain.number server) (taken_is plain.number (finite.get server.sessions plain.id) above) keeps)
+    (taken_each CountsOne usual_one plain.id plain.number server (plain_known plain.id plain.number server) (taken_is plain.number (finite.get server.sessions plain.id) above) keeps)
 plain_counted server send plain _ above keeps serves = absurd serves
 
 -- inserts without a number
@@ -148,12 +152,8 @@ free_counted server send free (Serve results fail concern page) serves =
 free_counted server send free _ serves = absurd serves
 
 -- the writes of a send under a number may go out, for the first time or again: each counts one document where its exchange is gentle
-pub record MayBeInserted (send : Send) (server : Server) : Type 0 where
-  pub plain : IsPlain send
-  pub joins : MayJoin server.trace send
-  pub settled : IsSettled server.trace server
-  pub greatest : IsGreatest server.trace plain.id plain.number
-  pub keeps : KeepsOnes plain.id plain.number server
+abbrev pub MayBeInserted : Send → Server → Type 0
+MayBeInserted send server = MayGoUnder CountsOne usual_one send server
 
 -- an exchange is answered, and each document is counted
 pub record IsAnswered (server : Server) (send : Send) (step : Scheduled) : Type 0 where
@@ -171,7 +171,7 @@ answered_by server send step counted = record {
 }
 
 -- by an item without a reply statements that run count one each
-lossy_ones : (item : Item) → IsLossy item → CountsOnes item
+lossy_ones : (item : Item) → IsLossy item → RunsEach CountsOne item
 lossy_ones Lost lossy = tt
 lossy_ones Late lossy = tt
 lossy_ones ReplyLost lossy = tt
@@ -180,40 +180,17 @@ lossy_ones _ lossy = absurd lossy
 -- under a number that is new they may go out
 pub inserts_first : (server : Server) (send : Send) (plain : IsPlain send) → MayJoin server.trace send → IsSettled server.trace server
     → IsNewNumber server.trace plain.id plain.number → MayBeInserted send server
-inserts_first server send plain joins settled new = record {
-  plain = plain;
-  joins = joins;
-  settled = settled;
-  greatest = new_is_greatest server.trace plain.id plain.number new;
-  keeps = new_keeps_ones plain.id plain.number server.trace server settled new;
-}
+inserts_first server send plain joins settled new = first_under CountsOne usual_one server send plain joins settled new
 
 -- where they got no reply they may go out again
 pub inserts_again : (server : Server) (send : Send) (step : Scheduled) → IsLossy step.item → MayBeInserted send server → MayBeInserted send (exchanged server send step)
-inserts_again server send step lossy may =
-    let id = may.plain.id in
-    let number = may.plain.number in
-    let now = exchanged server send step in
-    let is = sym (exchanged_trace server send step) in
-    record {
-      plain = may.plain;
-      joins = subst (λ t. MayJoin t send) is (orderly_again (server.trace ++ send ∷ []) send (has_last server.trace send) may.plain may.joins);
-      settled = subst (λ t. IsSettled t now) is (exchanged_settled server.trace server send step may.joins may.settled);
-      greatest = subst (λ t. IsGreatest t id number) is (sent_is_greatest server.trace send may.plain may.greatest);
-      keeps = exchanged_keep_ones id number server.trace server send step may.joins may.settled (lossy_ones step.item lossy) may.keeps;
-    }
+inserts_again server send step lossy may = again_under CountsOne usual_one server send step (lossy_ones step.item lossy) may
 
 -- a gentle exchange is answered, and counts each document
 pub inserts_answered : (server : Server) (send : Send) (step : Scheduled) → ServesInserts step.item → MayBeInserted send server → IsAnswered server send step
 inserts_answered server send step serves may =
-    let id = may.plain.id in
-    let number = may.plain.number in
-    let front = orderly_front server.trace send may.joins in
-    let came = after_settled server.trace server step.deliver front may.settled in
-    answered_by server send step
-    (plain_counted (traced (after_picks server step.deliver) send) send may.plain step.item
-    (greatest_above kind.Insert id number server.trace (after_picks server step.deliver) came may.greatest)
-    (after_keep_ones id number server.trace server step.deliver front may.settled may.keeps) serves)
+    let meets = meets_kept CountsOne usual_one server send step may in
+    answered_by server send step (plain_counted (traced (after_picks server step.deliver) send) send meets.plain step.item meets.above meets.keeps serves)
 
 -- so is one of inserts without a number
 pub inserts_only : (server : Server) (send : Send) (step : Scheduled) → IsUnnumbered send → ServesInserts step.item → IsAnswered server send step

@@ -21,8 +21,8 @@ pub mod GatheredLaws
 pub mod Gathering
 pub mod GentleParts
 pub mod InsertFit
-pub mod InsertsKept
 pub mod InsertsServed
+pub mod KeptCounts
 pub mod ListedIds
 pub mod ManyCalls
 pub mod ManyCompleteness

@@ -117,14 +117,14 @@ module _ (before now : Moment) (target : OperationTarget) (documents : List (Lis
   -- over what is told
   module _ (result : Result InsertManyResult Error) (made : MadeMany before now target documents options call result) (most : ℕ) (valid : IsValidMany most before.client.options (setup_of before.link) target documents options) where
     told_well : (pool pool_now : Pool) (run last : ServerRun) → before.store.pool ≡ Some pool → now.store.pool ≡ Some pool_now → server_run before.link ≡ Some run → server_run now.link ≡ Some last
-        → MayCompleteCall most pool pool_now run call → IsGentleCallPart ServesInserts (InsertsHaveNumbers before.client.options (setup_of before.link)) run last → AllWell made.ends
+        → MayCompleteCall most pool pool_now run call → IsGentleCallPart (λ send. ServesInserts) (λ send. InsertsHaveNumbers before.client.options (setup_of before.link)) run last → AllWell made.ends
     told_well pool pool_now run last pool_is pool_now_is run_is last_is may gentle =
         let sent_now = sent before now target documents options call result made in
         let setup_is : setup_of before.link ≡ Some run.setup = served_setup before.link.making run run_is in
         let fits : EachFitsAlone run.setup.description (namespace_of target) documents options
         = subst (λ s. IfSome s (λ found. EachFitsAlone found.description (namespace_of target) documents options)) setup_is valid.fits in
-        let part : IsGentleCallPart ServesInserts (InsertsHaveNumbers before.client.options (Some run.setup)) run last
-        = subst (λ s. IsGentleCallPart ServesInserts (InsertsHaveNumbers before.client.options s) run last) setup_is gentle in
+        let part : IsGentleCallPart (λ send. ServesInserts) (λ send. InsertsHaveNumbers before.client.options (Some run.setup)) run last
+        = subst (λ s. IsGentleCallPart (λ send. ServesInserts) (λ send. InsertsHaveNumbers before.client.options s) run last) setup_is gentle in
         let drew = made_drew before now target documents options call result made in
         let within : pos (most + many_numbers (Some run.setup) (namespace_of target) documents options) ≤ℤ last_number
         = subst (λ s. pos (most + many_numbers s (namespace_of target) documents options) ≤ℤ last_number) setup_is valid.numbers in
@@ -140,7 +140,7 @@ module _ (before now : Moment) (target : OperationTarget) (documents : List (Lis
 
     -- so it is, whatever is told
     each_well : (store store_now : Option Pool) (link link_now : Option ServerRun) → before.store.pool ≡ store → now.store.pool ≡ store_now → server_run before.link ≡ link → server_run now.link ≡ link_now
-        → MayCompleteCallWhereTold most store store_now link call → IsGentleCallWhereTold ServesInserts (InsertsHaveNumbers before.client.options (setup_of before.link)) link link_now → AllWell made.ends
+        → MayCompleteCallWhereTold most store store_now link call → IsGentleCallWhereTold (λ send. ServesInserts) (λ send. InsertsHaveNumbers before.client.options (setup_of before.link)) link link_now → AllWell made.ends
     each_well None store_now link link_now pool_is pool_now_is run_is last_is may gentle = absurd may
     each_well (Some pool) None link link_now pool_is pool_now_is run_is last_is may gentle = absurd may
     each_well (Some pool) (Some pool_now) None link_now pool_is pool_now_is run_is last_is may gentle = absurd may

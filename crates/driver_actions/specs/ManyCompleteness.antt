@@ -54,19 +54,20 @@ abbrev pub ServesInserts : Item → Type 0
 ServesInserts (Serve results fail concern page) = (fail ≡ []) × (concern ≡ None) × CountOneEach results
 ServesInserts _ = ⊥
 
--- the part of a schedule that a call took is gentle for its commands, by which items serve them as usual and whether a send may go
--- out again: none of its selections and check-outs fails, each send is served as usual or, where it may go out again, gets no
--- reply, and of the sends that carry the same one at most gets none
-pub record IsGentleCallPart (Serves : Item → Type 0) (repeats : Type 0) (before now : ServerRun) : Type 0 where
+-- the part of a schedule that a call took is gentle for its commands, by which items serve a send of them as usual and which sends
+-- may go out again: none of its selections and check-outs fails, each send is served as usual or, where it may go out again, gets
+-- no reply, and of the sends that carry the same one at most gets none
+pub record IsGentleCallPart (Serves : Send → Item → Type 0) (repeats : Send → Type 0) (before now : ServerRun) : Type 0 where
   pub selects : NoneListed before.schedule.selects before.counts.selects now.counts.selects
   pub check_outs : NoneListed before.schedule.check_outs before.counts.check_outs now.counts.check_outs
   pub overloaded : NoneListed before.schedule.overloaded_check_outs before.counts.check_outs now.counts.check_outs
-  pub items : (at : ℕ) → IsOfPart before now at → Serves (step_at before.schedule at).item ⊎ (repeats × IsLossy (step_at before.schedule at).item)
+  pub items : (at : ℕ) (send : Send) → IsOfPart before now at → slice_get now.server.trace at ≡ Some send
+      → Serves send (step_at before.schedule at).item ⊎ (repeats send × IsLossy (step_at before.schedule at).item)
   pub one : (a b : ℕ) → IsOfPart before now a → IsOfPart before now b → IsLossy (step_at before.schedule a).item → IsLossy (step_at before.schedule b).item
       → CarrySame now a b → a ≡ b
 
 -- the same of a link that tells its server
-abbrev pub IsGentleCallWhereTold : (Item → Type 0) → Type 0 → Option ServerRun → Option ServerRun → Type 0
+abbrev pub IsGentleCallWhereTold : (Send → Item → Type 0) → (Send → Type 0) → Option ServerRun → Option ServerRun → Type 0
 IsGentleCallWhereTold Serves repeats None now = ⊥
 IsGentleCallWhereTold Serves repeats (Some told) None = ⊥
 IsGentleCallWhereTold Serves repeats (Some told) (Some now) = IsGentleCallPart Serves repeats told now
@@ -125,5 +126,5 @@ abbrev pub CompletesMany : Moment → Moment → OperationTarget → List (List 
 CompletesMany before now target documents options call result =
     (most : ℕ) → MayCompleteCallWhereTold most before.store.pool now.store.pool (server_run before.link) call
     → IsValidMany most before.client.options (setup_of before.link) target documents options
-    → IsGentleCallWhereTold ServesInserts (InsertsHaveNumbers before.client.options (setup_of before.link)) (server_run before.link) (server_run now.link)
+    → IsGentleCallWhereTold (λ send. ServesInserts) (λ send. InsertsHaveNumbers before.client.options (setup_of before.link)) (server_run before.link) (server_run now.link)
     → EndsWell result

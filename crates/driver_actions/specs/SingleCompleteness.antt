@@ -38,5 +38,5 @@ MayCompleteWhereTold most pool pool_now run place = ⊥
 abbrev pub CompletesSingle : Moment → Moment → WriteForm → Place → Result SingleAnswer Error → Type 0
 CompletesSingle before now form place result =
     (most : ℕ) → MayCompleteWhereTold most before.store.pool now.store.pool (server_run before.link) place → IsValidWrite most before.client.options (setup_of before.link) form
-    → IsGentleWhereTold (IsGentleItem (kind_in form)) (DrawsNumbers true (repeats_in form before.client.options) (setup_of before.link)) (server_run before.link) (server_run now.link)
+    → IsGentleWhereTold (λ send. IsGentleItem (kind_in form)) (λ send. DrawsNumbers true (repeats_in form before.client.options) (setup_of before.link)) (server_run before.link) (server_run now.link)
     → EndsWell result

@@ -2,4 +2,5 @@
 pub mod Course
 pub mod Ends
 pub mod Losses
+pub mod Questions
 pub mod Sessions

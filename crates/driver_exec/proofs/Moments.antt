@@ -1,6 +1,6 @@
 -- The moments of a link that tells its server, in order: each call leads to one that is not before it.
 use Rattle.std.proofs.Common.{◌≡◌, ℕ, ◌+◌, ◌-◌, ◌^◌, ◌≤◌, min, true, false, List, [], ◌∷◌, length, refl, sym, ap, subst, ◌∙◌, inl, inr, arith, length-append}
-use Rattle.std.specs.Prelude.{Bool, Option, None, Some, Result, Ok, Err}
+use Rattle.std.specs.Prelude.{Bool, Option, None, Some, Result, Ok, Err, slice_get}
 use Rattle.driver_error.specs.declared.error.Error.{Error}
 use Rattle.driver_error.specs.declared.kind.IoKind.TheVariants.{ConnectionRefused}
 use Rattle.driver_options.specs.declared.options.Address.{Address}
@@ -21,7 +21,7 @@ use Rattle.driver_link.specs.Exchange.{next_step}
 use Rattle.driver_link.specs.LinkCalls.{CallsLink}
 use Rattle.driver_link.specs.LinkState.{LinkState, server_run, setup_of}
 use Rattle.driver_link.specs.ServerRun.{ServerRun, TakesStep, run_after}
-use Rattle.driver_link.proofs.Lists.{none_is_some}
+use Rattle.driver_link.proofs.Lists.{get_last, get_left, none_is_some}
 use Rattle.driver_link.proofs.Replays.{exchanged_trace}
 use Rattle.driver_ops.specs.Fields.{SendContext, under}
 use Rattle.driver_ops.specs.GetMores.{AsksCursor, at_namespace, kill_spec, more_spec}
@@ -35,12 +35,14 @@ use Rattle.driver_attempt.specs.Holding.{ExecutionSession, held_id}
 use Rattle.driver_attempt.specs.Retry.{RetryState}
 use Rattle.driver_exec.specs.Gentle.{IsCounted, IsGentlePart}
 
--- a moment is not after another: the schedule is the same, and neither the trace nor a count became less
+-- a moment is not after another: the schedule is the same, neither the trace nor a count became less, and each send of the trace
+-- stands where it stood
 pub record IsBefore (a b : ServerRun) : Type 0 where
   pub schedule : b.schedule ≡ a.schedule
   pub trace : length a.server.trace ≤ length b.server.trace
   pub selects : min a.counts.selects (2 ^ 64 - 1) ≤ b.counts.selects
   pub check_outs : min a.counts.check_outs (2 ^ 64 - 1) ≤ b.counts.check_outs
+  pub stays : (at : ℕ) (send : Send) → slice_get a.server.trace at ≡ Some send → slice_get b.server.trace at ≡ Some send
 
 -- counts that stand still at a greatest one
 capped_self : (most a : ℕ) → min a most ≤ a
@@ -65,6 +67,7 @@ before_refl a = record {
   trace = omega arith;
   selects = capped_self (2 ^ 64 - 1) a.counts.selects;
   check_outs = capped_self (2 ^ 64 - 1) a.counts.check_outs;
+  stays = λ at send is. is;
 }
 
 -- a moment before one before a third is before that
@@ -74,6 +77,7 @@ before_twice a b c first second = record {
   trace = omega (arith, first.trace, second.trace);
   selects = capped_twice (2 ^ 64 - 1) a.counts.selects b.counts.selects c.counts.selects first.selects second.selects;
   check_outs = capped_twice (2 ^ 64 - 1) a.counts.check_outs b.counts.check_outs c.counts.check_outs first.check_outs second.check_outs;
+  stays = λ at send is. second.stays at send (first.stays at send is);
 }
 
 -- a selection comes after
@@ -83,6 +87,7 @@ selected_before a = record {
   trace = omega arith;
   selects = capped_more (2 ^ 64 - 1) a.counts.selects;
   check_outs = capped_self (2 ^ 64 - 1) a.counts.check_outs;
+  stays = λ at send is. is;
 }
 
 -- so does a check-out
@@ -92,11 +97,16 @@ checked_before a = record {
   trace = omega arith;
   selects = capped_self (2 ^ 64 - 1) a.counts.selects;
   check_outs = capped_more (2 ^ 64 - 1) a.counts.check_outs;
+  stays = λ at send is. is;
 }
 
 -- an exchange adds one send
 pub longer_after : (a : ServerRun) (send : Send) → length (run_after a send).server.trace ≡ length a.server.trace + 1
 longer_after a send = ap length (exchanged_trace a.server send (next_step a.schedule a.server)) ∙ length-append a.server.trace (send ∷ [])
+
+-- it stands behind the others
+pub sent_last : (a : ServerRun) (send : Send) → slice_get (run_after a send).server.trace (length a.server.trace) ≡ Some send
+sent_last a send = ap (λ t. slice_get t (length a.server.trace)) (exchanged_trace a.server send (next_step a.schedule a.server)) ∙ get_last a.server.trace send
 
 -- so does an exchange
 pub after_before : (a : ServerRun) (send : Send) → IsBefore a (run_after a send)
@@ -105,6 +115,8 @@ after_before a send = record {
   trace = omega (arith, longer_after a send);
   selects = capped_self (2 ^ 64 - 1) a.counts.selects;
   check_outs = capped_self (2 ^ 64 - 1) a.counts.check_outs;
+  stays = λ at found is.
+      ap (λ t. slice_get t at) (exchanged_trace a.server send (next_step a.schedule a.server)) ∙ get_left a.server.trace (send ∷ []) at found is;
 }
 
 -- a link tells a moment, and is of the setup that it was
@@ -202,7 +214,7 @@ exchange_leads spec body asks a before now conn context result is exchanges =
 stays_lead : (a : ServerRun) (before now : LinkState) → server_run before ≡ Some a → now ≡ before → Leads a before now
 stays_lead a before now is same = subst (λ l. Leads a before l) (sym same) (leads_same a before is)
 
-asked_leads : (a : ServerRun) (before now : LinkState) (conn : Conn) (session : Option (List ℕ)) (asked : PageAsked) → server_run before ≡ Some a → AsksPage conn session before now asked → Leads a before now
+pub asked_leads : (a : ServerRun) (before now : LinkState) (conn : Conn) (session : Option (List ℕ)) (asked : PageAsked) → server_run before ≡ Some a → AsksPage conn session before now asked → Leads a before now
 asked_leads a before now conn session asked is asks = elim asks [
   | inl out ↦ exchange_leads (more_spec (at_namespace asked.namespace) asked.cursor) (More asked.cursor) (is_asked (More asked.cursor)) a before now conn (under session None) out.result is out.exchanges
   | inr lacks ↦ stays_lead a before now is lacks.same
@@ -219,13 +231,13 @@ where_leads true a before now conn asked is ends = cursor_leads a before now con
 where_leads false a before now conn asked is same = stays_lead a before now is same
 
 module _ {A : Type 0} (spec : OperationSpec A) (statements : ℕ) (bytes : List ℕ) (conn : Conn) where
-  pages_lead : (session : Option (List ℕ)) (a : ServerRun) (before : LinkState) → server_run before ≡ Some a → (asked : List PageAsked) (mid : LinkState) → AsksPages spec statements bytes conn session before asked mid → Leads a before mid
+  pub pages_lead : (session : Option (List ℕ)) (a : ServerRun) (before : LinkState) → server_run before ≡ Some a → (asked : List PageAsked) (mid : LinkState) → AsksPages spec statements bytes conn session before asked mid → Leads a before mid
   pages_lead session a before is [] mid same = stays_lead a before mid is same
   pages_lead session a before is (last ∷ earlier) mid asks =
       let leads = pages_lead session a before is earlier asks.0 asks.1.0 in
       leads_twice a before asks.0 mid leads (asked_leads leads.moment asks.0 mid conn session last leads.is asks.1.2)
 
-  pages_end_leads : (a : ServerRun) (before now : LinkState) → server_run before ≡ Some a → (asked : List PageAsked) (answer : Result A Error) → EndsPages spec statements bytes conn before now asked answer → Leads a before now
+  pub pages_end_leads : (a : ServerRun) (before now : LinkState) → server_run before ≡ Some a → (asked : List PageAsked) (answer : Result A Error) → EndsPages spec statements bytes conn before now asked answer → Leads a before now
   pages_end_leads a before now is [] answer ends = stays_lead a before now is ends.1
   pages_end_leads a before now is (last ∷ earlier) (Ok output) ends = stays_lead a before now is ends.1
   pages_end_leads a before now is (last ∷ earlier) (Err error) ends = elim ends [
@@ -233,7 +245,7 @@ module _ {A : Type 0} (spec : OperationSpec A) (statements : ℕ) (bytes : List 
     | inr lacks ↦ elim lacks.may [ inl same ↦ stays_lead a before now is same | inr ended ↦ where_leads (ends_cursor last.page lacks.bare) a before now conn last is ended ]
   ]
 
-  behind_lead : (session : Option (List ℕ)) (a : ServerRun) (before now : LinkState) (held held_now : ExecutionSession) (answer : Result A Error) → server_run before ≡ Some a
+  pub behind_lead : (session : Option (List ℕ)) (a : ServerRun) (before now : LinkState) (held held_now : ExecutionSession) (answer : Result A Error) → server_run before ≡ Some a
       → AttemptExchanges spec statements bytes conn session before now held held_now answer → Leads a before now
   behind_lead session a before now held held_now answer is exchanges =
       let leads = pages_lead session a before is exchanges.asked exchanges.mid exchanges.asks in
@@ -279,7 +291,7 @@ module _ {A : Type 0} (op : AttemptedOperation A) (past : Option RetryState) (bo
   ]
 
 -- in a gentle part no call fails that is counted
-module _ {Serves : Item → Type 0} (repeats : Type 0) (told told_now : ServerRun) (gentle : IsGentlePart Serves repeats told told_now) where
+module _ {Serves : Send → Item → Type 0} (repeats : Send → Type 0) (told told_now : ServerRun) (gentle : IsGentlePart Serves repeats told told_now) where
   -- a call that was counted before the end of the part is of it
   counted : (from at to : ℕ) → min from (2 ^ 64 - 1) ≤ at → min (one_more at) (2 ^ 64 - 1) ≤ to → IsCounted from to at
   counted from at to after before = (after, capped_last (2 ^ 64 - 1) at to before)

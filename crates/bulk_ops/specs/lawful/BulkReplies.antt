@@ -42,7 +42,7 @@ use Rattle.bulk_ops.specs.BulkPages.{bulk_reply, count_in, counts_in, cursor_in,
 use Rattle.bulk_ops.specs.lawful.ResultRows.{as_values, number_read}
 
 -- counts by their parts
-abbrev counts_with : ℤ → ℤ → ℤ → ℤ → ℤ → SummaryBulkWriteResult
+abbrev pub counts_with : ℤ → ℤ → ℤ → ℤ → ℤ → SummaryBulkWriteResult
 counts_with inserted matched modified upserted deleted = record {
   inserted_count = inserted;
   matched_count = matched;
@@ -59,19 +59,19 @@ module _ (writes : List PlacedWrite) (done : List Statement) where
   abbrev updates_in : List Counted
   updates_in = results_of_kind does.Update writes done
 
-  abbrev inserted_in : ℤ
+  abbrev pub inserted_in : ℤ
   inserted_in = sum_of (λ (result : Counted). result.n) (results_of_kind does.Insert writes done)
 
-  abbrev matched_in : ℤ
+  abbrev pub matched_in : ℤ
   matched_in = sum_of (λ (result : Counted). result.n) (filter (λ (result : Counted). is_none result.upserted) updates_in)
 
-  abbrev modified_in : ℤ
+  abbrev pub modified_in : ℤ
   modified_in = sum_of (λ (result : Counted). result.modified) updates_in
 
-  abbrev upserted_in : ℤ
+  abbrev pub upserted_in : ℤ
   upserted_in = pos (count_by (λ (result : Counted). is_some result.upserted) updates_in)
 
-  abbrev deleted_in : ℤ
+  abbrev pub deleted_in : ℤ
   deleted_in = sum_of (λ (result : Counted). result.n) (results_of_kind does.Delete writes done)
 
 -- a sum of results that one of them joins where its write is of the kind
@@ -168,11 +168,11 @@ cursor_document batch number page =
     field CURSOR_ID.now (reply_count number) ∷ field CURSOR_NAMESPACE.now (bson.String BULK_NAMESPACE.now) ∷ field batch (bson.Array (as_values page)) ∷ []
 
 -- a page by its parts
-abbrev page_with : ℤ → Namespace → List OpResult → ResultsPage
+abbrev pub page_with : ℤ → Namespace → List OpResult → ResultsPage
 page_with cursor namespace results = record { cursor = cursor; namespace = namespace; results = results }
 
 -- the parts as they are read
-abbrev page_chain : Option (List OpResult) → Option Namespace → Option ℤ → Option ResultsPage
+abbrev pub page_chain : Option (List OpResult) → Option Namespace → Option ℤ → Option ResultsPage
 page_chain results namespace cursor =
     option_and_then (λ cursor. option_and_then (λ namespace. option_map (λ results. page_with cursor namespace results) results) namespace) cursor
 
@@ -190,11 +190,12 @@ page_by number page (Some results) read (Some namespace) found is =
     let same : page_with (pos number) namespace results ≡ found = some_is_some (page_with (pos number) namespace results) found is in
     record { cursor = sym (ap (λ (p : ResultsPage). p.cursor) same); results = read ∙ ap (λ (p : ResultsPage). Some p.results) same }
 
-pub cursor_told : (batch : List ℕ) (number : ℕ) (page : List Reply) (reply : Reply) (found : ResultsPage)
+-- a page by the parts of its cursor
+pub page_parts : (batch : List ℕ) (number : ℕ) (page : List Reply) (reply : Reply)
     → value_of batch (cursor_document batch number page) ≡ Some (bson.Array (as_values page)) → value_of CURSOR.now reply ≡ Some (bson.Document (cursor_document batch number page))
-    → page_in batch reply ≡ Some found → IsPageTold number page found
+    → page_in batch reply ≡ page_chain (op_results (as_values page)) (cursor_namespace (cursor_document batch number page)) (Some (pos number))
 unfolding page_in needed cursor_in op_results_of
-cursor_told batch number page reply found there at is =
+page_parts batch number page reply there at =
     let document = cursor_document batch number page in
     let results : needed op_results_of batch document ≡ op_results (as_values page)
     = ap (option_and_then op_results_of) there ∙ ap (option_and_then op_results) (array_is (as_values page)) in
@@ -202,19 +203,25 @@ cursor_told batch number page reply found there at is =
     = ap (λ value. option_and_then (cursor_in batch) (option_and_then document_of value)) at ∙ ap (option_and_then (cursor_in batch)) (document_is document) in
     let whole : cursor_in batch document ≡ page_chain (op_results (as_values page)) (cursor_namespace document) (Some (pos number))
     = λ i. page_chain (results i) (cursor_namespace document) (reply_number_is (pos number) i) in
-    page_by number page (op_results (as_values page)) refl (cursor_namespace document) found (sym whole ∙ sym read ∙ is)
+    read ∙ whole
+
+pub cursor_told : (batch : List ℕ) (number : ℕ) (page : List Reply) (reply : Reply) (found : ResultsPage)
+    → value_of batch (cursor_document batch number page) ≡ Some (bson.Array (as_values page)) → value_of CURSOR.now reply ≡ Some (bson.Document (cursor_document batch number page))
+    → page_in batch reply ≡ Some found → IsPageTold number page found
+cursor_told batch number page reply found there at is =
+    page_by number page (op_results (as_values page)) refl (cursor_namespace (cursor_document batch number page)) found (sym (page_parts batch number page reply there at) ∙ is)
 
 -- a number as a count of a reply
-abbrev count_of : ℤ → Option ℤ
+abbrev pub count_of : ℤ → Option ℤ
 count_of number = option_map (λ (count : ℕ). pos count) (natural number)
 
-count_read : (reply : Reply) (key : List ℕ) (number : ℤ) → value_of key reply ≡ Some (reply_number number) → count_in key reply ≡ count_of number
+pub count_read : (reply : Reply) (key : List ℕ) (number : ℤ) → value_of key reply ≡ Some (reply_number number) → count_in key reply ≡ count_of number
 unfolding count_in needed
 count_read reply key number there =
     ap (λ value. option_map (λ (count : ℕ). pos count) (option_and_then natural_of value)) there ∙ ap (option_map (λ (count : ℕ). pos count)) (number_read number)
 
 -- the counts as they are read
-abbrev counts_chain : Option ℤ → Option ℤ → Option ℤ → Option ℤ → Option ℤ → Option SummaryBulkWriteResult
+abbrev pub counts_chain : Option ℤ → Option ℤ → Option ℤ → Option ℤ → Option ℤ → Option SummaryBulkWriteResult
 counts_chain deleted upserted modified matched inserted =
     option_and_then (λ inserted.
     option_and_then (λ matched.
@@ -235,7 +242,7 @@ counts_are (pos inserted) (pos matched) (pos modified) (pos upserted) (pos delet
     sym (some_is_some (counts_with (pos inserted) (pos matched) (pos modified) (pos upserted) (pos deleted)) found is)
 
 -- fields by their parts
-abbrev fields_with : ℕ → SummaryBulkWriteResult → Option WriteConcernError → List (List ℕ) → ResultsPage → BulkReply
+abbrev pub fields_with : ℕ → SummaryBulkWriteResult → Option WriteConcernError → List (List ℕ) → ResultsPage → BulkReply
 fields_with errors counts concern labels page = record { errors = errors; counts = counts; concern = concern; labels = labels; page = page }
 
 -- fields that were read are those that are there

@@ -53,7 +53,7 @@ module _ (server : Server) (send : Send) (cursor : ℤ) (asks : send.body ≡ Mo
   case_either : (case_of server send ≡ too_old) ⊎ (case_of server send ≡ of_cursor)
   case_either = either_by send.session send.number
 
-  reply_of_cursor : (plan : Plan) → case_of server send ≡ of_cursor → served_reply plan server send ≡ page_reply_of plan.concern (results_left cursor server.cursors)
+  pub reply_of_cursor : (plan : Plan) → case_of server send ≡ of_cursor → served_reply plan server send ≡ page_reply_of plan.concern (results_left cursor server.cursors)
   unfolding served_reply reply_in cursor_reply
   reply_of_cursor plan is =
       ap (λ case. reply_in case plan (done_in case plan (results_of (known_of server send)) send.body) server send) is

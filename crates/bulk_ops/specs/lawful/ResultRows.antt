@@ -35,7 +35,7 @@ unfolding natural_of
 number_read n = ap (option_and_then natural) (reply_number_is n)
 
 -- the document of a result by what it counted
-abbrev counted_row : ℕ → WriteKind → ℤ → ℤ → Option Bson → Reply
+abbrev pub counted_row : ℕ → WriteKind → ℤ → ℤ → Option Bson → Reply
 counted_row at does n modified upserted =
     field RESULT_INDEX.now (reply_count at) ∷ field N.now (reply_number n) ∷ (modified_field does modified ++ upsert_of_row upserted)
 
@@ -66,7 +66,7 @@ modified_there at kind.Delete n modified (Some id) = refl
 modified_there at kind.FindAndModify n modified None = refl
 modified_there at kind.FindAndModify n modified (Some id) = refl
 
-abbrev modified_found : WriteKind → ℤ → Option (Option ℕ)
+abbrev pub modified_found : WriteKind → ℤ → Option (Option ℕ)
 modified_found kind.Update modified = option_map (λ (found : ℕ). Some found) (natural modified)
 modified_found other modified = Some None
 
@@ -100,7 +100,7 @@ upsert_read (Some id) =
     ap (λ document. option_map (λ (found : Bson). Some found) (option_and_then (value_of ID_KEY.now) document)) (document_is (field ID_KEY.now id ∷ []))
 
 -- what an op counted, by its parts
-abbrev counted_with : Option (Option Bson) → Option (Option ℕ) → Option ℕ → Option OpOutcome
+abbrev pub counted_with : Option (Option Bson) → Option (Option ℕ) → Option ℕ → Option OpOutcome
 counted_with upserted modified n =
     option_and_then (λ n. option_and_then (λ modified. option_map (λ upserted. came.Counted n (unwrap_or modified 0) upserted) upserted) modified) n
 
@@ -122,10 +122,10 @@ unfolding op_outcome_in
 outcome_read at does n modified upserted = cond-false _ _ _ (ap is_some (no_code at does n modified upserted)) ∙ counts_read at does n modified upserted
 
 -- a result at an index
-abbrev at_index : ℕ → OpOutcome → OpResult
+abbrev pub at_index : ℕ → OpOutcome → OpResult
 at_index index outcome = record { index = index; outcome = outcome }
 
-row_read : (at : ℕ) (does : WriteKind) (n modified : ℤ) (upserted : Option Bson)
+pub row_read : (at : ℕ) (does : WriteKind) (n modified : ℤ) (upserted : Option Bson)
     → op_result_of (bson.Document (counted_row at does n modified upserted))
     ≡ option_map (at_index at) (counted_with (Some upserted) (modified_found does modified) (natural n))
 unfolding op_result_of op_result_in needed
@@ -198,14 +198,14 @@ AreRowsRead at (write ∷ writes) (statement ∷ done) [] = ⊥
 AreRowsRead at (write ∷ writes) (statement ∷ done) (told ∷ results) = IsRowRead at write.written.kind statement told × AreRowsRead (at + 1) writes done results
 
 -- a first result and those behind it
-record IsConsed (first : Option OpResult) (rest : Option (List OpResult)) (results : List OpResult) : Type 0 where
-  told : OpResult
-  more : List OpResult
-  first_is : first ≡ Some told
-  rest_is : rest ≡ Some more
-  is : results ≡ told ∷ more
+pub record IsConsed (first : Option OpResult) (rest : Option (List OpResult)) (results : List OpResult) : Type 0 where
+  pub told : OpResult
+  pub more : List OpResult
+  pub first_is : first ≡ Some told
+  pub rest_is : rest ≡ Some more
+  pub is : results ≡ told ∷ more
 
-consed : (first : Option OpResult) (rest : Option (List OpResult)) (results : List OpResult)
+pub consed : (first : Option OpResult) (rest : Option (List OpResult)) (results : List OpResult)
     → option_and_then (λ result. option_map (λ rest. result ∷ rest) rest) first ≡ Some results → IsConsed first rest results
 consed None rest results is = absurd (none_is_some results is)
 consed (Some told) None results is = absurd (none_is_some results is)

@@ -59,7 +59,7 @@ models_written (suc count) (model ∷ models) (one ∷ own) (place ∷ places) a
     (subst (λ does. DoesWrite does (model_written model)) (sym are.0.work) (model_does model), models_written count models own places are.1)
 
 -- what is left of a list begins with the element at the place
-drop_head : {A : Type 0} (at : ℕ) (list : List A) (one : A) (rest : List A) → drop at list ≡ one ∷ rest → slice_get list at ≡ Some one
+pub drop_head : {A : Type 0} (at : ℕ) (list : List A) (one : A) (rest : List A) → drop at list ≡ one ∷ rest → slice_get list at ≡ Some one
 drop_head {A = A} zero [] one rest is = absurd (let e : ◌≡◌ {A = List A} [] (one ∷ rest) = is in cc)
 drop_head zero (first ∷ list) one rest is = let same : first ≡ one = cc is in ap (λ x. Some x) same
 drop_head {A = A} (suc at) [] one rest is = absurd (let e : ◌≡◌ {A = List A} [] (one ∷ rest) = is in cc)

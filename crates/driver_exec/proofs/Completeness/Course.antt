@@ -27,7 +27,6 @@ use Rattle.driver_attempt.specs.inside.Executing.{Reaches}
 use Rattle.driver_attempt.proofs.AttemptSequence.{avoids}
 use Rattle.driver_attempt.proofs.RetryFold.{came_of}
 use Rattle.driver_exec.specs.Gentle.{EndsWell, IsGentlePart}
-use Rattle.driver_exec.specs.OperationCauses.{DrawsNumbers}
 use Rattle.driver_exec.proofs.HeldSessions.{draws_on, not_both}
 use Rattle.driver_exec.proofs.Moments.{IsBefore, Leads, before_refl, before_twice, connects_lead, fails_lead, leads_same, leads_twice, one_moment, selects_lead}
 use Rattle.driver_exec.proofs.StoreDraws.{back_apart, ends_apart, fails_apart}
@@ -36,9 +35,9 @@ use Rattle.driver_exec.proofs.Completeness.Sessions.{KnownCommand, attempted, Is
 use Rattle.driver_exec.proofs.Completeness.Losses.{Lost, again_prepared, unselected_none, LosesWell, fails_well}
 
 module _ {A : Type 0} (known : KnownCommand A) where
-  open known use {body, fixed, Serves, retryability, store, told, link, link_is}
+  open known use {body, fixed, Serves, repeats, retryability, store, told, link, link_is}
 
-  module _ (clock : ClockTells) (count : ℕ) (told_now : ServerRun) (gentle : IsGentlePart Serves (DrawsNumbers true retryability (setup_of link)) told told_now) where
+  module _ (clock : ClockTells) (count : ℕ) (told_now : ServerRun) (gentle : IsGentlePart Serves repeats told told_now) where
     -- where an operation stands between its attempts: it has not begun, or its one exchange was lost
     record LostOnce (retry : RetryState) (now : AttemptState) : Type 0 where
       lost : Lost known told_now gentle told now
@@ -235,7 +234,7 @@ module _ {A : Type 0} (known : KnownCommand A) where
         ]
 
   -- the attempts of an operation whose part of the schedule is gentle end well
-  gentle_attempts : (clock : ClockTells) (count : ℕ) (told_now : ServerRun) (gentle : IsGentlePart Serves (DrawsNumbers true retryability (setup_of link)) told told_now) (sharded : Bool) (last : AttemptState)
+  gentle_attempts : (clock : ClockTells) (count : ℕ) (told_now : ServerRun) (gentle : IsGentlePart Serves repeats told told_now) (sharded : Bool) (last : AttemptState)
       → server_run last.link ≡ Some told_now → DrawnApart last.store → (result : Result A Error) → Attempts (attempted known) sharded (first_state store link clock count fixed) last result → EndsWell result
   gentle_attempts clock count told_now gentle sharded last last_is apart result attempts =
       let apart_mid = ends_apart (attempted known) attempts.mid last sharded attempts.kept result attempts.ends apart in
@@ -246,7 +245,7 @@ module _ {A : Type 0} (known : KnownCommand A) where
 gentle_proceeds : {A : Type 0} (known : KnownCommand A) (before now : Moment) (told_now : ServerRun) → known.store ≡ before.store → known.link ≡ besides_out before.link
     → known.retryability ≡ known.spec.retryability before.client.options → known.concern ≡ concern_of known.spec known.which before.client.options
     → server_run now.link ≡ Some told_now → DrawnApart now.store
-    → IsGentlePart known.Serves (DrawsNumbers true known.retryability (setup_of known.link)) known.told told_now → (count count_now : ℕ) (fixed_now : Option ℕ) (result : Result A Error)
+    → IsGentlePart known.Serves known.repeats known.told told_now → (count count_now : ℕ) (fixed_now : Option ℕ) (result : Result A Error)
     → Proceeds known.spec known.batch known.which before now count count_now known.fixed fixed_now result → EndsWell result
 gentle_proceeds known before now told_now store_is link_is retryability_is concern_is now_is drawn gentle count count_now fixed_now result executes =
     let last = executes.last in
@@ -263,7 +262,7 @@ gentle_proceeds known before now told_now store_is link_is retryability_is conce
 pub gentle_ends : {A : Type 0} (known : KnownCommand A) (before now : Moment) (told_now : ServerRun) → known.store ≡ before.store → known.link ≡ besides_out before.link
     → known.retryability ≡ known.spec.retryability before.client.options → known.concern ≡ concern_of known.spec known.which before.client.options
     → server_run now.link ≡ Some told_now → DrawnApart now.store
-    → IsGentlePart known.Serves (DrawsNumbers true known.retryability (setup_of known.link)) known.told told_now → (count count_now : ℕ) (fixed_now : Option ℕ) (result : Result A Error)
+    → IsGentlePart known.Serves known.repeats known.told told_now → (count count_now : ℕ) (fixed_now : Option ℕ) (result : Result A Error)
     → Executes known.spec known.batch known.which before now count count_now known.fixed fixed_now result → EndsWell result
 gentle_ends known before now told_now store_is link_is retryability_is concern_is now_is drawn gentle count count_now fixed_now result executes = elim executes [
   | inl refuses ↦ absurd (let e : ◌≡◌ {A = Option (List ℕ)} None (Some refuses.is.text) = sym known.accepted ∙ ap concern_refusal concern_is ∙ refuses.is.refused in cc)

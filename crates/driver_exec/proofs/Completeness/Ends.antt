@@ -1,5 +1,5 @@
 -- What it is that an operation ends well, and what its attempts need of labels, numbers and sessions.
-use Rattle.std.proofs.Common.{◌≡◌, ℕ, Bool, true, false, List, refl, sym, ap, subst, ◌∙◌}
+use Rattle.std.proofs.Common.{◌≡◌, ℕ, Bool, true, false, List, [], refl, sym, ap, subst, ◌∙◌}
 use Rattle.std.specs.Prelude.{ℤ, ◌&&◌, ◌||◌, Option, None, Some, is_some, Result, Ok, Err, if◌then◌else◌}
 use Rattle.std.specs.Option.{option_map}
 use Rattle.bson_lite.specs.Spelling.{Spells}
@@ -11,6 +11,7 @@ use Rattle.driver_error.specs.declared.labels.TheConstants.{RETRYABLE_WRITE_ERRO
 use Rattle.driver_error.specs.Error.{kind_of, labels_of}
 use Rattle.driver_error.specs.LabelTexts.{LabelSet, has_label, with_label}
 use Rattle.driver_error.proofs.LabelSets.{has_label-with}
+use Rattle.driver_options.specs.declared.options.Conn.{Conn}
 use Rattle.driver_link.specs.declared.fault.LinkError.TheVariants.{Fault}
 use Rattle.driver_link.specs.declared.fault.LinkFault.{LinkFault}
 use Rattle.driver_link.specs.declared.fault.LinkFault.TheVariants.{Io}
@@ -23,20 +24,24 @@ use Rattle.driver_link.specs.declared.machine.Setup.{Setup}
 use Rattle.driver_link.specs.Cursors.{Reply}
 use Rattle.driver_link.specs.Exchange.{after_picks, answered, reply, traced}
 use Rattle.driver_link.specs.Failures.{is_network}
+use Rattle.driver_link.specs.LinkState.{LinkState, server_run}
+use Rattle.driver_link.specs.ServerRun.{IsReply, ServerRun}
 use Rattle.driver_session.specs.declared.retryability.Retryability.{Retryability}
 use Rattle.driver_session.specs.declared.retryability.Retryability.TheVariants as may
 use Rattle.driver_session.specs.Session.{Session}
 use Rattle.driver_session.specs.StoreTells.{StoreTells}
+use Rattle.driver_ops.specs.OperationLaw.{NeverOpen}
 use Rattle.driver_ops.specs.Operations.{OperationSpec, ReadsAnswer}
 use Rattle.driver_attempt.specs.declared.failure.AttemptFailure.{AttemptFailure}
 use Rattle.driver_attempt.specs.declared.failure.FailurePhase.{FailurePhase}
 use Rattle.driver_attempt.specs.declared.failure.FailurePhase.TheVariants.{ConnectionEstablishment, Execution}
-use Rattle.driver_attempt.specs.AttemptExchanges.{held_after}
+use Rattle.driver_attempt.specs.AttemptExchanges.{AsksPages, EndsPages, PageAsked, held_after}
 use Rattle.driver_attempt.specs.Holding.{DrawsSession, ExecutionSession, HoldsSession, dirty_session, dirty_session_held, needs_session}
 use Rattle.driver_attempt.specs.OldDeployment.{reworded}
 use Rattle.driver_attempt.specs.Retry.{RetryState, after, after_first, avoiding, decide, may_be_retried, may_be_sent, reworded_failure}
 use Rattle.driver_exec.specs.Gentle.{IsLossy}
 use Rattle.driver_exec.specs.OperationCauses.{DrawsNumbers}
+use Rattle.driver_exec.proofs.PassesBy.{none_asked}
 
 -- an operation reads no error in a reply to a command of so many statements, unless memory runs out
 abbrev pub ReadsPlainly : {A : Type 0} → OperationSpec A → ℕ → Reply → Type 0
@@ -47,6 +52,28 @@ pub record AnswersPlainly {A : Type 0} (spec : OperationSpec A) (statements : �
   pub reply : Reply
   pub is : answered server send step ≡ Some reply
   pub plain : ReadsPlainly spec statements reply
+
+-- behind the reply in these bytes to a command of so many statements, from one moment to another, the questions for further pages
+-- went out under a session, and this error was read
+pub record FailsBehind {A : Type 0} (spec : OperationSpec A) (statements : ℕ) (bytes : List ℕ) (session : Option (List ℕ)) (told now : ServerRun) (error : Error) : Type 0 where
+  pub conn : Conn
+  pub before : LinkState
+  pub mid : LinkState
+  pub after : LinkState
+  pub asked : List PageAsked
+  pub before_is : server_run before ≡ Some told
+  pub after_is : server_run after ≡ Some now
+  pub asks : AsksPages spec statements bytes conn session before asked mid
+  pub ends : EndsPages spec statements bytes conn mid after asked (Err error)
+
+-- where no page has another behind it and the reply is read so, that is want of memory
+pub alone_memory : {A : Type 0} (spec : OperationSpec A) → NeverOpen spec → (statements : ℕ) (server : Server) (send : Send) (step : Scheduled) → AnswersPlainly spec statements server send step
+    → (bytes : List ℕ) → IsReply (answered server send step) bytes → (session : Option (List ℕ)) (told now : ServerRun) (error : Error) → FailsBehind spec statements bytes session told now error
+    → kind_of error ≡ kind.Memory
+alone_memory spec never statements server send step answers bytes replied session told now error fails =
+    let none : fails.asked ≡ [] = none_asked spec statements bytes fails.conn never session fails.before fails.asked fails.mid fails.asks in
+    let ends = subst (λ asked. EndsPages spec statements bytes fails.conn fails.mid fails.after asked (Err error)) none fails.ends in
+    answers.plain bytes (subst (λ o. IsReply o bytes) answers.is replied) error ends.0
 
 -- an item without a reply
 lossy_reply : (server : Server) (send : Send) (item : Item) → IsLossy item → reply server send item ≡ None

@@ -1,10 +1,10 @@
 -- An attempt of an operation whose part of the schedule is gentle fails only where its exchange was lost.
-use Rattle.std.proofs.Common.{◌≡◌, ℕ, ◌<◌, ◌≤◌, true, List, [], length, refl, sym, ap, subst, ◌∙◌, inl, inr, arith}
-use Rattle.std.specs.Prelude.{ℤ, Option, None, Some, Result, Ok, Err}
-use Rattle.bson_lite.specs.Spelling.{Spells}
+use Rattle.std.proofs.Common.{◌≡◌, ℕ, ◌<◌, ◌≤◌, true, List, length, refl, sym, ap, subst, ◌∙◌, inl, inr, arith}
+use Rattle.std.specs.Prelude.{ℤ, Option, None, Some, Result, Ok, Err, slice_get}
 use Rattle.driver_error.specs.declared.error.Error.{Error}
 use Rattle.driver_error.specs.declared.labels.TheConstants.{RETRYABLE_WRITE_ERROR}
-use Rattle.driver_error.specs.Error.{labels_of}
+use Rattle.driver_error.specs.declared.kind.ErrorKind.TheVariants as kind
+use Rattle.driver_error.specs.Error.{kind_of, labels_of}
 use Rattle.driver_error.specs.LabelTexts.{has_label, label_set, with_label}
 use Rattle.driver_options.specs.declared.options.Address.{Address}
 use Rattle.driver_options.specs.declared.options.Conn.{Conn}
@@ -13,7 +13,6 @@ use Rattle.driver_link.specs.declared.fault.LinkError.TheVariants.{Fault}
 use Rattle.driver_link.specs.declared.fault.LinkFault.{LinkFault}
 use Rattle.driver_link.specs.declared.machine.Scheduled.{Scheduled}
 use Rattle.driver_link.specs.declared.machine.Send.{Send}
-use Rattle.driver_link.specs.Cursors.{Reply}
 use Rattle.driver_link.specs.Exchange.{exchanged, next_step, step_at}
 use Rattle.driver_link.specs.LinkState.{server_run, setup_of}
 use Rattle.driver_link.specs.ServerRun.{IsReply, ServerRun, TakesStep, run_after, run_answer}
@@ -25,7 +24,7 @@ use Rattle.driver_ops.specs.Fields.{under}
 use Rattle.driver_ops.specs.Operations.{send_of}
 use Rattle.driver_attempt.specs.declared.failure.FailurePhase.{FailurePhase}
 use Rattle.driver_attempt.specs.declared.failure.FailurePhase.TheVariants.{ConnectionEstablishment, Execution}
-use Rattle.driver_attempt.specs.AttemptExchanges.{AsksPages, EndsPages, held_after}
+use Rattle.driver_attempt.specs.AttemptExchanges.{AsksPages, held_after}
 use Rattle.driver_attempt.specs.Attempting.{AttemptState, FailsIn, LosesExchange, NotConnected, NotSelected, Sends, SpellsFailure, asks_session, on_connection}
 use Rattle.driver_attempt.specs.Failures.{is_memory}
 use Rattle.driver_attempt.specs.Holding.{HoldsSession, dirty_session, held_id, needs_session}
@@ -35,17 +34,16 @@ use Rattle.driver_exec.specs.Gentle.{IsGentlePart, IsLossy, IsOfPart}
 use Rattle.driver_exec.specs.OperationCauses.{DrawsNumbers, labels_after}
 use Rattle.driver_exec.proofs.FixedNumbers.{MayBeFixed, sends_first}
 use Rattle.driver_exec.proofs.HeldSessions.{draws_on, not_both}
-use Rattle.driver_exec.proofs.Moments.{IsBefore, LeadsCalling, after_before, before_twice, checks_well, longer_after, one_moment, selects_lead, selects_well}
+use Rattle.driver_exec.proofs.Moments.{IsBefore, LeadsCalling, after_before, before_twice, behind_lead, checks_well, longer_after, one_moment, selects_lead, selects_well, sends_lead, sent_last}
 use Rattle.driver_exec.proofs.OperationCauses.{fault_error, reworded_is}
-use Rattle.driver_exec.proofs.PassesBy.{none_asked}
-use Rattle.driver_exec.proofs.Completeness.Ends.{ReadsPlainly, lossy_none, has_own_label, HasNumber, lost_held, held_again, same_again}
+use Rattle.driver_exec.proofs.Completeness.Ends.{FailsBehind, lossy_none, has_own_label, HasNumber, lost_held, held_again, same_again}
 use Rattle.driver_exec.proofs.Completeness.Sessions.{KnownCommand, attempted, MayGo, IsReadied, IsPrepared, again_readied, is_conn, reached_at, readied_at}
 
 module _ {A : Type 0} (known : KnownCommand A) where
-  open known use {spec, batch, fixed, body, Serves, retryability, told, link, Ready, ready_answers, ready_again}
+  open known use {spec, batch, fixed, body, Serves, repeats, repeats_numbered, retryability, told, link, Ready, ready_answers, pages_well, ready_again}
 
   -- the part that is gentle
-  module _ (told_now : ServerRun) (gentle : IsGentlePart Serves (DrawsNumbers true retryability (setup_of link)) told told_now) where
+  module _ (told_now : ServerRun) (gentle : IsGentlePart Serves repeats told told_now) where
     -- one exchange of the part was lost, from a moment on
     pub record Lost (from : ServerRun) (now : AttemptState) : Type 0 where
       pub draws : DrawsNumbers true retryability (setup_of link)
@@ -83,13 +81,13 @@ module _ {A : Type 0} (known : KnownCommand A) where
       -- its selection does not fail
       pub unselected_none : (error : Error) → NotSelected past mid now error → ⊥
       unselected_none error fails =
-          selects_well (DrawsNumbers true retryability (setup_of link)) told told_now gentle moment prepared.after mid.link now.link last prepared.is now_is later fails.fault fails.labels fails.selects.calls
+          selects_well repeats told told_now gentle moment prepared.after mid.link now.link last prepared.is now_is later fails.fault fails.labels fails.selects.calls
 
       -- nor does its check-out
       unconnected_none : (address : Address) (error : Error) → NotConnected (attempted known) past mid now address error → ⊥
       unconnected_none address error fails =
           let first = (selects_lead moment mid.link fails.mid (Ok address) prepared.is fails.selects.calls).leads in
-          checks_well (DrawsNumbers true retryability (setup_of link)) told told_now gentle first.moment (before_twice told moment first.moment prepared.after first.later) fails.mid now.link last
+          checks_well repeats told told_now gentle first.moment (before_twice told moment first.moment prepared.after first.later) fails.mid now.link last
           first.is now_is later fails.fault fails.labels fails.checks_out.calls
 
       -- the command went out
@@ -132,33 +130,34 @@ module _ {A : Type 0} (known : KnownCommand A) where
             let over : IsBefore (run_after before send) told_now = subst (λ t. IsBefore t told_now) (one_moment now.link last (run_after before send) now_is is) later in
             (since_told.trace, omega (arith, over.trace, longer_after before send))
 
+        -- and it stands there
+        sent_at : server_run now.link ≡ Some (run_after before send) → slice_get told_now.server.trace (length before.server.trace) ≡ Some send
+        sent_at is =
+            let over : IsBefore (run_after before send) told_now = subst (λ t. IsBefore t told_now) (one_moment now.link last (run_after before send) now_is is) later in
+            over.stays (length before.server.trace) send (sent_last before send)
+
         -- the step is that of its number
         step_is : step_at told.schedule (length before.server.trace) ≡ step
         step_is = ap (λ s. step_at s (length before.server.trace)) (sym since_told.schedule)
 
-        -- a reply to it is plain
-        record HasPlain (reply_bytes : List ℕ) : Type 0 where
-          reply : Reply
-          plain : ReadsPlainly spec batch.statements reply
-          spells : Spells reply reply_bytes
-
-        -- so is each reply of this exchange
-        plain_reply : (reply_bytes : List ℕ) → TakesStep (Some before) (server_run now.link) send (Ok reply_bytes) → HasPlain reply_bytes
-        plain_reply reply_bytes stepped = elim (gentle.items (length before.server.trace) (of_part stepped.0)) [
+        -- an error that is read behind a reply to it is want of memory
+        read_memory : (reply_bytes : List ℕ) → TakesStep (Some before) (server_run now.link) send (Ok reply_bytes) → (end : ServerRun) → IsBefore end told_now
+            → (error : Error) → FailsBehind spec batch.statements reply_bytes (held_id sends.numbered) (run_after before send) end error → kind_of error ≡ kind.Memory
+        read_memory reply_bytes stepped end ends error fails = elim (gentle.items (length before.server.trace) send (of_part stepped.0) (sent_at stepped.0)) [
           | inl serves ↦
-              let here = ready_answers (held_id sends.numbered) sends.number before.server step ready_here sends.exchanges.framed.command sends.exchanges.framed.built.is (subst (λ s. Serves s.item) step_is serves) in
-              record { reply = here.reply; plain = here.plain; spells = subst (λ o. IsReply o reply_bytes) here.is stepped.1 }
+              pages_well told_now gentle (held_id sends.numbered) sends.number before end since_told ends ready_here sends.exchanges.framed.command sends.exchanges.framed.built.is
+              (subst (λ s. Serves send s.item) step_is serves) reply_bytes stepped.1 error fails
           | inr loses ↦ absurd (subst (λ o. IsReply o reply_bytes) (lossy_none before.server send step (subst (λ s. IsLossy s.item) step_is loses.1)) stepped.1)
         ]
 
         -- without a reply its item is lossy, and it has a number
         lossy_item : run_answer before send ≡ None → server_run now.link ≡ Some (run_after before send)
             → DrawsNumbers true retryability (setup_of link) × IsLossy (step_at told.schedule (length before.server.trace)).item
-        lossy_item none is = elim (gentle.items (length before.server.trace) (of_part is)) [
+        lossy_item none is = elim (gentle.items (length before.server.trace) send (of_part is) (sent_at is)) [
           | inl serves ↦
-              let here = ready_answers (held_id sends.numbered) sends.number before.server step ready_here sends.exchanges.framed.command sends.exchanges.framed.built.is (subst (λ s. Serves s.item) step_is serves) in
+              let here = ready_answers (held_id sends.numbered) sends.number before.server step ready_here sends.exchanges.framed.command sends.exchanges.framed.built.is (subst (λ s. Serves send s.item) step_is serves) in
               absurd (none_is_some here.reply (sym none ∙ here.is))
-          | inr loses ↦ loses
+          | inr loses ↦ (repeats_numbered (held_id sends.numbered) sends.number loses.0, loses.1)
         ]
 
         -- the setup stays
@@ -214,19 +213,29 @@ module _ {A : Type 0} (known : KnownCommand A) where
     -- how it fails
     module _ (past : Option RetryState) (moment : ServerRun) (mid : AttemptState) (prepared : IsPrepared known moment mid) (now : AttemptState) (last : ServerRun) (now_is : server_run now.link ≡ Some last) (later : IsBefore last told_now)
         (apart : DrawnApart now.store) where
-      -- the answer to its command spells no failure: it is one reply
+      -- the answer to its command spells no failure
       spelled_none : (address : Address) (error : Error) → SpellsFailure (attempted known) past mid now address error → ⊥
       spelled_none address error fails =
           let behind = fails.behind in
           let exchanges = fails.reads.exchanges in
-          let none : exchanges.asked ≡ [] = none_asked spec batch.statements fails.reply fails.conn known.alone (held_id behind.held) behind.link exchanges.asked exchanges.mid exchanges.asks in
-          let mid_is : exchanges.mid ≡ behind.link = subst (λ asked. AsksPages spec batch.statements fails.reply fails.conn (held_id behind.held) behind.link asked exchanges.mid) none exchanges.asks in
-          let ends = subst (λ asked. EndsPages spec batch.statements fails.reply fails.conn exchanges.mid now.link asked (Err fails.bare)) none exchanges.ends in
-          let behind_is : server_run behind.link ≡ Some last = ap server_run (sym (ends.1 ∙ mid_is)) ∙ now_is in
+          let came = sends_lead (attempted known) past body known.asked moment mid now prepared.is behind address fails.conn (Ok fails.reply) fails.sends in
+          let more = behind_lead spec batch.statements fails.reply fails.conn (held_id behind.held) came.moment behind.link now.link behind.held now.held (Err fails.bare) came.is exchanges in
+          let until_last = subst (IsBefore came.moment) (one_moment now.link more.moment last more.is now_is) more.later in
+          let behind_later = before_twice came.moment last told_now until_last later in
           let behind_apart = subst DrawnApart fails.reads.store apart in
-          let stepped = steps past moment mid prepared behind last behind_is later behind_apart address fails.conn (Ok fails.reply) fails.sends in
-          let plain = plain_reply past moment mid prepared behind last behind_is later behind_apart address fails.conn (Ok fails.reply) fails.sends fails.reply stepped in
-          let memory = plain.plain fails.reply plain.spells fails.bare ends.0 in
+          let stepped = steps past moment mid prepared behind came.moment came.is behind_later behind_apart address fails.conn (Ok fails.reply) fails.sends in
+          let session_is : held_id behind.held ≡ held_id fails.sends.numbered = ap held_id fails.sends.held_is in
+          let memory = read_memory past moment mid prepared behind came.moment came.is behind_later behind_apart address fails.conn (Ok fails.reply) fails.sends fails.reply stepped last later fails.bare (record {
+            conn = fails.conn;
+            before = behind.link;
+            mid = exchanges.mid;
+            after = now.link;
+            asked = exchanges.asked;
+            before_is = stepped.0;
+            after_is = now_is;
+            asks = subst (λ s. AsksPages spec batch.statements fails.reply fails.conn s behind.link exchanges.asked exchanges.mid) session_is exchanges.asks;
+            ends = exchanges.ends;
+          }) in
           not_both (sym (ap is_memory memory) ∙ fails.is.is.told)
 
       -- an exchange that was lost leaves an error that lets the write be tried again

@@ -15,16 +15,15 @@ use Rattle.driver_link.specs.declared.machine.Scheduled.{Scheduled}
 use Rattle.driver_link.specs.declared.machine.Send.{Send}
 use Rattle.driver_link.specs.declared.machine.SendBody.{SendBody}
 use Rattle.driver_link.specs.declared.machine.Server.{Server}
-use Rattle.driver_link.specs.Exchange.{exchanged}
+use Rattle.driver_link.specs.Exchange.{exchanged, next_step}
 use Rattle.driver_link.specs.LinkState.{LinkState, server_run, setup_of}
-use Rattle.driver_link.specs.ServerRun.{ServerRun}
+use Rattle.driver_link.specs.ServerRun.{IsReply, ServerRun, run_after, run_answer}
 use Rattle.driver_session.specs.declared.retryability.Retryability.{Retryability}
 use Rattle.driver_session.specs.declared.retryability.Retryability.TheVariants as may
 use Rattle.driver_session.specs.Session.{IsAtItsEnd, Numbers, Session, last_number}
 use Rattle.driver_session.specs.StoreTells.{DrawnApart, LendsSession, StoreTells}
 use Rattle.driver_ops.specs.declared.command.Command.{Command}
 use Rattle.driver_ops.specs.Fields.{SendContext, under}
-use Rattle.driver_ops.specs.OperationLaw.{NeverOpen}
 use Rattle.driver_ops.specs.Operations.{AsksFor, Batch, HasNoSpelling, OperationSpec, Refuses, send_of}
 use Rattle.driver_ops.specs.SendKinds.{SendKind}
 use Rattle.driver_attempt.specs.Attempting.{AttemptState, AttemptedOperation, EndsRefused, Readies, asks_session, attempted_operation, may_use, on_connection}
@@ -32,12 +31,12 @@ use Rattle.driver_attempt.specs.Concerns.{concern_refusal}
 use Rattle.driver_attempt.specs.Executing.{first_state}
 use Rattle.driver_attempt.specs.Holding.{DrawsNumber, DrawsSession, GivesNumber, ExecutionSession, HoldsSession, held_id, holds_nothing, needs_session}
 use Rattle.driver_attempt.specs.Retry.{RetryState}
-use Rattle.driver_exec.specs.Gentle.{IsLossy}
+use Rattle.driver_exec.specs.Gentle.{IsGentlePart, IsLossy}
 use Rattle.driver_exec.specs.OperationCauses.{DrawsNumbers}
 use Rattle.driver_exec.proofs.FixedNumbers.{MayBeFixed}
 use Rattle.driver_exec.proofs.HeldSessions.{IsOf, draws_on, is_of, not_both}
 use Rattle.driver_exec.proofs.Moments.{IsBefore, LeadsCalling, before_refl, connects_lead}
-use Rattle.driver_exec.proofs.Completeness.Ends.{AnswersPlainly, err_ok, HasNumber, no_read, no_none, undrawn, held_again}
+use Rattle.driver_exec.proofs.Completeness.Ends.{AnswersPlainly, FailsBehind, err_ok, HasNumber, no_read, no_none, undrawn, held_again}
 
 -- an operation over what is told, with what is known of its sends
 pub record KnownCommand (A : Type 0) : Type 1 where
@@ -48,11 +47,9 @@ pub record KnownCommand (A : Type 0) : Type 1 where
   pub fixed : Option ℕ
   pub which : SendKind
   pub body : SendBody
-  -- an item serves its command as usual
-  pub Serves : Item → Type 0
+  -- an item serves a send of it as usual
+  pub Serves : Send → Item → Type 0
   pub asked : AsksFor spec batch body
-  -- its answer has one page
-  pub alone : NeverOpen spec
   -- what of it may be repeated by its own rules
   pub retryability : Retryability
   -- the concern that it goes out with, which is not refused
@@ -63,11 +60,20 @@ pub record KnownCommand (A : Type 0) : Type 1 where
   pub told : ServerRun
   pub link : LinkState
   pub link_is : server_run link ≡ Some told
+  -- a send may go out again; then those of its command have numbers
+  pub repeats : Send → Type 0
+  pub repeats_numbered : (session : Option (List ℕ)) (number : Option ℤ) → repeats (send_of (under session number) body) → DrawsNumbers true retryability (setup_of link)
   -- a send may go out to a server
   pub Ready : Send → Server → Type 0
   -- then a gentle step answers it plainly, once its command was built
   pub ready_answers : (session : Option (List ℕ)) (number : Option ℤ) (server : Server) (step : Scheduled) → Ready (send_of (under session number) body) server
-      → (command : Command) → spec.commands which batch.statements command → Serves step.item → AnswersPlainly spec batch.statements server (send_of (under session number) body) step
+      → (command : Command) → spec.commands which batch.statements command → Serves (send_of (under session number) body) step.item
+      → AnswersPlainly spec batch.statements server (send_of (under session number) body) step
+  -- and behind the reply an error that is read in a gentle part is want of memory
+  pub pages_well : (told_now : ServerRun) → IsGentlePart Serves repeats told told_now → (session : Option (List ℕ)) (number : Option ℤ) (before now : ServerRun) → IsBefore told before → IsBefore now told_now
+      → Ready (send_of (under session number) body) before.server → (command : Command) → spec.commands which batch.statements command
+      → Serves (send_of (under session number) body) (next_step before.schedule before.server).item → (bytes : List ℕ) → IsReply (run_answer before (send_of (under session number) body)) bytes
+      → (error : Error) → FailsBehind spec batch.statements bytes session (run_after before (send_of (under session number) body)) now error → kind_of error ≡ kind.Memory
   -- and after a lossy one it may go out again
   pub ready_again : (id : List ℕ) (number : ℤ) (server : Server) (step : Scheduled) → Ready (send_of (under (Some id) (Some number)) body) server → IsLossy step.item
       → Ready (send_of (under (Some id) (Some number)) body) (exchanged server (send_of (under (Some id) (Some number)) body) step)

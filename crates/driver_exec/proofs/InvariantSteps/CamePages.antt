@@ -42,7 +42,7 @@ module _ {A : Type 0} (spec : OperationSpec A) (lawful : IsLawful spec) (stateme
       now_is = answers.rest.server ∙ same_run (λ server schedule. (run_after answers.mid (more_send session cursor)).server ≡ exchanged server (more_send session cursor) (next_step schedule server)) refl
 
   -- what the reply and the pages left open, of the reply as it is
-  left_open : (pages : List Page) (replies : List Reply) (cursor : ℤ) (namespace : Namespace) → pages ≡ as_pages replies → LeavesCursor spec statements bytes pages cursor namespace
+  pub left_open : (pages : List Page) (replies : List Reply) (cursor : ℤ) (namespace : Namespace) → pages ≡ as_pages replies → LeavesCursor spec statements bytes pages cursor namespace
       → spec.reads statements (as_pages replies ++ Ok reply ∷ []) (Ok (Further cursor namespace))
   left_open pages replies cursor namespace are left =
       subst (λ p. spec.reads statements (p ++ Ok reply ∷ []) (Ok (Further cursor namespace))) are

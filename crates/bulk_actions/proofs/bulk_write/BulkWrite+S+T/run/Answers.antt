@@ -1,5 +1,6 @@
--- A bulk write is made, keeps what stands, is cut into the fewest batches, and takes a number for each.
+-- A bulk write is made, keeps what stands, is cut into the fewest batches, takes a number for each, and is complete.
 use Rattle.driver_attempt.specs.Moment.{moment_of}
+use Rattle.bulk_actions.proofs.BulkCompleteness.{bulk_complete}
 use Rattle.bulk_actions.proofs.BulkKept.{bulk_keeps}
 use Rattle.bulk_actions.proofs.BulkNumbers.{bulk_raises}
 use Rattle.bulk_actions.proofs.BulkTold.{bulk_logged}
@@ -29,3 +30,9 @@ returns-clause-logged g c =
     let before = moment_of g.S.SessionStore.tells g.L.Link.tells g.K.Clock.tells g.R.Rng.stream c.args.self.client.now c.args.outside.now in
     let now = moment_of g.S.SessionStore.tells g.L.Link.tells g.K.Clock.tells g.R.Rng.stream c.bulk_all-result.new.client c.bulk_all-result.new.outside in
     bulk_logged g.T.BulkWriteResult.tells g.met.T.BulkWriteResult.merges before now c.args.self.models.now c.args.self.options c.args.outside.now.call c.bulk_all-result.result c.bulk_all-result.ensures.makes
+
+pub returns-clause-complete : goal.returns-clause-complete
+returns-clause-complete g c =
+    let before = moment_of g.S.SessionStore.tells g.L.Link.tells g.K.Clock.tells g.R.Rng.stream c.args.self.client.now c.args.outside.now in
+    let now = moment_of g.S.SessionStore.tells g.L.Link.tells g.K.Clock.tells g.R.Rng.stream c.bulk_all-result.new.client c.bulk_all-result.new.outside in
+    bulk_complete g.T.BulkWriteResult.tells g.met.T.BulkWriteResult.merges before now c.args.self.models.now c.args.self.options c.args.outside.now.call c.bulk_all-result.result c.bulk_all-result.ensures.makes
