@@ -17,7 +17,9 @@ use bulk_actions::bulk_all::bulk_all;
 use driver_actions::SingleWrites;
 use driver_actions::insert_all::insert_all;
 use driver_attempt::{Client, Outside};
-use driver_error::{InsertManyResult, Result, SummaryBulkWriteResult, VerboseBulkWriteResult};
+use driver_error::{
+    BulkWriteResult, InsertManyResult, Result, SummaryBulkWriteResult, VerboseBulkWriteResult,
+};
 use driver_inputs::{Answer, Call, Outcome, SingleWrite};
 use driver_link::{Clock, Link};
 use driver_ops::Collection;
@@ -51,7 +53,8 @@ pub(crate) fn make_call<S: SessionStore, L: Link, K: Clock, R: Rng>(
     }
 }
 
-/// Makes a call: a single write has the first place of its call, and document i of an insert of many place i.
+/// Makes a call: a single write has the first place of its call, and document i of an insert of many place i, as has model i
+/// of a bulk write.
 fn answer_call<S: SessionStore, L: Link, K: Clock, R: Rng>(
     alloc: Global,
     client: &mut Client<S>,
@@ -208,9 +211,9 @@ fn answer_summary<S: SessionStore, L: Link, K: Clock, R: Rng>(
     ensures options { options_of client.new ≡ options_of client.old }
     ensures call { outside.new.call ≡ outside.old.call }
 {
-    let made: Result<SummaryBulkWriteResult> =
-        bulk_all(alloc, client, outside, models.as_slice(), options);
-    match made {
+    match write_models::<S, L, K, R, SummaryBulkWriteResult>(
+        alloc, client, outside, models, options,
+    ) {
         Ok(output) => Ok(Answer::Summary(output)),
         Err(failure) => Err(failure),
     }
@@ -235,10 +238,33 @@ fn answer_verbose<S: SessionStore, L: Link, K: Clock, R: Rng>(
     ensures options { options_of client.new ≡ options_of client.old }
     ensures call { outside.new.call ≡ outside.old.call }
 {
-    let made: Result<VerboseBulkWriteResult> =
-        bulk_all(alloc, client, outside, models.as_slice(), options);
-    match made {
+    match write_models::<S, L, K, R, VerboseBulkWriteResult>(
+        alloc, client, outside, models, options,
+    ) {
         Ok(output) => Ok(Answer::Verbose(output)),
         Err(failure) => Err(failure),
     }
+}
+
+/// Makes the writes of models, with results of the kind `T`.
+fn write_models<S: SessionStore, L: Link, K: Clock, R: Rng, T: BulkWriteResult>(
+    alloc: Global,
+    client: &mut Client<S>,
+    outside: &mut Outside<L, K, R>,
+    models: &List<WriteModel>,
+    options: &BulkWriteOptions,
+) -> Result<T>
+    ensures makes { MakesBulk T.tells
+        (moment_of S.tells L.tells K.tells R.stream client.old outside.old)
+        (moment_of S.tells L.tells K.tells R.stream client.new outside.new)
+        models.now options.now outside.old.call result }
+    ensures cause { BulkCaused T.tells
+        (moment_of S.tells L.tells K.tells R.stream client.old outside.old)
+        (moment_of S.tells L.tells K.tells R.stream client.new outside.new)
+        models.now options.now outside.old.call result }
+    ensures options { options_of client.new ≡ options_of client.old }
+    ensures call { outside.new.call ≡ outside.old.call }
+{
+    let models = models.as_slice();
+    bulk_all::<S, L, K, R, T>(alloc, client, outside, models, options)
 }
