@@ -60,7 +60,7 @@ own_written id twelve (ReplaceOne model) = record { kind = refl; namespace = ref
 own_written id twelve (DeleteOne model) = record { kind = refl; namespace = refl; document = refl }
 own_written id twelve (DeleteMany model) = record { kind = refl; namespace = refl; document = refl }
 
-own_model : (models : List WriteModel) (call : ℕ) (write : PlacedWrite) → IsOfModel (IsGivenModel models) call write → IsOwnModel models call write
+pub own_model : (models : List WriteModel) (call : ℕ) (write : PlacedWrite) → IsOfModel (IsGivenModel models) call write → IsOwnModel models call write
 own_model models call write of = record {
   model = of.given.given;
   of_call = of.of_call;

@@ -1,4 +1,4 @@
--- A bulk write raises the numbers of idle sessions by one at most for each of its batches.
+-- A bulk write raises the numbers of idle sessions by one at most for each of its batches, and leaves the rest of a moment as a call may.
 use Rattle.std.proofs.Common.{◌≡◌, ℕ, ◌+◌, ◌<◌, ◌≤◌, true, List, [], ◌∷◌, length, refl, sym, ap, subst, ◌∙◌, inl, inr, arith}
 use Rattle.std.specs.Prelude.{Option, Result, Ok, Err}
 use Rattle.bson_lite.specs.declared.bson.ObjectId.{ObjectId}
@@ -23,14 +23,14 @@ use Rattle.driver_inputs.specs.ManyInputs.{AreTwelve}
 use Rattle.driver_actions.specs.ManyCompleteness.{RaisesBy, RaisesByWhereTold}
 use Rattle.driver_actions.specs.Numbers.{server_setup}
 use Rattle.driver_actions.proofs.BatchSizes.{with_id_size}
-use Rattle.driver_actions.proofs.MovesBeside.{moves_drew, raises_more}
+use Rattle.driver_actions.proofs.MovesBeside.{CallMoves, moves_drew, moves_more, moves_raising, raises_more}
 use Rattle.driver_actions.proofs.PlannedBatches.{PlanNumbers, batches_raise}
 use Rattle.bulk_actions.specs.BulkBatches.{bulk_plan}
 use Rattle.bulk_actions.specs.BulkCalls.{EndsShort, MadeBulk, MakesBulk}
 use Rattle.bulk_actions.specs.BulkNumbers.{RaisesByBulk, bulk_numbers, numbers_for, sized_with_ids}
 use Rattle.bulk_actions.specs.FewestBulk.{sent_models, sized_model}
 use Rattle.bulk_actions.proofs.BulkJudged.{zero_is_twelve}
-use Rattle.bulk_actions.proofs.BulkKept.{IsGivenModel, drew_by, good, made_drew, unmade_ids}
+use Rattle.bulk_actions.proofs.BulkKept.{IsGivenModel, drew_by, good, made_drew, made_moves, unmade_ids}
 use Rattle.bulk_actions.proofs.BulkPlanned.{GoodModels, IsOfModel, bulk_planned}
 use Rattle.bulk_actions.proofs.FewestBulk.{ids_each, sizes_are, sizes_left}
 use Rattle.bulk_actions.proofs.OpRuns.{fewer_numbers, some_number}
@@ -103,4 +103,17 @@ module _ {R : Type 0} (tells : ResultSpec R) (before now : Moment) (models : Lis
         raises_more 0 most_numbers (omega arith) before.store.pool now.store.pool
         (moves_drew true call before now (drew_by before now unmade.rest (unmade_ids before now models options error unmade.prepares))).raises
     | inr made ↦ made_raises (Err error) made
+  ]
+
+  -- what it leaves beside
+  made_left : (result : Result R Error) → MadeBulk tells before now models options call result → CallMoves true most_numbers call before now
+  made_left result made = moves_raising true (0 + length made.own) most_numbers call before now (made_moves tells before now models options call result made) (made_raises result made)
+
+  pub bulk_moves : (result : Result R Error) → MakesBulk tells before now models options call result → CallMoves true most_numbers call before now
+  bulk_moves (Ok output) made = made_left (Ok output) made
+  bulk_moves (Err error) makes = elim makes [
+    | inl unmade ↦
+        moves_more true 0 most_numbers call before now (omega arith)
+        (moves_drew true call before now (drew_by before now unmade.rest (unmade_ids before now models options error unmade.prepares)))
+    | inr made ↦ made_left (Err error) made
   ]

@@ -373,7 +373,7 @@ ok_comes {R} tells ends (Err refused) output comes answers = absurd (let e : ◌
 
 -- so an Ok of a call is what the log spells
 module _ {R : Type 0} (tells : ResultSpec R) (laws : MergesResults tells) (before now : Moment) (models : List WriteModel) (options : BulkWriteOptions) (call : ℕ) (output : R) (made : MadeBulk tells before now models options call (Ok output)) where
-  made_told : (pool pool_now : Pool) (run run_now : ServerRun) → before.store.pool ≡ Some pool → now.store.pool ≡ Some pool_now → server_run before.link ≡ Some run → server_run now.link ≡ Some run_now
+  pub made_told : (pool pool_now : Pool) (run run_now : ServerRun) → before.store.pool ≡ Some pool → now.store.pool ≡ Some pool_now → server_run before.link ≡ Some run → server_run now.link ≡ Some run_now
       → MayWriteCall pool pool_now run call → HasToldAll tells models call run_now.server.log output
   made_told pool pool_now run run_now pool_is pool_now_is run_is run_now_is may =
       let drew = made_drew tells before now models options call (Ok output) made in

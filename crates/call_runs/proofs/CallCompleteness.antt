@@ -39,15 +39,16 @@ use Rattle.driver_actions.proofs.CallWrites.Entries.{new_place}
 use Rattle.driver_actions.proofs.Completeness.{Ready, single_well}
 use Rattle.call_runs.specs.CallByCall.{CallCaused, with_clock}
 use Rattle.call_runs.specs.CallMaking.{MakesCall}
-use Rattle.call_runs.specs.MainTheorem.{CallCompletes, CallEnds, all_numbers_of}
-use Rattle.call_runs.specs.ManyLeft.{LeavesByCall, LeavesMany}
+use Rattle.call_runs.specs.CallsLeft.{LeavesByCall, LeavesMany}
+use Rattle.call_runs.specs.MainTheorem.{CallCompletes, CallEnds, all_numbers_of, is_paged}
 use Rattle.call_runs.specs.Standing.{LeavesWhereTold, RunInvariant, RunState}
+use Rattle.call_runs.proofs.BulkLeft.{bulk_left_read, bulk_leaves}
 use Rattle.call_runs.proofs.EachCall.{caused_own, caused_replayed}
 use Rattle.call_runs.proofs.StandingRuns.{stands_count}
 use Rattle.driver_inputs.specs.declared.call.Answer.{Answer}
 use Rattle.driver_inputs.specs.declared.call.Answer.TheVariants as answer
 use Rattle.driver_inputs.specs.declared.call.Call.{Call}
-use Rattle.driver_inputs.specs.declared.call.Call.TheVariants.{InsertMany, Single}
+use Rattle.driver_inputs.specs.declared.call.Call.TheVariants.{BulkWrite, InsertMany, Single}
 use Rattle.driver_inputs.specs.declared.call.Outcome.{Outcome}
 use Rattle.driver_inputs.specs.declared.call.SingleAnswer.{SingleAnswer}
 use Rattle.driver_inputs.specs.declared.call.SingleWrite.{SingleWrite}
@@ -160,8 +161,9 @@ module _ (run : RunState) (calls : List Call) (before now : Moment) (left : Leav
   leaves : (call : Call) (result : Result Answer Error) → MakesCall before now call run.made result → LeavesByCall run.made before now call result
   leaves (Single write) result makes = tt
   leaves (InsertMany namespace documents options) (Ok (answer.Many output)) makes = leaves_many namespace documents options (Ok output) makes
-  leaves (InsertMany namespace documents options) (Ok (answer.Single given)) makes = absurd makes
+  leaves (InsertMany namespace documents options) (Ok other) makes = absurd makes
   leaves (InsertMany namespace documents options) (Err error) makes = leaves_many namespace documents options (Err error) makes
+  leaves (BulkWrite models options verbose) result makes = bulk_leaves run.made before now models options verbose result makes
 
   -- a call that is made ends well where it is valid and its part is gentle
   completes : (call : Call) (result : Result Answer Error) → MakesCall before now call run.made result → CallCompletes (take run.made calls) before now call result
@@ -170,20 +172,23 @@ module _ (run : RunState) (calls : List Call) (before now : Moment) (left : Leav
       single_told before.store.pool (server_run before.link) (server_run now.link) refl refl refl left write (Err error) makes valid gentle
   completes (InsertMany namespace documents options) (Ok given) makes valid gentle = tt
   completes (InsertMany namespace documents options) (Err error) makes valid gentle = many_well namespace documents options (Err error) makes valid gentle
+  completes (BulkWrite models options verbose) result makes valid gentle = absurd valid
 
 -- its end does not depend on the readings of the clock
 completes_read : (earlier : List Call) (began clock : ClockTells) (before now : Moment) (call : Call) (result : Result Answer Error)
     → CallCompletes earlier (with_clock before began) (with_clock now clock) call result → CallCompletes earlier before now call result
 completes_read earlier began clock before now (Single write) result completes = completes
 completes_read earlier began clock before now (InsertMany namespace documents options) result completes = completes
+completes_read earlier began clock before now (BulkWrite models options verbose) result completes = λ valid gentle. absurd valid
 
 -- nor does what it left
 leaves_read : (number : ℕ) (began clock : ClockTells) (before now : Moment) (call : Call) (result : Result Answer Error) → LeavesByCall number (with_clock before began) (with_clock now clock) call result
     → LeavesByCall number before now call result
 leaves_read number began clock before now (Single write) result leaves = tt
 leaves_read number began clock before now (InsertMany namespace documents options) (Ok (answer.Many output)) leaves = record { stand = leaves.stand; told = leaves.told; fewest = leaves.fewest }
-leaves_read number began clock before now (InsertMany namespace documents options) (Ok (answer.Single given)) leaves = absurd leaves
+leaves_read number began clock before now (InsertMany namespace documents options) (Ok other) leaves = absurd leaves
 leaves_read number began clock before now (InsertMany namespace documents options) (Err error) leaves = record { stand = leaves.stand; told = leaves.told; fewest = leaves.fewest }
+leaves_read number began clock before now (BulkWrite models options verbose) result leaves = bulk_left_read number began clock before now models options verbose result leaves
 
 -- a call of a run that stands
 pub call_ends : (run : RunState) (calls : List Call) (before now : Moment) → RunInvariant run calls before → DrawnApart now.store → (call : Call) (outcome : Outcome)
@@ -196,7 +201,7 @@ call_ends run calls before now stands apart call outcome caused =
       caused = subst (λ n. CallCaused n before now call outcome) count caused;
       complete = completes_read (take run.made calls) caused.first caused.clock before now call outcome.result
           (completes run calls read last stands.left (stands_count run calls before stands) apart call outcome.result caused.makes);
-      sends_own = subst (λ n. SendsOwn n (server_run before.link) (server_run now.link)) count (caused_own run.made before now call outcome caused);
+      sends_own = subst (λ n. SendsOwn (is_paged call) n (server_run before.link) (server_run now.link)) count (caused_own run.made before now call outcome caused);
       replayed = caused_replayed run.made before now call outcome caused;
       leaves = subst (λ n. LeavesByCall n before now call outcome.result) count (leaves_read run.made caused.first caused.clock before now call outcome.result
           (leaves run calls read last stands.left (stands_count run calls before stands) apart call outcome.result caused.makes));

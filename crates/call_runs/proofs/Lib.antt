@@ -1,4 +1,6 @@
 pub mod AppendedCalls
+pub mod BulkInLog
+pub mod BulkLeft
 pub mod CallCauses
 pub mod CallCompleteness
 pub mod CallParts

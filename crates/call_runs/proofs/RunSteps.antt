@@ -1,6 +1,6 @@
 -- A run of calls over a told pool and a told server: each call keeps what holds of the calls before it.
 use Rattle.std.proofs.Common.{◌≡◌, ℕ, ◌+◌, ◌<◌, arith, List, [], ◌∷◌, ◌++◌, length, refl, sym, ap, subst, ◌∙◌, inl, inr, length-append}
-use Rattle.std.specs.Prelude.{false, Option, None, Some, Result, Ok, Err, slice_get}
+use Rattle.std.specs.Prelude.{Bool, true, false, Option, None, Some, Result, Ok, Err, slice_get}
 use Rattle.std.specs.Result.{result_ok}
 use Rattle.std.proofs.lemmas.List.{append-nil}
 use Rattle.bson_lite.specs.declared.bson.Bson.{Bson}
@@ -8,8 +8,16 @@ use Rattle.bson_lite.specs.declared.document.Pair.{Pair}
 use Rattle.bson_lite.specs.declared.namespace.Namespace.{Namespace}
 use Rattle.driver_error.specs.declared.error.Error.{Error}
 use Rattle.driver_error.specs.declared.results.InsertManyResult.{InsertManyResult}
+use Rattle.driver_error.specs.declared.results.SummaryBulkWriteResult.{SummaryBulkWriteResult}
+use Rattle.driver_error.specs.declared.results.VerboseBulkWriteResult.{VerboseBulkWriteResult}
+use Rattle.driver_error.specs.BulkErrors.{MergesResults}
+use Rattle.driver_error.specs.BulkResults.{ResultSpec, summary_spec, verbose_spec}
+use Rattle.driver_error.specs.lawful.Merging.{summary_merges, verbose_merges}
+use Rattle.driver_options.specs.declared.models.WriteModel.{WriteModel}
+use Rattle.driver_options.specs.declared.write_options.BulkWriteOptions.{BulkWriteOptions}
 use Rattle.driver_options.specs.declared.write_options.InsertManyOptions.{InsertManyOptions}
 use Rattle.driver_link.specs.declared.machine.Entry.{Entry}
+use Rattle.driver_link.specs.declared.machine.PlacedWrite.{PlacedWrite}
 use Rattle.driver_link.specs.declared.machine.Send.{Send}
 use Rattle.driver_link.specs.declared.machine.Server.{Server}
 use Rattle.driver_link.specs.declared.machine.Place.{Place}
@@ -24,6 +32,7 @@ use Rattle.driver_link.specs.Apart.{AllApart}
 use Rattle.driver_session.specs.Pool.{Pool, empty_pool}
 use Rattle.driver_session.proofs.PoolTells.{same_told}
 use Rattle.driver_ops.specs.Targets.{in_collection}
+use Rattle.bulk_ops.specs.BulkEntries.{TellsBulk}
 use Rattle.driver_attempt.specs.Moment.{Moment}
 use Rattle.driver_exec.specs.BetweenCalls.{Between, Sound}
 use Rattle.driver_exec.proofs.InvariantSteps.Leaving.{Left, left_of}
@@ -36,22 +45,29 @@ use Rattle.driver_actions.proofs.BatchesMade.{Advances}
 use Rattle.driver_actions.proofs.BatchWrites.{IsOfCall}
 use Rattle.driver_actions.proofs.CallWrites.Entries.{entry_told, makes_entry, may_stand, new_place, placed_at}
 use Rattle.driver_actions.proofs.CallWrites.WritesMade.{LeftBy, made_drew, made_left, made_own, unmade_drew_by}
+use Rattle.driver_actions.proofs.CallMoves.{DrewIds}
 use Rattle.driver_actions.proofs.CallSends.{mid_pool, mid_run, only_write}
 use Rattle.driver_actions.proofs.ManyMade.{IsGiven, made_advances, made_stands, unmade_drew}
-use Rattle.call_runs.specs.CallMaking.{MakesCall}
+use Rattle.bulk_actions.specs.BulkCalls.{MadeBulk, MakesBulk}
+use Rattle.bulk_actions.proofs.BulkKept as bulk
+use Rattle.bulk_actions.proofs.BulkKept.{IsGivenModel, own_model}
+use Rattle.bulk_actions.proofs.BulkPlanned.{IsOfModel}
+use Rattle.bulk_actions.proofs.BulkTold.{made_told}
+use Rattle.call_runs.specs.CallMaking.{MakesBulkCall, MakesCall}
 use Rattle.call_runs.specs.MainTheorem.{MainTheorem}
 use Rattle.call_runs.specs.Standing.{AllOwn}
 use Rattle.call_runs.proofs.SpelledAnswers.{Answered, answered_none, answered_more, answered_with, own_at}
+use Rattle.call_runs.proofs.BulkInLog.{bulk_done, bulk_own, bulk_result}
 use Rattle.call_runs.proofs.LogEntries.{mine_all}
 use Rattle.call_runs.proofs.ManyInLog.{many_done, many_own, many_result}
 use Rattle.driver_inputs.specs.declared.call.Answer.{Answer}
 use Rattle.driver_inputs.specs.declared.call.Answer.TheVariants as answer
 use Rattle.driver_inputs.specs.declared.call.Call.{Call}
-use Rattle.driver_inputs.specs.declared.call.Call.TheVariants.{InsertMany, Single}
+use Rattle.driver_inputs.specs.declared.call.Call.TheVariants.{BulkWrite, InsertMany, Single}
 use Rattle.driver_inputs.specs.declared.call.Outcome.{Outcome}
 use Rattle.driver_inputs.specs.declared.call.SingleAnswer.{SingleAnswer}
 use Rattle.driver_inputs.specs.declared.call.SingleWrite.{SingleWrite}
-use Rattle.driver_inputs.specs.Calls.{Done, OwnAt, call_result, write_at, written}
+use Rattle.driver_inputs.specs.Calls.{Done, OwnAt, bulk_answer, call_result, write_at, written}
 use Rattle.driver_inputs.specs.Forms.{WriteForm, asked_in, form_of}
 
 -- what holds after a number of calls
@@ -198,80 +214,141 @@ module _ (calls : List Call) (outcomes : List Outcome) (before now : Moment) (po
       (written write) given (makes_entry before now (first_place (length outcomes)) (form_of write) (Ok given) made)
       (may_write write at (Ok given) made))
 
-  -- an insert of many documents
-  module _ (namespace : Namespace) (documents : List (List (Pair Bson))) (options : InsertManyOptions) (at : slice_get calls (length outcomes) ≡ Some (InsertMany namespace documents options)) where
-    -- it may be made
-    may_call : MayWriteCall pool pool_now run (length outcomes)
-    may_call = record {
-      between = ran.between;
-      sound = ran.sound;
-      new = λ earlier found write has stands of_call. let below : write.place.call < length outcomes = ran.below earlier found write has stands in absurd (omega (arith, below, of_call));
-      apart = apart;
+  -- writes of this call may be made
+  may_call : MayWriteCall pool pool_now run (length outcomes)
+  may_call = record {
+    between = ran.between;
+    sound = ran.sound;
+    new = λ earlier found write has stands of_call. let below : write.place.call < length outcomes = ran.below earlier found write has stands in absurd (omega (arith, below, of_call));
+    apart = apart;
+  }
+
+  -- a call that sent such writes, each the caller's own in a place of the call
+  module _ (Is : PlacedWrite → Type 0) (went_on : Advances Is pool_now run run_now) (of_call : (write : PlacedWrite) → Is write → write.place.call ≡ length outcomes)
+      (own : (write : PlacedWrite) → Is write → OwnAt (write_at calls write.place) write.written) where
+    -- all that was sent is of the calls that were made
+    sent_below : AllBelow (length outcomes + 1) run_now.server.trace
+    sent_below = λ send found write has stands. elim (went_on.which send has) [
+      | inl earlier ↦ below_later (length outcomes) run.server.trace ran.below send found write earlier stands
+      | inr such ↦ let is : write.place.call ≡ length outcomes = of_call write (such found write stands) in omega (arith, is)
+    ]
+
+    -- and the caller's own
+    sent_own : AllOwn calls run_now.server.trace
+    sent_own = λ send found write has stands. elim (went_on.which send has) [
+      | inl earlier ↦ ran.own send found write earlier stands
+      | inr such ↦ own write (such found write stands)
+    ]
+
+    -- so all holds after it, where the log spells what it should
+    ran_sent : Answered calls (outcomes ++ last ∷ []) (run.server.log ++ went_on.more) → Ran calls (outcomes ++ last ∷ []) pool_now run_now.server
+    ran_sent answered = record {
+      between = went_on.between;
+      sound = went_on.sound;
+      below = one_more outcomes last run_now.server.trace sent_below;
+      own = sent_own;
+      answered = subst (λ log. Answered calls (outcomes ++ last ∷ []) log) (sym went_on.log) answered;
     }
 
+    -- where it did not answer
+    ran_silent : result_ok last.result ≡ None → Ran calls (outcomes ++ last ∷ []) pool_now run_now.server
+    ran_silent none = ran_sent (answered_none calls outcomes run.server.log went_on.more last none ran.answered)
+
+    -- and where it is done, and the log spells its answer
+    ran_spelled : (given : Answer) → Done calls (length outcomes) run_now.server.log → call_result calls (length outcomes) run_now.server.log ≡ Some given → result_ok last.result ≡ Some given
+        → Ran calls (outcomes ++ last ∷ []) pool_now run_now.server
+    ran_spelled given done spelled is =
+        ran_sent (answered_with calls outcomes run.server.log went_on.more given last (subst (λ log. Done calls (length outcomes) log) went_on.log done)
+        (subst (λ log. call_result calls (length outcomes) log ≡ Some given) went_on.log spelled) is ran.answered)
+
+  -- a call in which ids alone were drawn
+  ran_drew : DrewIds before now → result_ok last.result ≡ None → Ran calls (outcomes ++ last ∷ []) pool_now run_now.server
+  ran_drew drew none =
+      let same_pool = same_told pool_now pool (sym pool_now_is ∙ drew.pool ∙ pool_is) in
+      let same = same_told run_now run (sym run_now_is ∙ ap (λ moment. server_run moment.link) drew.rest ∙ run_is) in
+      ran_same none same_pool (ap (λ r. r.server) same)
+
+  -- an insert of many documents
+  module _ (namespace : Namespace) (documents : List (List (Pair Bson))) (options : InsertManyOptions) (at : slice_get calls (length outcomes) ≡ Some (InsertMany namespace documents options)) where
+    -- what its writes are
+    abbrev IsMany : PlacedWrite → Type 0
+    IsMany = IsOfCall (IsGiven documents) namespace (length outcomes)
+
     -- one that was made
-    module _ (result : Result InsertManyResult Error) (made : MadeMany before now (in_collection namespace) documents options (length outcomes) result) where
-      -- all went on
-      went_on : Advances (IsOfCall (IsGiven documents) namespace (length outcomes)) pool_now run run_now
-      went_on = made_advances before now (in_collection namespace) documents options (length outcomes) result made pool pool_now run run_now pool_is pool_now_is run_is run_now_is may_call
-
-      -- all that was sent is of the calls that were made
-      many_below : AllBelow (length outcomes + 1) run_now.server.trace
-      many_below = λ send found write has stands. elim (went_on.which send has) [
-        | inl earlier ↦ below_later (length outcomes) run.server.trace ran.below send found write earlier stands
-        | inr own ↦ let is : write.place.call ≡ length outcomes = (own found write stands).of_call in omega (arith, is)
-      ]
-
-      -- and the caller's own
-      own_many : AllOwn calls run_now.server.trace
-      own_many = λ send found write has stands. elim (went_on.which send has) [
-        | inl earlier ↦ ran.own send found write earlier stands
-        | inr own ↦ many_own calls (length outcomes) namespace documents options at write (own found write stands)
-      ]
-
-      -- with what the log spells of the calls that answered
-      ran_many : Answered calls (outcomes ++ last ∷ []) (run.server.log ++ went_on.more) → Ran calls (outcomes ++ last ∷ []) pool_now run_now.server
-      ran_many answered = record {
-        between = went_on.between;
-        sound = went_on.sound;
-        below = one_more outcomes last run_now.server.trace many_below;
-        own = own_many;
-        answered = subst (λ log. Answered calls (outcomes ++ last ∷ []) log) (sym went_on.log) answered;
-      }
+    many_went : (result : Result InsertManyResult Error) → MadeMany before now (in_collection namespace) documents options (length outcomes) result → Advances IsMany pool_now run run_now
+    many_went result made = made_advances before now (in_collection namespace) documents options (length outcomes) result made pool pool_now run run_now pool_is pool_now_is run_is run_now_is may_call
 
     -- one that failed
     many_failed : (error : Error) → MakesMany before now (in_collection namespace) documents options (length outcomes) (Err error) → result_ok last.result ≡ None
         → Ran calls (outcomes ++ last ∷ []) pool_now run_now.server
     many_failed error makes none = elim makes [
-      | inl unmade ↦
-          let drew = unmade_drew before now documents error unmade.draws in
-          let same_pool = same_told pool_now pool (sym pool_now_is ∙ drew.pool ∙ pool_is) in
-          let same = same_told run_now run (sym run_now_is ∙ ap (λ moment. server_run moment.link) drew.rest ∙ run_is) in
-          ran_same none same_pool (ap (λ r. r.server) same)
-      | inr made ↦ ran_many (Err error) made (answered_none calls outcomes run.server.log (went_on (Err error) made).more last none ran.answered)
+      | inl unmade ↦ ran_drew (unmade_drew before now documents error unmade.draws) none
+      | inr made ↦ ran_silent IsMany (many_went (Err error) made) (λ write such. such.of_call) (many_own calls (length outcomes) namespace documents options at) none
     ]
 
     -- one that was done: the entries of its documents stand
     many_answered : (output : InsertManyResult) → MadeMany before now (in_collection namespace) documents options (length outcomes) (Ok output) → result_ok last.result ≡ Some (answer.Many output)
         → Ran calls (outcomes ++ last ∷ []) pool_now run_now.server
     many_answered output made is =
-        let on = went_on (Ok output) made in
+        let on = many_went (Ok output) made in
         let stands = made_stands before now (in_collection namespace) documents options (length outcomes) (Ok output) made pool pool_now run run_now pool_is pool_now_is run_is run_now_is may_call in
-        let done = many_done calls (length outcomes) namespace documents options at run_now.server.log output stands.0 stands.1 in
-        let spelled = many_result calls (length outcomes) namespace documents options at run_now.server.log output stands.0 stands.1 on.sound.settled.once in
-        ran_many (Ok output) made
-        (answered_with calls outcomes run.server.log on.more (answer.Many output) last (subst (λ log. Done calls (length outcomes) log) on.log done)
-        (subst (λ log. call_result calls (length outcomes) log ≡ Some (answer.Many output)) on.log spelled) is ran.answered)
+        ran_spelled IsMany on (λ write such. such.of_call) (many_own calls (length outcomes) namespace documents options at) (answer.Many output)
+        (many_done calls (length outcomes) namespace documents options at run_now.server.log output stands.0 stands.1)
+        (many_result calls (length outcomes) namespace documents options at run_now.server.log output stands.0 stands.1 on.sound.settled.once) is
+
+  -- a bulk write
+  module _ (models : List WriteModel) (options : BulkWriteOptions) (verbose : Bool) (at : slice_get calls (length outcomes) ≡ Some (BulkWrite models options verbose)) where
+    -- what its writes are
+    abbrev IsBulk : PlacedWrite → Type 0
+    IsBulk = IsOfModel (IsGivenModel models) (length outcomes)
+
+    -- each is the caller's own
+    own_here_bulk : (write : PlacedWrite) → IsBulk write → OwnAt (write_at calls write.place) write.written
+    own_here_bulk write such = bulk_own calls (length outcomes) models options verbose at write (own_model models (length outcomes) write such)
+
+    -- one that was made
+    bulk_went : {R : Type 0} (tells : ResultSpec R) (result : Result R Error) → MadeBulk tells before now models options (length outcomes) result → Advances IsBulk pool_now run run_now
+    bulk_went tells result made = bulk.made_advances tells before now models options (length outcomes) result made pool pool_now run run_now pool_is pool_now_is run_is run_now_is may_call
+
+    -- one that failed
+    bulk_failed : {R : Type 0} (tells : ResultSpec R) (error : Error) → MakesBulk tells before now models options (length outcomes) (Err error) → result_ok last.result ≡ None
+        → Ran calls (outcomes ++ last ∷ []) pool_now run_now.server
+    bulk_failed tells error makes none = elim makes [
+      | inl unmade ↦ ran_drew (bulk.drew_by before now unmade.rest (bulk.unmade_ids before now models options error unmade.prepares)) none
+      | inr made ↦ ran_silent IsBulk (bulk_went tells (Err error) made) (λ write such. such.of_call) own_here_bulk none
+    ]
+
+    -- one that was done: the entries of its models stand, and tell its answer
+    bulk_answered : {R : Type 0} (tells : ResultSpec R) → MergesResults tells → (output : R) (given : Answer) → ((entries : List Entry) → TellsBulk tells 0 entries output → bulk_answer verbose entries ≡ given)
+        → MadeBulk tells before now models options (length outcomes) (Ok output) → result_ok last.result ≡ Some given → Ran calls (outcomes ++ last ∷ []) pool_now run_now.server
+    bulk_answered tells laws output given tells_given made is =
+        let on = bulk_went tells (Ok output) made in
+        let told = made_told tells laws before now models options (length outcomes) output made pool pool_now run run_now pool_is pool_now_is run_is run_now_is may_call in
+        ran_spelled IsBulk on (λ write such. such.of_call) own_here_bulk given (bulk_done calls (length outcomes) models options verbose at tells run_now.server.log output told)
+        (bulk_result calls (length outcomes) models options verbose at tells run_now.server.log output told on.sound.settled.once ∙ ap (λ (found : Answer). Some found) (tells_given told.entries told.told)) is
+
+  -- by the results that it asks for
+  ran_bulk : (models : List WriteModel) (options : BulkWriteOptions) (verbose : Bool) (result : Result Answer Error) → last.result ≡ result → slice_get calls (length outcomes) ≡ Some (BulkWrite models options verbose)
+      → MakesBulkCall before now models options verbose (length outcomes) result → Ran calls (outcomes ++ last ∷ []) pool_now run_now.server
+  ran_bulk models options true (Ok (answer.Verbose output)) is at makes =
+      bulk_answered models options true at verbose_spec verbose_merges output (answer.Verbose output) (λ entries told. ap (λ (o : VerboseBulkWriteResult). answer.Verbose o) (sym told)) makes (ap result_ok is)
+  ran_bulk models options true (Ok other) is at makes = absurd makes
+  ran_bulk models options true (Err error) is at makes = bulk_failed models options true at verbose_spec error makes (ap result_ok is)
+  ran_bulk models options false (Ok (answer.Summary output)) is at makes =
+      bulk_answered models options false at summary_spec summary_merges output (answer.Summary output) (λ entries told. ap (λ (o : SummaryBulkWriteResult). answer.Summary o) (sym told)) makes (ap result_ok is)
+  ran_bulk models options false (Ok other) is at makes = absurd makes
+  ran_bulk models options false (Err error) is at makes = bulk_failed models options false at summary_spec error makes (ap result_ok is)
 
   -- one call more
   pub ran_more : (call : Call) (result : Result Answer Error) → last.result ≡ result → slice_get calls (length outcomes) ≡ Some call
       → MakesCall before now call (length outcomes) result → Ran calls (outcomes ++ last ∷ []) pool_now run_now.server
   ran_more (Single write) (Ok (answer.Single given)) is at makes = ran_done write given at makes (ap result_ok is)
-  ran_more (Single write) (Ok (answer.Many output)) is at makes = absurd makes
+  ran_more (Single write) (Ok other) is at makes = absurd makes
   ran_more (Single write) (Err error) is at makes = ran_failed write error at makes (ap result_ok is)
   ran_more (InsertMany namespace documents options) (Ok (answer.Many output)) is at makes = many_answered namespace documents options at output makes (ap result_ok is)
-  ran_more (InsertMany namespace documents options) (Ok (answer.Single given)) is at makes = absurd makes
+  ran_more (InsertMany namespace documents options) (Ok other) is at makes = absurd makes
   ran_more (InsertMany namespace documents options) (Err error) is at makes = many_failed namespace documents options at error makes (ap result_ok is)
+  ran_more (BulkWrite models options verbose) result is at makes = ran_bulk models options verbose result is at makes
 
 -- before the first call
 pub ran_none : (calls : List Call) (pool : Pool) (server : Server) → pool ≡ empty_pool → server ≡ empty_server → Ran calls [] pool server

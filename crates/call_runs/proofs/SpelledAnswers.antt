@@ -6,6 +6,7 @@ use Rattle.std.specs.Result.{result_ok}
 use Rattle.std.proofs.lemmas.Bool.Decides.{Decides-eqb}
 use Rattle.bson_lite.specs.declared.bson.Bson.{Bson}
 use Rattle.bson_lite.specs.declared.document.Pair.{Pair}
+use Rattle.driver_options.specs.declared.models.WriteModel.{WriteModel}
 use Rattle.driver_link.specs.declared.machine.Entry.{Entry}
 use Rattle.driver_link.specs.declared.machine.Place.{Place}
 use Rattle.driver_link.specs.declared.machine.WriteKind.{WriteKind}
@@ -20,11 +21,11 @@ use Rattle.call_runs.proofs.LogEntries.{done_left, entry_found, entry_left, stan
 use Rattle.driver_inputs.specs.declared.call.Answer.{Answer}
 use Rattle.driver_inputs.specs.declared.call.Answer.TheVariants as answer
 use Rattle.driver_inputs.specs.declared.call.Call.{Call}
-use Rattle.driver_inputs.specs.declared.call.Call.TheVariants.{InsertMany, Single}
+use Rattle.driver_inputs.specs.declared.call.Call.TheVariants.{BulkWrite, InsertMany, Single}
 use Rattle.driver_inputs.specs.declared.call.Outcome.{Outcome}
 use Rattle.driver_inputs.specs.declared.call.SingleAnswer.{SingleAnswer}
 use Rattle.driver_inputs.specs.declared.call.SingleWrite.{SingleWrite}
-use Rattle.driver_inputs.specs.Calls.{OwnAt, IsOwn, Done, answer_by, write_at, write_in, written, entry_at, entry_id, ids_in_log, put_id, result_of, call_result}
+use Rattle.driver_inputs.specs.Calls.{OwnAt, IsOwn, Done, answer_by, bulk_answer, write_at, write_in, written, entries_in_log, entry_at, entry_id, ids_in_log, put_id, result_of, call_result}
 
 -- what the log spells of the calls that answered
 pub record Answered (calls : List Call) (outcomes : List Outcome) (log : List Entry) : Type 0 where
@@ -90,11 +91,46 @@ many_left call documents log more given None told is = absurd (let e : ◌≡◌
 many_left call documents log more given (Some ids) told is =
     ap (option_map (λ (all : Ids). answer.Many (record { inserted_ids = all }))) (ids_left call 0 documents log more ids told) ∙ is
 
+-- an entry before others, where both were found
+abbrev pub joined : Option Entry → Option (List Entry) → Option (List Entry)
+joined found rest = option_and_then (λ entry. option_map (λ others. entry ∷ others) rest) found
+
+-- what was joined so: an entry, and others
+record JoinsEntries (found : Option Entry) (rest : Option (List Entry)) : Type 0 where
+  one : Entry
+  others : List Entry
+  one_is : found ≡ Some one
+  others_are : rest ≡ Some others
+
+joins_entries : (found : Option Entry) (rest : Option (List Entry)) (all : List Entry) → joined found rest ≡ Some all → JoinsEntries found rest
+joins_entries (Some one) (Some others) all is = record { one = one; others = others; one_is = refl; others_are = refl }
+joins_entries (Some one) None all is = absurd (let e : ◌≡◌ {A = Option (List Entry)} None (Some all) = is in cc)
+joins_entries None rest all is = absurd (let e : ◌≡◌ {A = Option (List Entry)} None (Some all) = is in cc)
+
+-- entries that a log tells are told in a longer one
+entries_left : (call index : ℕ) (models : List WriteModel) (log more : List Entry) (entries : List Entry) → entries_in_log call index models log ≡ Some entries
+    → entries_in_log call index models (log ++ more) ≡ Some entries
+entries_left call index [] log more entries is = is
+entries_left call index (model ∷ models) log more entries is =
+    let place = place_in call index in
+    let joins = joins_entries (entry_at place log) (entries_in_log call (index + 1) models log) entries is in
+    let here = entry_left place log more joins.one joins.one_is in
+    let rest = entries_left call (index + 1) models log more joins.others joins.others_are in
+    ap (λ found. joined found (entries_in_log call (index + 1) models (log ++ more))) (here ∙ sym joins.one_is)
+    ∙ ap (joined (entry_at place log)) (rest ∙ sym joins.others_are) ∙ is
+
+-- so is the answer that they tell
+bulk_left : (call : ℕ) (models : List WriteModel) (verbose : Bool) (log more : List Entry) (given : Answer) (found : Option (List Entry)) → entries_in_log call 0 models log ≡ found
+    → option_map (bulk_answer verbose) found ≡ Some given → option_map (bulk_answer verbose) (entries_in_log call 0 models (log ++ more)) ≡ Some given
+bulk_left call models verbose log more given None told is = absurd (let e : ◌≡◌ {A = Option Answer} None (Some given) = is in cc)
+bulk_left call models verbose log more given (Some entries) told is = ap (option_map (bulk_answer verbose)) (entries_left call 0 models log more entries told) ∙ is
+
 -- a call's answer is so too
 of_left : (made : Call) (call : ℕ) (log more : List Entry) (given : Answer) → result_of made call log ≡ Some given → result_of made call (log ++ more) ≡ Some given
 of_left (Single write) call log more given is =
     spelled_left (written write).kind (first_place call) log more given (entry_at (first_place call) log) refl is
 of_left (InsertMany namespace documents options) call log more given is = many_left call documents log more given (ids_in_log call 0 documents log) refl is
+of_left (BulkWrite models options verbose) call log more given is = bulk_left call models verbose log more given (entries_in_log call 0 models log) refl is
 
 -- so is that of the call at a number
 result_left : (calls : List Call) (call : ℕ) (log more : List Entry) (given : Answer) → call_result calls call log ≡ Some given

@@ -1,5 +1,5 @@
 pub mod CallByCall
 pub mod CallMaking
+pub mod CallsLeft
 pub mod MainTheorem
-pub mod ManyLeft
 pub mod Standing

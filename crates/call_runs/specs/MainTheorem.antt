@@ -1,7 +1,7 @@
 -- The main theorem for one list of calls: one outcome per call, no write twice in the log and every
 -- entry the caller's own, late arrivals included, and an Ok call's writes there once with the answer
 -- that the log spells.
-use Rattle.std.specs.Prelude.{◌≡◌, ℕ, true, List, [], length, map, sum, Option, None, Some, Result, slice_get}
+use Rattle.std.specs.Prelude.{◌≡◌, ℕ, Bool, true, false, List, [], length, map, sum, Option, None, Some, Result, slice_get}
 use Rattle.std.specs.Option.{option_and_then}
 use Rattle.std.specs.Result.{result_ok}
 use Rattle.driver_error.specs.declared.error.Error.{Error}
@@ -22,12 +22,13 @@ use Rattle.driver_exec.specs.OperationCauses.{DrawsNumbers}
 use Rattle.driver_actions.specs.ManyCompleteness.{InsertsHaveNumbers, IsGentleCallWhereTold, IsValidMany, ServesInserts}
 use Rattle.driver_actions.specs.Numbers.{many_numbers}
 use Rattle.driver_actions.specs.CallParts.{IsValidWrite, SendsOwn, IsReplayed}
+use Rattle.bulk_actions.specs.BulkNumbers.{bulk_numbers}
 use Rattle.call_runs.specs.CallByCall.{CallByCall, CallCaused}
-use Rattle.call_runs.specs.ManyLeft.{LeavesByCall}
+use Rattle.call_runs.specs.CallsLeft.{LeavesByCall}
 use Rattle.driver_inputs.specs.declared.call.Answer.{Answer}
 use Rattle.driver_inputs.specs.declared.call.Call.{Call}
 use Rattle.driver_inputs.specs.declared.call.Outcome.{Outcome}
-use Rattle.driver_inputs.specs.declared.call.Call.TheVariants.{InsertMany, Single}
+use Rattle.driver_inputs.specs.declared.call.Call.TheVariants.{BulkWrite, InsertMany, Single}
 use Rattle.driver_inputs.specs.Calls.{Mine, Done, call_result}
 use Rattle.driver_inputs.specs.Forms.{form_of, kind_in, repeats_in}
 
@@ -47,27 +48,31 @@ pub record MainTheorem (calls : List Call) (outcomes : List Outcome) (server : S
 abbrev pub numbers_of : Option Setup → Call → ℕ
 numbers_of setup (Single write) = 1
 numbers_of setup (InsertMany namespace documents options) = many_numbers setup namespace documents options
+numbers_of setup (BulkWrite models options verbose) = bulk_numbers setup models options verbose
 
 -- how many calls take together
 unfoldable pub all_numbers_of : Option Setup → List Call → ℕ
 all_numbers_of setup calls = sum (map (numbers_of setup) calls)
 
--- a call is valid at a moment, after at most so many numbers
+-- a call is valid at a moment, after at most so many numbers; no bulk write is counted among the valid ones yet
 abbrev pub IsValid : ℕ → Moment → Call → Type 0
 IsValid most before (Single write) = IsValidWrite most before.client.options (setup_of before.link) (form_of write)
 IsValid most before (InsertMany namespace documents options) =
     IsValidMany most before.client.options (setup_of before.link) (in_collection namespace) documents options
+IsValid most before (BulkWrite models options verbose) = ⊥
 
 -- a send of a call's command may go out again, as such sends have numbers: the link tells that its connections take sessions and
--- retryable writes, the write may be repeated, and the client's options do not forbid it
+-- retryable writes, the write may be repeated, and the client's options do not forbid it; no bulk write is counted among these yet
 abbrev pub MayRepeat : Moment → Call → (Send → Type 0)
 MayRepeat before (Single write) = λ send. DrawsNumbers true (repeats_in (form_of write) before.client.options) (setup_of before.link)
 MayRepeat before (InsertMany namespace documents options) = λ send. InsertsHaveNumbers before.client.options (setup_of before.link)
+MayRepeat before (BulkWrite models options verbose) = λ send. ⊥
 
--- the items that serve a send of a call's commands as usual
+-- the items that serve a send of a call's commands as usual; those of a bulk write are not told apart yet
 abbrev pub ServesCall : Call → (Send → Item → Type 0)
 ServesCall (Single write) = λ send. IsGentleItem (kind_in (form_of write))
 ServesCall (InsertMany namespace documents options) = λ send. ServesInserts
+ServesCall (BulkWrite models options verbose) = λ send item. ⊥
 
 -- the part of a schedule that a call takes is gentle: none of its selections and check-outs fails, and each of its sends is
 -- served as usual; where its sends have numbers one of each command may get no reply instead
@@ -78,12 +83,18 @@ IsGentle before now call = IsGentleCallWhereTold (ServesCall call) (MayRepeat be
 abbrev pub CallCompletes : List Call → Moment → Moment → Call → Result Answer Error → Type 0
 CallCompletes earlier before now call result = IsValid (all_numbers_of (setup_of before.link) earlier) before call → IsGentle before now call → EndsWell result
 
+-- a call's answer may come in pages, which are read by commands of a cursor
+abbrev pub is_paged : Call → Bool
+is_paged (Single write) = false
+is_paged (InsertMany namespace documents options) = false
+is_paged (BulkWrite models options verbose) = true
+
 -- a call between two moments: it was made and ended with its cause, and well where it is valid and its part is gentle; all
--- that was sent is its own, a told server stays the fold of its sends, and what an insert of many documents told of them is so
+-- that was sent is what it may send, a told server stays the fold of its sends, and the call left what its kind of call leaves
 pub record CallEnds (earlier : List Call) (before now : Moment) (call : Call) (outcome : Outcome) : Type 0 where
   pub caused : CallCaused (length earlier) before now call outcome
   pub complete : CallCompletes earlier before now call outcome.result
-  pub sends_own : SendsOwn (length earlier) (server_run before.link) (server_run now.link)
+  pub sends_own : SendsOwn (is_paged call) (length earlier) (server_run before.link) (server_run now.link)
   pub replayed : IsReplayed before → IsReplayed now
   pub leaves : LeavesByCall (length earlier) before now call outcome.result
 

@@ -1,5 +1,6 @@
 //! One call of a list.
 ghost use Rattle.std.specs.Prelude.{◌≡◌};
+ghost use Rattle.driver_error.specs.BulkResults.{summary_spec, verbose_spec};
 ghost use Rattle.driver_ops.specs.Targets.{in_collection};
 ghost use Rattle.driver_attempt.specs.Client.{options_of};
 ghost use Rattle.driver_attempt.specs.Moment.{moment_of};
@@ -7,18 +8,22 @@ ghost use Rattle.driver_actions.specs.Causes.{WriteCaused};
 ghost use Rattle.driver_actions.specs.ManyCalls.{MakesMany, ManyCaused};
 ghost use Rattle.driver_actions.specs.SingleCalls.{Makes, first_place};
 ghost use Rattle.call_runs.specs.CallByCall.{CallCaused};
-ghost use Rattle.call_runs.specs.CallMaking.{HasCause, MakesCall, OfMany, OfSingle};
+ghost use Rattle.bulk_actions.specs.BulkCalls.{BulkCaused, MakesBulk};
+ghost use Rattle.call_runs.specs.CallMaking.{BulkHasCause, HasCause, MakesBulkCall, MakesCall, OfMany, OfSingle, OfSummary, OfVerbose};
 ghost use Rattle.driver_inputs.specs.Forms.{form_of};
 
 use bson_lite::{Document, List, Namespace, TryClone};
+use bulk_actions::bulk_all::bulk_all;
 use driver_actions::SingleWrites;
 use driver_actions::insert_all::insert_all;
 use driver_attempt::{Client, Outside};
-use driver_error::{InsertManyResult, Result};
+use driver_error::{
+    BulkWriteResult, InsertManyResult, Result, SummaryBulkWriteResult, VerboseBulkWriteResult,
+};
 use driver_inputs::{Answer, Call, Outcome, SingleWrite};
 use driver_link::{Clock, Link};
 use driver_ops::Collection;
-use driver_options::InsertManyOptions;
+use driver_options::{BulkWriteOptions, InsertManyOptions, WriteModel};
 use driver_session::SessionStore;
 use rand_core::Rng;
 use std::alloc::Global;
@@ -48,7 +53,8 @@ pub(crate) fn make_call<S: SessionStore, L: Link, K: Clock, R: Rng>(
     }
 }
 
-/// Makes a call: a single write has the first place of its call, and document i of an insert of many place i.
+/// Makes a call: a single write has the first place of its call, and document i of an insert of many place i, as has model i
+/// of a bulk write.
 fn answer_call<S: SessionStore, L: Link, K: Clock, R: Rng>(
     alloc: Global,
     client: &mut Client<S>,
@@ -73,6 +79,11 @@ fn answer_call<S: SessionStore, L: Link, K: Clock, R: Rng>(
             documents,
             options,
         } => answer_many(alloc, client, outside, namespace, documents, options),
+        Call::BulkWrite {
+            models,
+            options,
+            verbose,
+        } => answer_bulk(alloc, client, outside, models, options, *verbose),
     }
 }
 
@@ -152,4 +163,108 @@ fn insert_into<S: SessionStore, L: Link, K: Clock, R: Rng>(
     };
     let documents = documents.as_slice();
     insert_all(alloc, client, outside, &collection, documents, options)
+}
+
+/// Makes a bulk write, whose answer is counts alone, or the result of each write too.
+fn answer_bulk<S: SessionStore, L: Link, K: Clock, R: Rng>(
+    alloc: Global,
+    client: &mut Client<S>,
+    outside: &mut Outside<L, K, R>,
+    models: &List<WriteModel>,
+    options: &BulkWriteOptions,
+    verbose: bool,
+) -> Result<Answer>
+    ensures makes { MakesBulkCall
+        (moment_of S.tells L.tells K.tells R.stream client.old outside.old)
+        (moment_of S.tells L.tells K.tells R.stream client.new outside.new)
+        models.now options.now verbose outside.old.call result }
+    ensures cause { BulkHasCause
+        (moment_of S.tells L.tells K.tells R.stream client.old outside.old)
+        (moment_of S.tells L.tells K.tells R.stream client.new outside.new)
+        models.now options.now verbose outside.old.call result }
+    ensures options { options_of client.new ≡ options_of client.old }
+    ensures call { outside.new.call ≡ outside.old.call }
+{
+    if verbose {
+        answer_verbose(alloc, client, outside, models, options)
+    } else {
+        answer_summary(alloc, client, outside, models, options)
+    }
+}
+
+/// Makes a bulk write that answers its counts alone.
+fn answer_summary<S: SessionStore, L: Link, K: Clock, R: Rng>(
+    alloc: Global,
+    client: &mut Client<S>,
+    outside: &mut Outside<L, K, R>,
+    models: &List<WriteModel>,
+    options: &BulkWriteOptions,
+) -> Result<Answer>
+    ensures makes { OfSummary (MakesBulk summary_spec
+        (moment_of S.tells L.tells K.tells R.stream client.old outside.old)
+        (moment_of S.tells L.tells K.tells R.stream client.new outside.new)
+        models.now options.now outside.old.call) result }
+    ensures cause { OfSummary (BulkCaused summary_spec
+        (moment_of S.tells L.tells K.tells R.stream client.old outside.old)
+        (moment_of S.tells L.tells K.tells R.stream client.new outside.new)
+        models.now options.now outside.old.call) result }
+    ensures options { options_of client.new ≡ options_of client.old }
+    ensures call { outside.new.call ≡ outside.old.call }
+{
+    match write_models::<S, L, K, R, SummaryBulkWriteResult>(
+        alloc, client, outside, models, options,
+    ) {
+        Ok(output) => Ok(Answer::Summary(output)),
+        Err(failure) => Err(failure),
+    }
+}
+
+/// Makes a bulk write that answers the result of each write too.
+fn answer_verbose<S: SessionStore, L: Link, K: Clock, R: Rng>(
+    alloc: Global,
+    client: &mut Client<S>,
+    outside: &mut Outside<L, K, R>,
+    models: &List<WriteModel>,
+    options: &BulkWriteOptions,
+) -> Result<Answer>
+    ensures makes { OfVerbose (MakesBulk verbose_spec
+        (moment_of S.tells L.tells K.tells R.stream client.old outside.old)
+        (moment_of S.tells L.tells K.tells R.stream client.new outside.new)
+        models.now options.now outside.old.call) result }
+    ensures cause { OfVerbose (BulkCaused verbose_spec
+        (moment_of S.tells L.tells K.tells R.stream client.old outside.old)
+        (moment_of S.tells L.tells K.tells R.stream client.new outside.new)
+        models.now options.now outside.old.call) result }
+    ensures options { options_of client.new ≡ options_of client.old }
+    ensures call { outside.new.call ≡ outside.old.call }
+{
+    match write_models::<S, L, K, R, VerboseBulkWriteResult>(
+        alloc, client, outside, models, options,
+    ) {
+        Ok(output) => Ok(Answer::Verbose(output)),
+        Err(failure) => Err(failure),
+    }
+}
+
+/// Makes the writes of models, with results of the kind `T`.
+fn write_models<S: SessionStore, L: Link, K: Clock, R: Rng, T: BulkWriteResult>(
+    alloc: Global,
+    client: &mut Client<S>,
+    outside: &mut Outside<L, K, R>,
+    models: &List<WriteModel>,
+    options: &BulkWriteOptions,
+) -> Result<T>
+    ensures makes { MakesBulk T.tells
+        (moment_of S.tells L.tells K.tells R.stream client.old outside.old)
+        (moment_of S.tells L.tells K.tells R.stream client.new outside.new)
+        models.now options.now outside.old.call result }
+    ensures cause { BulkCaused T.tells
+        (moment_of S.tells L.tells K.tells R.stream client.old outside.old)
+        (moment_of S.tells L.tells K.tells R.stream client.new outside.new)
+        models.now options.now outside.old.call result }
+    ensures options { options_of client.new ≡ options_of client.old }
+    ensures call { outside.new.call ≡ outside.old.call }
+{
+    let models = models.as_slice();
+    bulk_all::<S, L, K, R, T>(alloc, client, outside, models, options)
 }

@@ -305,7 +305,7 @@ fn has_ended(log: &[Entry], tried: Tried, outcomes: &[Outcome]) -> bool {
     };
     match &outcome.result {
         Ok(Answer::Single(answer)) => stands(log, tried.kind, answer),
-        Ok(Answer::Many(_)) => false,
+        Ok(_) => false,
         Err(error) => is_scheduled(error, is_numbered(tried)),
     }
 }

@@ -1,7 +1,7 @@
 -- What a call leaves of store, link and clock, whatever it does, where all that it sends carries its own writes: the same of parts of it
 -- that follow one another.
 use Rattle.std.proofs.Common.{◌≡◌, ℕ, zero, suc, ◌≤◌, List, [], ◌∷◌, ◌++◌, length, sym, ap, ◌∙◌, append_assoc, arith, ◌+◌}
-use Rattle.std.specs.Prelude.{false, Option, None, Some, slice_get}
+use Rattle.std.specs.Prelude.{Bool, false, Option, None, Some, slice_get}
 use Rattle.std.proofs.lemmas.List.{append-nil}
 use Rattle.driver_link.specs.declared.machine.Send.{Send}
 use Rattle.driver_link.specs.declared.machine.SendBody.{SendBody}
@@ -51,11 +51,11 @@ has_behind [] more at x above is = has_at more at x is
 has_behind (y ∷ xs) more zero x above is = absurd (omega (arith, above))
 has_behind (y ∷ xs) more (suc at) x above is = has_behind xs more at x (omega (arith, above)) is
 
--- so all that was sent is the call's own
-pub gains_sends_own : (number : ℕ) (link now : Option ServerRun) → GainsOwn number link now → SendsOwn number link now
-gains_sends_own number None now gains = tt
-gains_sends_own number (Some told) None gains = absurd gains
-gains_sends_own number (Some told) (Some now) gains = λ at send above is.
+-- so all that was sent is what the call may send, commands of cursors among it or not
+pub gains_sends_own : (paged : Bool) (number : ℕ) (link now : Option ServerRun) → beside.GainsOwn paged number link now → SendsOwn paged number link now
+gains_sends_own paged number None now gains = tt
+gains_sends_own paged number (Some told) None gains = absurd gains
+gains_sends_own paged number (Some told) (Some now) gains = λ at send above is.
     gains.own send (has_behind told.server.trace gains.sends at send above (ap (λ t. slice_get t at) (sym gains.trace) ∙ is))
 
 -- what a call of a number, which takes at most so many numbers of sessions, leaves of a moment

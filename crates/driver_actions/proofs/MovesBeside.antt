@@ -1,7 +1,7 @@
 -- What a call leaves of store, link and clock, whatever it does, where commands of cursors may be among its sends: the same of parts of it
 -- that follow one another.
 use Rattle.std.proofs.Common.{◌≡◌, ℕ, zero, suc, ◌+◌, ◌≤◌, Bool, true, false, List, [], ◌∷◌, ◌++◌, refl, sym, ap, subst, ◌∙◌, inl, inr, append_assoc, arith}
-use Rattle.std.specs.Prelude.{ℤ, pos, ◌≤ℤ◌, Option, None, Some, ◌⊎◌}
+use Rattle.std.specs.Prelude.{ℤ, pos, ◌≤ℤ◌, Option, None, Some}
 use Rattle.std.proofs.lemmas.Int.{ints}
 use Rattle.std.proofs.lemmas.List.{append-nil}
 use Rattle.driver_link.specs.declared.machine.Schedule.{Schedule}
@@ -30,7 +30,7 @@ use Rattle.driver_exec.specs.Resending.{Borrows, PassesAside, PassesBy, SendsWhe
 use Rattle.driver_exec.proofs.ClockReadings.{read_same, read_twice}
 use Rattle.driver_exec.proofs.Moves.{IsFold}
 use Rattle.driver_exec.proofs.SessionNumbers.{borrows_within}
-use Rattle.driver_actions.specs.CallParts.{IsReplayed, IsReplayedWhereTold, IsSendOf, KeepsMaking, KeepsMakingWhereTold}
+use Rattle.driver_actions.specs.CallParts.{IsReplayed, IsReplayedWhereTold, IsSendOf, KeepsMaking, KeepsMakingWhereTold, MaySend}
 use Rattle.driver_actions.specs.ManyCompleteness.{RaisesBy, RaisesByWhereTold}
 use Rattle.driver_actions.proofs.ServerMaking.{keeps_making_twice, told_refl}
 
@@ -115,15 +115,12 @@ AnySend send = Unit {0}
 any_went : (paged : Bool) (told : ServerRun) (send : Send) (count : ℕ) (now : ServerRun) → SendsWhereTold paged told now send count → Went AnySend told now
 any_went paged told send count now sends = went_sent AnySend paged (λ found passes. tt) told send tt count now sends
 
--- what a call may send: what carries its writes alone, and commands of cursors, where there may be such
-abbrev pub MaySend : Bool → ℕ → Send → Type 0
-MaySend true number send = IsSendOf number send ⊎ IsAside send
-MaySend false number send = IsSendOf number send
-
+-- a call may send what carries its writes alone
 may_send_own : (paged : Bool) (number : ℕ) (send : Send) → IsSendOf number send → MaySend paged number send
 may_send_own true number send own = inl own
 may_send_own false number send own = own
 
+-- and what may be beside it
 may_send_aside : (paged : Bool) (number : ℕ) (send : Send) → MayPass paged send → MaySend paged number send
 may_send_aside true number send aside = inr aside
 may_send_aside false number send never = absurd never

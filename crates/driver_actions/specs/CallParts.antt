@@ -1,5 +1,5 @@
 -- What one call leaves as it was, what it may send, and what makes a single write valid.
-use Rattle.std.specs.Prelude.{◌≡◌, ℕ, ◌≤◌, pos, ◌<ℤ◌, List, [], ◌∷◌, length, Option, None, Some, IfSome, ◌⊎◌, slice_get}
+use Rattle.std.specs.Prelude.{◌≡◌, ℕ, ◌≤◌, pos, ◌<ℤ◌, Bool, true, false, List, [], ◌∷◌, length, Option, None, Some, IfSome, ◌⊎◌, slice_get}
 use Rattle.bson_lite.specs.declared.bson.ObjectId.{ObjectId}
 use Rattle.bson_lite.specs.Fields.{with_id}
 use Rattle.bson_lite.specs.Spelling.{refusal, spelling}
@@ -13,6 +13,7 @@ use Rattle.driver_link.specs.Cases.{writes_of}
 use Rattle.driver_link.specs.Exchange.{replayed, empty_server}
 use Rattle.driver_link.specs.LinkState.{server_run}
 use Rattle.driver_link.specs.ServerRun.{ServerRun}
+use Rattle.driver_link.specs.Settled.{IsAside}
 use Rattle.driver_session.specs.Session.{last_number}
 use Rattle.driver_ops.specs.Fields.{IsSixteen, SendContext}
 use Rattle.write_ops.specs.InsertFronts.{insert_limits}
@@ -47,12 +48,17 @@ pub record IsSendOf (call : ℕ) (send : Send) : Type 0 where
   pub some : HasWriteOf call (writes_of send)
   pub all : (at : ℕ) (write : PlacedWrite) → slice_get (writes_of send) at ≡ Some write → write.place.call ≡ call
 
--- each send that a told server got between two moments carries writes of this call, and of no other
-abbrev pub SendsOwn : ℕ → Option ServerRun → Option ServerRun → Type 0
-SendsOwn call None now = Unit {0}
-SendsOwn call (Some told) None = ⊥
-SendsOwn call (Some told) (Some now) =
-    (at : ℕ) (send : Send) → length told.server.trace ≤ at → slice_get now.server.trace at ≡ Some send → IsSendOf call send
+-- what a call may send: what carries its writes alone, and where its answer may come in pages commands of a cursor
+abbrev pub MaySend : Bool → ℕ → Send → Type 0
+MaySend true call send = IsSendOf call send ⊎ IsAside send
+MaySend false call send = IsSendOf call send
+
+-- each send that a told server got between two moments is one that this call may send
+abbrev pub SendsOwn : Bool → ℕ → Option ServerRun → Option ServerRun → Type 0
+SendsOwn paged call None now = Unit {0}
+SendsOwn paged call (Some told) None = ⊥
+SendsOwn paged call (Some told) (Some now) =
+    (at : ℕ) (send : Send) → length told.server.trace ≤ at → slice_get now.server.trace at ≡ Some send → MaySend paged call send
 
 -- a told server is the fold of the exchange over its trace
 abbrev pub IsReplayedWhereTold : Option ServerRun → Type 0

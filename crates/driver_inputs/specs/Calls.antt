@@ -1,5 +1,5 @@
 -- The writes of a list of calls by their places, and what the log says of a call.
-use Rattle.std.specs.Prelude.{◌≡◌, ℕ, ◌+◌, Bool, ◌==◌, ◌&&◌, List, [], ◌∷◌, length, Option, None, Some, ◌⊎◌, slice_get, if◌then◌else◌, IsSome}
+use Rattle.std.specs.Prelude.{◌≡◌, ℕ, ◌+◌, Bool, true, false, ◌==◌, ◌&&◌, List, [], ◌∷◌, length, Option, None, Some, ◌⊎◌, slice_get, if◌then◌else◌, IsSome}
 use Rattle.std.specs.FinMap as finite
 use Rattle.std.specs.Option.{option_and_then, option_map}
 use Rattle.std.specs.Ordering.{nat_cmp}
@@ -8,6 +8,8 @@ use Rattle.bson_lite.specs.declared.bson.ObjectId.{ObjectId}
 use Rattle.bson_lite.specs.declared.document.Pair.{Pair}
 use Rattle.bson_lite.specs.declared.namespace.Namespace.{Namespace}
 use Rattle.bson_lite.specs.Fields.{value_of, id_key, with_id}
+use Rattle.driver_error.specs.BulkResults.{ResultSpec, summary_spec, verbose_spec}
+use Rattle.driver_options.specs.declared.models.WriteModel.{WriteModel}
 use Rattle.driver_link.specs.declared.machine.Entry.{Entry}
 use Rattle.driver_link.specs.declared.machine.Place.{Place}
 use Rattle.driver_link.specs.declared.machine.WriteKind.{WriteKind}
@@ -15,10 +17,12 @@ use Rattle.driver_link.specs.declared.machine.WriteKind.TheVariants as kind
 use Rattle.driver_link.specs.declared.machine.Written.{Written}
 use Rattle.write_ops.specs.CountAnswers.{deleted_by, updated_by}
 use Rattle.write_ops.specs.FoundAnswers.{found_by}
+use Rattle.bulk_ops.specs.BulkEntries.{counts_by, kept_told}
+use Rattle.bulk_ops.specs.BulkOps.{model_written}
 use Rattle.driver_inputs.specs.declared.call.Answer.{Answer}
 use Rattle.driver_inputs.specs.declared.call.Answer.TheVariants as answer
 use Rattle.driver_inputs.specs.declared.call.Call.{Call}
-use Rattle.driver_inputs.specs.declared.call.Call.TheVariants.{InsertMany, Single}
+use Rattle.driver_inputs.specs.declared.call.Call.TheVariants.{BulkWrite, InsertMany, Single}
 use Rattle.driver_inputs.specs.declared.call.SingleAnswer.{SingleAnswer}
 use Rattle.driver_inputs.specs.declared.call.SingleAnswer.TheVariants.{Deleted, Found, Inserted, Updated}
 use Rattle.driver_inputs.specs.declared.call.SingleWrite.{SingleWrite}
@@ -36,6 +40,7 @@ given_insert namespace document = record { kind = kind.Insert; namespace = names
 abbrev pub write_in : Call → ℕ → Option Written
 write_in (Single write) index = if index == 0 then Some (written write) else None
 write_in (InsertMany namespace documents options) index = option_map (given_insert namespace) (slice_get documents index)
+write_in (BulkWrite models options verbose) index = option_map model_written (slice_get models index)
 
 -- the write that the caller gave at a place
 unfoldable pub write_at : List Call → Place → Option Written
@@ -109,12 +114,30 @@ ids_in_log call index [] log = Some finite.empty
 ids_in_log call index (document ∷ documents) log =
     put_id index (option_and_then entry_id (entry_at (record { call = call; index = index }) log)) (ids_in_log call (index + 1) documents log)
 
+-- the entries of the writes of models in the log, by their places, from an index on: none where one of them is missing
+abbrev pub entries_in_log : ℕ → ℕ → List WriteModel → List Entry → Option (List Entry)
+entries_in_log call index [] log = Some []
+entries_in_log call index (model ∷ models) log =
+    option_and_then (λ entry. option_map (λ rest. entry ∷ rest) (entries_in_log call (index + 1) models log))
+    (entry_at (record { call = call; index = index }) log)
+
+-- the result of a bulk write by the entries of its writes, in order: their counts, and in a verbose one the result of each at
+-- its index
+abbrev pub bulk_by : {R : Type 0} → ResultSpec R → List Entry → R
+bulk_by tells entries = kept_told tells 0 entries (tells.counted tells.nothing (counts_by entries))
+
+-- the answer of a bulk write by these entries: the counts alone, or with the result of each write
+abbrev pub bulk_answer : Bool → List Entry → Answer
+bulk_answer false entries = answer.Summary (bulk_by summary_spec entries)
+bulk_answer true entries = answer.Verbose (bulk_by verbose_spec entries)
+
 -- the answer of a call that the log spells
 abbrev pub result_of : Call → ℕ → List Entry → Option Answer
 result_of (Single write) call log =
     option_map (λ given. answer.Single given) (option_and_then (answer_by (written write).kind) (entry_at (record { call = call; index = 0 }) log))
 result_of (InsertMany namespace documents options) call log =
     option_map (λ ids. answer.Many (record { inserted_ids = ids })) (ids_in_log call 0 documents log)
+result_of (BulkWrite models options verbose) call log = option_map (bulk_answer verbose) (entries_in_log call 0 models log)
 
 -- the answer of the call at a number that the log spells
 unfoldable pub call_result : List Call → ℕ → List Entry → Option Answer

@@ -1,9 +1,12 @@
 //! Calls and what they answer, as plain data.
 use bson_lite::{Document, List, Namespace};
-use driver_error::{DeleteResult, Error, InsertManyResult, InsertOneResult, UpdateResult};
+use driver_error::{
+    DeleteResult, Error, InsertManyResult, InsertOneResult, SummaryBulkWriteResult, UpdateResult,
+    VerboseBulkWriteResult,
+};
 use driver_options::{
-    DeleteOptions, FindOneAndDeleteOptions, FindOneAndReplaceOptions, FindOneAndUpdateOptions,
-    InsertManyOptions, UpdateModifications, UpdateOptions,
+    BulkWriteOptions, DeleteOptions, FindOneAndDeleteOptions, FindOneAndReplaceOptions,
+    FindOneAndUpdateOptions, InsertManyOptions, UpdateModifications, UpdateOptions, WriteModel,
 };
 
 /// A write of one statement.
@@ -93,6 +96,13 @@ pub enum Call {
         documents: List<Document>,
         options: InsertManyOptions,
     },
+    /// Makes the write of each model on the model's own collection, in as few batches as the server's limits allow.
+    BulkWrite {
+        models: List<WriteModel>,
+        options: BulkWriteOptions,
+        /// Whether it answers the result of each write, and not the counts alone.
+        verbose: bool,
+    },
 }
 
 /// What a call answers.
@@ -100,6 +110,10 @@ pub enum Call {
 pub enum Answer {
     Single(SingleAnswer),
     Many(InsertManyResult),
+    /// The counts of a bulk write.
+    Summary(SummaryBulkWriteResult),
+    /// The counts of a bulk write, and the result of each write.
+    Verbose(VerboseBulkWriteResult),
 }
 
 /// How a call ended. The clock is read in milliseconds before and after it.

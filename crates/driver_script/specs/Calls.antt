@@ -1,29 +1,31 @@
 -- How a script writes its calls: each is an object whose one key names it.
-use Rattle.std.specs.Prelude.{ℕ, Bool, if◌then◌else◌, List, [], ◌∷◌, Option, None, bytes_eq}
+use Rattle.std.specs.Prelude.{ℕ, Bool, false, if◌then◌else◌, List, [], ◌∷◌, Option, None, bytes_eq, unwrap_or}
 use Rattle.std.specs.Option.{option_and_then, option_map}
 use Rattle.bson_lite.specs.declared.bson.Bson.{Bson}
-use Rattle.bson_lite.specs.declared.document.Pair.{Pair}
-use Rattle.bson_lite.specs.declared.namespace.Namespace.{Namespace}
 use Rattle.driver_options.specs.declared.concerns.WriteConcern.{WriteConcern}
 use Rattle.driver_options.specs.declared.find_options.FindOneAndDeleteOptions.{FindOneAndDeleteOptions}
 use Rattle.driver_options.specs.declared.find_options.FindOneAndReplaceOptions.{FindOneAndReplaceOptions}
 use Rattle.driver_options.specs.declared.find_options.FindOneAndUpdateOptions.{FindOneAndUpdateOptions}
-use Rattle.driver_options.specs.declared.updates.UpdateModifications.{UpdateModifications}
-use Rattle.driver_options.specs.declared.updates.UpdateModifications.TheVariants as modifies
+use Rattle.driver_options.specs.declared.write_options.BulkWriteOptions.{BulkWriteOptions}
 use Rattle.driver_options.specs.declared.write_options.DeleteOptions.{DeleteOptions}
 use Rattle.driver_options.specs.declared.write_options.InsertManyOptions.{InsertManyOptions}
 use Rattle.driver_options.specs.declared.write_options.UpdateOptions.{UpdateOptions}
-use Rattle.driver_script.specs.declared.calls.DeleteParts.{DeleteParts}
+use Rattle.driver_script.specs.declared.calls.BulkManner.{BulkManner}
+use Rattle.driver_script.specs.declared.calls.DeleteCall.{DeleteCall}
 use Rattle.driver_script.specs.declared.calls.SharedOptions.{SharedOptions}
-use Rattle.driver_script.specs.declared.calls.UpdateParts.{UpdateParts}
-use Rattle.driver_script.specs.declared.keys.TheConstants.{COMMENT, DELETE_MANY, DELETE_ONE, DOC, DOCS, FILTER, FIND_ONE_AND_DELETE, FIND_ONE_AND_REPLACE, FIND_ONE_AND_UPDATE, INSERT_MANY, INSERT_ONE, NS, ORDERED, PIPELINE, REPLACE_ONE, UPDATE, UPDATE_MANY, UPDATE_ONE, UPSERT, WRITE_CONCERN}
+use Rattle.driver_script.specs.declared.calls.UpdateCall.{UpdateCall}
+use Rattle.driver_script.specs.declared.parts.DeleteParts.{DeleteParts}
+use Rattle.driver_script.specs.declared.parts.UpdateParts.{UpdateParts}
+use Rattle.driver_script.specs.declared.keys.TheConstants.{BULK_WRITE, COMMENT, DELETE_MANY, DELETE_ONE, DOC, DOCS, FILTER, FIND_ONE_AND_DELETE, FIND_ONE_AND_REPLACE, FIND_ONE_AND_UPDATE, INSERT_MANY, INSERT_ONE, MODELS, NS, ORDERED, REPLACE_ONE, UPDATE, UPDATE_MANY, UPDATE_ONE, UPSERT, VERBOSE, WRITE_CONCERN}
 use Rattle.driver_script.specs.Json.{has_only, list_of, needed_part, optional_part}
+use Rattle.driver_script.specs.Models.{model_of}
 use Rattle.driver_script.specs.Options.{flag_of, write_concern_of}
+use Rattle.driver_script.specs.Parts.{delete_parts_of, insert_parts_of, replace_parts_of, update_of, update_parts_of}
 use Rattle.driver_script.specs.Values.{document_of, namespace_of, value_of}
 use Rattle.driver_inputs.specs.declared.call.Call.{Call}
-use Rattle.driver_inputs.specs.declared.call.Call.TheVariants.{InsertMany, Single}
+use Rattle.driver_inputs.specs.declared.call.Call.TheVariants.{BulkWrite, InsertMany, Single}
 use Rattle.driver_inputs.specs.declared.call.SingleWrite.TheVariants.{DeleteMany, DeleteOne, FindOneAndDelete, FindOneAndReplace, FindOneAndUpdate, InsertOne, ReplaceOne, UpdateMany, UpdateOne}
-use Rattle.serde_json.specs.Data.{Data, array, object, no_members, member}
+use Rattle.serde_json.specs.Data.{Data, object, no_members, member}
 
 -- the options that every write has: a write concern and a comment
 abbrev pub shared_with : Option WriteConcern → Option Bson → SharedOptions
@@ -42,12 +44,12 @@ insert_options ordered shared = record {
   write_concern = shared.write_concern;
 }
 
--- an insert of one document, with its namespace
+-- an insert of one document: an object with its parts and its options
 unfoldable pub insert_one_of : Data → Option Call
 insert_one_of d =
     if has_only (NS.now ∷ DOC.now ∷ WRITE_CONCERN.now ∷ COMMENT.now ∷ []) d
-    then option_and_then (λ namespace. option_and_then (λ document. option_map (λ shared. Single (InsertOne namespace document (insert_options None shared)))
-    (shared_of d)) (needed_part document_of DOC.now d)) (needed_part namespace_of NS.now d)
+    then option_and_then (λ parts. option_map (λ shared. Single (InsertOne parts.namespace parts.document (insert_options None shared)))
+    (shared_of d)) (insert_parts_of d)
     else None
 
 -- the options of an insert of many documents, under their keys of an object
@@ -62,15 +64,33 @@ insert_many_of d =
     (insert_options_of d)) (needed_part (list_of document_of) DOCS.now d)) (needed_part namespace_of NS.now d)
     else None
 
--- a pipeline: an object with the list of its stages
-unfoldable pub pipeline_of : Data → Option UpdateModifications
-pipeline_of d = if has_only (PIPELINE.now ∷ []) d then option_map modifies.Pipeline (needed_part (list_of document_of) PIPELINE.now d) else None
+-- the options of a bulk write, of which these are set
+abbrev pub bulk_options : Option Bool → SharedOptions → BulkWriteOptions
+bulk_options ordered shared = record {
+  ordered = ordered;
+  bypass_document_validation = None;
+  comment = shared.comment;
+  write_concern = shared.write_concern;
+  let_vars = None;
+}
 
--- what an update does: a document of operators, or a pipeline
-unfoldable pub update_of : Data → Option UpdateModifications
-update_of (array items) = option_map modifies.Document (document_of (array items))
-update_of (object members) = pipeline_of (object members)
-update_of d = None
+-- how a bulk write is made: with these options, and verbose only where that is said
+abbrev pub bulk_manner_with : Option Bool → Option Bool → SharedOptions → BulkManner
+bulk_manner_with ordered verbose shared = record { options = bulk_options ordered shared; verbose = unwrap_or verbose false }
+
+-- the same under their keys of an object
+unfoldable pub bulk_manner_of : Data → Option BulkManner
+bulk_manner_of d =
+    option_and_then (λ ordered. option_and_then (λ verbose. option_map (bulk_manner_with ordered verbose)
+    (shared_of d)) (optional_part flag_of VERBOSE.now d)) (optional_part flag_of ORDERED.now d)
+
+-- a bulk write: an object with the list of its models, which may be empty, and how it is made
+unfoldable pub bulk_write_of : Data → Option Call
+bulk_write_of d =
+    if has_only (MODELS.now ∷ ORDERED.now ∷ VERBOSE.now ∷ WRITE_CONCERN.now ∷ COMMENT.now ∷ []) d
+    then option_and_then (λ models. option_map (λ manner. BulkWrite models manner.options manner.verbose)
+    (bulk_manner_of d)) (needed_part (list_of model_of) MODELS.now d)
+    else None
 
 -- the options of an update or a replacement, of which these are set
 abbrev pub update_options : Option Bool → SharedOptions → UpdateOptions
@@ -86,36 +106,35 @@ update_options upsert shared = record {
   write_concern = shared.write_concern;
 }
 
--- the same under their keys of an object
-unfoldable pub update_options_of : Data → Option UpdateOptions
-update_options_of d = option_and_then (λ upsert. option_map (update_options upsert) (shared_of d)) (optional_part flag_of UPSERT.now d)
+-- the call of an update with these parts and options
+abbrev pub update_call_with : UpdateParts → SharedOptions → UpdateCall
+update_call_with parts shared = record { parts = parts; shared = shared }
 
--- an update of these parts
-abbrev pub update_parts_with : Namespace → List (Pair Bson) → UpdateModifications → UpdateOptions → UpdateParts
-update_parts_with namespace filter update options = record { namespace = namespace; filter = filter; update = update; options = options }
-
--- the parts of an update: an object with its namespace, its filter, what it does, and its options
-unfoldable pub update_parts_of : Data → Option UpdateParts
-update_parts_of d =
+-- what the call of an update is made of: an object with its parts and its options
+unfoldable pub update_call_of : Data → Option UpdateCall
+update_call_of d =
     if has_only (NS.now ∷ FILTER.now ∷ UPDATE.now ∷ UPSERT.now ∷ WRITE_CONCERN.now ∷ COMMENT.now ∷ []) d
-    then option_and_then (λ namespace. option_and_then (λ filter. option_and_then (λ update. option_map (update_parts_with namespace filter update)
-    (update_options_of d)) (needed_part update_of UPDATE.now d)) (needed_part document_of FILTER.now d)) (needed_part namespace_of NS.now d)
+    then option_and_then (λ parts. option_map (update_call_with parts) (shared_of d)) (update_parts_of d)
     else None
 
 -- an update of one document
 unfoldable pub update_one_of : Data → Option Call
-update_one_of d = option_map (λ parts. Single (UpdateOne parts.namespace parts.filter parts.update parts.options)) (update_parts_of d)
+update_one_of d =
+    option_map (λ call. Single (UpdateOne call.parts.namespace call.parts.filter call.parts.update (update_options call.parts.upsert call.shared)))
+    (update_call_of d)
 
 -- an update of all that its filter finds
 unfoldable pub update_many_of : Data → Option Call
-update_many_of d = option_map (λ parts. Single (UpdateMany parts.namespace parts.filter parts.update parts.options)) (update_parts_of d)
+update_many_of d =
+    option_map (λ call. Single (UpdateMany call.parts.namespace call.parts.filter call.parts.update (update_options call.parts.upsert call.shared)))
+    (update_call_of d)
 
--- a replacement of one document: an object with its namespace, its filter, the document that is put in, and its options
+-- a replacement of one document: an object with its parts and its options
 unfoldable pub replace_one_of : Data → Option Call
 replace_one_of d =
     if has_only (NS.now ∷ FILTER.now ∷ DOC.now ∷ UPSERT.now ∷ WRITE_CONCERN.now ∷ COMMENT.now ∷ []) d
-    then option_and_then (λ namespace. option_and_then (λ filter. option_and_then (λ replacement. option_map (λ options. Single (ReplaceOne namespace filter replacement options))
-    (update_options_of d)) (needed_part document_of DOC.now d)) (needed_part document_of FILTER.now d)) (needed_part namespace_of NS.now d)
+    then option_and_then (λ parts. option_map (λ shared. Single (ReplaceOne parts.namespace parts.filter parts.replacement (update_options parts.upsert shared)))
+    (shared_of d)) (replace_parts_of d)
     else None
 
 -- the options of a delete, of which these are set
@@ -128,25 +147,24 @@ delete_options shared = record {
   write_concern = shared.write_concern;
 }
 
--- a delete of these parts
-abbrev pub delete_parts_with : Namespace → List (Pair Bson) → SharedOptions → DeleteParts
-delete_parts_with namespace filter shared = record { namespace = namespace; filter = filter; shared = shared }
+-- the call of a delete with these parts and options
+abbrev pub delete_call_with : DeleteParts → SharedOptions → DeleteCall
+delete_call_with parts shared = record { parts = parts; shared = shared }
 
--- the parts of a delete: an object with its namespace, its filter and its options
-unfoldable pub delete_parts_of : Data → Option DeleteParts
-delete_parts_of d =
+-- what the call of a delete is made of: an object with its parts and its options
+unfoldable pub delete_call_of : Data → Option DeleteCall
+delete_call_of d =
     if has_only (NS.now ∷ FILTER.now ∷ WRITE_CONCERN.now ∷ COMMENT.now ∷ []) d
-    then option_and_then (λ namespace. option_and_then (λ filter. option_map (delete_parts_with namespace filter)
-    (shared_of d)) (needed_part document_of FILTER.now d)) (needed_part namespace_of NS.now d)
+    then option_and_then (λ parts. option_map (delete_call_with parts) (shared_of d)) (delete_parts_of d)
     else None
 
 -- a delete of one document
 unfoldable pub delete_one_of : Data → Option Call
-delete_one_of d = option_map (λ parts. Single (DeleteOne parts.namespace parts.filter (delete_options parts.shared))) (delete_parts_of d)
+delete_one_of d = option_map (λ call. Single (DeleteOne call.parts.namespace call.parts.filter (delete_options call.shared))) (delete_call_of d)
 
 -- a delete of all that its filter finds
 unfoldable pub delete_many_of : Data → Option Call
-delete_many_of d = option_map (λ parts. Single (DeleteMany parts.namespace parts.filter (delete_options parts.shared))) (delete_parts_of d)
+delete_many_of d = option_map (λ call. Single (DeleteMany call.parts.namespace call.parts.filter (delete_options call.shared))) (delete_call_of d)
 
 -- the options of a delete that answers its document, of which these are set
 abbrev pub find_delete_options : SharedOptions → FindOneAndDeleteOptions
@@ -163,7 +181,8 @@ find_delete_options shared = record {
 
 -- a delete that answers its document
 unfoldable pub find_one_and_delete_of : Data → Option Call
-find_one_and_delete_of d = option_map (λ parts. Single (FindOneAndDelete parts.namespace parts.filter (find_delete_options parts.shared))) (delete_parts_of d)
+find_one_and_delete_of d =
+    option_map (λ call. Single (FindOneAndDelete call.parts.namespace call.parts.filter (find_delete_options call.shared))) (delete_call_of d)
 
 -- the options of an update that answers its document, of which these are set
 abbrev pub find_update_options : SharedOptions → FindOneAndUpdateOptions
@@ -235,9 +254,11 @@ write_under name d =
     if bytes_eq name DELETE_ONE.now then delete_one_of d else (
     if bytes_eq name DELETE_MANY.now then delete_many_of d else update_under name d))
 
--- the call whose parts stand under its name: an insert of many documents, or a write of one statement
+-- the call whose parts stand under its name: an insert of many documents, a bulk write, or a write of one statement
 unfoldable pub call_under : List ℕ → Data → Option Call
-call_under name d = if bytes_eq name INSERT_MANY.now then insert_many_of d else write_under name d
+call_under name d =
+    if bytes_eq name INSERT_MANY.now then insert_many_of d else (
+    if bytes_eq name BULK_WRITE.now then bulk_write_of d else write_under name d)
 
 -- a call: an object whose one key names it
 unfoldable pub call_of : Data → Option Call

@@ -1,6 +1,6 @@
 -- The texts of a script's keys and of its names of items, calls and levels, and how many calls a script may hold.
 use Rattle.std.specs.Prelude.{◌≡◌, codes}
-use Rattle.driver_script.specs.declared.keys.TheConstants.{AFTER, ARRAY, AVAILABLE, BATCH, BSON, BYTES, CALLS, CHECK_OUT, CODE, COMMENT, DATE, DELETE_MANY, DELETE_ONE, DELIVER, DOC, DOCS, DOUBLE, FAIL, FAULTS, FILTER, FIND_ONE_AND_DELETE, FIND_ONE_AND_REPLACE, FIND_ONE_AND_UPDATE, INSERT_MANY, INSERT_ONE, INT64, INTERRUPTED, ITEM, JOURNAL, LABELS, LATE, LIMITS, LINEARIZABLE, LOCAL, LOST, MAJORITY, MESSAGE, MODIFIED, N, NS, OID, OPTIONS, ORDERED, PIPELINE, READ_CONCERN, REFUSED, REPLACE_ONE, REPLY_LOST, RESULTS, RETRY_WRITES, SCHEDULE, SELECT, SERVE, SNAPSHOT, TS, UPDATE, UPDATE_MANY, UPDATE_ONE, UPSERT, UPSERTED, VALUE, W, WIRE, WRITE_CONCERN, WRITE_CONCERN_ERROR, W_TIMEOUT}
+use Rattle.driver_script.specs.declared.keys.TheConstants.{AFTER, ARRAY, AVAILABLE, BATCH, BSON, BULK_WRITE, BYTES, CALLS, CHECK_OUT, CODE, COMMENT, DATE, DELETE_MANY, DELETE_ONE, DELIVER, DOC, DOCS, DOUBLE, FAIL, FAULTS, FILTER, FIND_ONE_AND_DELETE, FIND_ONE_AND_REPLACE, FIND_ONE_AND_UPDATE, INSERT_MANY, INSERT_ONE, INT64, INTERRUPTED, ITEM, JOURNAL, LABELS, LATE, LIMITS, LINEARIZABLE, LOCAL, LOST, MAJORITY, MESSAGE, MODELS, MODIFIED, N, NS, OID, OPTIONS, ORDERED, PIPELINE, READ_CONCERN, REFUSED, REPLACE_ONE, REPLY_LOST, RESULTS, RETRY_WRITES, SCHEDULE, SELECT, SERVE, SNAPSHOT, TS, UPDATE, UPDATE_MANY, UPDATE_ONE, UPSERT, UPSERTED, VALUE, VERBOSE, W, WIRE, WRITE_CONCERN, WRITE_CONCERN_ERROR, W_TIMEOUT}
 use Rattle.driver_script.specs.declared.script.TheConstants.{MOST_CALLS}
 
 -- each key is its text
@@ -10,6 +10,7 @@ pub record HaveTexts : Type 0 where
   pub available : AVAILABLE.now ≡ codes "available"
   pub batch : BATCH.now ≡ codes "batch"
   pub bson : BSON.now ≡ codes "bson"
+  pub bulk_write : BULK_WRITE.now ≡ codes "bulkWrite"
   pub bytes : BYTES.now ≡ codes "bytes"
   pub calls : CALLS.now ≡ codes "calls"
   pub check_out : CHECK_OUT.now ≡ codes "checkOut"
@@ -42,6 +43,7 @@ pub record HaveTexts : Type 0 where
   pub lost : LOST.now ≡ codes "lost"
   pub majority : MAJORITY.now ≡ codes "majority"
   pub message : MESSAGE.now ≡ codes "message"
+  pub models : MODELS.now ≡ codes "models"
   pub modified : MODIFIED.now ≡ codes "modified"
   pub n : N.now ≡ codes "n"
   pub ns : NS.now ≡ codes "ns"
@@ -66,6 +68,7 @@ pub record HaveTexts : Type 0 where
   pub upsert : UPSERT.now ≡ codes "upsert"
   pub upserted : UPSERTED.now ≡ codes "upserted"
   pub value : VALUE.now ≡ codes "value"
+  pub verbose : VERBOSE.now ≡ codes "verbose"
   pub w : W.now ≡ codes "w"
   pub wire : WIRE.now ≡ codes "wire"
   pub write_concern : WRITE_CONCERN.now ≡ codes "writeConcern"

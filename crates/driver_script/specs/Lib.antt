@@ -2,7 +2,9 @@ pub mod Calls
 pub mod Json
 pub mod Keys
 pub mod Limits
+pub mod Models
 pub mod Options
+pub mod Parts
 pub mod Plans
 pub mod ScheduleSteps
 pub mod Script

@@ -1,20 +1,24 @@
 //! Readers of a script's calls: each is an object whose one key names it.
 ghost use Rattle.std.specs.Prelude.{◌≡◌};
-ghost use Rattle.driver_script.specs.Calls.{call_of, call_under, delete_many_of, delete_one_of, delete_options, delete_parts_of, find_delete_options, find_one_and_delete_of, find_one_and_replace_of, find_one_and_update_of, find_replace_options, find_under, find_update_options, insert_many_of, insert_one_of, insert_options, insert_options_of, pipeline_of, replace_one_of, shared_of, update_many_of, update_of, update_one_of, update_options, update_options_of, update_parts_of, update_under, write_under};
+ghost use Rattle.driver_script.specs.Calls.{bulk_manner_of, bulk_options, bulk_write_of, call_of, call_under, delete_call_of, delete_many_of, delete_one_of, delete_options, find_delete_options, find_one_and_delete_of, find_one_and_replace_of, find_one_and_update_of, find_replace_options, find_under, find_update_options, insert_many_of, insert_one_of, insert_options, insert_options_of, replace_one_of, shared_of, update_call_of, update_many_of, update_one_of, update_options, update_under, write_under};
 ghost use Rattle.driver_script.specs.Json.{GivesPart};
 ghost use Rattle.serde_json.specs.View.{view};
 
 use crate::json::{FromJson, Unread, is_object_of, read_needed, read_optional};
 use crate::keys::{
-    COMMENT, DELETE_MANY, DELETE_ONE, DOC, DOCS, FILTER, FIND_ONE_AND_DELETE, FIND_ONE_AND_REPLACE,
-    FIND_ONE_AND_UPDATE, INSERT_MANY, INSERT_ONE, NS, ORDERED, PIPELINE, REPLACE_ONE, UPDATE,
-    UPDATE_MANY, UPDATE_ONE, UPSERT, WRITE_CONCERN,
+    BULK_WRITE, COMMENT, DELETE_MANY, DELETE_ONE, DOC, DOCS, FILTER, FIND_ONE_AND_DELETE,
+    FIND_ONE_AND_REPLACE, FIND_ONE_AND_UPDATE, INSERT_MANY, INSERT_ONE, MODELS, NS, ORDERED,
+    REPLACE_ONE, UPDATE, UPDATE_MANY, UPDATE_ONE, UPSERT, VERBOSE, WRITE_CONCERN,
 };
-use bson_lite::{Bson, Document, Namespace};
+use crate::parts::{
+    DeleteParts, InsertParts, ReplaceParts, UpdateParts, delete_parts, insert_parts, replace_parts,
+    update_parts,
+};
+use bson_lite::Bson;
 use driver_inputs::{Call, SingleWrite};
 use driver_options::{
-    DeleteOptions, FindOneAndDeleteOptions, FindOneAndReplaceOptions, FindOneAndUpdateOptions,
-    InsertManyOptions, UpdateModifications, UpdateOptions, WriteConcern,
+    BulkWriteOptions, DeleteOptions, FindOneAndDeleteOptions, FindOneAndReplaceOptions,
+    FindOneAndUpdateOptions, InsertManyOptions, UpdateOptions, WriteConcern,
 };
 use serde_json::Value;
 use std::alloc::Global;
@@ -26,21 +30,25 @@ pub(crate) struct SharedOptions {
     pub comment: Option<Bson>,
 }
 
-/// What an update is made of, one or many.
+/// What the call of an update is made of, one or many.
 #[derive(Drop)]
-pub(crate) struct UpdateParts {
-    pub namespace: Namespace,
-    pub filter: Document,
-    pub update: UpdateModifications,
-    pub options: UpdateOptions,
+pub(crate) struct UpdateCall {
+    pub parts: UpdateParts,
+    pub shared: SharedOptions,
 }
 
-/// What a delete is made of: of one, of many, or of one that it answers.
+/// What the call of a delete is made of: of one, of many, or of one that it answers.
 #[derive(Drop)]
-pub(crate) struct DeleteParts {
-    pub namespace: Namespace,
-    pub filter: Document,
+pub(crate) struct DeleteCall {
+    pub parts: DeleteParts,
     pub shared: SharedOptions,
+}
+
+/// How a bulk write is made.
+#[derive(Drop)]
+pub(crate) struct BulkManner {
+    pub options: BulkWriteOptions,
+    pub verbose: bool,
 }
 
 /// The options that every write has, under their keys.
@@ -78,8 +86,10 @@ fn insert_one(alloc: Global, value: &Value) -> Result<Call, Unread>
     if !is_object_of(value, &[NS, DOC, WRITE_CONCERN, COMMENT]) {
         return Err(Unread::Wrong);
     }
-    let namespace = read_needed(alloc, value, NS)?;
-    let document = read_needed(alloc, value, DOC)?;
+    let InsertParts {
+        namespace,
+        document,
+    } = insert_parts(alloc, value)?;
     let shared = read_shared(alloc, value)?;
     Ok(Call::Single {
         write: SingleWrite::InsertOne {
@@ -117,28 +127,47 @@ fn insert_many(alloc: Global, value: &Value) -> Result<Call, Unread>
     })
 }
 
-#[tactic(auto, unfolding(crate::specs::Calls::pipeline_of))]
-fn pipeline(alloc: Global, value: &Value) -> Result<UpdateModifications, Unread>
-    ensures { GivesPart result (pipeline_of (view value.now)) }
+/// The options of a bulk write, of which these are set.
+fn bulk_options(ordered: Option<bool>, shared: SharedOptions) -> BulkWriteOptions
+    ensures { result ≡ bulk_options ordered shared }
 {
-    if !is_object_of(value, &[PIPELINE]) {
-        return Err(Unread::Wrong);
+    BulkWriteOptions {
+        ordered,
+        bypass_document_validation: None,
+        comment: shared.comment,
+        write_concern: shared.write_concern,
+        let_vars: None,
     }
-    let stages = read_needed(alloc, value, PIPELINE)?;
-    Ok(UpdateModifications::Pipeline(stages))
 }
 
-impl FromJson for UpdateModifications {
-    ghost spec = { update_of };
+/// How a bulk write is made, under its keys: it is verbose only where that is said.
+#[tactic(auto, unfolding(crate::specs::Calls::bulk_manner_of))]
+fn read_bulk_manner(alloc: Global, value: &Value) -> Result<BulkManner, Unread>
+    ensures { GivesPart result (bulk_manner_of (view value.now)) }
+{
+    let ordered = read_optional(alloc, value, ORDERED)?;
+    let verbose: Option<bool> = read_optional(alloc, value, VERBOSE)?;
+    let shared = read_shared(alloc, value)?;
+    Ok(BulkManner {
+        options: bulk_options(ordered, shared),
+        verbose: verbose.unwrap_or(false),
+    })
+}
 
-    #[tactic(auto, unfolding(crate::specs::Calls::update_of))]
-    fn read(alloc: Global, value: &Value) -> Result<UpdateModifications, Unread> {
-        match value {
-            Value::Array(_) => Ok(UpdateModifications::Document(Document::read(alloc, value)?)),
-            Value::Object(_) => pipeline(alloc, value),
-            _ => Err(Unread::Wrong),
-        }
+#[tactic(auto, unfolding(crate::specs::Calls::bulk_write_of))]
+fn bulk_write(alloc: Global, value: &Value) -> Result<Call, Unread>
+    ensures { GivesPart result (bulk_write_of (view value.now)) }
+{
+    if !is_object_of(value, &[MODELS, ORDERED, VERBOSE, WRITE_CONCERN, COMMENT]) {
+        return Err(Unread::Wrong);
     }
+    let models = read_needed(alloc, value, MODELS)?;
+    let BulkManner { options, verbose } = read_bulk_manner(alloc, value)?;
+    Ok(Call::BulkWrite {
+        models,
+        options,
+        verbose,
+    })
 }
 
 /// The options of an update or a replacement, of which these are set.
@@ -158,51 +187,35 @@ fn update_options(upsert: Option<bool>, shared: SharedOptions) -> UpdateOptions
     }
 }
 
-/// The same, under their keys.
-#[tactic(auto, unfolding(crate::specs::Calls::update_options_of))]
-fn read_update_options(alloc: Global, value: &Value) -> Result<UpdateOptions, Unread>
-    ensures { GivesPart result (update_options_of (view value.now)) }
-{
-    let upsert = read_optional(alloc, value, UPSERT)?;
-    let shared = read_shared(alloc, value)?;
-    Ok(update_options(upsert, shared))
-}
-
-#[tactic(auto, unfolding(crate::specs::Calls::update_parts_of))]
-fn update_parts(alloc: Global, value: &Value) -> Result<UpdateParts, Unread>
-    ensures { GivesPart result (update_parts_of (view value.now)) }
+#[tactic(auto, unfolding(crate::specs::Calls::update_call_of))]
+fn update_call(alloc: Global, value: &Value) -> Result<UpdateCall, Unread>
+    ensures { GivesPart result (update_call_of (view value.now)) }
 {
     if !is_object_of(value, &[NS, FILTER, UPDATE, UPSERT, WRITE_CONCERN, COMMENT]) {
         return Err(Unread::Wrong);
     }
-    let namespace = read_needed(alloc, value, NS)?;
-    let filter = read_needed(alloc, value, FILTER)?;
-    let update = read_needed(alloc, value, UPDATE)?;
-    let options = read_update_options(alloc, value)?;
-    Ok(UpdateParts {
-        namespace,
-        filter,
-        update,
-        options,
-    })
+    let parts = update_parts(alloc, value)?;
+    let shared = read_shared(alloc, value)?;
+    Ok(UpdateCall { parts, shared })
 }
 
 #[tactic(auto, unfolding(crate::specs::Calls::update_one_of))]
 fn update_one(alloc: Global, value: &Value) -> Result<Call, Unread>
     ensures { GivesPart result (update_one_of (view value.now)) }
 {
+    let UpdateCall { parts, shared } = update_call(alloc, value)?;
     let UpdateParts {
         namespace,
         filter,
         update,
-        options,
-    } = update_parts(alloc, value)?;
+        upsert,
+    } = parts;
     Ok(Call::Single {
         write: SingleWrite::UpdateOne {
             namespace,
             filter,
             update,
-            options,
+            options: update_options(upsert, shared),
         },
     })
 }
@@ -211,18 +224,19 @@ fn update_one(alloc: Global, value: &Value) -> Result<Call, Unread>
 fn update_many(alloc: Global, value: &Value) -> Result<Call, Unread>
     ensures { GivesPart result (update_many_of (view value.now)) }
 {
+    let UpdateCall { parts, shared } = update_call(alloc, value)?;
     let UpdateParts {
         namespace,
         filter,
         update,
-        options,
-    } = update_parts(alloc, value)?;
+        upsert,
+    } = parts;
     Ok(Call::Single {
         write: SingleWrite::UpdateMany {
             namespace,
             filter,
             update,
-            options,
+            options: update_options(upsert, shared),
         },
     })
 }
@@ -234,16 +248,19 @@ fn replace_one(alloc: Global, value: &Value) -> Result<Call, Unread>
     if !is_object_of(value, &[NS, FILTER, DOC, UPSERT, WRITE_CONCERN, COMMENT]) {
         return Err(Unread::Wrong);
     }
-    let namespace = read_needed(alloc, value, NS)?;
-    let filter = read_needed(alloc, value, FILTER)?;
-    let replacement = read_needed(alloc, value, DOC)?;
-    let options = read_update_options(alloc, value)?;
+    let ReplaceParts {
+        namespace,
+        filter,
+        replacement,
+        upsert,
+    } = replace_parts(alloc, value)?;
+    let shared = read_shared(alloc, value)?;
     Ok(Call::Single {
         write: SingleWrite::ReplaceOne {
             namespace,
             filter,
             replacement,
-            options,
+            options: update_options(upsert, shared),
         },
     })
 }
@@ -261,32 +278,24 @@ fn delete_options(shared: SharedOptions) -> DeleteOptions
     }
 }
 
-#[tactic(auto, unfolding(crate::specs::Calls::delete_parts_of))]
-fn delete_parts(alloc: Global, value: &Value) -> Result<DeleteParts, Unread>
-    ensures { GivesPart result (delete_parts_of (view value.now)) }
+#[tactic(auto, unfolding(crate::specs::Calls::delete_call_of))]
+fn delete_call(alloc: Global, value: &Value) -> Result<DeleteCall, Unread>
+    ensures { GivesPart result (delete_call_of (view value.now)) }
 {
     if !is_object_of(value, &[NS, FILTER, WRITE_CONCERN, COMMENT]) {
         return Err(Unread::Wrong);
     }
-    let namespace = read_needed(alloc, value, NS)?;
-    let filter = read_needed(alloc, value, FILTER)?;
+    let parts = delete_parts(alloc, value)?;
     let shared = read_shared(alloc, value)?;
-    Ok(DeleteParts {
-        namespace,
-        filter,
-        shared,
-    })
+    Ok(DeleteCall { parts, shared })
 }
 
 #[tactic(auto, unfolding(crate::specs::Calls::delete_one_of))]
 fn delete_one(alloc: Global, value: &Value) -> Result<Call, Unread>
     ensures { GivesPart result (delete_one_of (view value.now)) }
 {
-    let DeleteParts {
-        namespace,
-        filter,
-        shared,
-    } = delete_parts(alloc, value)?;
+    let DeleteCall { parts, shared } = delete_call(alloc, value)?;
+    let DeleteParts { namespace, filter } = parts;
     Ok(Call::Single {
         write: SingleWrite::DeleteOne {
             namespace,
@@ -300,11 +309,8 @@ fn delete_one(alloc: Global, value: &Value) -> Result<Call, Unread>
 fn delete_many(alloc: Global, value: &Value) -> Result<Call, Unread>
     ensures { GivesPart result (delete_many_of (view value.now)) }
 {
-    let DeleteParts {
-        namespace,
-        filter,
-        shared,
-    } = delete_parts(alloc, value)?;
+    let DeleteCall { parts, shared } = delete_call(alloc, value)?;
+    let DeleteParts { namespace, filter } = parts;
     Ok(Call::Single {
         write: SingleWrite::DeleteMany {
             namespace,
@@ -334,11 +340,8 @@ fn find_delete_options(shared: SharedOptions) -> FindOneAndDeleteOptions
 fn find_one_and_delete(alloc: Global, value: &Value) -> Result<Call, Unread>
     ensures { GivesPart result (find_one_and_delete_of (view value.now)) }
 {
-    let DeleteParts {
-        namespace,
-        filter,
-        shared,
-    } = delete_parts(alloc, value)?;
+    let DeleteCall { parts, shared } = delete_call(alloc, value)?;
+    let DeleteParts { namespace, filter } = parts;
     Ok(Call::Single {
         write: SingleWrite::FindOneAndDelete {
             namespace,
@@ -481,7 +484,8 @@ fn write_under(alloc: Global, name: &str, value: &Value) -> Result<Call, Unread>
     update_under(alloc, name, value)
 }
 
-/// The call whose parts stand under its name: an insert of many documents, or a write of one statement.
+/// The call whose parts stand under its name: an insert of many documents, a bulk write, or a write of one
+/// statement.
 #[inline(always)]
 #[tactic(auto, unfolding(crate::specs::Calls::call_under))]
 fn call_under(alloc: Global, name: &str, value: &Value) -> Result<Call, Unread>
@@ -489,6 +493,9 @@ fn call_under(alloc: Global, name: &str, value: &Value) -> Result<Call, Unread>
 {
     if name == INSERT_MANY {
         return insert_many(alloc, value);
+    }
+    if name == BULK_WRITE {
+        return bulk_write(alloc, value);
     }
     write_under(alloc, name, value)
 }

@@ -10,6 +10,8 @@ pub const BATCH: &str = "batch";
 
 pub const BSON: &str = "bson";
 
+pub const BULK_WRITE: &str = "bulkWrite";
+
 pub const BYTES: &str = "bytes";
 
 pub const CALLS: &str = "calls";
@@ -76,6 +78,8 @@ pub const MAJORITY: &str = "majority";
 
 pub const MESSAGE: &str = "message";
 
+pub const MODELS: &str = "models";
+
 pub const MODIFIED: &str = "modified";
 
 /// How many documents a statement counts.
@@ -125,6 +129,9 @@ pub const UPSERT: &str = "upsert";
 pub const UPSERTED: &str = "upserted";
 
 pub const VALUE: &str = "value";
+
+/// Whether a bulk write answers the result of each of its writes.
+pub const VERBOSE: &str = "verbose";
 
 /// Which servers acknowledge a write.
 pub const W: &str = "w";

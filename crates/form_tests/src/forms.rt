@@ -257,9 +257,9 @@ const NOT_SERVED: [&str; 41] = [
 ];
 
 /// What stands around a form in its script.
-struct Around {
-    before: &'static str,
-    behind: &'static str,
+pub(crate) struct Around {
+    pub before: &'static str,
+    pub behind: &'static str,
 }
 
 /// Whether the script of a form is read, or refused as a whole, as it should be.
@@ -272,7 +272,7 @@ fn is_right(alloc: Global, form: &str, around: &Around, read: bool) -> Result<bo
 }
 
 /// The first form whose script is not read or refused as it should be.
-fn first_wrong(
+pub(crate) fn first_wrong(
     alloc: Global,
     forms: &[&'static str],
     around: &Around,
@@ -287,7 +287,7 @@ fn first_wrong(
 }
 
 /// A script of one call, of options or limits alone, and of one served step.
-const AROUND_CALL: Around = Around {
+pub(crate) const AROUND_CALL: Around = Around {
     before: "{\"calls\":[",
     behind: "]}",
 };

@@ -124,14 +124,14 @@ const LIMITS: [Limited; 8] = [
 ];
 
 /// Whether a document has this one field.
-fn has_one(document: &Document, key: &str, value: i32) -> bool {
+pub(crate) fn has_one(document: &Document, key: &str, value: i32) -> bool {
     match document.get(key) {
         Some(Bson::Int32(number)) => *number == value && document.len() == 1,
         _ => false,
     }
 }
 
-fn is_namespace(namespace: &Namespace) -> bool {
+pub(crate) fn is_namespace(namespace: &Namespace) -> bool {
     namespace.db.as_str() == "shop" && namespace.coll.as_str() == "items.old"
 }
 
@@ -152,7 +152,7 @@ fn is_number(w: &Option<Acknowledgment>, servers: u32) -> bool {
 }
 
 /// Whether the two options are read that each write may have.
-fn are_shared(concern: &Option<WriteConcern>, comment: &Option<Bson>) -> bool {
+pub(crate) fn are_shared(concern: &Option<WriteConcern>, comment: &Option<Bson>) -> bool {
     asks_for(concern, 11) && matches!(comment, Some(Bson::Int32(12)))
 }
 
@@ -177,7 +177,7 @@ fn are_delete_options(options: &DeleteOptions) -> bool {
 }
 
 /// Whether an update is one document of operators.
-fn is_document(update: &UpdateModifications) -> bool {
+pub(crate) fn is_document(update: &UpdateModifications) -> bool {
     match update {
         UpdateModifications::Document(document) => has_one(document, "$set", 3),
         UpdateModifications::Pipeline(_) => false,
@@ -185,7 +185,7 @@ fn is_document(update: &UpdateModifications) -> bool {
 }
 
 /// Whether an update is a pipeline of two stages.
-fn is_pipeline(update: &UpdateModifications) -> bool {
+pub(crate) fn is_pipeline(update: &UpdateModifications) -> bool {
     match update {
         UpdateModifications::Document(_) => false,
         UpdateModifications::Pipeline(stages) => match stages.as_slice() {
@@ -337,6 +337,7 @@ fn is_insert_many(call: &Call, ordered: Option<bool>) -> bool {
                 && are_insert_options(options, ordered)
         }
         Call::Single { .. } => false,
+        Call::BulkWrite { .. } => false,
     }
 }
 

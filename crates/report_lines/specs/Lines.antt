@@ -8,7 +8,9 @@ use Rattle.driver_error.specs.declared.error.Error.{Error}
 use Rattle.driver_error.specs.declared.results.DeleteResult.{DeleteResult}
 use Rattle.driver_error.specs.declared.results.InsertManyResult.{InsertManyResult}
 use Rattle.driver_error.specs.declared.results.InsertOneResult.{InsertOneResult}
+use Rattle.driver_error.specs.declared.results.SummaryBulkWriteResult.{SummaryBulkWriteResult}
 use Rattle.driver_error.specs.declared.results.UpdateResult.{UpdateResult}
+use Rattle.driver_error.specs.declared.results.VerboseBulkWriteResult.{VerboseBulkWriteResult}
 use Rattle.driver_link.specs.declared.keys.TheConstants.{ABORT_TRANSACTION, BULK_WRITE, COMMIT_TRANSACTION, DELETE, FIND_AND_MODIFY, GET_MORE, INSERT, KILL_CURSORS, UPDATE}
 use Rattle.driver_link.specs.declared.machine.Entry.{Entry}
 use Rattle.driver_link.specs.declared.machine.Send.{Send}
@@ -18,6 +20,7 @@ use Rattle.driver_link.specs.declared.machine.SendCommand.{SendCommand}
 use Rattle.driver_link.specs.declared.machine.SendCommand.TheVariants as command
 use Rattle.driver_link.specs.Cases.{writes_of}
 use Rattle.driver_ops.specs.OptionFields.{document_in}
+use Rattle.driver_script.specs.declared.keys.TheConstants as script_key
 use Rattle.driver_script.specs.declared.keys.TheConstants.{DELETE_MANY, DELETE_ONE, FIND_ONE_AND_DELETE, FIND_ONE_AND_REPLACE, FIND_ONE_AND_UPDATE, INSERT_MANY, INSERT_ONE, REPLACE_ONE, UPDATE_MANY, UPDATE_ONE}
 use Rattle.report_lines.specs.Words.{session_text, number_text, listed, place_text, value_text, value_text_or_none, error_text}
 use Rattle.driver_inputs.specs.declared.call.Answer.{Answer}
@@ -65,6 +68,43 @@ found_text found = codes "ok found=" ++ value_text_or_none (document_in found)
 unfoldable pub many_text : InsertManyResult → List ℕ
 many_text many = codes "ok inserted=" ++ decimal (finite.len many.inserted_ids)
 
+-- how many documents a bulk write inserted
+unfoldable pub bulk_inserted : SummaryBulkWriteResult → List ℕ
+bulk_inserted counts = codes " inserted=" ++ signed_decimal counts.inserted_count
+
+-- how many its updates and replacements matched
+unfoldable pub bulk_matched : SummaryBulkWriteResult → List ℕ
+bulk_matched counts = codes " matched=" ++ signed_decimal counts.matched_count
+
+-- how many they modified
+unfoldable pub bulk_modified : SummaryBulkWriteResult → List ℕ
+bulk_modified counts = codes " modified=" ++ signed_decimal counts.modified_count
+
+-- how many they put in where none was found
+unfoldable pub bulk_upserted : SummaryBulkWriteResult → List ℕ
+bulk_upserted counts = codes " upserted=" ++ signed_decimal counts.upserted_count
+
+-- how many it deleted
+unfoldable pub bulk_deleted : SummaryBulkWriteResult → List ℕ
+bulk_deleted counts = codes " deleted=" ++ signed_decimal counts.deleted_count
+
+-- what a bulk write answered: these five counts
+unfoldable pub summary_text : SummaryBulkWriteResult → List ℕ
+summary_text counts =
+    codes "ok" ++ bulk_inserted counts ++ bulk_matched counts ++ bulk_modified counts ++ bulk_upserted counts ++ bulk_deleted counts
+
+-- how many results of writes a verbose bulk write answered: of inserts, of updates and of deletes
+unfoldable pub results_in : VerboseBulkWriteResult → ℕ
+results_in results = finite.len results.insert_results + finite.len results.update_results + finite.len results.delete_results
+
+-- how many they are, behind their name
+unfoldable pub results_text : VerboseBulkWriteResult → List ℕ
+results_text results = codes " results=" ++ decimal (results_in results)
+
+-- what a verbose bulk write answered: its five counts, and how many results of writes
+unfoldable pub verbose_text : VerboseBulkWriteResult → List ℕ
+verbose_text results = summary_text results.summary ++ results_text results
+
 -- what a call answered
 unfoldable pub answer_text : Answer → List ℕ
 answer_text (answer.Single (Inserted inserted)) = inserted_text inserted
@@ -72,6 +112,8 @@ answer_text (answer.Single (Updated updated)) = updated_text updated
 answer_text (answer.Single (Deleted deleted)) = deleted_text deleted
 answer_text (answer.Single (Found found)) = found_text found
 answer_text (answer.Many many) = many_text many
+answer_text (answer.Summary counts) = summary_text counts
+answer_text (answer.Verbose results) = verbose_text results
 
 -- how a call ended
 abbrev pub result_text : Result Answer Error → List ℕ
@@ -94,6 +136,7 @@ single_name (FindOneAndReplace namespace filter replacement options) = FIND_ONE_
 unfoldable pub call_name : Call → List ℕ
 call_name (call.Single write) = single_name write
 call_name (call.InsertMany namespace documents options) = INSERT_MANY.now
+call_name (call.BulkWrite models options verbose) = script_key.BULK_WRITE.now
 
 -- the line of a call
 unfoldable pub call_line : ℕ → Call → Outcome → List ℕ

@@ -11,16 +11,20 @@ use Rattle.driver_error.specs.declared.error.Error.{Error}
 use Rattle.driver_error.specs.declared.kind.ErrorKind.TheVariants as kind
 use Rattle.driver_error.specs.declared.kind.IoKind.{IoKind}
 use Rattle.driver_error.specs.declared.kind.IoKind.TheVariants as io
+use Rattle.driver_error.specs.declared.results.PartialBulkWriteResult.{PartialBulkWriteResult}
+use Rattle.driver_error.specs.declared.results.SummaryBulkWriteResult.{SummaryBulkWriteResult}
+use Rattle.driver_error.specs.declared.write.BulkWriteError.{BulkWriteError}
 use Rattle.driver_error.specs.declared.write.IndexedWriteError.{IndexedWriteError}
 use Rattle.driver_error.specs.declared.write.InsertManyError.{InsertManyError}
 use Rattle.driver_error.specs.declared.write.WriteConcernError.{WriteConcernError}
 use Rattle.driver_error.specs.declared.write.WriteFailure.{WriteFailure}
 use Rattle.driver_error.specs.declared.write.WriteFailure.TheVariants as failure
+use Rattle.driver_error.specs.BulkErrors.{partial_counts}
 use Rattle.driver_error.specs.Error.{ErrorKind, kind_of, labels_of, source_of}
 use Rattle.driver_error.specs.LabelTexts.{in_order}
 use Rattle.driver_link.specs.declared.machine.Place.{Place}
 use Rattle.report_lines.specs.declared.failed_writes.FailedWrite.{FailedWrite}
-use Rattle.report_lines.specs.FailedWrites.{failed_in_order}
+use Rattle.report_lines.specs.FailedWrites.{failed_by_index, failed_in_order}
 
 -- a byte as two hexadecimal digits
 abbrev pub two_digits : ℕ → List ℕ
@@ -157,12 +161,37 @@ concern_text concern = codes " writeConcern=" ++ concern_code concern
 unfoldable pub many_failure_text : InsertManyError → List ℕ
 many_failure_text many = write_errors_text many.write_errors ++ concern_text many.write_concern_error
 
+-- the code of a write concern error
+abbrev pub error_code : WriteConcernError → List ℕ
+error_code error = signed_decimal error.code
+
+-- the five counts of a bulk write: of documents inserted, matched, modified, upserted and deleted
+abbrev pub five_of : SummaryBulkWriteResult → List ℤ
+five_of counts =
+    counts.inserted_count ∷ counts.matched_count ∷ counts.modified_count ∷ counts.upserted_count ∷ counts.deleted_count ∷ []
+
+-- the same with commas between them
+unfoldable pub five_text : SummaryBulkWriteResult → List ℕ
+five_text counts = listed (map signed_decimal (five_of counts))
+
+-- those of what succeeded, or `-` where nothing did
+abbrev pub partial_text : Option PartialBulkWriteResult → List ℕ
+partial_text None = codes "-"
+partial_text (Some result) = five_text (partial_counts result)
+
+-- why a bulk write failed: its write errors in order of their indexes, its write concern errors, and what succeeded
+unfoldable pub bulk_failure_text : BulkWriteError → List ℕ
+bulk_failure_text failures =
+    codes "errors=" ++ listed (map failed_text (failed_by_index failures.write_errors)) ++ codes " writeConcerns="
+    ++ listed (map error_code failures.write_concern_errors) ++ codes " partial=" ++ partial_text failures.partial_result
+
 -- what belongs to an error's kind, or `-`
 unfoldable pub detail : ErrorKind → List ℕ
 detail (kind.InvalidArgument message) = message
 detail (kind.Authentication message) = message
 detail (kind.BsonSerialization fault) = fault_name fault
 detail (kind.InsertMany many) = many_failure_text many
+detail (kind.BulkWrite failures) = bulk_failure_text failures
 detail (kind.Command error) = signed_decimal error.code
 detail (kind.DnsResolve message) = message
 detail (kind.Internal message) = message

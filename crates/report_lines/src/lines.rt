@@ -4,20 +4,24 @@ ghost use Rattle.std.specs.Fmt.{signed_decimal};
 ghost use Rattle.driver_link.specs.Cases.{body_writes};
 ghost use Rattle.driver_ops.specs.OptionFields.{document_in};
 ghost use Rattle.report_lines.specs.Words.{listed, place_text};
-ghost use Rattle.report_lines.specs.Lines.{newline, inserted_text, count_text, counts_text, upserted_text, updated_text, deleted_text, found_text, many_text, answer_text, result_text, single_name, call_name, call_line, call_lines, write_name, command_name, send_line, send_lines, entry_line, entry_lines};
+ghost use Rattle.report_lines.specs.Lines.{newline, inserted_text, count_text, counts_text, upserted_text, updated_text, deleted_text, found_text, many_text, bulk_inserted, bulk_matched, bulk_modified, bulk_upserted, bulk_deleted, summary_text, results_in, results_text, verbose_text, answer_text, result_text, single_name, call_name, call_line, call_lines, write_name, command_name, send_line, send_lines, entry_line, entry_lines};
 
-use crate::numbers::{push_signed, push_unsigned};
+use crate::numbers::{push_signed, push_sum, push_unsigned};
 use crate::words::{
     push_error, push_number, push_place, push_places, push_session, push_value, push_value_or_none,
 };
 use bson_lite::{Bson, Document, TryClone};
-use driver_error::{DeleteResult, Error, InsertManyResult, InsertOneResult, UpdateResult};
+use driver_error::{
+    DeleteResult, Error, InsertManyResult, InsertOneResult, SummaryBulkWriteResult, UpdateResult,
+    VerboseBulkWriteResult,
+};
 use driver_inputs::{Answer, Call, Outcome, SingleAnswer, SingleWrite};
 use driver_link::keys::{
     ABORT_TRANSACTION, BULK_WRITE, COMMIT_TRANSACTION, DELETE, FIND_AND_MODIFY, GET_MORE, INSERT,
     KILL_CURSORS, UPDATE,
 };
 use driver_link::{Entry, Send, SendBody, SendCommand};
+use driver_script::keys;
 use driver_script::keys::{
     DELETE_MANY, DELETE_ONE, FIND_ONE_AND_DELETE, FIND_ONE_AND_REPLACE, FIND_ONE_AND_UPDATE,
     INSERT_MANY, INSERT_ONE, REPLACE_ONE, UPDATE_MANY, UPDATE_ONE,
@@ -106,6 +110,89 @@ fn push_many(out: &mut String, many: &InsertManyResult) -> Result<(), AllocError
     Ok(())
 }
 
+/// How many documents a bulk write inserted.
+#[tactic(auto, unfolding(crate::specs::Lines::bulk_inserted))]
+fn push_bulk_inserted(out: &mut String, counts: &SummaryBulkWriteResult) -> Result<(), AllocError>
+    ensures { OnOk result (string_bytes out.new ≡ string_bytes out.old ++ bulk_inserted counts.now) }
+{
+    out.push_str(" inserted=")?;
+    push_signed(out, counts.inserted_count)
+}
+
+/// How many its updates and replacements matched.
+#[tactic(auto, unfolding(crate::specs::Lines::bulk_matched))]
+fn push_bulk_matched(out: &mut String, counts: &SummaryBulkWriteResult) -> Result<(), AllocError>
+    ensures { OnOk result (string_bytes out.new ≡ string_bytes out.old ++ bulk_matched counts.now) }
+{
+    out.push_str(" matched=")?;
+    push_signed(out, counts.matched_count)
+}
+
+/// How many they modified.
+#[tactic(auto, unfolding(crate::specs::Lines::bulk_modified))]
+fn push_bulk_modified(out: &mut String, counts: &SummaryBulkWriteResult) -> Result<(), AllocError>
+    ensures { OnOk result (string_bytes out.new ≡ string_bytes out.old ++ bulk_modified counts.now) }
+{
+    out.push_str(" modified=")?;
+    push_signed(out, counts.modified_count)
+}
+
+/// How many they put in where none was found.
+#[tactic(auto, unfolding(crate::specs::Lines::bulk_upserted))]
+fn push_bulk_upserted(out: &mut String, counts: &SummaryBulkWriteResult) -> Result<(), AllocError>
+    ensures { OnOk result (string_bytes out.new ≡ string_bytes out.old ++ bulk_upserted counts.now) }
+{
+    out.push_str(" upserted=")?;
+    push_signed(out, counts.upserted_count)
+}
+
+/// How many it deleted.
+#[tactic(auto, unfolding(crate::specs::Lines::bulk_deleted))]
+fn push_bulk_deleted(out: &mut String, counts: &SummaryBulkWriteResult) -> Result<(), AllocError>
+    ensures { OnOk result (string_bytes out.new ≡ string_bytes out.old ++ bulk_deleted counts.now) }
+{
+    out.push_str(" deleted=")?;
+    push_signed(out, counts.deleted_count)
+}
+
+#[tactic(auto, unfolding(crate::specs::Lines::summary_text))]
+fn push_summary(out: &mut String, counts: &SummaryBulkWriteResult) -> Result<(), AllocError>
+    ensures { OnOk result (string_bytes out.new ≡ string_bytes out.old ++ summary_text counts.now) }
+{
+    out.push_str("ok")?;
+    push_bulk_inserted(out, counts)?;
+    push_bulk_matched(out, counts)?;
+    push_bulk_modified(out, counts)?;
+    push_bulk_upserted(out, counts)?;
+    push_bulk_deleted(out, counts)
+}
+
+/// How many results of writes a verbose bulk write answered.
+#[tactic(auto, unfolding(crate::specs::Lines::results_in))]
+fn results_in(results: &VerboseBulkWriteResult) -> u128
+    ensures { result ≡ results_in results.now }
+{
+    results.insert_results.len() as u128
+        + results.update_results.len() as u128
+        + results.delete_results.len() as u128
+}
+
+#[tactic(auto, unfolding(crate::specs::Lines::results_text))]
+fn push_results(out: &mut String, results: &VerboseBulkWriteResult) -> Result<(), AllocError>
+    ensures { OnOk result (string_bytes out.new ≡ string_bytes out.old ++ results_text results.now) }
+{
+    out.push_str(" results=")?;
+    push_sum(out, results_in(results))
+}
+
+#[tactic(auto, unfolding(crate::specs::Lines::verbose_text))]
+fn push_verbose(out: &mut String, results: &VerboseBulkWriteResult) -> Result<(), AllocError>
+    ensures { OnOk result (string_bytes out.new ≡ string_bytes out.old ++ verbose_text results.now) }
+{
+    push_summary(out, &results.summary)?;
+    push_results(out, results)
+}
+
 #[tactic(auto, unfolding(crate::specs::Lines::answer_text))]
 fn push_answer(alloc: Global, out: &mut String, answer: &Answer) -> Result<(), AllocError>
     ensures { OnOk result (string_bytes out.new ≡ string_bytes out.old ++ answer_text answer.now) }
@@ -116,6 +203,8 @@ fn push_answer(alloc: Global, out: &mut String, answer: &Answer) -> Result<(), A
         Answer::Single(SingleAnswer::Deleted(deleted)) => push_deleted(out, deleted),
         Answer::Single(SingleAnswer::Found(found)) => push_found(alloc, out, found),
         Answer::Many(many) => push_many(out, many),
+        Answer::Summary(counts) => push_summary(out, counts),
+        Answer::Verbose(results) => push_verbose(out, results),
     }
 }
 
@@ -139,6 +228,7 @@ fn name_of_call(call: &Call) -> &'static str
     match call {
         Call::Single { write } => name_of_single(write),
         Call::InsertMany { .. } => INSERT_MANY,
+        Call::BulkWrite { .. } => keys::BULK_WRITE,
     }
 }
 

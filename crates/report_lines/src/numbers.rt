@@ -20,3 +20,11 @@ pub(crate) fn push_signed(out: &mut String, number: i64) -> Result<(), AllocErro
     let mut buffer = Buffer::new();
     out.push_str(buffer.format(number))
 }
+
+/// A sum of numbers without signs.
+pub(crate) fn push_sum(out: &mut String, sum: u128) -> Result<(), AllocError>
+    ensures { OnOk result (string_bytes out.new ≡ string_bytes out.old ++ decimal sum) }
+{
+    let mut buffer = Buffer::new();
+    out.push_str(buffer.format(sum))
+}

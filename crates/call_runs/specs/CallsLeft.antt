@@ -1,24 +1,29 @@
--- What an insert of many documents left, as a call of a list over a told server.
-use Rattle.std.specs.Prelude.{ℕ, List, IfSome, Result}
+-- What an insert of many documents and a bulk write left, as calls of a list.
+use Rattle.std.specs.Prelude.{ℕ, Bool, true, false, List, IfSome, Result}
 use Rattle.bson_lite.specs.declared.bson.Bson.{Bson}
 use Rattle.bson_lite.specs.declared.document.Pair.{Pair}
 use Rattle.bson_lite.specs.declared.namespace.Namespace.{Namespace}
 use Rattle.driver_error.specs.declared.error.Error.{Error}
 use Rattle.driver_error.specs.declared.results.InsertManyResult.{InsertManyResult}
+use Rattle.driver_error.specs.BulkResults.{ResultSpec, summary_spec, verbose_spec}
+use Rattle.driver_options.specs.declared.models.WriteModel.{WriteModel}
+use Rattle.driver_options.specs.declared.write_options.BulkWriteOptions.{BulkWriteOptions}
 use Rattle.driver_options.specs.declared.write_options.InsertManyOptions.{InsertManyOptions}
 use Rattle.driver_link.specs.Clock.{ClockTells}
 use Rattle.driver_link.specs.LinkState.{server_run}
 use Rattle.driver_ops.specs.Targets.{in_collection}
+use Rattle.bulk_ops.specs.BulkSpec.{is_verbose}
 use Rattle.driver_attempt.specs.Moment.{Moment}
 use Rattle.driver_actions.specs.FewestBatches.{OkIsFewestCut}
 use Rattle.driver_actions.specs.ManyCalls.{MadeMany}
 use Rattle.driver_actions.specs.ManyEntries.{AnswerStands}
 use Rattle.driver_actions.specs.ManyTold.{IsToldTruly}
+use Rattle.bulk_actions.specs.FewestBulk.{OkIsFewestBulk}
 use Rattle.call_runs.specs.CallByCall.{with_clock}
-use Rattle.call_runs.specs.CallMaking.{OfMany}
+use Rattle.call_runs.specs.CallMaking.{OfMany, OfSummary, OfVerbose}
 use Rattle.driver_inputs.specs.declared.call.Answer.{Answer}
 use Rattle.driver_inputs.specs.declared.call.Call.{Call}
-use Rattle.driver_inputs.specs.declared.call.Call.TheVariants.{InsertMany, Single}
+use Rattle.driver_inputs.specs.declared.call.Call.TheVariants.{BulkWrite, InsertMany, Single}
 
 -- where the link tells its server the documents that the answer lists stand in the log, which are all where it is Ok; what the
 -- batches told is so, however the call ended and whichever two clocks it was made between; and the sends of an Ok are a
@@ -29,7 +34,17 @@ pub record LeavesMany (number : ℕ) (before now : Moment) (namespace : Namespac
       → IfSome (server_run before.link) (λ run. IfSome (server_run now.link) (λ run_now. IsToldTruly namespace documents number run run_now made.ends result))
   pub fewest : OkIsFewestCut before now namespace documents options number result
 
--- what a call left beside the entries of its writes: an insert of many documents this
+-- the sends of writes of an Ok of a bulk write are a cut into the fewest batches, where the link tells its server
+pub record LeavesBulk {R : Type 0} (tells : ResultSpec R) (number : ℕ) (before now : Moment) (models : List WriteModel) (options : BulkWriteOptions) (result : Result R Error) : Type 0 where
+  pub fewest : OkIsFewestBulk before now models options (is_verbose tells) number result
+
+-- so it is of a bulk write, by the results that it asks for
+abbrev pub LeavesBulkCall : ℕ → Moment → Moment → List WriteModel → BulkWriteOptions → Bool → Result Answer Error → Type 0
+LeavesBulkCall number before now models options true result = OfVerbose (LeavesBulk verbose_spec number before now models options) result
+LeavesBulkCall number before now models options false result = OfSummary (LeavesBulk summary_spec number before now models options) result
+
+-- what a call left beside the entries of its writes: nothing of a single write is said, and these of the others
 abbrev pub LeavesByCall : ℕ → Moment → Moment → Call → Result Answer Error → Type 0
 LeavesByCall number before now (Single write) result = Unit {0}
 LeavesByCall number before now (InsertMany namespace documents options) result = OfMany (LeavesMany number before now namespace documents options) result
+LeavesByCall number before now (BulkWrite models options verbose) result = LeavesBulkCall number before now models options verbose result
