@@ -4,7 +4,7 @@ use Rattle.std.specs.List.{All}
 use Rattle.std.proofs.lemmas.List.Elements.{All-append, All-cons, All-nil}
 use Rattle.driver_link.specs.declared.machine.Scheduled.{Scheduled}
 use Rattle.driver_link.specs.WellFormed.{IsItem}
-use Rattle.page_tests.proofs.served.items.Goals as goal
+use Rattle.page_tests.proofs.meeting.items.Goals as goal
 
 -- a step has an item that a model server takes
 abbrev IsStep : Scheduled → Type 0
@@ -15,4 +15,4 @@ items-init c = subst (All IsStep) (sym c.new-steps.ensures) (All-nil IsStep)
 
 pub items-preserved : goal.items-preserved
 items-preserved c =
-    subst (All IsStep) (sym c.in_ok-push.ensures.ok) (All-append IsStep c.items.steps (_ ∷ []) c.items.invariant (All-cons IsStep _ [] c.item.ensures (All-nil IsStep)))
+    subst (All IsStep) (sym c.in_ok-push.ensures.ok) (All-append IsStep c.items.steps (_ ∷ []) c.items.invariant (All-cons IsStep _ [] c.in_ok-item.ensures (All-nil IsStep)))
