@@ -1,17 +1,19 @@
 #!/usr/bin/env python3
 """Times a small insert: by a call of its own over a link that answers from memory, and as one of a list over the
-model server; the cut of a list of them: the longest front of their sizes, and the build of their batch; and one
-insert of many documents in one batch, over that link too.
+model server; the cut of a list of them: the longest front of their sizes, and the build of their batch; and over that
+link too one insert of many documents in one batch, and one bulk write of as many inserts in one batch, which answers
+counts (`bulk`) or the result of each (`verbose`).
 
 Proves and builds crates/write_bench as the gate's first run does (`rt run`: LLVM, the default level), and runs
-each work with a number of inserts and with ten times as many: 1,000 for calls and for documents of one call, 10,000
+each work with a number of inserts and with ten times as many: 1,000 for calls and for writes of one call, 10,000
 for cuts. A figure of a call is what the larger run takes more, over the calls that it makes more, so the start of the
 program is left out; it has in it the insert that is made anew for each call and let go again. Processor time is the
 median of some runs. Where valgrind is installed, callgrind counts instructions, and two tables for each work say where
 those of a call go: the ten functions that take most themselves, all instances of a generic function in one row, and the
-ten that take most with all that they call, each instance in a row of its own. Two last lines say what `InsertMany::run`
-alone takes for each document: what `many` takes more than `given`, in which the same documents are made, handed in and
-let go; and all that callgrind counts inside of `run`, which lets them go too.
+ten that take most with all that they call, each instance in a row of its own. Last lines say what `run` alone takes for
+each write, of `InsertMany` and of `BulkWrite`: what `many` takes more than `given`, in which the same documents are
+made, handed in and let go, what `bulk` takes more than `models` and `verbose` more than `results`, in which the same
+models and the same reply are made and let go; and all that callgrind counts inside of `run`.
 
 usage: bench/write.py [RUNS [PROGRAM]]      (RUNS: 9 if left out; with a PROGRAM nothing is built)
 """
@@ -34,16 +36,21 @@ WORKS = {
     "build": ("taken={count}", 10_000),
     "given": ("given={count}", 1_000),
     "many": ("ids={count}", 1_000),
+    "models": ("models={count}", 1_000),
+    "bulk": ("inserted={count}", 1_000),
+    "results": ("results={count}", 1_000),
+    "verbose": ("ids={count}", 1_000),
 }
+
+# The works that run a call of many writes, each with the call and the work that makes the same and runs nothing.
+RUNS = {"many": ("InsertMany", "given"), "bulk": ("BulkWrite", "models"), "verbose": ("BulkWrite", "results")}
+
 TIMES = 10
 ROWS = 10
 
 # A line of callgrind_annotate: a count, its share, and a file with a function, as
 #  4,426 (1.75%)  ???:driver_exec::execute::execute_operation_with_retry::<#33556ab3133f353b> [write_bench]
 LINE = re.compile(r"^ *([\d,]+) \( *[\d.]+%\)  ([^:\n]*):(.+?)(?: \[[^\]]*\])?$", re.MULTILINE)
-
-# The function that runs an insert of many documents, by its name there.
-RUN = re.compile(r"\bInsertMany\b.*::run\b")
 
 
 def spent():
@@ -134,24 +141,27 @@ def measure(program, work, runs, folder):
     return {counts[0]: (few, few_path), counts[1]: (many, many_path)}
 
 
-def inside_run(path):
-    """The instructions of `InsertMany::run` with all that it calls, or None where it has no function of its own."""
-    return max((count for name, count in with_callees(path).items() if RUN.search(name)), default=None)
+def inside_run(call, path):
+    """The instructions of a call's `run` with all that it calls, or None where it has no function of its own."""
+    name_of_run = re.compile(rf"\b{call}\b.*::run\b")
+    return max((count for name, count in with_callees(path).items() if name_of_run.search(name)), default=None)
 
 
 def each_and_times(title, sums):
-    """Prints the figures of a document, for the smaller number and the larger one, and how often the first sum goes
-    into the second."""
+    """Prints the figures of a write, for the smaller number and the larger one, and how often the first sum goes into
+    the second."""
     (few, few_sum), (many, many_sum) = sorted(sums.items())
     print(f"{few_sum / few:>10.0f} and {many_sum / many:.0f} ({many_sum / few_sum:.2f} times for all) {title}")
 
 
-def run_alone(given, many):
-    """Prints what `InsertMany::run` alone takes."""
-    few, most = sorted(many)
-    print(f"many: instructions of `InsertMany::run` for each document, of {few} and of {most}")
-    each_and_times("more than `given`", {count: many[count][0] - given[count][0] for count in many})
-    inside = {count: inside_run(path) for count, (_, path) in many.items()}
+def run_alone(work, taken):
+    """Prints what the `run` of a call of many writes alone takes."""
+    call, without = RUNS[work]
+    few, most = sorted(taken[work])
+    print(f"{work}: instructions of `{call}::run` for each write, of {few} and of {most}")
+    more = {count: taken[work][count][0] - taken[without][count][0] for count in taken[work]}
+    each_and_times(f"more than `{without}`", more)
+    inside = {count: inside_run(call, path) for count, (_, path) in taken[work].items()}
     if None in inside.values():
         print("         - inside of `run`: it has no function of its own")
     else:
@@ -166,8 +176,9 @@ def main():
         subprocess.run(["rt", "run", "--jobs", "1"], cwd=CRATE, check=True, stdout=subprocess.DEVNULL)
     with tempfile.TemporaryDirectory() as folder:
         taken = {work: measure(program, work, runs, folder) for work in WORKS}
-        if taken["many"] is not None:
-            run_alone(taken["given"], taken["many"])
+        if None not in taken.values():
+            for work in RUNS:
+                run_alone(work, taken)
 
 
 if __name__ == "__main__":

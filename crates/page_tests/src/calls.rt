@@ -1,17 +1,11 @@
 //! Bulk writes as calls, in batches over a model server: how they end, which commands go out, and which entries stand.
-ghost use Rattle.std.specs.Prelude.{All, IfOk};
-ghost use Rattle.driver_link.specs.WellFormed.{IsItem, IsWellFormed};
-
+use crate::meeting::{Meets, schedule};
 use crate::pages::{Ended, Failed, Looked, Source, how_ended};
 use crate::runs::{Kind, models_of};
-use bson_lite::{List, Text};
 use bulk_actions::{BulkWrite, BulkWrites};
 use driver_attempt::{Client, Outside};
 use driver_error::{SummaryBulkWriteResult, VerboseBulkWriteResult};
-use driver_link::{
-    CountingIds, Failing, Item, MemClock, PlannedConcern, Schedule, Scheduled, Send, SendBody,
-    SendCommand, Server, Setup,
-};
+use driver_link::{CountingIds, MemClock, Send, SendBody, SendCommand, Server, Setup};
 use driver_options::{ClientOptions, Description, WriteModel};
 use driver_session::PlainStore;
 use model_server::ModelServer;
@@ -19,23 +13,6 @@ use rand_core::SeedableRng;
 use rand_pcg::Pcg32;
 use std::alloc::{AllocError, Global};
 use std::test::Fail;
-
-/// What an exchange meets.
-#[derive(Clone, Copy)]
-enum Meets {
-    Served,
-    /// Its statement at this position fails with code 11000.
-    FailedAt(u64),
-    /// It is served, and its write concern was not met, with code 64.
-    Concern,
-    /// It is served, and the first page holds so many results.
-    Page(u64),
-    /// Its first statement fails with code 11000, and the first page holds no result.
-    FailedBehindPage,
-    /// Code 43 without labels.
-    Refused,
-    Lost,
-}
 
 /// A command that went out: a bulk write of so many writes from an index on, under a number, or one of a cursor.
 #[derive(Clone, Copy, PartialEq, Eq)]
@@ -241,7 +218,7 @@ const ROWS: &[Row] = &[
         inserts: 2,
         verbose: false,
         unordered: false,
-        meets: &[Meets::FailedBehindPage, Meets::Lost],
+        meets: &[Meets::FailedOnPages(0, 0), Meets::Lost],
         ends: Ended::Bulk(Failed(
             0,
             None,
@@ -290,83 +267,8 @@ const ROWS: &[Row] = &[
     },
 ];
 
-/// A serving in which these statements fail, with this concern error and a first page of so many results.
-fn serve(
-    alloc: Global,
-    failing: Option<u64>,
-    concern: bool,
-    page: Option<u64>,
-) -> Result<Item, AllocError>
-    ensures { IfOk result IsItem }
-{
-    let mut fail = List::new(alloc);
-    if let Some(at) = failing {
-        fail.push(Failing { at, code: 11000 })?;
-    }
-    let write_concern_error = if concern {
-        Some(PlannedConcern {
-            code: 64,
-            message: Text::new(alloc),
-        })
-    } else {
-        None
-    };
-    Ok(Item::Serve {
-        results: List::new(alloc),
-        fail,
-        write_concern_error,
-        page,
-    })
-}
-
-/// The item of what an exchange meets.
-fn item(alloc: Global, meets: Meets) -> Result<Item, AllocError>
-    ensures { IfOk result IsItem }
-{
-    match meets {
-        Meets::Served => serve(alloc, None, false, None),
-        Meets::FailedAt(at) => serve(alloc, Some(at), false, None),
-        Meets::Concern => serve(alloc, None, true, None),
-        Meets::Page(count) => serve(alloc, None, false, Some(count)),
-        Meets::FailedBehindPage => serve(alloc, Some(0), false, Some(0)),
-        Meets::Refused => Ok(Item::Refused {
-            code: 43,
-            labels: List::new(alloc),
-        }),
-        Meets::Lost => Ok(Item::Lost),
-    }
-}
-
-/// The items of what exchanges meet, one after the other.
-fn items(alloc: Global, meets: &[Meets]) -> Result<List<Scheduled>, AllocError>
-    ensures { IfOk result (λ steps. All (λ step. IsItem step.item) steps) }
-{
-    let mut steps = List::new(alloc);
-    'items: for one in meets {
-        steps.push(Scheduled {
-            deliver: List::new(alloc),
-            item: item(alloc, *one)?,
-        })?;
-    }
-    Ok(steps)
-}
-
-/// A schedule of these exchanges, behind which all is served.
-fn schedule(alloc: Global, meets: &[Meets]) -> Result<Schedule, AllocError>
-    ensures { IfOk result IsWellFormed }
-{
-    Ok(Schedule {
-        items: items(alloc, meets)?,
-        selects: List::new(alloc),
-        check_outs: List::new(alloc),
-        overloaded_check_outs: List::new(alloc),
-        reauthentications: List::new(alloc),
-        supports: List::new(alloc),
-    })
-}
-
 /// A command as a row tells it.
-fn sent_as(send: &Send) -> Sent {
+fn command(send: &Send) -> Sent {
     match &send.body {
         SendBody::Write {
             command: SendCommand::BulkWrite,
@@ -389,7 +291,7 @@ fn are_sent(server: &Server, expected: &[Sent]) -> bool {
     }
     for (at, one) in expected.iter().enumerate() {
         match server.trace.get(at) {
-            Some(send) if sent_as(send) == *one => {}
+            Some(send) if command(send) == *one => {}
             _ => return false,
         }
     }

@@ -1,73 +1,15 @@
 //! Bulk writes in pages over a model server: what it saw, and which entries stand.
-ghost use Rattle.std.specs.Prelude.{All, IfOk};
-ghost use Rattle.driver_link.specs.WellFormed.{IsItem, IsWellFormed};
-
+use crate::meeting::{Meets, schedule};
 use crate::pages::{Cause, Ended, Source, failed_page, how_ended};
 use crate::runs::{Kind, executed_as, models_of};
-use bson_lite::List;
 use driver_error::VerboseBulkWriteResult;
-use driver_link::{Item, Schedule, Scheduled, Send, SendBody, SendCommand, Server};
+use driver_link::{Send, SendBody, SendCommand, Server};
 use model_server::{ModelServer, USUAL_SETUP};
 use std::alloc::{AllocError, Global};
 use std::test::Fail;
 
 /// Two inserts.
 const TWO: &[Kind] = &[Kind::Insert, Kind::Insert];
-
-/// What an exchange meets.
-#[derive(Clone, Copy)]
-enum Meets {
-    /// It is served, and the first page holds one result.
-    OneResult,
-    /// Code 43 without labels.
-    Refused,
-}
-
-/// The item of what an exchange meets.
-fn item(alloc: Global, meets: Meets) -> Item
-    ensures { IsItem result }
-{
-    match meets {
-        Meets::OneResult => Item::Serve {
-            results: List::new(alloc),
-            fail: List::new(alloc),
-            write_concern_error: None,
-            page: Some(1),
-        },
-        Meets::Refused => Item::Refused {
-            code: 43,
-            labels: List::new(alloc),
-        },
-    }
-}
-
-/// The items of what exchanges meet, one after the other.
-fn items(alloc: Global, meets: &[Meets]) -> Result<List<Scheduled>, AllocError>
-    ensures { IfOk result (λ steps. All (λ step. IsItem step.item) steps) }
-{
-    let mut steps = List::new(alloc);
-    'items: for one in meets {
-        steps.push(Scheduled {
-            deliver: List::new(alloc),
-            item: item(alloc, *one),
-        })?;
-    }
-    Ok(steps)
-}
-
-/// A schedule of these exchanges, behind which all is served.
-fn schedule(alloc: Global, meets: &[Meets]) -> Result<Schedule, AllocError>
-    ensures { IfOk result IsWellFormed }
-{
-    Ok(Schedule {
-        items: items(alloc, meets)?,
-        selects: List::new(alloc),
-        check_outs: List::new(alloc),
-        overloaded_check_outs: List::new(alloc),
-        reauthentications: List::new(alloc),
-        supports: List::new(alloc),
-    })
-}
 
 /// Whether a send is a bulk write of two, under a session.
 fn is_bulk(send: &Send) -> bool {
@@ -128,14 +70,14 @@ fn served(alloc: Global, meets: &[Meets], refuses: bool) -> Result<Ended, AllocE
 
 #[test]
 fn the_next_page_gives_the_other_result(rt: HostRuntime) -> Result<(), Fail> {
-    let found = served(rt.alloc(), &[Meets::OneResult], false)?;
+    let found = served(rt.alloc(), &[Meets::Page(1)], false)?;
     assert!(rt; found == Ended::Done([2, 0, 0, 0, 0], 2));
     Ok(())
 }
 
 #[test]
 fn a_page_that_is_refused_ends_its_cursor(rt: HostRuntime) -> Result<(), Fail> {
-    let found = served(rt.alloc(), &[Meets::OneResult, Meets::Refused], true)?;
+    let found = served(rt.alloc(), &[Meets::Page(1), Meets::Refused], true)?;
     assert!(rt; found == failed_page(Source::Command(43)));
     Ok(())
 }

@@ -288,7 +288,76 @@ waiting: 0
 totals: calls=3 ok=1 sends=6 entries=5
 ";
 
-const EXAMPLES: [Row; 10] = [
+const BULK_ORDERED: &str = r#"{
+  "limits": {"batch": 3},
+  "calls": [
+    {"bulkWrite": {"models": [
+      {"insertOne": {"ns": "shop.items", "doc": [["_id", 1], ["item", "tea"]]}},
+      {"insertOne": {"ns": "shop.items", "doc": [["_id", 2], ["item", "salt"]]}},
+      {"insertOne": {"ns": "shop.items", "doc": [["_id", 3], ["item", "rice"]]}},
+      {"insertOne": {"ns": "shop.items", "doc": [["_id", 4], ["item", "oats"]]}},
+      {"insertOne": {"ns": "shop.items", "doc": [["_id", 2], ["item", "oil"]]}},
+      {"updateOne": {"ns": "shop.loads", "filter": [["day", 7]], "update": [["$set", {"doc": [["done", true]]}]]}}
+    ]}}
+  ],
+  "schedule": [
+    "replyLost",
+    "serve",
+    {"serve": {"fail": [[1, 11000]]}}
+  ]
+}
+"#;
+
+const REPORT_OF_BULK_ORDERED: &str =
+    "call 0 bulkWrite: err BulkWrite errors=4:11000 writeConcerns=- partial=4,0,0,0,0 labels=- source=-
+send 0: bulkWrite session=1 number=1 places=0.0,0.1,0.2
+send 1: bulkWrite session=1 number=1 places=0.0,0.1,0.2
+send 2: bulkWrite session=2 number=1 places=0.3,0.4,0.5
+entry 0: 0.0 session=1 number=1 n=1
+entry 1: 0.1 session=1 number=1 n=1
+entry 2: 0.2 session=1 number=1 n=1
+entry 3: 0.3 session=2 number=1 n=1
+ids: distinct
+waiting: 0
+totals: calls=1 ok=0 sends=3 entries=4
+";
+
+const BULK_UNORDERED: &str = r#"{
+  "limits": {"batch": 3},
+  "calls": [
+    {"bulkWrite": {"ordered": false, "models": [
+      {"insertOne": {"ns": "shop.items", "doc": [["_id", 1], ["item", "tea"]]}},
+      {"insertOne": {"ns": "shop.items", "doc": [["_id", 2], ["item", "salt"]]}},
+      {"insertOne": {"ns": "shop.items", "doc": [["_id", 3], ["item", "rice"]]}},
+      {"insertOne": {"ns": "shop.items", "doc": [["_id", 4], ["item", "oats"]]}},
+      {"insertOne": {"ns": "shop.items", "doc": [["_id", 2], ["item", "oil"]]}},
+      {"updateOne": {"ns": "shop.loads", "filter": [["day", 7]], "update": [["$set", {"doc": [["done", true]]}]]}}
+    ]}}
+  ],
+  "schedule": [
+    "replyLost",
+    "serve",
+    {"serve": {"fail": [[1, 11000]]}}
+  ]
+}
+"#;
+
+const REPORT_OF_BULK_UNORDERED: &str =
+    "call 0 bulkWrite: err BulkWrite errors=4:11000 writeConcerns=- partial=4,1,1,0,0 labels=- source=-
+send 0: bulkWrite session=1 number=1 places=0.0,0.1,0.2
+send 1: bulkWrite session=1 number=1 places=0.0,0.1,0.2
+send 2: bulkWrite session=2 number=1 places=0.3,0.4,0.5
+entry 0: 0.0 session=1 number=1 n=1
+entry 1: 0.1 session=1 number=1 n=1
+entry 2: 0.2 session=1 number=1 n=1
+entry 3: 0.3 session=2 number=1 n=1
+entry 4: 0.5 session=2 number=1 n=1
+ids: distinct
+waiting: 0
+totals: calls=1 ok=0 sends=3 entries=5
+";
+
+const EXAMPLES: [Row; 12] = [
     Row {
         name: "lost_reply",
         script: LOST_REPLY,
@@ -338,6 +407,16 @@ const EXAMPLES: [Row; 10] = [
         name: "insert_many",
         script: INSERT_MANY,
         report: REPORT_OF_INSERT_MANY,
+    },
+    Row {
+        name: "bulk_ordered",
+        script: BULK_ORDERED,
+        report: REPORT_OF_BULK_ORDERED,
+    },
+    Row {
+        name: "bulk_unordered",
+        script: BULK_UNORDERED,
+        report: REPORT_OF_BULK_UNORDERED,
     },
 ];
 

@@ -1,8 +1,10 @@
 //! Tests of runs from outside: statuses and reports, each fault of one insert, the rows of updates, deletes,
-//! findAndModify and inserts of many, each fault of an insert of many, limits of the server, and the examples.
-//! They stand apart so that the library is proved once and not once more for its tests.
+//! findAndModify, inserts of many and bulk writes, each fault of an insert of many, limits of the server, and the
+//! examples. They stand apart so that the library is proved once and not once more for its tests.
 #![tactic(auto)]
 
+#[cfg(test)]
+mod bulk_writes;
 #[cfg(test)]
 mod examples;
 #[cfg(test)]

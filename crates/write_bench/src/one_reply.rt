@@ -23,6 +23,11 @@ impl OneReply {
         reply.extend_from_slice(b"\0")?;
         Ok(OneReply { reply })
     }
+
+    /// One that answers these bytes.
+    pub fn of(reply: Bytes) -> OneReply {
+        OneReply { reply }
+    }
 }
 
 impl Link for OneReply {

@@ -1,6 +1,7 @@
-//! What is timed: ways to make so many inserts, one insert of so many documents, and the cut of a list of so many; and
-//! what came out of them.
+//! What is timed: ways to make so many inserts, one insert of so many documents, a bulk write of so many, and the cut of
+//! a list of so many; and what came out of them.
 use crate::batches::{build_batch, split_front};
+use crate::bulk::{make_models, make_results, write_in_bulk, write_with_results};
 use crate::inserts::{all_served, insert, insert_calls, new_client, outside_with};
 use crate::many::{hand_in, insert_at_once};
 use crate::one_reply::OneReply;
@@ -30,6 +31,14 @@ pub enum Work {
     Given,
     /// They are handed in as one insert of many documents, which is run over a link that answers from memory.
     Many,
+    /// They are models of a bulk write, which is not made, and of a link that would answer its counts.
+    Models,
+    /// They are models of a bulk write that answers counts, over that link.
+    Bulk,
+    /// They are models of a bulk write, which is not made, and of a link that would answer the result of each.
+    Results,
+    /// They are models of a bulk write that answers the result of each, over that link.
+    Verbose,
 }
 
 impl Work {
@@ -42,6 +51,10 @@ impl Work {
             "build" => Some(Work::Build),
             "given" => Some(Work::Given),
             "many" => Some(Work::Many),
+            "models" => Some(Work::Models),
+            "bulk" => Some(Work::Bulk),
+            "results" => Some(Work::Results),
+            "verbose" => Some(Work::Verbose),
             _ => None,
         }
     }
@@ -50,7 +63,7 @@ impl Work {
     pub fn limit(self) -> u32 {
         match self {
             Work::Single => 1_000_000,
-            Work::List | Work::Split | Work::Build | Work::Given | Work::Many => 100_000,
+            _ => 100_000,
         }
     }
 
@@ -63,6 +76,10 @@ impl Work {
             Work::Build => build_batch(alloc, count),
             Work::Given => hand_in(alloc, count),
             Work::Many => insert_at_once(alloc, count),
+            Work::Models => make_models(alloc, count),
+            Work::Bulk => write_in_bulk(alloc, count),
+            Work::Results => make_results(alloc, count),
+            Work::Verbose => write_with_results(alloc, count),
         }
     }
 }
