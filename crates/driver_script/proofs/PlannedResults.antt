@@ -20,7 +20,7 @@ use Rattle.driver_link.specs.Exchange.{reauthentication_required}
 use Rattle.driver_link.specs.Numbers.{field}
 use Rattle.driver_link.specs.WellFormed.{IsCount, IsItem, IsPlan, IsShallow, IsShallowValue}
 use Rattle.driver_link.proofs.Lists.{none_is_some, none_told, some_is_some}
-use Rattle.driver_script.specs.declared.keys.TheConstants.{CODE, FAIL, MESSAGE, MODIFIED, N, RESULTS, UPSERTED, VALUE, WRITE_CONCERN_ERROR}
+use Rattle.driver_script.specs.declared.keys.TheConstants.{CODE, FAIL, MESSAGE, MODIFIED, N, PAGE, RESULTS, UPSERTED, VALUE, WRITE_CONCERN_ERROR}
 use Rattle.driver_script.specs.Json.{has_only, list_of, needed_part, optional_part}
 use Rattle.driver_script.specs.Plans.{built_code, built_plan, concern_error_in, concern_error_of, concern_error_with, failing_in, failing_of, failing_with, is_built_code, is_spelled_within, may_be_found, may_be_upserted, plan_in, plan_with, planned_of, serve_in, serve_of, serve_with}
 use Rattle.driver_script.specs.Values.{code_of, count_of, document_of, item_of, small_of, text_of, value_of}
@@ -191,15 +191,16 @@ unfolding serve_in
 serve_in_well d found is =
     chained IsItem _ (optional_part (list_of planned_of) RESULTS.now d)
     (λ results of_results. chained IsItem _ (optional_part (list_of failing_of) FAIL.now d)
-    (λ fail of_fail. mapped IsItem (serve_with results fail) (optional_part concern_error_of WRITE_CONCERN_ERROR.now d)
-    (λ concern of_concern. (
+    (λ fail of_fail. chained IsItem _ (optional_part concern_error_of WRITE_CONCERN_ERROR.now d)
+    (λ concern of_concern. mapped IsItem (serve_with results fail concern) (optional_part count_of PAGE.now d)
+    (λ page of_page. (
       list_optional IsPlan planned_of planned_well RESULTS.now d results of_results,
       list_optional IsOther failing_of failing_well FAIL.now d fail of_fail,
       optional_holds IsOtherError concern_error_of concern_error_well WRITE_CONCERN_ERROR.now d concern of_concern,
-    )))) found is
+    ))))) found is
 
 -- a served send of a script is one that may be scheduled
 pub serve_well : (d : Data) (found : Item) → serve_of d ≡ Some found → IsItem found
 unfolding serve_of
 serve_well d found is =
-    where_so IsItem (has_only (RESULTS.now ∷ FAIL.now ∷ WRITE_CONCERN_ERROR.now ∷ []) d) (serve_in d) (λ _. serve_in_well d) found is
+    where_so IsItem (has_only (RESULTS.now ∷ FAIL.now ∷ WRITE_CONCERN_ERROR.now ∷ PAGE.now ∷ []) d) (serve_in d) (λ _. serve_in_well d) found is

@@ -13,7 +13,7 @@ use Rattle.driver_link.specs.declared.machine.Planned.{Planned}
 use Rattle.driver_link.specs.declared.machine.PlannedConcern.{PlannedConcern}
 use Rattle.driver_link.specs.Exchange.{reauthentication_required}
 use Rattle.driver_link.specs.Numbers.{field}
-use Rattle.driver_script.specs.declared.keys.TheConstants.{CODE, FAIL, MESSAGE, MODIFIED, N, RESULTS, UPSERTED, VALUE, WRITE_CONCERN_ERROR}
+use Rattle.driver_script.specs.declared.keys.TheConstants.{CODE, FAIL, MESSAGE, MODIFIED, N, PAGE, RESULTS, UPSERTED, VALUE, WRITE_CONCERN_ERROR}
 use Rattle.driver_script.specs.Json.{has_only, list_of, needed_part, optional_part}
 use Rattle.driver_script.specs.Values.{code_of, count_of, document_of, item_of, small_of, text_of, value_of}
 use Rattle.serde_json.specs.Data.{Data}
@@ -84,16 +84,16 @@ concern_error_in d = option_and_then (λ code. option_and_then (λ message. opti
 unfoldable pub concern_error_of : Data → Option PlannedConcern
 concern_error_of d = if has_only (CODE.now ∷ MESSAGE.now ∷ []) d then concern_error_in d else None
 
--- a send that is served with these results, failures and write concern error
-abbrev pub serve_with : Option (List Planned) → Option (List Failing) → Option PlannedConcern → Item
-serve_with results fail concern = Serve (unwrap_or results []) (unwrap_or fail []) concern None
+-- a send that is served with these results, failures and write concern error, and a first page of so many results
+abbrev pub serve_with : Option (List Planned) → Option (List Failing) → Option PlannedConcern → Option ℕ → Item
+serve_with results fail concern page = Serve (unwrap_or results []) (unwrap_or fail []) concern page
 
 -- the parts of a served send that are set, under their keys of an object
 unfoldable pub serve_in : Data → Option Item
 serve_in d =
-    option_and_then (λ results. option_and_then (λ fail. option_map (serve_with results fail)
+    option_and_then (λ results. option_and_then (λ fail. option_and_then (λ concern. option_map (serve_with results fail concern) (optional_part count_of PAGE.now d))
     (optional_part concern_error_of WRITE_CONCERN_ERROR.now d)) (optional_part (list_of failing_of) FAIL.now d)) (optional_part (list_of planned_of) RESULTS.now d)
 
 -- a send that is served: an object with the parts that are set
 unfoldable pub serve_of : Data → Option Item
-serve_of d = if has_only (RESULTS.now ∷ FAIL.now ∷ WRITE_CONCERN_ERROR.now ∷ []) d then serve_in d else None
+serve_of d = if has_only (RESULTS.now ∷ FAIL.now ∷ WRITE_CONCERN_ERROR.now ∷ PAGE.now ∷ []) d then serve_in d else None

@@ -94,6 +94,9 @@ pub const OPTIONS: &str = "options";
 /// Whether an insert of many documents stops at the first one that fails.
 pub const ORDERED: &str = "ordered";
 
+/// How many results the first page of a served bulk write shows.
+pub const PAGE: &str = "page";
+
 pub const PIPELINE: &str = "pipeline";
 
 pub const READ_CONCERN: &str = "readConcern";

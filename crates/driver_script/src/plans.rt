@@ -7,7 +7,7 @@ ghost use Rattle.serde_json.specs.View.{view};
 
 use crate::json::{FromJson, Unread, is_object_of, read_needed, read_optional};
 use crate::keys::{
-    CODE, FAIL, MESSAGE, MODIFIED, N, RESULTS, UPSERTED, VALUE, WRITE_CONCERN_ERROR,
+    CODE, FAIL, MESSAGE, MODIFIED, N, PAGE, RESULTS, UPSERTED, VALUE, WRITE_CONCERN_ERROR,
 };
 use bson_lite::{Bson, Document, List, TryClone, refusal_within};
 use driver_link::{Failing, Item, Planned, PlannedConcern};
@@ -153,20 +153,21 @@ impl FromJson for PlannedConcern {
     }
 }
 
-/// A send that is served with these results, failures and write concern error.
+/// A send that is served with these results, failures and write concern error, and a first page of so many results.
 fn serve_with(
     alloc: Global,
     results: Option<List<Planned>>,
     fail: Option<List<Failing>>,
     concern: Option<PlannedConcern>,
+    page: Option<u64>,
 ) -> Item
-    ensures { result ≡ serve_with results fail concern }
+    ensures { result ≡ serve_with results fail concern page }
 {
     Item::Serve {
         results: results.unwrap_or(List::new(alloc)),
         fail: fail.unwrap_or(List::new(alloc)),
         write_concern_error: concern,
-        page: None,
+        page,
     }
 }
 
@@ -175,11 +176,12 @@ fn serve_with(
 pub(crate) fn served(alloc: Global, value: &Value) -> Result<Item, Unread>
     ensures { GivesPart result (serve_of (view value.now)) }
 {
-    if !is_object_of(value, &[RESULTS, FAIL, WRITE_CONCERN_ERROR]) {
+    if !is_object_of(value, &[RESULTS, FAIL, WRITE_CONCERN_ERROR, PAGE]) {
         return Err(Unread::Wrong);
     }
     let results = read_optional(alloc, value, RESULTS)?;
     let fail = read_optional(alloc, value, FAIL)?;
     let concern = read_optional(alloc, value, WRITE_CONCERN_ERROR)?;
-    Ok(serve_with(alloc, results, fail, concern))
+    let page = read_optional(alloc, value, PAGE)?;
+    Ok(serve_with(alloc, results, fail, concern, page))
 }
