@@ -4,6 +4,8 @@
 #![tactic(auto)]
 
 #[cfg(test)]
+mod bulk_pages;
+#[cfg(test)]
 mod bulk_writes;
 #[cfg(test)]
 mod examples;
