@@ -195,7 +195,7 @@ const NO_LIMITS: [&str; 17] = [
     "{\"wire\":-2147483649}",
 ];
 
-const SERVED: [&str; 14] = [
+const SERVED: [&str; 16] = [
     "{}",
     "{\"results\":[]}",
     "{\"results\":[{}]}",
@@ -209,14 +209,19 @@ const SERVED: [&str; 14] = [
     "{\"fail\":[[7,2147483647]]}",
     "{\"writeConcernError\":{\"code\":64,\"message\":\"\"}}",
     "{\"writeConcernError\":{\"message\":\"x\",\"code\":390}}",
+    "{\"page\":0}",
+    "{\"page\":18446744073709551615,\"results\":[{}]}",
     "{\"fail\":[[0,392]],\"results\":[{\"n\":1}],\"writeConcernError\":{\"code\":1,\"message\":\"x\"}}",
 ];
 
-const NOT_SERVED: [&str; 41] = [
+const NOT_SERVED: [&str; 44] = [
     "null",
     "[]",
     "\"serve\"",
-    "{\"page\":1}",
+    "{\"page\":-1}",
+    "{\"page\":1.5}",
+    "{\"page\":\"1\"}",
+    "{\"page\":null}",
     "{\"results\":null}",
     "{\"results\":{}}",
     "{\"results\":[1]}",

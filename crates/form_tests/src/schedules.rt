@@ -130,7 +130,7 @@ const NO_STEPS: [&str; 34] = [
     "1",
     "[]",
     "{}",
-    "{\"serve\":{\"page\":1}}",
+    "{\"serve\":{\"page\":-1}}",
     "{\"serve\":{},\"lost\":{}}",
     "{\"lost\":{}}",
     "{\"interrupted\":{\"code\":1,\"labels\":[]}}",
