@@ -10,12 +10,15 @@ pub mod BulkSteps
 pub mod BulkTaken
 pub mod Distinct
 pub mod DistinctSums
+pub mod FailedReads
 pub mod FirstUses
 pub mod FreeResults
 pub mod JudgedPages
 pub mod NotedResults
 pub mod OpsMade
 pub mod PageCounts
+pub mod PartialTold
 pub mod ReadBulk
 pub mod ReadPages
+pub mod ReadRows
 pub mod TakenResults

@@ -8,5 +8,6 @@ pub mod BulkRules
 pub mod BulkSpec
 pub mod BulkWrites
 pub mod Distinct
+pub mod PartialEntries
 pub mod inside
 pub mod lawful
