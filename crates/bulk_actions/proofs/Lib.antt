@@ -8,6 +8,7 @@ pub mod BulkParts
 pub mod BulkPlanned
 pub mod BulkSequence
 pub mod BulkTold
+pub mod FailedBatches
 pub mod FewestBulk
 pub mod FewestRuns
 pub mod Following
@@ -15,4 +16,7 @@ pub mod OpRuns
 pub mod OpsLeft
 pub mod OpsSpelled
 pub mod OwnOps
+pub mod PartlyMerged
+pub mod PartlyTold
+pub mod PartsTaken
 pub mod SentOps

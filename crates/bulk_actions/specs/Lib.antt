@@ -5,4 +5,5 @@ pub mod BulkNumbers
 pub mod BulkTold
 pub mod FewestBulk
 pub mod OwnModels
+pub mod PartlyTold
 pub mod inside

@@ -195,10 +195,10 @@ module _ {R : Type 0} (tells : ResultSpec R) (target : OperationTarget) (first :
           let asker = send_of asked.context (More asked.cursor) in
           let there = traced (after_picks (exchanged server send step) asked.step.deliver) asker in
           let next = last_page there asked.cursor page found
-              (reply_of_more there asker asked.cursor refl asked.step.item page (subst (λ (s : Server). answered s asker asked.step ≡ Some page) same asked.came)) at in
+          (reply_of_more there asker asked.cursor refl asked.step.item page (subst (λ (s : Server). answered s asker asked.step ≡ Some page) same asked.came)) at in
           let before_picks = picks_left (exchanged server send step) asked.step.deliver asked.cursor next.left next.left_is in
           let here = left_open batch ordered writes written server send step asks done served_so reply is asked.cursor (opens.cursor_is ∙ told.cursor)
-              (subst (λ (c : ℤ). int_eq c (pos 0) ≡ false) (sym opens.cursor_is) going) in
+          (subst (λ (c : ℤ). int_eq c (pos 0) ≡ false) (sym opens.cursor_is) going) in
           let whole : next.left ≡ _ = some_is_some next.left _ (sym before_picks ∙ here) in
           documents_read writes done next.left found.results
           (λ document has. in_left served_so.plan.page _ document (subst (λ (l : List Reply). Has l document) whole has)) next.told.results

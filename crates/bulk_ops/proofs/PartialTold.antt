@@ -92,7 +92,7 @@ counted_among session number index (first ∷ writes) (told ∷ done) (suc at) w
 
 -- ---- results that are told
 -- what is found in a map with one value more is that, or was there before
-insert_either : {V : Type 0} (m : finite.FinMap nat_cmp V) (k : ℕ) (put : V) (q : ℕ) (v : V) → finite.get (finite.insert m k put) q ≡ Some v → ((q ≡ k) × (put ≡ v)) ⊎ (finite.get m q ≡ Some v)
+pub insert_either : {V : Type 0} (m : finite.FinMap nat_cmp V) (k : ℕ) (put : V) (q : ℕ) (v : V) → finite.get (finite.insert m k put) q ≡ Some v → ((q ≡ k) × (put ≡ v)) ⊎ (finite.get m q ≡ Some v)
 insert_either {V = V} m k put q v is = by_test (eq_by_cmp nat_cmp q k) refl (sym (finite.get-insert nat_cmp_total m k put q) ∙ is)
   where
     by_test : (tied : Bool) → eq_by_cmp nat_cmp q k ≡ tied → cond tied (Some put) (finite.get m q) ≡ Some v → ((q ≡ k) × (put ≡ v)) ⊎ (finite.get m q ≡ Some v)

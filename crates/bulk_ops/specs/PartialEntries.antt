@@ -17,6 +17,7 @@ pub record IndexedEntry : Type 0 where
   pub index : ℕ
   pub entry : Entry
 
+-- an entry at an index
 abbrev pub at_entry : ℕ → Entry → IndexedEntry
 at_entry index entry = record { index = index; entry = entry }
 
