@@ -8,6 +8,8 @@ pub mod BulkParts
 pub mod BulkPlanned
 pub mod BulkSequence
 pub mod BulkTold
+pub mod ErrorsSpelled
+pub mod ErrorsTaken
 pub mod FailedBatches
 pub mod FewestBulk
 pub mod FewestRuns

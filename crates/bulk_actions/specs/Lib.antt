@@ -3,6 +3,7 @@ pub mod BulkCalls
 pub mod BulkIds
 pub mod BulkNumbers
 pub mod BulkTold
+pub mod ErrorsTold
 pub mod FewestBulk
 pub mod OwnModels
 pub mod PartlyTold

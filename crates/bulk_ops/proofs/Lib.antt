@@ -10,6 +10,7 @@ pub mod BulkSteps
 pub mod BulkTaken
 pub mod Distinct
 pub mod DistinctSums
+pub mod FailedErrors
 pub mod FailedReads
 pub mod FirstUses
 pub mod FreeResults
