@@ -55,7 +55,7 @@ sums_append which number (e ∷ es) fs =
     ap (λ n. (if is_kind which e.written.kind then number e else pos 0) +ℤ n) (sums_append which number es fs)
     ∙ sym (+ℤ_assoc (if is_kind which e.written.kind then number e else pos 0) (sum_of_kind which number es) (sum_of_kind which number fs))
 
-counts_append : (es fs : List Entry) → counts_by (es ++ fs) ≡ added (counts_by es) (counts_by fs)
+pub counts_append : (es fs : List Entry) → counts_by (es ++ fs) ≡ added (counts_by es) (counts_by fs)
 counts_append es fs = λ i. five
     (sums_append does.Insert (λ entry. entry.result.n) es fs i)
     (sums_append does.Update matched_by es fs i)

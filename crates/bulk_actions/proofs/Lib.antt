@@ -16,6 +16,9 @@ pub mod BulkServed
 pub mod BulkTold
 pub mod BulkWell
 pub mod CursorsAhead
+pub mod ErrorsSpelled
+pub mod ErrorsTaken
+pub mod FailedBatches
 pub mod FewestBulk
 pub mod FewestRuns
 pub mod Following
@@ -23,5 +26,8 @@ pub mod OpRuns
 pub mod OpsLeft
 pub mod OpsSpelled
 pub mod OwnOps
+pub mod PartlyMerged
+pub mod PartlyTold
+pub mod PartsTaken
 pub mod SentOps
 pub mod SpelledQuestions

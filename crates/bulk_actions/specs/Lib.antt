@@ -4,6 +4,8 @@ pub mod BulkCompleteness
 pub mod BulkIds
 pub mod BulkNumbers
 pub mod BulkTold
+pub mod ErrorsTold
 pub mod FewestBulk
 pub mod OwnModels
+pub mod PartlyTold
 pub mod inside

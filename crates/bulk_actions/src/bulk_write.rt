@@ -7,8 +7,10 @@ ghost use Rattle.bulk_actions.specs.BulkCalls.{BulkCaused, MakesBulk};
 ghost use Rattle.bulk_actions.specs.BulkCompleteness.{CompletesBulk};
 ghost use Rattle.bulk_actions.specs.BulkNumbers.{RaisesByBulk};
 ghost use Rattle.bulk_actions.specs.BulkTold.{OkIsLogged};
+ghost use Rattle.bulk_actions.specs.ErrorsTold.{ErrTellsTruly};
 ghost use Rattle.bulk_actions.specs.FewestBulk.{OkIsFewestBulk};
 ghost use Rattle.bulk_actions.specs.OwnModels.{KeepsBulk};
+ghost use Rattle.bulk_actions.specs.PartlyTold.{ErrIsLogged};
 
 use crate::bulk_all::bulk_all;
 use bson_lite::{Bson, Document};
@@ -239,13 +241,14 @@ impl<'a, S: SessionStore, T: BulkWriteResult> BulkWrite<'a, S, T> {
     /// Makes the bulk write: its input is judged before anything is drawn or asked of the link, each inserted document without
     /// an id gets one, once, and the batches go out one after another (`makes`), and each end has its cause (`cause`). Model i
     /// has the place (`outside.call`, i). Where store and link tell, and the call may be made there, it keeps what stands
-    /// between the operations of one client (`keeps`), and an Ok is what the log spells (`logged`); where the server is told an
-    /// Ok was cut into no more batches than its limits ask for (`fewest`); and the numbers of idle sessions rise by one at most
-    /// for each batch into which the models are cut, where the server is told, and else for each model (`raises`). A valid one
-    /// whose part of the schedule is gentle answers Ok or want of memory (`complete`). Errors: InvalidArgument and
-    /// BsonSerialization for its input; BulkWrite for writes that failed, a write concern that was not met, or a later batch or a
-    /// page that failed behind what stands, which is then its source; InvalidResponse for sums of counts that leave 64 bits; want
-    /// of memory; and those of `execute_operation` at the first batch.
+    /// between the operations of one client (`keeps`), and an Ok is what the log spells (`logged`), and so is the partial
+    /// result of an error (`partial`), whose write errors are what the replies spell, those of all batches (`told`); where the
+    /// server is told an Ok was cut into no more batches than its limits ask for (`fewest`); and the numbers of idle sessions
+    /// rise by one at most for each batch into which the models are cut, where the server is told, and else for each model
+    /// (`raises`). A valid one whose part of the schedule is gentle answers Ok or want of memory (`complete`). Errors:
+    /// InvalidArgument and BsonSerialization for its input; BulkWrite for writes that failed, a write concern that was not met,
+    /// or a later batch or a page that failed behind what stands, which is then its source; InvalidResponse for sums of counts
+    /// that leave 64 bits; want of memory; and those of `execute_operation` at the first batch.
     pub fn run<L: Link, K: Clock, R: Rng>(
         self,
         alloc: Global,
@@ -267,6 +270,14 @@ impl<'a, S: SessionStore, T: BulkWriteResult> BulkWrite<'a, S, T> {
             (moment_of S.tells L.tells K.tells R.stream self.entry.client.now outside.old)
             (moment_of S.tells L.tells K.tells R.stream self.exit.0.now outside.new)
             self.entry.models.now outside.old.call result }
+        ensures partial { ErrIsLogged
+            (moment_of S.tells L.tells K.tells R.stream self.entry.client.now outside.old)
+            (moment_of S.tells L.tells K.tells R.stream self.exit.0.now outside.new)
+            self.entry.models.now outside.old.call result }
+        ensures told { ErrTellsTruly T.tells
+            (moment_of S.tells L.tells K.tells R.stream self.entry.client.now outside.old)
+            (moment_of S.tells L.tells K.tells R.stream self.exit.0.now outside.new)
+            self.entry.models.now self.entry.options outside.old.call result }
         ensures fewest { OkIsFewestBulk
             (moment_of S.tells L.tells K.tells R.stream self.entry.client.now outside.old)
             (moment_of S.tells L.tells K.tells R.stream self.exit.0.now outside.new)

@@ -10,13 +10,17 @@ pub mod BulkSteps
 pub mod BulkTaken
 pub mod Distinct
 pub mod DistinctSums
+pub mod FailedErrors
+pub mod FailedReads
 pub mod FirstUses
 pub mod FreeResults
 pub mod JudgedPages
 pub mod NotedResults
 pub mod OpsMade
 pub mod PageCounts
+pub mod PartialTold
 pub mod ReadBulk
 pub mod ReadPages
+pub mod ReadRows
 pub mod TakenResults
 pub mod WholePages

@@ -100,7 +100,7 @@ last_verdict rules errors first earlier page is =
     (open_never_last first (is_empty page.results)) is in
     record { ended = both.0; counted = closing_last (length (failed_indexes results) == errors) (are_complete rules results) both.1 }
 
-open_is_open : (rules : ResultRules) (errors : ℕ) (first : Bool) (earlier : List OpResult) (page : ResultsPage) → verdict rules errors first earlier page ≡ LeavesOpen
+pub open_is_open : (rules : ResultRules) (errors : ℕ) (first : Bool) (earlier : List OpResult) (page : ResultsPage) → verdict rules errors first earlier page ≡ LeavesOpen
     → int_eq page.cursor (pos 0) ≡ false
 unfolding verdict
 open_is_open rules errors first earlier page is =
@@ -125,11 +125,11 @@ module _ {R : Type 0} (batch : BulkBatch R) where
     clean : is_clean (first_read found) ≡ true
     is : output ≡ result_read batch (first_read found)
 
-  record OpensFurther (reply : Reply) (cursor : ℤ) : Type 0 where
-    found : BulkReply
-    read : bulk_reply reply ≡ Some found
-    open_is : first_verdict batch found ≡ LeavesOpen
-    cursor_is : cursor ≡ found.page.cursor
+  pub record OpensFurther (reply : Reply) (cursor : ℤ) : Type 0 where
+    pub found : BulkReply
+    pub read : bulk_reply reply ≡ Some found
+    pub open_is : first_verdict batch found ≡ LeavesOpen
+    pub cursor_is : cursor ≡ found.page.cursor
 
   opens_done : (reply : Reply) (output : R) → OpensBulk batch (bulk_reply reply) (Ok (Done output)) → OpensDone reply output
   opens_done reply output answers = by_fields (bulk_reply reply) refl answers
@@ -144,7 +144,7 @@ module _ {R : Type 0} (batch : BulkBatch R) where
       by_fields None read answers = absurd answers
       by_fields (Some found) read answers = by_verdict found read (first_verdict batch found) refl answers
 
-  opens_further : (reply : Reply) (cursor : ℤ) (namespace : Namespace) → OpensBulk batch (bulk_reply reply) (Ok (Further cursor namespace)) → OpensFurther reply cursor
+  pub opens_further : (reply : Reply) (cursor : ℤ) (namespace : Namespace) → OpensBulk batch (bulk_reply reply) (Ok (Further cursor namespace)) → OpensFurther reply cursor
   opens_further reply cursor namespace answers = by_fields (bulk_reply reply) refl answers
     where
       by_verdict : (found : BulkReply) → bulk_reply reply ≡ Some found → (judged : PageVerdict) → first_verdict batch found ≡ judged → OpensBy judged batch found (Ok (Further cursor namespace))
@@ -244,11 +244,11 @@ module _ {R : Type 0} (batch : BulkBatch R) (ordered : Bool) (writes : List Plac
     reply_is : reply ≡ write_reply command.BulkWrite served_so.plan.page served_so.plan.concern before.cursors writes done
     reply_is = is ∙ ap (λ body. body_reply body served_so.plan before.cursors done) asks
 
-    fields_are : (found : BulkReply) → bulk_reply reply ≡ Some found → HasFields (write_reply command.BulkWrite served_so.plan.page served_so.plan.concern before.cursors writes done) found
+    pub fields_are : (found : BulkReply) → bulk_reply reply ≡ Some found → HasFields (write_reply command.BulkWrite served_so.plan.page served_so.plan.concern before.cursors writes done) found
     fields_are found read =
         has_fields (write_reply command.BulkWrite served_so.plan.page served_so.plan.concern before.cursors writes done) found (ap bulk_reply (sym reply_is) ∙ read)
 
-    page_told : (found : BulkReply) → bulk_reply reply ≡ Some found → IsPageTold (cursor_number left before.cursors) (first_page served_so.plan.page all) found.page
+    pub page_told : (found : BulkReply) → bulk_reply reply ≡ Some found → IsPageTold (cursor_number left before.cursors) (first_page served_so.plan.page all) found.page
     page_told found read = page_read writes done served_so.plan.page served_so.plan.concern before.cursors found (fields_are found read)
 
     -- what its results are read as, where all of them came and none is missing
@@ -294,7 +294,7 @@ module _ {R : Type 0} (batch : BulkBatch R) (ordered : Bool) (writes : List Plac
         ∙ ap (λ body. cursors_with plan.page done body before.cursors) asks
 
     -- what is left of the cursor that the reply left open
-    left_open : (cursor : ℤ) → cursor ≡ pos (cursor_number left before.cursors) → int_eq cursor (pos 0) ≡ false → results_left cursor (exchanged server send step).cursors ≡ Some left
+    pub left_open : (cursor : ℤ) → cursor ≡ pos (cursor_number left before.cursors) → int_eq cursor (pos 0) ≡ false → results_left cursor (exchanged server send step).cursors ≡ Some left
     left_open cursor is going = by_left left refl
       where
         by_left : (rest : List Reply) → left ≡ rest → results_left cursor (exchanged server send step).cursors ≡ Some left

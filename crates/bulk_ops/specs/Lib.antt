@@ -9,5 +9,6 @@ pub mod BulkSpec
 pub mod BulkWrites
 pub mod Distinct
 pub mod NaturalCounts
+pub mod PartialEntries
 pub mod inside
 pub mod lawful

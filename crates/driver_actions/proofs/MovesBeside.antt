@@ -55,7 +55,7 @@ went_counted P told now keeps = record {
 }
 
 -- by those of two parts
-went_twice : (P : Send → Type 0) (told mid now : ServerRun) → Went P told mid → Went P mid now → Went P told now
+pub went_twice : (P : Send → Type 0) (told mid now : ServerRun) → Went P told mid → Went P mid now → Went P told now
 went_twice P told mid now first second = record {
   setup = second.setup ∙ first.setup;
   schedule = second.schedule ∙ first.schedule;
@@ -87,7 +87,7 @@ went_one P told send is = record {
 }
 
 -- by commands of cursors
-went_aside : (P : Send → Type 0) → ((send : Send) → IsAside send → P send) → (told now : ServerRun) (sends : List Send) → PassesAside told now sends → Went P told now
+pub went_aside : (P : Send → Type 0) → ((send : Send) → IsAside send → P send) → (told now : ServerRun) (sends : List Send) → PassesAside told now sends → Went P told now
 went_aside P may told now [] keeps = went_counted P told now keeps
 went_aside P may told now (send ∷ sends) passes =
     let mid = passes.0 in
@@ -109,10 +109,10 @@ went_sent P paged may told send is (suc count) now sends =
     (went_twice P mid (run_after mid send) now (went_one P mid send is) (went_by P paged may (run_after mid send) now sends.1.1))
 
 -- any send
-abbrev AnySend : Send → Type 0
+abbrev pub AnySend : Send → Type 0
 AnySend send = Unit {0}
 
-any_went : (paged : Bool) (told : ServerRun) (send : Send) (count : ℕ) (now : ServerRun) → SendsWhereTold paged told now send count → Went AnySend told now
+pub any_went : (paged : Bool) (told : ServerRun) (send : Send) (count : ℕ) (now : ServerRun) → SendsWhereTold paged told now send count → Went AnySend told now
 any_went paged told send count now sends = went_sent AnySend paged (λ found passes. tt) told send tt count now sends
 
 -- a call may send what carries its writes alone

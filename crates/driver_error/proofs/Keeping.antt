@@ -22,7 +22,7 @@ keeps (partly.Verbose a) (partly.Verbose b) (partly.Verbose c) one = one
 keeps (partly.Verbose a) q (partly.Summary c) one = absurd one
 
 -- so do results that may not be there
-both_keep : {R : Type 0} (tells : ResultSpec R) (p q : Option PartialBulkWriteResult) → IsOfKind tells p → IsOfKind tells q
+pub both_keep : {R : Type 0} (tells : ResultSpec R) (p q : Option PartialBulkWriteResult) → IsOfKind tells p → IsOfKind tells q
     → IsOfKind tells (merged_partials p q)
 both_keep tells None q mine theirs = theirs
 both_keep tells (Some p) None mine theirs = mine

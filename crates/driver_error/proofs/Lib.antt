@@ -1,7 +1,7 @@
 pub mod Chains
 pub mod Equality
 mod Failing
-mod Keeping
+pub mod Keeping
 pub mod LabelSets
 pub mod Merging
 pub mod Redacting

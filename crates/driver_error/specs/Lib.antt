@@ -7,6 +7,7 @@ pub mod Error
 pub mod Kinds
 pub mod LabelTexts
 pub mod Labelling
+pub mod PartialResults
 pub mod Predicates
 pub mod Redaction
 pub mod Shown

@@ -6,6 +6,7 @@ ghost use Rattle.driver_error.specs.BulkResults.{AddsCounts, AllFit, KeepsApart,
 ghost use Rattle.driver_error.specs.Conversions.{IsMade};
 ghost use Rattle.driver_error.specs.Error.{IsAlone};
 ghost use Rattle.driver_error.specs.LabelTexts.{no_labels};
+ghost use Rattle.driver_error.specs.PartialResults.{MakesPartial};
 
 use crate::error::{Error, Result};
 use crate::kind::ErrorKind;
@@ -89,6 +90,9 @@ pub trait BulkWriteResult: Drop {
 
     // How results are grouped as they are merged does not matter, and that of no write adds nothing.
     ghost merges: { MergesResults tells };
+
+    // What joins a result joins it as that of a bulk write that failed.
+    ghost makes_partial: { MakesPartial tells };
 }
 
 impl BulkWriteResult for SummaryBulkWriteResult {
@@ -104,6 +108,14 @@ impl BulkWriteResult for SummaryBulkWriteResult {
     ghost apart = { summary_apart };
 
     ghost merges = { summary_merges };
+
+    ghost makes_partial = { record {
+      begins = refl;
+      counted = λ now more. refl;
+      inserted = λ now index value. refl;
+      updated = λ now index value. refl;
+      deleted = λ now index value. refl;
+    } };
 
     fn empty(_alloc: Global) -> SummaryBulkWriteResult {
         SummaryBulkWriteResult {
@@ -180,6 +192,14 @@ impl BulkWriteResult for VerboseBulkWriteResult {
     ghost apart = { verbose_apart };
 
     ghost merges = { verbose_merges };
+
+    ghost makes_partial = { record {
+      begins = refl;
+      counted = λ now more. refl;
+      inserted = λ now index value. refl;
+      updated = λ now index value. refl;
+      deleted = λ now index value. refl;
+    } };
 
     fn empty(alloc: Global) -> VerboseBulkWriteResult {
         VerboseBulkWriteResult {

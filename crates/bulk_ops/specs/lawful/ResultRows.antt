@@ -1,29 +1,32 @@
--- What the machine's results documents are read as: one for each statement, at its position, with what it counted.
-use Rattle.std.proofs.Common.{◌≡◌, ℕ, ◌+◌, List, [], ◌∷◌, ◌++◌, map, refl, sym, ap, subst, ◌∙◌}
-use Rattle.std.specs.Prelude.{ℤ, pos, negsuc, Option, None, Some, is_some, unwrap_or}
+-- What the machine's results documents are read as: one for each statement, at its position, with what it counted or why it failed.
+use Rattle.std.proofs.Common.{◌≡◌, ℕ, ◌+◌, ◌^◌, Bool, true, false, List, [], ◌∷◌, ◌++◌, map, refl, sym, ap, subst, ◌∙◌}
+use Rattle.std.specs.Prelude.{ℤ, pos, negsuc, Option, None, Some, is_some, unwrap_or, if◌then◌else◌}
 use Rattle.std.specs.Option.{option_and_then, option_map}
 use Rattle.std.proofs.lemmas.Bool.{cond-false}
+use denote.Hole.Carrier.{out}
 use Rattle.bson_lite.specs.declared.bson.Bson.{Bson}
 use Rattle.bson_lite.specs.declared.bson.Bson as bson
 use Rattle.bson_lite.specs.declared.fields.TheConstants.{ID_KEY}
 use Rattle.bson_lite.specs.Fields.{value_of}
-use Rattle.driver_link.specs.declared.keys.TheConstants.{CODE, N, N_MODIFIED, RESULT_INDEX, UPSERTED}
+use Rattle.bson_lite.specs.Ranges.{fits}
+use Rattle.driver_error.specs.declared.write.WriteError.{WriteError}
+use Rattle.driver_link.specs.declared.keys.TheConstants.{CODE, N, N_MODIFIED, RESULT_INDEX, SCHEDULED, UPSERTED}
 use Rattle.driver_link.specs.declared.machine.PlacedWrite.{PlacedWrite}
 use Rattle.driver_link.specs.declared.machine.Statement.{Statement}
 use Rattle.driver_link.specs.declared.machine.Statement.TheVariants.{Kept, Ran, Failed}
 use Rattle.driver_link.specs.declared.machine.WriteKind.{WriteKind}
 use Rattle.driver_link.specs.declared.machine.WriteKind.TheVariants as kind
 use Rattle.driver_link.specs.Commands.{needed, optional_value}
-use Rattle.driver_link.specs.Cursors.{Reply, modified_field, row, rows, upsert_of_row}
+use Rattle.driver_link.specs.Cursors.{Reply, failure_row, modified_field, row, rows, upsert_of_row}
 use Rattle.driver_link.specs.Numbers.{field, reply_count, reply_number}
 use Rattle.driver_link.proofs.Forms.{document_is}
 use Rattle.driver_link.proofs.Lists.{none_is_some, some_is_some}
-use Rattle.driver_ops.specs.Readings.{natural, natural_of}
+use Rattle.driver_ops.specs.Readings.{natural, natural_of, small_of, text_in}
 use Rattle.driver_ops.specs.lawful.ReplyNumbers.{reply_number_is}
 use Rattle.bulk_ops.specs.declared.bulk_reply.OpOutcome.{OpOutcome}
 use Rattle.bulk_ops.specs.declared.bulk_reply.OpOutcome.TheVariants as came
 use Rattle.bulk_ops.specs.declared.bulk_reply.OpResult.{OpResult}
-use Rattle.bulk_ops.specs.BulkPages.{op_counts_in, op_outcome_in, op_result_in, op_result_of, op_results, upsert_of}
+use Rattle.bulk_ops.specs.BulkPages.{op_counts_in, op_error_in, op_outcome_in, op_result_in, op_result_of, op_results, upsert_of}
 
 -- documents as the values of an array
 abbrev pub as_values : List Reply → List Bson
@@ -176,19 +179,47 @@ counted_read at kind.FindAndModify (pos n) modified upserted told is = record {
   is = sym (some_is_some (at_index at (came.Counted n 0 upserted)) told is);
 }
 
--- what the document of a statement is read as: nothing is said of one that failed
+-- the error of a statement that failed, as a client reads it
+abbrev pub error_spelled : ℤ → WriteError
+error_spelled code = record { code = code; code_name = None; message = SCHEDULED.now; details = None }
+
+-- a code where it has 32 bits, and the outcome that it is read as
+abbrev small_where : Bool → ℤ → Option ℤ
+small_where small code = if small then Some code else None
+
+abbrev failed_where : Option ℤ → Option OpOutcome
+failed_where code = option_map (λ (error : WriteError). came.Failed error) (option_and_then (λ (number : ℤ). Some (error_spelled number)) code)
+
+failure_outcome : (at : ℕ) (code : ℤ) → op_outcome_in (failure_row at code) ≡ failed_where (small_where (fits (2 ^ 31) code) code)
+unfolding op_outcome_in op_error_in needed text_in optional_value small_of bson.out-Bson out
+failure_outcome at code = refl
+
+failure_read : (at : ℕ) (code : ℤ) → op_result_of (bson.Document (failure_row at code)) ≡ option_map (at_index at) (failed_where (small_where (fits (2 ^ 31) code) code))
+unfolding op_result_of op_result_in needed
+failure_read at code =
+    let document = failure_row at code in
+    ap (option_and_then op_result_in) (document_is document)
+    ∙ ap (option_and_then (λ index. option_map (at_index index) (op_outcome_in document))) (number_read (pos at))
+    ∙ ap (option_map (at_index at)) (failure_outcome at code)
+
+failed_by : (at : ℕ) (code : ℤ) (small : Bool) (told : OpResult) → option_map (at_index at) (failed_where (small_where small code)) ≡ Some told
+    → told ≡ at_index at (came.Failed (error_spelled code))
+failed_by at code true told is = sym (some_is_some (at_index at (came.Failed (error_spelled code))) told is)
+failed_by at code false told is = absurd (none_is_some told is)
+
+-- what the document of a statement is read as: what it counted, or the error that it failed with
 abbrev pub IsRowRead : ℕ → WriteKind → Statement → OpResult → Type 0
 IsRowRead at does (Kept result) told = IsCountedRead at does result.n result.modified result.upserted told
 IsRowRead at does (Ran result) told = IsCountedRead at does result.n result.modified result.upserted told
-IsRowRead at does (Failed code) told = Unit {0}
+IsRowRead at does (Failed code) told = told ≡ record { index = at; outcome = came.Failed (error_spelled code) }
 
-statement_read : (at : ℕ) (does : WriteKind) (statement : Statement) (told : OpResult) → op_result_of (bson.Document (row at does statement)) ≡ Some told
+pub statement_read : (at : ℕ) (does : WriteKind) (statement : Statement) (told : OpResult) → op_result_of (bson.Document (row at does statement)) ≡ Some told
     → IsRowRead at does statement told
 statement_read at does (Kept result) told is =
     counted_read at does result.n result.modified result.upserted told (sym (row_read at does result.n result.modified result.upserted) ∙ is)
 statement_read at does (Ran result) told is =
     counted_read at does result.n result.modified result.upserted told (sym (row_read at does result.n result.modified result.upserted) ∙ is)
-statement_read at does (Failed code) told is = tt
+statement_read at does (Failed code) told is = failed_by at code (fits (2 ^ 31) code) told (sym (failure_read at code) ∙ is)
 
 -- the documents of statements of writes are read so, one by one
 abbrev pub AreRowsRead : ℕ → List PlacedWrite → List Statement → List OpResult → Type 0

@@ -92,7 +92,7 @@ work_told tells work.Delete written entry index found changed now does is found_
 
 module _ {R : Type 0} (batch : BulkBatch R) (session : Option (List ℕ)) (number : Option ℤ) where
   -- where counts alone are kept nothing is added
-  outcome_passed : batch.tells.only_errors ≡ true → (index : ℕ) (told : OpOutcome) (now : R) → with_outcome batch index told now ≡ now
+  pub outcome_passed : batch.tells.only_errors ≡ true → (index : ℕ) (told : OpOutcome) (now : R) → with_outcome batch index told now ≡ now
   outcome_passed only index (came.Failed error) now = refl
   outcome_passed only index (came.Counted found changed upserted) now =
       ap (λ (b : Bool). if b then now else with_op batch.tells (slice_get batch.ops index) (batch.first + index) found changed upserted now) only
@@ -112,7 +112,7 @@ module _ {R : Type 0} (batch : BulkBatch R) (session : Option (List ℕ)) (numbe
       ∙ ap (λ (b : Bool). if b then now else with_op batch.tells (slice_get batch.ops at) (batch.first + at) counted.found counted.changed upserted now) keeps
       ∙ ap (λ (found : Option OwnOp). with_op batch.tells found (batch.first + at) counted.found counted.changed upserted now) there
 
-  step_told : batch.tells.only_errors ≡ false → (at : ℕ) (write : PlacedWrite) (result : Counted) (told : OpResult) (own : OwnOp) (now : R)
+  pub step_told : batch.tells.only_errors ≡ false → (at : ℕ) (write : PlacedWrite) (result : Counted) (told : OpResult) (own : OwnOp) (now : R)
       → slice_get batch.ops at ≡ Some own → DoesWrite own.work write.written → IsCountedRead at write.written.kind result.n result.modified result.upserted told
       → with_outcome batch told.index told.outcome now ≡ kind_told batch.tells write.written.kind (batch.first + at) (entry_of session number write result) now
   step_told keeps at write result told own now there does counted =

@@ -1,8 +1,9 @@
--- The pages behind a reply whose answer is an output are the model server's own.
+-- The pages behind a reply whose answer is an output are the model server's own; behind one that ended with an error those are that came.
 use Rattle.std.proofs.Common.{◌≡◌, ℕ, List, [], ◌∷◌, ◌++◌, refl, sym, ap, subst, ◌∙◌}
 use Rattle.std.specs.Prelude.{ℤ, Option, None, Some, Ok, Err}
 use Rattle.bson_lite.specs.declared.namespace.Namespace.{Namespace}
 use Rattle.bson_lite.specs.Spelling.{Spells}
+use Rattle.driver_error.specs.declared.error.Error.{Error}
 use Rattle.driver_link.specs.declared.machine.Schedule.{Schedule}
 use Rattle.driver_link.specs.declared.machine.Server.{Server}
 use Rattle.driver_link.specs.Cursors.{Reply}
@@ -48,14 +49,11 @@ module _ {A : Type 0} (spec : OperationSpec A) (lawful : IsLawful spec) (stateme
       subst (λ p. spec.reads statements (p ++ Ok reply ∷ []) (Ok (Further cursor namespace))) are
       (subst (λ (r : Reply). spec.reads statements (pages ++ Ok r ∷ []) (Ok (Further cursor namespace))) (spells_one left.response.body reply bytes left.done.spelled spelled) left.reads)
 
-  pub pages_came : (pages : List Page) (now : ServerRun) → GivesPages spec statements session bytes told now pages
-      → (behind : List Page) (reading : Reading A) → spec.reads statements (pages ++ behind) (Ok reading) → Came pages now
-  pages_came [] now keeps behind reading reads = record { replies = []; are = refl; further = keeps.server }
-  pages_came (Err failure ∷ pages) now gives behind reading reads = absurd (lawful.failed statements failure (pages ++ behind) reading reads)
-  pages_came (Ok page ∷ pages) now gives behind reading reads =
+  -- with one page more that came
+  came_more : (page : Reply) (pages : List Page) (now : ServerRun) (gives : GivesPages spec statements session bytes told now (Ok page ∷ pages)) → Came pages gives.0 → Came (Ok page ∷ pages) now
+  came_more page pages now gives earlier =
       let given = gives.1.1 in
       let before = gives.0 in
-      let earlier = pages_came pages before gives.1.0 (Ok given.left.response.body ∷ []) (Further given.cursor given.namespace) given.left.reads in
       let own = is_own given.cursor before now page given.answers in record {
         replies = page ∷ earlier.replies;
         are = ap (λ rest. Ok page ∷ rest) earlier.are;
@@ -74,4 +72,41 @@ module _ {A : Type 0} (spec : OperationSpec A) (lawful : IsLawful spec) (stateme
             },
           ),
         );
+      }
+
+  pub pages_came : (pages : List Page) (now : ServerRun) → GivesPages spec statements session bytes told now pages
+      → (behind : List Page) (reading : Reading A) → spec.reads statements (pages ++ behind) (Ok reading) → Came pages now
+  pages_came [] now keeps behind reading reads = record { replies = []; are = refl; further = keeps.server }
+  pages_came (Err failure ∷ pages) now gives behind reading reads = absurd (lawful.failed statements failure (pages ++ behind) reading reads)
+  pages_came (Ok page ∷ pages) now gives behind reading reads =
+      let left = gives.1.1.left in
+      came_more page pages now gives (pages_came pages gives.0 gives.1.0 (Ok left.response.body ∷ []) (Further gives.1.1.cursor gives.1.1.namespace) left.reads)
+
+  -- those before a page that came or failed
+  before_came : (page : Page) (pages : List Page) (now : ServerRun) (gives : GivesPages spec statements session bytes told now (page ∷ pages)) → Came pages gives.0
+  before_came page pages now gives =
+      let left = gives.1.1.left in
+      pages_came pages gives.0 gives.1.0 (Ok left.response.body ∷ []) (Further gives.1.1.cursor gives.1.1.namespace) left.reads
+
+  -- so where the newest page came all are the machine's
+  pub newest_came : (page : Reply) (pages : List Page) (now : ServerRun) → GivesPages spec statements session bytes told now (Ok page ∷ pages) → Came (Ok page ∷ pages) now
+  newest_came page pages now gives = came_more page pages now gives (before_came (Ok page) pages now gives)
+
+  -- and where it failed those before it are, which left their cursor open
+  pub record CameOpen (pages : List Page) : Type 0 where
+    pub mid : ServerRun
+    pub came : Came pages mid
+    pub cursor : ℤ
+    pub namespace : Namespace
+    pub left : spec.reads statements (as_pages came.replies ++ Ok reply ∷ []) (Ok (Further cursor namespace))
+
+  pub behind_failed : (failure : Error) (pages : List Page) (now : ServerRun) → GivesPages spec statements session bytes told now (Err failure ∷ pages) → CameOpen pages
+  behind_failed failure pages now gives =
+      let given = gives.1.1 in
+      let earlier = before_came (Err failure) pages now gives in record {
+        mid = gives.0;
+        came = earlier;
+        cursor = given.cursor;
+        namespace = given.namespace;
+        left = left_open pages earlier.replies given.cursor given.namespace earlier.are given.left;
       }
