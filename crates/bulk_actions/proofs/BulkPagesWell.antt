@@ -30,25 +30,21 @@ use Rattle.driver_link.proofs.Unnumbered.{case_without}
 use Rattle.driver_ops.specs.declared.operation.Reading.TheVariants.{Page as Further}
 use Rattle.driver_ops.specs.Fields.{executor_fields, under}
 use Rattle.driver_ops.specs.GetMores.{at_namespace, more_command, more_spec}
-use Rattle.driver_ops.specs.OperationLaw.{FurtherPages, as_pages}
 use Rattle.driver_ops.specs.Operations.{IsUnframed, LeavesCursor, OperationSpec, Page}
 use Rattle.driver_ops.specs.lawful.InsertRead.{differ, spells_one}
 use Rattle.driver_ops.proofs.PlainReading.{only_memory}
 use Rattle.bulk_ops.specs.declared.own_op.OwnOp.{OwnOp}
 use Rattle.bulk_ops.specs.BulkAnswers.{AnswersBulk, BulkBatch}
-use Rattle.bulk_ops.specs.BulkLawful.{bulk_lawful, no_third}
 use Rattle.bulk_ops.specs.BulkPages.{bulk_namespace}
 use Rattle.bulk_ops.specs.BulkSpec.{admin_target, batch_read, bulk_spec}
 use Rattle.bulk_ops.specs.lawful.CursorPages.{reply_of_cursor}
 use Rattle.bulk_ops.proofs.WholePages as whole
-use Rattle.driver_attempt.specs.AttemptExchanges.{AsksPage, AsksPages, EndsPages, PageAsked, PageCame, pages_of}
+use Rattle.driver_attempt.specs.AttemptExchanges.{AsksPage, AsksPages, EndsPages, PageAsked, PageCame}
 use Rattle.driver_exec.specs.Gentle.{IsGentlePart}
-use Rattle.driver_exec.specs.Resending.{GivesPages, more_send}
+use Rattle.driver_exec.specs.Resending.{more_send}
 use Rattle.driver_exec.proofs.Completeness.Ends.{AnswersPlainly, FailsBehind}
 use Rattle.driver_exec.proofs.Completeness.Questions.{question_well}
-use Rattle.driver_exec.proofs.InvariantSteps.CamePages as came
-use Rattle.driver_exec.proofs.Moments.{IsBefore, after_before, asked_leads, before_twice, one_moment, pages_end_leads, pages_lead}
-use Rattle.driver_exec.proofs.PassesBy.{GivesLink, asks_give}
+use Rattle.driver_exec.proofs.Moments.{IsBefore, after_before, asked_leads, before_twice, one_moment, pages_end_leads}
 use Rattle.bulk_actions.specs.BulkCompleteness.{NoneAhead, ServesBulk, WaitsWithin}
 use Rattle.bulk_actions.proofs.BulkServed.{MayGoBulk, MeetsBulk, meets_bulk, rows_long}
 use Rattle.bulk_actions.proofs.SpelledQuestions.{spells_questions}

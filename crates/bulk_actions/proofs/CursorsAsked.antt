@@ -1,6 +1,6 @@
 -- Behind the reply to a bulk write only a cursor is asked for, or ended, that the server opened: whatever the schedule does, the machine's own
 -- reply tells no other, and behind the next page it tells none.
-use Rattle.std.proofs.Common.{◌≡◌, ℕ, ◌+◌, ◌≤◌, Bool, true, false, List, [], ◌∷◌, ◌++◌, length, length-append, refl, sym, ap, subst, ◌∙◌, inl, inr, arith}
+use Rattle.std.proofs.Common.{◌≡◌, ℕ, Bool, true, false, List, [], ◌∷◌, ◌++◌, length, refl, sym, subst, ◌∙◌, inl, inr}
 use Rattle.std.specs.Prelude.{ℤ, pos, ◌≤ℤ◌, Option, None, Some, Result, Ok, Err}
 use Rattle.bson_lite.specs.declared.namespace.Namespace.{Namespace}
 use Rattle.bson_lite.specs.Spelling.{Spells}

@@ -2,17 +2,18 @@
 -- that asks for none.
 use Rattle.std.proofs.Common.{◌≡◌, ℕ, ◌≤◌, Bool, true, false, List, [], ◌∷◌, ◌++◌, length, refl, ap, inl, inr, arith}
 use Rattle.std.specs.Prelude.{ℤ, Option, None, Some, if◌then◌else◌}
+use Rattle.std.specs.FinMap as finite
 use Rattle.driver_link.specs.declared.machine.Item.{Item}
 use Rattle.driver_link.specs.declared.machine.Item.TheVariants.{Serve, Lost, Late, ReplyLost, Interrupted, Refused, Reauthenticate}
 use Rattle.driver_link.specs.declared.machine.Schedule.{Schedule}
 use Rattle.driver_link.specs.declared.machine.Scheduled.{Scheduled}
 use Rattle.driver_link.specs.declared.machine.Send.{Send}
 use Rattle.driver_link.specs.declared.machine.Server.{Server}
-use Rattle.driver_link.specs.Cases.{case_of, is_decided, is_in_transaction}
+use Rattle.driver_link.specs.Cases.{case_of, is_decided, is_in_transaction, known_under}
 use Rattle.driver_link.specs.Cursors.{Reply}
 use Rattle.driver_link.specs.Exchange.{after_picks, empty_server, exchanged, interrupted, interrupted_labels, met, next_step, plan_of, refused_labels, replayed, traced}
 use Rattle.driver_link.specs.Honesty.{has_transient}
-use Rattle.driver_link.specs.Interrupting.{interrupted_in, interruption, told_of_error, transient_as}
+use Rattle.driver_link.specs.Interrupting.{aborted, interrupted_in, interruption, told_of_error, transient_as}
 use Rattle.driver_link.specs.Serving.{Plan, served, usual}
 use Rattle.driver_link.specs.Settled.{Has, IsWrite}
 use Rattle.driver_link.proofs.Lists.{none_is_some}
@@ -23,6 +24,10 @@ use Rattle.bulk_actions.proofs.CursorsAhead.{body_within, late_ahead, picks_ahea
 pub record GoesBehind (old now : Server) : Type 0 where
   pub more : length old.cursors ≤ length now.cursors
   pub none : NoneAhead old → NoneAhead now
+
+-- so many are as many
+no_fewer : (count : ℕ) → count ≤ count
+no_fewer count = omega arith
 
 -- where what waits is the same
 same_behind : (old now : Server) → now.waiting ≡ old.waiting → length old.cursors ≤ length now.cursors → GoesBehind old now
@@ -58,7 +63,8 @@ interruption_behind most server send = untouched_behind server (interruption mos
 transient_behind : (session : Option (List ℕ)) (number : Option ℤ) (server : Server) (send : Send) → GoesBehind server (transient_as session number server send)
 unfolding transient_as
 transient_behind (Some id) (Some number) server send =
-    either_behind (is_in_transaction send) server _ server (untouched_behind server _ refl refl) (untouched_behind server server refl refl)
+    let there : Server = record server { sessions = finite.insert server.sessions id (aborted (known_under id number server send)) } in
+    either_behind (is_in_transaction send) server there server (untouched_behind server there refl refl) (untouched_behind server server refl refl)
 transient_behind (Some id) None server send = untouched_behind server server refl refl
 transient_behind None number server send = untouched_behind server server refl refl
 
@@ -77,7 +83,7 @@ interrupted_behind most labels server send =
 
 -- by one that is to arrive late
 late_behind : (server : Server) (send : Send) → AsksWithin (length server.cursors) send.body → GoesBehind server (record server { waiting = server.waiting ++ Some send ∷ [] })
-late_behind server send within = record { more = omega arith; none = λ none. late_ahead server send within none }
+late_behind server send within = record { more = no_fewer (length server.cursors); none = λ none. late_ahead server send within none }
 
 -- so by each item
 met_behind : (server : Server) (send : Send) (item : Item) → AsksWithin (length server.cursors) send.body → GoesBehind server (met server send item)
