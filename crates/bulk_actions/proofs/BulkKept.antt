@@ -31,6 +31,8 @@ use Rattle.bulk_actions.specs.BulkIds.{DrawsModelId, DrawsModelIds, PreparesOps}
 use Rattle.bulk_actions.specs.OwnModels.{IsOwnModel, KeepsBulk, KeepsBulkWhereTold}
 use Rattle.bulk_actions.proofs.BulkBodies.{accepted_undotted}
 use Rattle.bulk_actions.proofs.BulkPlanned.{EachModel, GoodModels, IsOfModel, bulk_planned}
+use Rattle.bulk_actions.proofs.CursorsAsked.{TellsBehind}
+use Rattle.bulk_actions.proofs.CursorsLeft.{batches_behind, behind_told}
 
 -- a model is the caller's at an index, its inserted document with its id
 pub record IsGivenModel (models : List WriteModel) (index : ℕ) (sent : WriteModel) : Type 0 where
@@ -128,6 +130,11 @@ module _ {R : Type 0} (tells : ResultSpec R) (before now : Moment) (models : Lis
       (batches_move true (bulk_plan tells options) call (GoodModels (IsGivenModel models)) (IsOfModel (IsGivenModel models) call) (bulk_planned tells options call (IsGivenModel models)) (EndsShort tells made.ends result) made.ends
       0 made.own good made.mid now made.batches)
 
+  -- nothing that waits is ahead behind it, where nothing was before
+  pub made_behind : TellsBehind before.link → TellsBehind now.link
+  made_behind here =
+      batches_behind tells options call (IsGivenModel models) (EndsShort tells made.ends result) made.ends 0 made.own good made.mid now (subst (λ m. TellsBehind m.link) (sym made.rest) here) made.batches
+
   -- over a told pool and a told server, before which all stands, where the call is new
   module _ (pool pool_now : Pool) (run run_now : ServerRun) (pool_is : before.store.pool ≡ Some pool) (pool_now_is : now.store.pool ≡ Some pool_now) (run_is : server_run before.link ≡ Some run)
       (run_now_is : server_run now.link ≡ Some run_now) (may : MayWriteCall pool pool_now run call) where
@@ -159,6 +166,7 @@ module _ {R : Type 0} (tells : ResultSpec R) (before now : Moment) (models : Lis
               | inl earlier ↦ inl earlier
               | inr own ↦ inr (λ at write stands. own_model models call write (own at write stands))
             ];
+            cursors = λ none. behind_told now.link run_now run_now_is (made_behind tells before now models options call result made (run, (run_is, none)));
           }
       of_told None pool_now run run_now pool_is pool_now_is run_is run_now_is = tt
       of_told (Some pool) None run run_now pool_is pool_now_is run_is run_now_is = tt
@@ -175,7 +183,7 @@ module _ {R : Type 0} (tells : ResultSpec R) (before now : Moment) (models : Lis
       of_told : (pool : Option Pool) (run : Option ServerRun) → KeepsBulkWhereTold models pool pool run run call
       of_told None run = tt
       of_told (Some pool) None = tt
-      of_told (Some pool) (Some run) = λ may. record { between = may.between; sound = may.sound; which = λ send has. inl has }
+      of_told (Some pool) (Some run) = λ may. record { between = may.between; sound = may.sound; which = λ send has. inl has; cursors = λ none. none }
 
   -- so each keeps what stands
   pub bulk_keeps : (result : Result R Error) → MakesBulk tells before now models options call result → KeepsBulk before now models call
@@ -183,4 +191,12 @@ module _ {R : Type 0} (tells : ResultSpec R) (before now : Moment) (models : Lis
   bulk_keeps (Err error) makes = elim makes [
     | inl unmade ↦ unmade_keeps (drew_by before now unmade.rest (unmade_ids before now models options error unmade.prepares))
     | inr made ↦ made_keeps (Err error) made
+  ]
+
+  -- and nothing that waits is ahead behind it, where nothing was before, whatever is told of pools
+  pub bulk_behind : (result : Result R Error) → MakesBulk tells before now models options call result → TellsBehind before.link → TellsBehind now.link
+  bulk_behind (Ok output) made here = made_behind tells before now models options call (Ok output) made here
+  bulk_behind (Err error) makes here = elim makes [
+    | inl unmade ↦ subst (λ m. TellsBehind m.link) (sym unmade.rest) here
+    | inr made ↦ made_behind tells before now models options call (Err error) made here
   ]

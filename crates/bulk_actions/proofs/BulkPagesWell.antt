@@ -30,29 +30,26 @@ use Rattle.driver_link.proofs.Unnumbered.{case_without}
 use Rattle.driver_ops.specs.declared.operation.Reading.TheVariants.{Page as Further}
 use Rattle.driver_ops.specs.Fields.{executor_fields, under}
 use Rattle.driver_ops.specs.GetMores.{at_namespace, more_command, more_spec}
-use Rattle.driver_ops.specs.OperationLaw.{FurtherPages, as_pages}
 use Rattle.driver_ops.specs.Operations.{IsUnframed, LeavesCursor, OperationSpec, Page}
 use Rattle.driver_ops.specs.lawful.InsertRead.{differ, spells_one}
 use Rattle.driver_ops.proofs.PlainReading.{only_memory}
 use Rattle.bulk_ops.specs.declared.own_op.OwnOp.{OwnOp}
 use Rattle.bulk_ops.specs.BulkAnswers.{AnswersBulk, BulkBatch}
-use Rattle.bulk_ops.specs.BulkLawful.{bulk_lawful, no_third}
 use Rattle.bulk_ops.specs.BulkPages.{bulk_namespace}
 use Rattle.bulk_ops.specs.BulkSpec.{admin_target, batch_read, bulk_spec}
 use Rattle.bulk_ops.specs.lawful.CursorPages.{reply_of_cursor}
 use Rattle.bulk_ops.proofs.WholePages as whole
-use Rattle.driver_attempt.specs.AttemptExchanges.{AsksPage, AsksPages, EndsPages, PageAsked, PageCame, pages_of}
+use Rattle.driver_attempt.specs.AttemptExchanges.{AsksPage, AsksPages, EndsPages, PageAsked, PageCame}
 use Rattle.driver_exec.specs.Gentle.{IsGentlePart}
-use Rattle.driver_exec.specs.Resending.{GivesPages, more_send}
+use Rattle.driver_exec.specs.Resending.{more_send}
 use Rattle.driver_exec.proofs.Completeness.Ends.{AnswersPlainly, FailsBehind}
 use Rattle.driver_exec.proofs.Completeness.Questions.{question_well}
-use Rattle.driver_exec.proofs.InvariantSteps.CamePages as came
-use Rattle.driver_exec.proofs.Moments.{IsBefore, after_before, asked_leads, before_twice, one_moment, pages_end_leads, pages_lead}
-use Rattle.driver_exec.proofs.PassesBy.{GivesLink, asks_give}
-use Rattle.bulk_actions.specs.BulkCompleteness.{ServesBulk, WaitsWithin}
+use Rattle.driver_exec.proofs.Moments.{IsBefore, after_before, asked_leads, before_twice, one_moment, pages_end_leads}
+use Rattle.bulk_actions.specs.BulkCompleteness.{NoneAhead, ServesBulk, WaitsWithin}
 use Rattle.bulk_actions.proofs.BulkServed.{MayGoBulk, MeetsBulk, meets_bulk, rows_long}
 use Rattle.bulk_actions.proofs.SpelledQuestions.{spells_questions}
-use Rattle.bulk_actions.proofs.CursorsAhead.{NoneAhead, left_of_number, picks_ahead, picks_keep}
+use Rattle.bulk_actions.proofs.CursorsAhead.{left_of_number, picks_ahead, picks_keep}
+use Rattle.bulk_actions.proofs.CursorsAsked.{none_behind}
 
 -- an item that serves a send gives a reply
 serves_replies : (server : Server) (send : Send) (item : Item) → ServesBulk send item → reply server send item ≡ None → ⊥
@@ -204,28 +201,7 @@ module _ {R : Type 0} (tells : ResultSpec R) (options : BulkWriteOptions) (index
           whole.left_open meets.page mid.cursors writes meets.done meets.all batch each cursor namespace
           (subst (λ (r : Reply). AnswersBulk batch (Ok r ∷ []) (Ok (Further cursor namespace))) (spells_one leaves.response.body given bytes leaves.done.spelled spelled) leaves.reads)
 
-      -- the machine's own pages leave nothing open
-      third_none : (replies : List Reply) (page : Page) (pages : List Page) (last : Server) → page ∷ pages ≡ as_pages replies → FurtherPages spec count given (run_after before send).server replies last
-          → (cursor : ℤ) (namespace : Namespace) → AnswersBulk batch (as_pages replies ++ Ok given ∷ []) (Ok (Further cursor namespace)) → ⊥
-      third_none [] page pages last are further cursor namespace answers = absurd (let e : ◌≡◌ {A = List Page} (page ∷ pages) [] = are in cc)
-      third_none (first ∷ replies) page pages last are further cursor namespace answers =
-          no_third tells admin_target index own options count given first replies (run_after before send).server last cursor namespace further answers
-
       module _ (session : Option (List ℕ)) (conn : Conn) (link : LinkState) (link_is : server_run link ≡ Some (run_after before send)) where
-        -- so behind one question there is no other
-        none_behind : (one : PageAsked) (rest : List PageAsked) (now : LinkState) → AsksPages spec count bytes conn session link (one ∷ rest) now → (cursor : ℤ) (namespace : Namespace)
-            → LeavesCursor spec count bytes (pages_of (one ∷ rest)) cursor namespace → ⊥
-        none_behind one rest now asks cursor namespace leaves =
-            let told_here = run_after before send in
-            let lawful = bulk_lawful tells admin_target index own options in
-            let leads = pages_lead spec count bytes conn session told_here link link_is (one ∷ rest) now asks in
-            let gives : GivesPages spec count session bytes told_here leads.moment (pages_of (one ∷ rest))
-            = subst (λ r. GivesLink spec count bytes session r (Some leads.moment) (pages_of (one ∷ rest))) link_is
-            (subst (λ r. GivesLink spec count bytes session (server_run link) r (pages_of (one ∷ rest))) leads.is (asks_give spec count bytes conn session link (one ∷ rest) now asks)) in
-            let found = came.pages_came spec lawful count session bytes given spelled told_here (pages_of (one ∷ rest)) leads.moment gives (Ok leaves.response.body ∷ []) (Further cursor namespace) leaves.reads in
-            third_none found.replies one.page (pages_of rest) leads.moment.server found.are found.further cursor namespace
-            (came.left_open spec lawful count session bytes given spelled told_here (pages_of (one ∷ rest)) found.replies cursor namespace found.are leaves)
-
         module _ (error : Error) (after : LinkState) (end : ServerRun) (after_is : server_run after ≡ Some end) (since : IsBefore told before) (until : IsBefore end told_now) where
           -- what is read with one page behind the reply
           read_with : (one : PageAsked) (now : LinkState) (page : Page) → one.page ≡ page → ((bare : Error) → spec.reads count (page ∷ Ok given ∷ []) (Err bare) → kind_of bare ≡ kind.Memory)
@@ -274,7 +250,8 @@ module _ {R : Type 0} (tells : ResultSpec R) (options : BulkWriteOptions) (index
           asked_memory [] now asks ends =
               only_memory spec count bytes given (whole.reply_done meets.page mid.cursors writes meets.done meets.all) spelled first_plain error ends.0
           asked_memory (one ∷ []) now asks ends = one_memory one now (subst (λ l. AsksPage conn session l now one) asks.1.0 asks.1.2) asks.1.1 ends
-          asked_memory (one ∷ (older ∷ rest)) now asks ends = absurd (none_behind older rest asks.0 asks.1.0 one.cursor one.namespace asks.1.1)
+          asked_memory (one ∷ (older ∷ rest)) now asks ends =
+              absurd (none_behind tells options index own count before send bytes given spelled session conn link link_is older rest asks.0 asks.1.0 one.cursor one.namespace asks.1.1)
 
       -- so behind such a reply no error is read but want of memory
       pub behind_memory : (session : Option (List ℕ)) (end : ServerRun) (error : Error) → IsBefore told before → IsBefore end told_now

@@ -45,14 +45,13 @@ use Rattle.driver_actions.proofs.PlannedBatches as planned
 use Rattle.driver_actions.proofs.PlannedBatches.{IsNewFrom, fixed_or_one, is_fixed_or_one, mid_told, next_new, run_told}
 use Rattle.bulk_actions.specs.BulkBatches.{ComesTo, StandsBehind, Takes, bulk_plan, end_goes_on}
 use Rattle.bulk_actions.specs.BulkCalls.{AnswersStanding}
-use Rattle.bulk_actions.specs.BulkCompleteness.{ServesBulk}
+use Rattle.bulk_actions.specs.BulkCompleteness.{NoneAhead, ServesBulk}
 use Rattle.bulk_actions.specs.BulkNumbers.{numbers_for}
 use Rattle.bulk_actions.proofs.BulkKept.{IsGivenModel}
 use Rattle.bulk_actions.proofs.BulkNumbers.{plan_numbers}
 use Rattle.bulk_actions.proofs.BulkPlanned.{GoodModels, IsOfModel, bulk_asks, bulk_body, bulk_planned}
 use Rattle.bulk_actions.proofs.BulkTold.{AreSent, IsSuccess, batch_entries, later_with, result_in, sent_append, sent_length, takes_ok, with_append, with_entries}
 use Rattle.bulk_actions.proofs.BulkWell.{KnownBulk, Repeats, batch_before, well_within}
-use Rattle.bulk_actions.proofs.CursorsAhead.{NoneAhead}
 use Rattle.bulk_actions.proofs.FewestBulk.{as_many}
 use Rattle.bulk_actions.proofs.OpRuns.{some_number}
 use Rattle.bulk_ops.proofs.BulkFronts.{length_sized}

@@ -24,8 +24,8 @@ use Rattle.driver_exec.specs.Gentle.{IsGentlePart, IsLossy, IsOfPart}
 use Rattle.driver_exec.specs.Resending.{PassesAside, SendsWhereTold}
 use Rattle.driver_actions.specs.ManyCompleteness.{CarrySame}
 use Rattle.driver_actions.proofs.GentleParts.{before_more}
-use Rattle.bulk_actions.specs.BulkCompleteness.{BulkRepeats, RepeatsFrom, ServesBulk}
-use Rattle.bulk_actions.proofs.CursorsAhead.{NoneAhead, exchanged_ahead}
+use Rattle.bulk_actions.specs.BulkCompleteness.{BulkRepeats, NoneAhead, RepeatsFrom, ServesBulk}
+use Rattle.bulk_actions.proofs.CursorsAhead.{exchanged_ahead}
 
 -- ---- elements of lists by their places
 get_either : {A : Type 0} (xs ys : List A) (at : ℕ) (x : A) → slice_get (xs ++ ys) at ≡ Some x → (slice_get xs at ≡ Some x) ⊎ ((k : ℕ) × (slice_get ys k ≡ Some x))
@@ -43,7 +43,7 @@ get_below (y ∷ xs) zero x is = omega arith
 get_below (y ∷ xs) (suc at) x is = let less = get_below xs at x is in omega (arith, less)
 
 -- ---- what went out
-replayed_join : (schedule : Schedule) (server : Server) (xs ys : List Send) → replayed schedule server (xs ++ ys) ≡ replayed schedule (replayed schedule server xs) ys
+pub replayed_join : (schedule : Schedule) (server : Server) (xs ys : List Send) → replayed schedule server (xs ++ ys) ≡ replayed schedule (replayed schedule server xs) ys
 unfolding replayed
 replayed_join schedule server [] ys = refl
 replayed_join schedule server (x ∷ xs) ys = replayed_join schedule (exchanged server x (next_step schedule server)) xs ys

@@ -58,7 +58,7 @@ use Rattle.driver_actions.proofs.GentleParts.{part_gentle}
 use Rattle.driver_actions.proofs.PlannedBatches as planned
 use Rattle.driver_actions.proofs.PlannedBatches.{IsNewFrom, fixed_or_one, is_fixed_or_one, standing_may_send}
 use Rattle.bulk_actions.specs.BulkBatches.{bulk_plan}
-use Rattle.bulk_actions.specs.BulkCompleteness.{BulkRepeats, HaveFewNamespaces, RepeatsFrom, ServesBulk, TakesModels, bulk_concern, own_of_models}
+use Rattle.bulk_actions.specs.BulkCompleteness.{BulkRepeats, HaveFewNamespaces, NoneAhead, RepeatsFrom, ServesBulk, TakesModels, bulk_concern, own_of_models}
 use Rattle.bulk_actions.specs.BulkNumbers.{sized_with_ids}
 use Rattle.bulk_actions.proofs.BulkFit.{bulk_unrefused}
 use Rattle.bulk_actions.proofs.BulkKept.{IsGivenModel}
@@ -66,7 +66,7 @@ use Rattle.bulk_actions.proofs.BulkPagesWell.{behind_memory, bulk_plain}
 use Rattle.bulk_actions.proofs.BulkPlanned.{GoodModels, IsOfModel, bulk_asks, bulk_body, bulk_planned, bulk_stands}
 use Rattle.bulk_actions.proofs.BulkSends.{Replays, ahead_behind, lossy_alike, replays_sends}
 use Rattle.bulk_actions.proofs.BulkServed.{MayGoBulk, bulk_again, usual_natural}
-use Rattle.bulk_actions.proofs.CursorsAhead.{NoneAhead, exchanged_ahead}
+use Rattle.bulk_actions.proofs.CursorsAhead.{exchanged_ahead}
 use Rattle.bulk_actions.proofs.FewestBulk.{as_many, sizes_left}
 use Rattle.bulk_ops.specs.NaturalCounts.{IsNatural}
 use Rattle.driver_actions.proofs.KeptCounts.{first_under}

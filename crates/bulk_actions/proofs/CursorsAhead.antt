@@ -20,7 +20,7 @@ use Rattle.driver_link.specs.Exchange.{after_picks, arrived, delivered, exchange
 use Rattle.driver_link.specs.Serving.{Plan, cursors_after, done_in, served, served_in, usual}
 use Rattle.driver_link.specs.Settled.{IsWrite}
 use Rattle.driver_link.proofs.Lists.{earlier_or_last, none_is_some, set_none, some_is_some}
-use Rattle.bulk_actions.specs.BulkCompleteness.{AsksWithin, ServesBulk, WaitsWithin}
+use Rattle.bulk_actions.specs.BulkCompleteness.{AsksWithin, NoneAhead, ServesBulk, WaitsWithin}
 use Rattle.driver_exec.specs.Gentle.{IsLossy}
 
 -- ---- what a send makes of the cursors
@@ -88,13 +88,13 @@ pub served_more : (plan : Plan) (server : Server) (send : Send) → length serve
 unfolding served served_in
 served_more plan server send = case_more (case_of server send) plan.page (done_in (case_of server send) plan (results_of (known_of server send)) send.body) send server
 
-served_waits : (plan : Plan) (server : Server) (send : Send) → (served plan server send).waiting ≡ server.waiting
+pub served_waits : (plan : Plan) (server : Server) (send : Send) → (served plan server send).waiting ≡ server.waiting
 unfolding served served_in
 served_waits plan server send = refl
 
 -- ---- what waits
 module _ (opened : ℕ) where
-  same_waits : (old now : Server) → now.waiting ≡ old.waiting → WaitsWithin opened old → WaitsWithin opened now
+  pub same_waits : (old now : Server) → now.waiting ≡ old.waiting → WaitsWithin opened old → WaitsWithin opened now
   same_waits old now same waits = λ at send is. waits at send (ap (λ w. slice_get w at) (sym same) ∙ is)
 
   arrived_waits : (server : Server) (at : ℕ) (found : Option (Option Send)) → WaitsWithin opened server → WaitsWithin opened (arrived server at found)
@@ -130,10 +130,10 @@ picks_more server [] = omega arith
 picks_more server (pick ∷ picks) = let one = delivered_more server pick in let rest = picks_more (delivered server pick) picks in omega (arith, one, rest)
 
 -- what is within so many is within more
-more_within : (a b : ℕ) (cursor : ℤ) → a ≤ b → cursor ≤ℤ pos a → cursor ≤ℤ pos b
+pub more_within : (a b : ℕ) (cursor : ℤ) → a ≤ b → cursor ≤ℤ pos a → cursor ≤ℤ pos b
 more_within a b cursor less within = omega (arith, ints)
 
-body_within : (a b : ℕ) (body : SendBody) → a ≤ b → AsksWithin a body → AsksWithin b body
+pub body_within : (a b : ℕ) (body : SendBody) → a ≤ b → AsksWithin a body → AsksWithin b body
 body_within a b (Write does ordered writes) less within = tt
 body_within a b Commit less within = tt
 body_within a b Abort less within = tt
@@ -144,9 +144,6 @@ pub waits_more : (a b : ℕ) (server : Server) → a ≤ b → WaitsWithin a ser
 waits_more a b server less waits = λ at send is. body_within a b send.body less (waits at send is)
 
 -- ---- what waits asks for none but opened cursors
-abbrev pub NoneAhead : Server → Type 0
-NoneAhead server = WaitsWithin (length server.cursors) server
-
 pub picks_ahead : (server : Server) (picks : List ℕ) → NoneAhead server → NoneAhead (after_picks server picks)
 picks_ahead server picks none =
     waits_more (length server.cursors) (length (after_picks server picks).cursors) (after_picks server picks) (picks_more server picks) (picks_wait (length server.cursors) server picks none)
@@ -157,24 +154,24 @@ served_ahead plan server send none =
     (same_waits (length server.cursors) server (served plan server send) (served_waits plan server send) none)
 
 -- a command of writes asks for no cursor
-write_within : (opened : ℕ) (body : SendBody) → IsWrite body → AsksWithin opened body
+pub write_within : (opened : ℕ) (body : SendBody) → IsWrite body → AsksWithin opened body
 write_within opened (Write does ordered writes) write = tt
 write_within opened Commit write = absurd write
 write_within opened Abort write = absurd write
 write_within opened (More cursor) write = absurd write
 write_within opened (Kill cursor) write = absurd write
 
--- behind those that wait one of writes may wait
-late_ahead : (server : Server) (send : Send) → IsWrite send.body → NoneAhead server → NoneAhead (record server { waiting = server.waiting ++ Some send ∷ [] })
-late_ahead server send write none = λ at other is. elim (earlier_or_last server.waiting (Some send) at (Some other) is) [
+-- behind those that wait another one may wait that asks for none ahead
+pub late_ahead : (server : Server) (send : Send) → AsksWithin (length server.cursors) send.body → NoneAhead server → NoneAhead (record server { waiting = server.waiting ++ Some send ∷ [] })
+late_ahead server send within none = λ at other is. elim (earlier_or_last server.waiting (Some send) at (Some other) is) [
   | inl earlier ↦ none at other earlier
-  | inr last ↦ subst (λ (s : Send). AsksWithin (length server.cursors) s.body) (some_is_some send other last.1) (write_within (length server.cursors) send.body write)
+  | inr last ↦ subst (λ (s : Send). AsksWithin (length server.cursors) s.body) (some_is_some send other last.1) within
 ]
 
 met_lossy : (server : Server) (send : Send) (item : Item) → IsWrite send.body → IsLossy item → NoneAhead server → NoneAhead (met server send item)
 unfolding met
 met_lossy server send Lost write lossy none = none
-met_lossy server send Late write lossy none = late_ahead server send write none
+met_lossy server send Late write lossy none = late_ahead server send (write_within (length server.cursors) send.body write) none
 met_lossy server send ReplyLost write lossy none = served_ahead usual server send none
 met_lossy server send _ write lossy none = absurd lossy
 

@@ -16,6 +16,9 @@ pub mod BulkServed
 pub mod BulkTold
 pub mod BulkWell
 pub mod CursorsAhead
+pub mod CursorsAsked
+pub mod CursorsKept
+pub mod CursorsLeft
 pub mod ErrorsSpelled
 pub mod ErrorsTaken
 pub mod FailedBatches

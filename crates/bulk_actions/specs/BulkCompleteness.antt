@@ -129,11 +129,15 @@ AsksWithin opened other = Unit {0}
 abbrev pub WaitsWithin : ℕ → Server → Type 0
 WaitsWithin opened server = (at : ℕ) (send : Send) → slice_get server.waiting at ≡ Some (Some send) → AsksWithin opened send.body
 
+-- no send that waits is of a cursor that is yet to be opened
+abbrev pub NoneAhead : Server → Type 0
+NoneAhead server = WaitsWithin (length server.cursors) server
+
 -- a bulk write may be made, no idle session has a number above this one, and no send that waits is of a cursor that is yet to be
 -- opened
 pub record MayCompleteBulk (most : ℕ) (pool pool_now : Pool) (run : ServerRun) (call : ℕ) : Type 0 where
   pub call_may : MayCompleteCall most pool pool_now run call
-  pub cursors : WaitsWithin (length run.server.cursors) run.server
+  pub cursors : NoneAhead run.server
 
 -- the same, where pool and server are told
 abbrev pub MayCompleteBulkWhereTold : ℕ → Option Pool → Option Pool → Option ServerRun → ℕ → Type 0

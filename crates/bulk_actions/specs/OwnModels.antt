@@ -13,6 +13,7 @@ use Rattle.driver_attempt.specs.Moment.{Moment}
 use Rattle.driver_exec.specs.BetweenCalls.{Between, Sound}
 use Rattle.driver_inputs.specs.Calls.{IsOwn}
 use Rattle.driver_actions.specs.ManyEntries.{MayWriteCall}
+use Rattle.bulk_actions.specs.BulkCompleteness.{NoneAhead}
 
 -- a write is that of the caller's model at its index in this call, to the last field; an inserted document gets an id where it has none
 pub record IsOwnModel (models : List WriteModel) (call : ℕ) (write : PlacedWrite) : Type 0 where
@@ -26,11 +27,12 @@ abbrev pub AreOwnModels : List WriteModel → ℕ → Send → Type 0
 AreOwnModels models call send = (at : ℕ) (write : PlacedWrite) → slice_get (writes_of send) at ≡ Some write → IsOwnModel models call write
 
 -- what stands after the call: the same, and each send of the trace was there before or has the writes of the caller's models alone; the
--- commands of a cursor have none
+-- commands of a cursor have none; and no send that waits is of a cursor that is yet to be opened, where none was before
 pub record HasWrittenBulk (models : List WriteModel) (pool_now : Pool) (run run_now : ServerRun) (call : ℕ) : Type 0 where
   pub between : Between pool_now run_now.server.trace
   pub sound : Sound run_now.server
   pub which : (send : Send) → Has run_now.server.trace send → Has run.server.trace send ⊎ AreOwnModels models call send
+  pub cursors : NoneAhead run.server → NoneAhead run_now.server
 
 -- what stands before the call stands after it, where pool and server are told
 abbrev pub KeepsBulkWhereTold : List WriteModel → Option Pool → Option Pool → Option ServerRun → Option ServerRun → ℕ → Type 0

@@ -16,6 +16,7 @@ pub mod FirstUses
 pub mod FreeResults
 pub mod JudgedPages
 pub mod NotedResults
+pub mod OpenedCursors
 pub mod OpsMade
 pub mod PageCounts
 pub mod PartialTold

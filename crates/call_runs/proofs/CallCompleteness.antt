@@ -1,16 +1,25 @@
 -- A call of a run that stands ends well where it is valid and its part of the schedule is gentle.
 use Rattle.std.proofs.Common.{◌≡◌, ℕ, ◌<◌, ◌≤◌, List, length, take, refl, sym, subst, arith}
-use Rattle.std.specs.Prelude.{pos, true, Option, None, Some, IfSome, Result, Ok, Err}
+use Rattle.std.specs.Prelude.{pos, Bool, true, false, Option, None, Some, IfSome, Result, Ok, Err}
 use Rattle.std.proofs.lemmas.List.{length-take-le}
 use Rattle.bson_lite.specs.declared.bson.Bson.{Bson}
 use Rattle.bson_lite.specs.declared.document.Pair.{Pair}
 use Rattle.bson_lite.specs.declared.namespace.Namespace.{Namespace}
 use Rattle.driver_error.specs.declared.error.Error.{Error}
+use Rattle.driver_error.specs.declared.kind.ErrorKind.TheVariants as kind
 use Rattle.driver_error.specs.declared.results.InsertManyResult.{InsertManyResult}
+use Rattle.driver_error.specs.BulkErrors.{MergesResults}
+use Rattle.driver_error.specs.BulkResults.{ResultSpec, summary_spec, verbose_spec}
+use Rattle.driver_error.specs.Error.{kind_of}
+use Rattle.driver_error.specs.lawful.Merging.{summary_merges, verbose_merges}
+use Rattle.driver_options.specs.declared.models.WriteModel.{WriteModel}
+use Rattle.driver_options.specs.declared.options.ClientOptions.{ClientOptions}
+use Rattle.driver_options.specs.declared.write_options.BulkWriteOptions.{BulkWriteOptions}
 use Rattle.driver_options.specs.declared.write_options.InsertManyOptions.{InsertManyOptions}
 use Rattle.driver_link.specs.Clock.{ClockTells}
 use Rattle.driver_link.specs.declared.machine.Item.{Item}
 use Rattle.driver_link.specs.declared.machine.Send.{Send}
+use Rattle.driver_link.specs.declared.machine.Setup.{Setup}
 use Rattle.driver_link.specs.Retried.{IsGentleItem}
 use Rattle.driver_link.specs.LinkState.{server_run, setup_of}
 use Rattle.driver_link.specs.ServerRun.{ServerRun}
@@ -18,6 +27,7 @@ use Rattle.driver_session.specs.Pool.{Pool}
 use Rattle.driver_session.specs.StoreTells.{DrawnApart, DrawnApartIn, GainsDrawn}
 use Rattle.driver_ops.specs.SendKinds.{first}
 use Rattle.driver_ops.specs.Targets.{in_collection}
+use Rattle.bulk_ops.specs.BulkSpec.{is_verbose}
 use Rattle.driver_attempt.specs.Moment.{Moment}
 use Rattle.driver_exec.specs.BetweenCalls.{NumbersWithin}
 use Rattle.driver_exec.specs.Gentle.{EndsWell, IsGentlePart}
@@ -37,10 +47,14 @@ use Rattle.driver_actions.proofs.ManyMade.{many_listed, many_moves}
 use Rattle.driver_actions.proofs.ManySpelled.{many_truly}
 use Rattle.driver_actions.proofs.CallWrites.Entries.{new_place}
 use Rattle.driver_actions.proofs.Completeness.{Ready, single_well}
+use Rattle.bulk_actions.specs.BulkCalls.{MakesBulk}
+use Rattle.bulk_actions.specs.BulkCompleteness.{BulkRepeats, CountsWithin, IsGentleBulkWhereTold, IsValidBulk, MayCompleteBulkWhereTold, ServesBulk}
+use Rattle.bulk_actions.proofs.BulkCompleteness.{bulk_complete}
+use Rattle.bulk_actions.proofs.BulkNumbers.{bulk_moves}
 use Rattle.call_runs.specs.CallByCall.{CallCaused, with_clock}
-use Rattle.call_runs.specs.CallMaking.{MakesCall}
+use Rattle.call_runs.specs.CallMaking.{MakesBulkCall, MakesCall}
 use Rattle.call_runs.specs.CallsLeft.{LeavesByCall, LeavesMany}
-use Rattle.call_runs.specs.MainTheorem.{CallCompletes, CallEnds, all_numbers_of, is_paged}
+use Rattle.call_runs.specs.MainTheorem.{CallCompletes, CallEnds, IsGentle, IsValid, all_numbers_of, is_paged}
 use Rattle.call_runs.specs.Standing.{LeavesWhereTold, RunInvariant, RunState}
 use Rattle.call_runs.proofs.BulkLeft.{bulk_left_read, bulk_leaves}
 use Rattle.call_runs.proofs.EachCall.{caused_own, caused_replayed}
@@ -74,6 +88,14 @@ single_call_well most number before now form valid pool told told_now ready pool
     let part = gentle_alike (λ send. IsGentleItem (kind_in form)) (λ send. DrawsNumbers true (repeats_in form before.client.options) (setup_of before.link)) told told_now gentle
     (λ a b above also_above. makes_alike before now told told_now link_is now_is a b above also_above form (first_place number) result makes) in
     single_well most (first_place number) before now form valid pool told told_now ready pool_is link_is now_is apart part result makes
+
+-- the part that a bulk write took is gentle for it, where the link tells its server
+gentle_told : {R : Type 0} (tells : ResultSpec R) (models : List WriteModel) (number : ℕ) (client : ClientOptions) (setup : Option Setup) (link link_now : Option ServerRun)
+    → IsGentleCallWhereTold ServesBulk (BulkRepeats models client setup) link link_now → IfSome link_now (λ told. CountsWithin tells models number told.server.log)
+    → IsGentleBulkWhereTold tells models number client setup link link_now
+gentle_told tells models number client setup None link_now part sums = absurd part
+gentle_told tells models number client setup (Some told) None part sums = absurd part
+gentle_told tells models number client setup (Some told) (Some told_now) part sums = record { part = part; sums = sums }
 
 -- the same of a run that stands
 module _ (run : RunState) (calls : List Call) (before now : Moment) (left : LeavesWhereTold (take run.made calls) run.outcomes before.store.pool (server_run before.link))
@@ -131,6 +153,37 @@ module _ (run : RunState) (calls : List Call) (before now : Moment) (left : Leav
       many_complete before now (in_collection namespace) documents options run.made result makes most
       (many_told before.store.pool now.store.pool (server_run before.link) (server_run now.link) refl refl refl refl moves.draws.more moves.draws.drawn left) valid gentle
 
+  -- a bulk write may be made, by what is told
+  bulk_told : (store store_now : Option Pool) (link link_now : Option ServerRun) → before.store.pool ≡ store → now.store.pool ≡ store_now → server_run before.link ≡ link
+      → server_run now.link ≡ link_now → (ids : List (List ℕ)) → GainsDrawn store store_now ids → LeavesWhereTold (take run.made calls) run.outcomes store link
+      → MayCompleteBulkWhereTold most store store_now link run.made
+  bulk_told None store_now link link_now pool_is pool_now_is link_is now_is ids gains leaves = absurd leaves
+  bulk_told (Some pool) None link link_now pool_is pool_now_is link_is now_is ids gains leaves = absurd gains
+  bulk_told (Some pool) (Some pool_now) None link_now pool_is pool_now_is link_is now_is ids gains leaves = absurd leaves
+  bulk_told (Some pool) (Some pool_now) (Some told) link_now pool_is pool_now_is link_is now_is ids gains leaves = record {
+    call_may = many_told (Some pool) (Some pool_now) (Some told) link_now pool_is pool_now_is link_is now_is ids gains leaves;
+    cursors = leaves.cursors;
+  }
+
+  -- one that failed, by the results that it asks for
+  bulk_memory : {R : Type 0} (tells : ResultSpec R) → MergesResults tells → (models : List WriteModel) (options : BulkWriteOptions) (error : Error) → MakesBulk tells before now models options run.made (Err error)
+      → IsValidBulk most before.client.options (setup_of before.link) models options (is_verbose tells)
+      → IsGentleCallWhereTold ServesBulk (BulkRepeats models before.client.options (setup_of before.link)) (server_run before.link) (server_run now.link)
+      → IfSome (server_run now.link) (λ told. CountsWithin tells models run.made told.server.log) → kind_of error ≡ kind.Memory
+  bulk_memory tells laws models options error makes valid part sums =
+      let moves = bulk_moves tells before now models options run.made (Err error) makes in
+      bulk_complete tells laws before now models options run.made (Err error) makes most
+      (bulk_told before.store.pool now.store.pool (server_run before.link) (server_run now.link) refl refl refl refl moves.draws.more moves.draws.drawn left) valid
+      (gentle_told tells models run.made before.client.options (setup_of before.link) (server_run before.link) (server_run now.link) part sums)
+
+  -- one that is made ends well where it is valid and its part is gentle
+  bulk_well : (models : List WriteModel) (options : BulkWriteOptions) (verbose : Bool) (result : Result Answer Error) → MakesBulkCall before now models options verbose run.made result
+      → IsValidBulk most before.client.options (setup_of before.link) models options verbose → IsGentle run.made before now (BulkWrite models options verbose) → EndsWell result
+  bulk_well models options true (Ok given) makes valid gentle = tt
+  bulk_well models options true (Err error) makes valid gentle = bulk_memory verbose_spec verbose_merges models options error makes valid gentle.part gentle.sums
+  bulk_well models options false (Ok given) makes valid gentle = tt
+  bulk_well models options false (Err error) makes valid gentle = bulk_memory summary_spec summary_merges models options error makes valid gentle.part gentle.sums
+
   -- what holds of the server that is told after a call before which all stood
   by_told : (P : ServerRun → ServerRun → Type 0) (Q : Option Pool → Option Pool → Option ServerRun → Option ServerRun → Type 0)
       → ((pool pool_now : Pool) (told told_now : ServerRun) → Q (Some pool) (Some pool_now) (Some told) (Some told_now) → MayWriteCall pool pool_now told run.made → P told told_now)
@@ -166,20 +219,21 @@ module _ (run : RunState) (calls : List Call) (before now : Moment) (left : Leav
   leaves (BulkWrite models options verbose) result makes = bulk_leaves run.made before now models options verbose result makes
 
   -- a call that is made ends well where it is valid and its part is gentle
-  completes : (call : Call) (result : Result Answer Error) → MakesCall before now call run.made result → CallCompletes (take run.made calls) before now call result
+  completes : (call : Call) (result : Result Answer Error) → MakesCall before now call run.made result → IsValid most before call → IsGentle run.made before now call → EndsWell result
   completes (Single write) (Ok given) makes valid gentle = tt
   completes (Single write) (Err error) makes valid gentle =
-      single_told before.store.pool (server_run before.link) (server_run now.link) refl refl refl left write (Err error) makes valid gentle
+      single_told before.store.pool (server_run before.link) (server_run now.link) refl refl refl left write (Err error) makes valid gentle.part
   completes (InsertMany namespace documents options) (Ok given) makes valid gentle = tt
-  completes (InsertMany namespace documents options) (Err error) makes valid gentle = many_well namespace documents options (Err error) makes valid gentle
-  completes (BulkWrite models options verbose) result makes valid gentle = absurd valid
+  completes (InsertMany namespace documents options) (Err error) makes valid gentle = many_well namespace documents options (Err error) makes valid gentle.part
+  completes (BulkWrite models options verbose) result makes valid gentle = bulk_well models options verbose result makes valid gentle
 
 -- its end does not depend on the readings of the clock
 completes_read : (earlier : List Call) (began clock : ClockTells) (before now : Moment) (call : Call) (result : Result Answer Error)
     → CallCompletes earlier (with_clock before began) (with_clock now clock) call result → CallCompletes earlier before now call result
-completes_read earlier began clock before now (Single write) result completes = completes
-completes_read earlier began clock before now (InsertMany namespace documents options) result completes = completes
-completes_read earlier began clock before now (BulkWrite models options verbose) result completes = λ valid gentle. absurd valid
+completes_read earlier began clock before now (Single write) result completes = λ valid gentle. completes valid (record { part = gentle.part; sums = gentle.sums })
+completes_read earlier began clock before now (InsertMany namespace documents options) result completes = λ valid gentle. completes valid (record { part = gentle.part; sums = gentle.sums })
+completes_read earlier began clock before now (BulkWrite models options true) result completes = λ valid gentle. completes valid (record { part = gentle.part; sums = gentle.sums })
+completes_read earlier began clock before now (BulkWrite models options false) result completes = λ valid gentle. completes valid (record { part = gentle.part; sums = gentle.sums })
 
 -- nor does what it left
 leaves_read : (number : ℕ) (began clock : ClockTells) (before now : Moment) (call : Call) (result : Result Answer Error) → LeavesByCall number (with_clock before began) (with_clock now clock) call result
@@ -200,7 +254,8 @@ call_ends run calls before now stands apart call outcome caused =
     record {
       caused = subst (λ n. CallCaused n before now call outcome) count caused;
       complete = completes_read (take run.made calls) caused.first caused.clock before now call outcome.result
-          (completes run calls read last stands.left (stands_count run calls before stands) apart call outcome.result caused.makes);
+          (λ valid gentle. completes run calls read last stands.left (stands_count run calls before stands) apart call outcome.result caused.makes valid
+          (subst (λ n. IsGentle n read last call) (sym count) gentle));
       sends_own = subst (λ n. SendsOwn (is_paged call) n (server_run before.link) (server_run now.link)) count (caused_own run.made before now call outcome caused);
       replayed = caused_replayed run.made before now call outcome caused;
       leaves = subst (λ n. LeavesByCall n before now call outcome.result) count (leaves_read run.made caused.first caused.clock before now call outcome.result

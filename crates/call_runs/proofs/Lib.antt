@@ -6,6 +6,7 @@ pub mod CallCompleteness
 pub mod CallParts
 pub mod CallTimes
 pub mod CallsInOrder
+pub mod CursorsInOrder
 pub mod EachCall
 pub mod LogEntries
 pub mod ManyInLog

@@ -4,7 +4,8 @@ use Rattle.std.proofs.Common.{◌≡◌, ℕ, ◌+◌, ◌<◌, ◌≤◌, List,
 use Rattle.std.specs.Prelude.{pos, Option, None, Some, slice_get}
 use Rattle.std.proofs.lemmas.List.{length-take-le, map_push, take-append-le}
 use Rattle.std.proofs.lemmas.List.Sums.{sum_by_push}
-use Rattle.driver_link.specs.Exchange.{empty_server}
+use Rattle.driver_link.specs.Exchange.{empty_server, replayed}
+use Rattle.driver_link.specs.declared.machine.Server.{Server}
 use Rattle.driver_link.specs.declared.machine.Setup.{Setup}
 use Rattle.driver_link.specs.LinkState.{server_run}
 use Rattle.driver_link.specs.ServerRun.{IsFresh, ServerRun}
@@ -15,18 +16,26 @@ use Rattle.driver_session.specs.StoreTells.{DrawnApart, DrawnApartIn, GainsDrawn
 use Rattle.driver_session.proofs.PoolTells.{same_told}
 use Rattle.driver_attempt.specs.Moment.{Moment}
 use Rattle.driver_exec.specs.BetweenCalls.{NumbersWithin}
-use Rattle.driver_actions.specs.CallParts.{KeepsMakingWhereTold}
+use Rattle.driver_actions.specs.CallParts.{IsReplayedWhereTold, KeepsMakingWhereTold}
 use Rattle.driver_actions.specs.ManyCompleteness.{RaisesBy, RaisesByWhereTold}
 use Rattle.driver_actions.specs.Numbers.{server_setup}
+use Rattle.bulk_actions.specs.BulkCompleteness.{NoneAhead}
+use Rattle.bulk_actions.proofs.CursorsKept.{empty_ahead}
 use Rattle.call_runs.specs.CallByCall.{CallCaused, with_clock}
 use Rattle.call_runs.specs.CallMaking.{MakesCall}
-use Rattle.call_runs.specs.MainTheorem.{all_numbers_of, numbers_of}
+use Rattle.call_runs.specs.MainTheorem.{all_numbers_of, is_paged, numbers_of}
 use Rattle.call_runs.specs.Standing.{Leaves, LeavesWhereTold, RunInvariant, RunState, new_run, run_more}
 use Rattle.call_runs.proofs.AppendedCalls.{ran_appended, take_next, take_none}
+use Rattle.call_runs.proofs.CursorsInOrder.{call_behind, replayed_now}
 use Rattle.call_runs.proofs.EachCall.{call_moves}
 use Rattle.call_runs.proofs.RunSteps.{Ran, ran_none, ran_more, ran_holds}
 use Rattle.driver_inputs.specs.declared.call.Call.{Call}
 use Rattle.driver_inputs.specs.declared.call.Outcome.{Outcome}
+
+-- a server that has seen nothing is the fold of nothing
+none_replayed : (run : ServerRun) → run.server ≡ empty_server → IsReplayedWhereTold (Some run)
+unfolding replayed
+none_replayed run fresh = let P : Server → Type 0 = λ server. server ≡ replayed run.schedule empty_server server.trace in subst P (sym fresh) refl
 
 -- before the first call
 leaves_none : (pool : Pool) (run : ServerRun) → pool ≡ empty_pool → run.server ≡ empty_server → Leaves [] [] pool run
@@ -39,6 +48,8 @@ leaves_none pool run new fresh =
       below = ran.below;
       own = ran.own;
       numbers = subst (λ p. NumbersWithin (pos (all_numbers_of (Some run.setup) [])) p.idle) (sym new) tt;
+      replayed = none_replayed run fresh;
+      cursors = subst NoneAhead (sym fresh) empty_ahead;
     }
 
 -- the same of what store and link tell
@@ -107,6 +118,8 @@ module _ (calls : List Call) (call : Call) (outcomes : List Outcome) (last : Out
           below = ran_now.below;
           own = ran_now.own;
           numbers = subst (λ n. NumbersWithin (pos n) pool_now.idle) (all_numbers_more (Some run_now.setup) calls call) numbers;
+          replayed = replayed_now before now run run_now run_is run_now_is (is_paged call) (numbers_of (server_setup (server_run before.link)) call) (length outcomes) moves leaves.replayed;
+          cursors = call_behind before now run run_now run_is run_now_is call (length outcomes) last.result makes leaves.replayed leaves.cursors;
         }
 
     -- whatever store and link tell

@@ -1,10 +1,11 @@
 -- The main theorem for one list of calls: one outcome per call, no write twice in the log and every
 -- entry the caller's own, late arrivals included, and an Ok call's writes there once with the answer
 -- that the log spells.
-use Rattle.std.specs.Prelude.{◌≡◌, ℕ, Bool, true, false, List, [], length, map, sum, Option, None, Some, Result, slice_get}
+use Rattle.std.specs.Prelude.{◌≡◌, ℕ, Bool, true, false, List, [], length, map, sum, Option, None, Some, IfSome, Result, slice_get}
 use Rattle.std.specs.Option.{option_and_then}
 use Rattle.std.specs.Result.{result_ok}
 use Rattle.driver_error.specs.declared.error.Error.{Error}
+use Rattle.driver_error.specs.BulkResults.{summary_spec, verbose_spec}
 use Rattle.driver_link.specs.declared.machine.Item.{Item}
 use Rattle.driver_link.specs.declared.machine.Send.{Send}
 use Rattle.driver_link.specs.declared.machine.Server.{Server}
@@ -22,6 +23,7 @@ use Rattle.driver_exec.specs.OperationCauses.{DrawsNumbers}
 use Rattle.driver_actions.specs.ManyCompleteness.{InsertsHaveNumbers, IsGentleCallWhereTold, IsValidMany, ServesInserts}
 use Rattle.driver_actions.specs.Numbers.{many_numbers}
 use Rattle.driver_actions.specs.CallParts.{IsValidWrite, SendsOwn, IsReplayed}
+use Rattle.bulk_actions.specs.BulkCompleteness.{BulkRepeats, CountsWithin, IsValidBulk, ServesBulk}
 use Rattle.bulk_actions.specs.BulkNumbers.{bulk_numbers}
 use Rattle.call_runs.specs.CallByCall.{CallByCall, CallCaused}
 use Rattle.call_runs.specs.CallsLeft.{LeavesByCall}
@@ -54,34 +56,45 @@ numbers_of setup (BulkWrite models options verbose) = bulk_numbers setup models 
 unfoldable pub all_numbers_of : Option Setup → List Call → ℕ
 all_numbers_of setup calls = sum (map (numbers_of setup) calls)
 
--- a call is valid at a moment, after at most so many numbers; no bulk write is counted among the valid ones yet
+-- a call is valid at a moment, after at most so many numbers
 abbrev pub IsValid : ℕ → Moment → Call → Type 0
 IsValid most before (Single write) = IsValidWrite most before.client.options (setup_of before.link) (form_of write)
 IsValid most before (InsertMany namespace documents options) =
     IsValidMany most before.client.options (setup_of before.link) (in_collection namespace) documents options
-IsValid most before (BulkWrite models options verbose) = ⊥
+IsValid most before (BulkWrite models options verbose) = IsValidBulk most before.client.options (setup_of before.link) models options verbose
 
 -- a send of a call's command may go out again, as such sends have numbers: the link tells that its connections take sessions and
--- retryable writes, the write may be repeated, and the client's options do not forbid it; no bulk write is counted among these yet
+-- retryable writes, what is written may be repeated, and the client's options do not forbid it
 abbrev pub MayRepeat : Moment → Call → (Send → Type 0)
 MayRepeat before (Single write) = λ send. DrawsNumbers true (repeats_in (form_of write) before.client.options) (setup_of before.link)
 MayRepeat before (InsertMany namespace documents options) = λ send. InsertsHaveNumbers before.client.options (setup_of before.link)
-MayRepeat before (BulkWrite models options verbose) = λ send. ⊥
+MayRepeat before (BulkWrite models options verbose) = BulkRepeats models before.client.options (setup_of before.link)
 
--- the items that serve a send of a call's commands as usual; those of a bulk write are not told apart yet
+-- the items that serve a send of a call's commands as usual
 abbrev pub ServesCall : Call → (Send → Item → Type 0)
 ServesCall (Single write) = λ send. IsGentleItem (kind_in (form_of write))
 ServesCall (InsertMany namespace documents options) = λ send. ServesInserts
-ServesCall (BulkWrite models options verbose) = λ send item. ⊥
+ServesCall (BulkWrite models options verbose) = ServesBulk
 
--- the part of a schedule that a call takes is gentle: none of its selections and check-outs fails, and each of its sends is
--- served as usual; where its sends have numbers one of each command may get no reply instead
-abbrev pub IsGentle : Moment → Moment → Call → Type 0
-IsGentle before now call = IsGentleCallWhereTold (ServesCall call) (MayRepeat before call) (server_run before.link) (server_run now.link)
+-- the sums of the counts of a bulk write of a number stay within 64 bits, by the log of the server that is told after it; other calls have
+-- none
+abbrev pub SumsWithin : ℕ → Call → Option ServerRun → Type 0
+SumsWithin number (Single write) link = Unit {0}
+SumsWithin number (InsertMany namespace documents options) link = Unit {0}
+SumsWithin number (BulkWrite models options true) link = IfSome link (λ run. CountsWithin verbose_spec models number run.server.log)
+SumsWithin number (BulkWrite models options false) link = IfSome link (λ run. CountsWithin summary_spec models number run.server.log)
+
+-- the part of a schedule that a call of a number takes is gentle: none of its selections and check-outs fails, and each of its sends is
+-- served as usual; where its sends have numbers one of each command may get no reply instead; and the sums of its counts stay within
+-- 64 bits
+pub record IsGentle (number : ℕ) (before now : Moment) (call : Call) : Type 0 where
+  pub part : IsGentleCallWhereTold (ServesCall call) (MayRepeat before call) (server_run before.link) (server_run now.link)
+  pub sums : SumsWithin number call (server_run now.link)
 
 -- completeness of a call: a valid one whose part of the schedule is gentle ends well, whatever came before it
 abbrev pub CallCompletes : List Call → Moment → Moment → Call → Result Answer Error → Type 0
-CallCompletes earlier before now call result = IsValid (all_numbers_of (setup_of before.link) earlier) before call → IsGentle before now call → EndsWell result
+CallCompletes earlier before now call result =
+    IsValid (all_numbers_of (setup_of before.link) earlier) before call → IsGentle (length earlier) before now call → EndsWell result
 
 -- a call's answer may come in pages, which are read by commands of a cursor
 abbrev pub is_paged : Call → Bool

@@ -11,6 +11,8 @@ use Rattle.driver_session.specs.Pool.{Pool}
 use Rattle.driver_attempt.specs.Moment.{Moment}
 use Rattle.driver_exec.specs.BetweenCalls.{Between, NumbersWithin, Sound}
 use Rattle.driver_actions.specs.Below.{AllBelow}
+use Rattle.driver_actions.specs.CallParts.{IsReplayedWhereTold}
+use Rattle.bulk_actions.specs.BulkCompleteness.{NoneAhead}
 use Rattle.call_runs.specs.CallByCall.{CallCaused}
 use Rattle.call_runs.specs.MainTheorem.{CallEnds, MainTheorem, all_numbers_of}
 use Rattle.driver_inputs.specs.declared.call.Call.{Call}
@@ -56,8 +58,8 @@ AllOwn calls trace = (send : Send) (at : ℕ) (write : PlacedWrite) → Has trac
 
 -- what these calls with these outcomes left: the main theorem holds of them; nothing is lent, and no
 -- number that was sent is above its session's; the trace is orderly, the server settled, and each write that was
--- sent is of one of the calls, in a place of a call that was made; and no idle session's number is above those that the calls take at
--- most over the server's setup
+-- sent is of one of the calls, in a place of a call that was made; no idle session's number is above those that the calls take at
+-- most over the server's setup; and the server is the fold of its sends, of which none that waits is of a cursor that is yet to be opened
 pub record Leaves (calls : List Call) (outcomes : List Outcome) (pool : Pool) (run : ServerRun) : Type 0 where
   pub holds : MainTheorem calls outcomes run.server
   pub between : Between pool run.server.trace
@@ -65,6 +67,8 @@ pub record Leaves (calls : List Call) (outcomes : List Outcome) (pool : Pool) (r
   pub below : AllBelow (length outcomes) run.server.trace
   pub own : AllOwn calls run.server.trace
   pub numbers : NumbersWithin (pos (all_numbers_of (Some run.setup) calls)) pool.idle
+  pub replayed : IsReplayedWhereTold (Some run)
+  pub cursors : NoneAhead run.server
 
 -- a store and a link tell what these calls left
 abbrev pub LeavesWhereTold : List Call → List Outcome → Option Pool → Option ServerRun → Type 0
