@@ -14,6 +14,7 @@ use Rattle.driver_link.specs.ServerRun.{ServerRun}
 use Rattle.driver_link.specs.Settled.{IsWrite}
 use Rattle.driver_attempt.specs.Moment.{Moment}
 use Rattle.driver_actions.specs.CallParts.{HasWriteOf, IsReplayedWhereTold, KeepsMakingWhereTold}
+use Rattle.driver_actions.specs.Numbers.{server_setup}
 use Rattle.driver_actions.proofs.MovesBeside.{CallMoves, GainsOwn, GainsSends}
 use Rattle.bulk_actions.specs.BulkCompleteness.{NoneAhead}
 use Rattle.bulk_actions.proofs.BulkKept.{bulk_behind}
@@ -22,6 +23,7 @@ use Rattle.bulk_actions.proofs.CursorsAsked.{TellsBehind}
 use Rattle.bulk_actions.proofs.CursorsKept.{writes_behind}
 use Rattle.bulk_actions.proofs.CursorsLeft.{behind_told}
 use Rattle.call_runs.specs.CallMaking.{MakesBulkCall, MakesCall}
+use Rattle.call_runs.specs.MainTheorem.{numbers_of}
 use Rattle.call_runs.proofs.EachCall.{call_moves}
 use Rattle.driver_inputs.specs.declared.call.Answer.{Answer}
 use Rattle.driver_inputs.specs.declared.call.Answer.TheVariants as answer
@@ -69,8 +71,10 @@ module _ (before now : Moment) (run run_now : ServerRun) (run_is : server_run be
 
   -- so it is of each call
   pub call_behind : (call : Call) (number : ℕ) (result : Result Answer Error) → MakesCall before now call number result → IsReplayedWhereTold (Some run) → NoneAhead run.server → NoneAhead run_now.server
-  call_behind (Single write) number result makes folds none = writes_alone _ number (call_moves before now (Single write) number result makes) folds none
+  call_behind (Single write) number result makes folds none =
+      writes_alone (numbers_of (server_setup (server_run before.link)) (Single write)) number (call_moves before now (Single write) number result makes) folds none
   call_behind (InsertMany namespace documents options) number result makes folds none =
-      writes_alone _ number (call_moves before now (InsertMany namespace documents options) number result makes) folds none
+      writes_alone (numbers_of (server_setup (server_run before.link)) (InsertMany namespace documents options)) number
+      (call_moves before now (InsertMany namespace documents options) number result makes) folds none
   call_behind (BulkWrite models options verbose) number result makes folds none =
       behind_told now.link run_now run_now_is (bulk_such models options verbose number result makes (run, (run_is, none)))
