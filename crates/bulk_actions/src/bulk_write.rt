@@ -243,9 +243,10 @@ impl<'a, S: SessionStore, T: BulkWriteResult> BulkWrite<'a, S, T> {
     /// has the place (`outside.call`, i). Where store and link tell, and the call may be made there, it keeps what stands
     /// between the operations of one client (`keeps`), and an Ok is what the log spells (`logged`), and so is the partial
     /// result of an error (`partial`), whose write errors are what the replies spell, those of all batches (`told`); where the
-    /// server is told an Ok was cut into no more batches than its limits ask for (`fewest`); and the numbers of idle sessions
-    /// rise by one at most for each batch into which the models are cut, where the server is told, and else for each model
-    /// (`raises`). A valid one whose part of the schedule is gentle answers Ok or want of memory (`complete`). Errors:
+    /// server is told an Ok was cut into no more batches than its limits ask for (`fewest`); and where the store tells its
+    /// pool, the numbers of idle sessions rise by one at most for each batch into which the models are cut, where the server
+    /// is told, and else for each model (`raises`). There, and where no send that waits is of a cursor yet to be opened, a
+    /// valid one whose part of the schedule is gentle answers Ok or want of memory (`complete`). Errors:
     /// InvalidArgument and BsonSerialization for its input; BulkWrite for writes that failed, a write concern that was not met,
     /// or a later batch or a page that failed behind what stands, which is then its source; InvalidResponse for sums of counts
     /// that leave 64 bits; want of memory; and those of `execute_operation` at the first batch.
