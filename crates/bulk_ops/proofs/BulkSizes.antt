@@ -21,7 +21,7 @@ unfolding bson.roll-Bson roll
 text_spelled text = (folded (Bson-F.String text)).spells
 
 -- a document as a value
-document_spelled : (document : List (Pair Bson)) → spelled (bson.Document document) ≡ (3, spelling document)
+pub document_spelled : (document : List (Pair Bson)) → spelled (bson.Document document) ≡ (3, spelling document)
 document_spelled document = ap spelled (sym (rolls-Document document)) ∙ (folded (Bson-F.Document document)).spells
 
 -- a number as a value

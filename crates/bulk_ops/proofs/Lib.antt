@@ -14,6 +14,7 @@ pub mod FailedErrors
 pub mod FailedReads
 pub mod FirstUses
 pub mod FreeResults
+pub mod InsertSpelled
 pub mod JudgedPages
 pub mod NotedResults
 pub mod OpenedCursors

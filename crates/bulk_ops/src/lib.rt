@@ -5,6 +5,7 @@ mod bulk_front;
 mod bulk_reply;
 mod bulk_results;
 mod bulk_write;
+mod insert_spelling;
 pub mod laws;
 mod op_batch;
 mod own_op;

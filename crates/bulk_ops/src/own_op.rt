@@ -2,12 +2,14 @@
 ghost use Rattle.std.specs.Prelude.{◌≡◌, ◌++◌, IfOk, OnOk};
 ghost use Rattle.bson_lite.specs.Fields.{with_id};
 ghost use Rattle.bson_lite.specs.Namespace.{dotted};
+ghost use Rattle.bson_lite.specs.Spelling.{Spells};
 ghost use Rattle.driver_options.specs.declared.models.WriteModel.TheVariants.{InsertOne as Inserts, ReplaceOne as Replaces, UpdateMany as UpdatesAll, UpdateOne as Updates};
 ghost use Rattle.driver_options.specs.Models.{is_multi};
 ghost use Rattle.driver_ops.specs.OptionFields.{option_field};
 ghost use Rattle.bulk_ops.specs.BulkOps.{SpellsOp, id_told, modifications_value, op_document, values_of, work_of};
 ghost use Rattle.bulk_ops.specs.inside.BulkOps.{SpellsParts, delete_op, finding_fields, insert_op};
 
+use crate::insert_spelling::{insert_bytes, insert_bytes_with_id};
 use bson_lite::{
     Bson, Bytes, Document, ID_KEY, List, Namespace, ObjectId, Text, TryClone,
     get_or_prepend_id_field,
@@ -62,18 +64,86 @@ pub fn model_op(alloc: Global, model: &WriteModel) -> Result<OwnOp>
     spelled_op(alloc, &op, namespace, is_multi(model), work)
 }
 
-/// The op of the insert of a copy of a document, which has its id already, as it is sent.
-#[tactic(auto, using(crate::proofs::OpsMade::spells_insert))]
+/// The op of the insert of a document, which has its id already, as it is sent.
 pub fn insert_op(alloc: Global, namespace: &Namespace, document: &Document) -> Result<OwnOp>
+    ensures { SpellsOp (Inserts (record { namespace = namespace.now; document = document.now })) result }
+{
+    match insert_bytes(alloc, document)? {
+        Some(bytes) => made_insert(alloc, namespace, document, bytes),
+        None => copied_insert(alloc, namespace, document),
+    }
+}
+
+/// The same once the document has this id: put first, unless it has one of its own.
+pub fn insert_op_with_id(
+    alloc: Global,
+    namespace: &Namespace,
+    document: &Document,
+    id: ObjectId,
+) -> Result<OwnOp>
+    ensures { SpellsOp (Inserts (record { namespace = namespace.now; document = with_id id document.now }))
+        result }
+{
+    match insert_bytes_with_id(alloc, document, &id)? {
+        Some(bytes) => made_insert_with_id(alloc, namespace, document, id, bytes),
+        None => copied_insert_with_id(alloc, namespace, document, id),
+    }
+}
+
+/// The op of the insert of a document that has these bytes.
+fn made_insert(
+    alloc: Global,
+    namespace: &Namespace,
+    document: &Document,
+    bytes: Bytes,
+) -> Result<OwnOp>
+    requires { Spells (insert_op document.now) bytes }
+    ensures { SpellsOp (Inserts (record { namespace = namespace.now; document = document.now })) result }
+{
+    let id = id_told(alloc, document)?;
+    let namespace = dotted_text(alloc, namespace)?;
+    Ok(OwnOp {
+        namespace,
+        bytes,
+        multi: false,
+        work: OpWork::Insert { id },
+    })
+}
+
+/// The same once the document has this id.
+fn made_insert_with_id(
+    alloc: Global,
+    namespace: &Namespace,
+    document: &Document,
+    id: ObjectId,
+    bytes: Bytes,
+) -> Result<OwnOp>
+    requires { Spells (insert_op (with_id id document.now)) bytes }
+    ensures { SpellsOp (Inserts (record { namespace = namespace.now; document = with_id id document.now }))
+        result }
+{
+    let id = id_told_with(alloc, document, id)?;
+    let namespace = dotted_text(alloc, namespace)?;
+    Ok(OwnOp {
+        namespace,
+        bytes,
+        multi: false,
+        work: OpWork::Insert { id },
+    })
+}
+
+/// The op of the insert of a copy of a document: where it has no bytes, it tells why.
+#[tactic(auto, using(crate::proofs::OpsMade::spells_insert))]
+fn copied_insert(alloc: Global, namespace: &Namespace, document: &Document) -> Result<OwnOp>
     ensures { SpellsOp (Inserts (record { namespace = namespace.now; document = document.now })) result }
 {
     let document = document.try_clone(alloc)?;
     spelled_insert(alloc, namespace, document)
 }
 
-/// The same once the document has this id: put first, unless it has one of its own.
+/// The same once the document has this id.
 #[tactic(auto, using(crate::proofs::OpsMade::spells_insert))]
-pub fn insert_op_with_id(
+fn copied_insert_with_id(
     alloc: Global,
     namespace: &Namespace,
     document: &Document,
@@ -130,6 +200,20 @@ fn id_told(alloc: Global, document: &Document) -> std::result::Result<Bson, Allo
     }
 }
 
+/// The same of a document once it has this id.
+fn id_told_with(
+    alloc: Global,
+    document: &Document,
+    id: ObjectId,
+) -> std::result::Result<Bson, AllocError>
+    ensures { IfOk result (λ told. told ≡ id_told (with_id id document.now)) }
+{
+    match document.get(ID_KEY) {
+        Some(own) => Ok(own.try_clone(alloc)?),
+        None => Ok(Bson::ObjectId(id)),
+    }
+}
+
 /// What the op of a model does.
 fn work_of(alloc: Global, model: &WriteModel) -> std::result::Result<OpWork, AllocError>
     ensures { IfOk result (λ work. work ≡ work_of model.now) }
@@ -157,7 +241,12 @@ fn is_multi(model: &WriteModel) -> bool
 fn dotted_text(alloc: Global, namespace: &Namespace) -> std::result::Result<Text, AllocError>
     ensures { IfOk result (λ text. text ≡ dotted namespace.now) }
 {
-    let mut text = String::new(alloc);
+    let room = namespace
+        .db
+        .len()
+        .saturating_add(namespace.coll.len())
+        .saturating_add(1);
+    let mut text = String::with_capacity(alloc, room)?;
     text.push_str(namespace.db.as_str())?;
     text.push_str(".")?;
     text.push_str(namespace.coll.as_str())?;
