@@ -54,8 +54,18 @@ pub struct SizedOp {
 }
 
 /// The op of a model as it is sent. The document of an insert has its id already.
-#[tactic(auto, using(crate::proofs::OpsMade::spells_model))]
 pub fn model_op(alloc: Global, model: &WriteModel) -> Result<OwnOp>
+    ensures { SpellsOp model.now result }
+{
+    match model {
+        WriteModel::InsertOne(insert) => insert_op(alloc, &insert.namespace, &insert.document),
+        _ => copied_op(alloc, model),
+    }
+}
+
+/// The op of a copy of a model.
+#[tactic(auto, using(crate::proofs::OpsMade::spells_model))]
+fn copied_op(alloc: Global, model: &WriteModel) -> Result<OwnOp>
     ensures { SpellsOp model.now result }
 {
     let work = work_of(alloc, model)?;
