@@ -63,7 +63,7 @@ pub fn model_op(alloc: Global, model: &WriteModel) -> Result<OwnOp>
     }
 }
 
-/// The op of a copy of a model.
+/// The op of a model, made as a tree.
 #[tactic(auto, using(crate::proofs::OpsMade::spells_model))]
 fn copied_op(alloc: Global, model: &WriteModel) -> Result<OwnOp>
     ensures { SpellsOp model.now result }
@@ -100,7 +100,7 @@ pub fn insert_op_with_id(
     }
 }
 
-/// The op of the insert of a document that has these bytes.
+/// The op of the insert of a document, in these bytes.
 fn made_insert(
     alloc: Global,
     namespace: &Namespace,
@@ -142,7 +142,7 @@ fn made_insert_with_id(
     })
 }
 
-/// The op of the insert of a copy of a document: where it has no bytes, it tells why.
+/// The op of the insert of a document, made as a tree: where it has no spelling, the error tells why.
 #[tactic(auto, using(crate::proofs::OpsMade::spells_insert))]
 fn copied_insert(alloc: Global, namespace: &Namespace, document: &Document) -> Result<OwnOp>
     ensures { SpellsOp (Inserts (record { namespace = namespace.now; document = document.now })) result }
