@@ -2,3 +2,4 @@
 pub mod BulkFronts
 pub mod BulkOps
 pub mod BulkResults
+pub mod SeenFlags
