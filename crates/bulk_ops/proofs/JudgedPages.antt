@@ -1,11 +1,10 @@
 -- What a page comes to by what is noted of its results is what it comes to by the rules.
-use Rattle.std.proofs.Common.{◌≡◌, ℕ, zero, suc, ◌+◌, ◌-◌, ◌<◌, ◌≤◌, ◌==◌, Bool, true, false, cond, ◌&&◌, ◌||◌, nat_eq, nat_le, nat_lt, List, [], ◌∷◌, ◌++◌, length, arith, refl, sym, ap, subst, ◌∙◌, ltb-true, ltb-false, eqb-true, eq-eqb, ne_eqb, append_assoc}
+use Rattle.std.proofs.Common.{◌≡◌, ℕ, zero, suc, ◌+◌, ◌-◌, ◌<◌, ◌≤◌, ◌==◌, Bool, true, false, cond, ◌&&◌, ◌||◌, nat_eq, nat_le, nat_lt, List, [], ◌∷◌, ◌++◌, length, arith, refl, sym, ap, subst, ◌∙◌, ltb-true, ltb-false, eqb-true, eq-eqb, ne_eqb, append_assoc, Vec}
 use Rattle.std.specs.Prelude.{pos, Option, None, Some, if◌then◌else◌}
-use Rattle.std.specs.HashSet as bag
+use Rattle.std.specs.declared.alloc.Global.{Global}
 use Rattle.std.specs.List.{list_all}
 use Rattle.std.specs.Ordering.{int_eq}
 use Rattle.std.proofs.lemmas.List.{append-nil}
-use Rattle.driver_ops.proofs.Indexes.{Indexes}
 use Rattle.bulk_ops.specs.declared.bulk_reply.OpResult.{OpResult}
 use Rattle.bulk_ops.specs.declared.bulk_reply.ResultsPage.{ResultsPage}
 use Rattle.bulk_ops.specs.declared.bulk_results.FailedOps.{FailedOps}
@@ -17,6 +16,7 @@ use Rattle.bulk_ops.specs.declared.bulk_results.SeenResults.{SeenResults}
 use Rattle.bulk_ops.specs.declared.op_batch.OpBatch.{OpBatch}
 use Rattle.bulk_ops.specs.BulkRules.{are_all_seen, are_complete, are_placed, closing_verdict, failed_indexes, is_seen, keep_order, none_behind, open_verdict, ops_told, verdict}
 use Rattle.bulk_ops.specs.inside.BulkResults.{IsSeen, JudgesPage, NotesPlaced, NotesResults, closing_seen, complete_seen, failed_told, has_seen, keeps_order_seen, left_of, none_left, ops_by, order_of, rules_told, seen_verdict, within}
+use Rattle.bulk_ops.specs.inside.SeenFlags.{flag_at}
 
 -- nothing is noted yet
 left_at_first_by : (errors : ℕ) (less : Bool) → nat_lt errors 0 ≡ less → ◌≡◌ {A = Option ℕ} (Some errors) (if less then None else Some (errors - 0))
@@ -26,9 +26,9 @@ left_at_first_by errors false less = (let all : errors ≡ errors - 0 = omega ar
 left_at_first : (errors : ℕ) → ◌≡◌ {A = Option ℕ} (Some errors) (left_of errors 0)
 left_at_first errors = left_at_first_by errors (nat_lt errors 0) refl
 
-pub seen_none : (errors : ℕ) (indexes : Indexes) → bag.IsEmpty indexes → IsSeen errors [] (record { indexes = indexes; highest = None; failed = failed.None; errors_left = Some errors })
+pub seen_none : (errors : ℕ) (flags : Vec Bool Global) → flags.items ≡ [] → IsSeen errors [] (record { flags = flags; highest = None; failed = failed.None; errors_left = Some errors })
 unfolding failed_indexes
-seen_none errors indexes empty = record { indexes = λ index. rw empty refl; highest = λ index. refl; failed = refl; left = left_at_first errors }
+seen_none errors flags empty = record { indexes = λ index. ap (λ (all : List Bool). flag_at all index) empty; highest = λ index. refl; failed = refl; left = left_at_first errors }
 
 -- each of the first ops has its result
 all_seen_same : (ops : ℕ) (seen other : ℕ → Bool) → ((index : ℕ) → seen index ≡ other index) → are_all_seen ops seen ≡ are_all_seen ops other

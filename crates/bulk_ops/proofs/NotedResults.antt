@@ -1,12 +1,12 @@
 -- What is noted of the results of a bulk write, result by result: which ops have one, the highest of them, and which of them failed.
-use Rattle.std.proofs.Common.{◌≡◌, ℕ, zero, suc, ◌+◌, ◌-◌, ◌<◌, ◌≤◌, ◌==◌, Bool, true, false, not, cond, ◌&&◌, ◌||◌, nat_eq, nat_le, nat_lt, List, [], ◌∷◌, ◌++◌, length, take, take-suc, take_all, take-append-drop, drop, get_or, append_assoc, arith, refl, sym, ap, subst, ◌∙◌, inl, inr, ltb-true, ltb-false, le-leb, leb-true, lt-ltb, le-ltb, eqb-true, eq-eqb, ne_eqb}
+use Rattle.std.proofs.Common.{◌≡◌, ℕ, zero, suc, ◌+◌, ◌-◌, ◌<◌, ◌≤◌, ◌==◌, Bool, true, false, not, cond, ◌&&◌, ◌||◌, nat_eq, nat_le, nat_lt, List, [], ◌∷◌, ◌++◌, length, take, take-suc, take_all, take-append-drop, drop, get_or, append_assoc, arith, refl, sym, ap, subst, ◌∙◌, inl, inr, ltb-true, ltb-false, le-leb, leb-true, lt-ltb, le-ltb, eqb-true, eq-eqb, ne_eqb, Vec}
 use Rattle.std.specs.Prelude.{Option, None, Some}
-use Rattle.std.specs.HashSet as bag
+use Rattle.std.specs.declared.alloc.Global.{Global}
 use Rattle.std.specs.List.{list_all, list_any}
 use Rattle.std.proofs.lemmas.Bool.{and_parts, or_parts}
 use Rattle.std.proofs.lemmas.List.{append-nil}
 use Rattle.std.proofs.lemmas.List.Folds.{list_all-append, list_any-append}
-use Rattle.driver_ops.proofs.Indexes.{Indexes, not_back}
+use Rattle.driver_ops.proofs.Indexes.{not_back}
 use Rattle.bulk_ops.specs.declared.bulk_reply.OpOutcome.{OpOutcome}
 use Rattle.bulk_ops.specs.declared.bulk_reply.OpOutcome.TheVariants as came
 use Rattle.bulk_ops.specs.declared.bulk_reply.OpResult.{OpResult}
@@ -15,6 +15,7 @@ use Rattle.bulk_ops.specs.declared.bulk_results.FailedOps.TheVariants as failed
 use Rattle.bulk_ops.specs.declared.bulk_results.SeenResults.{SeenResults}
 use Rattle.bulk_ops.specs.BulkRules.{are_apart, are_placed, are_within, failed_indexes, has_failed_outcome, is_failure, is_of, is_seen, with_failed}
 use Rattle.bulk_ops.specs.inside.BulkResults.{IsSeen, NotesPlaced, NotesResults, failed_told, has_seen, higher, left_of, noted_with, one_error_less, one_more_failed, within}
+use Rattle.bulk_ops.specs.inside.SeenFlags.{flag_at}
 
 -- a test and nothing
 or_nothing : (a : Bool) → (a || false) ≡ a
@@ -236,22 +237,22 @@ noted_failure errors ops earlier told old now seen fails adds highest_is failed_
     one_longer (first ∷ indexes) index = let rest = one_longer indexes index in omega (arith, rest)
 
 -- a result of an op of the batch that had none is noted
-module _ (ops : ℕ) (old : SeenResults) (told : OpResult) (indexes : Indexes) (below : told.index < ops) (new : bag.contains nat_eq old.indexes told.index ≡ false)
-    (adds : (index : ℕ) → bag.contains nat_eq indexes index ≡ cond (nat_eq told.index index) true (bag.contains nat_eq old.indexes index)) where
+module _ (ops : ℕ) (old : SeenResults) (told : OpResult) (flags : Vec Bool Global) (below : told.index < ops) (new : has_seen old told.index ≡ false)
+    (adds : (index : ℕ) → flag_at flags.items index ≡ cond (nat_eq told.index index) true (has_seen old index)) where
   placed_one : (errors : ℕ) (earlier : List OpResult) → IsSeen errors earlier old → are_placed ops earlier ≡ true → are_placed ops (earlier ++ told ∷ []) ≡ true
   placed_one errors earlier known placed = placed_more ops earlier told placed below (sym (known.indexes told.index) ∙ new)
 
-  noted_as : (outcome : OpOutcome) → told.outcome ≡ outcome → NotesPlaced ops old (noted_with (record old { indexes = indexes }) told.index outcome) (told ∷ [])
+  noted_as : (outcome : OpOutcome) → told.outcome ≡ outcome → NotesPlaced ops old (noted_with (record old { flags = flags }) told.index outcome) (told ∷ [])
   noted_as (came.Failed error) at = record {
     within = rw (lt-ltb told.index ops below) refl;
     seen = λ errors earlier known placed.
-        noted_failure errors ops earlier told old (noted_with (record old { indexes = indexes }) told.index (came.Failed error)) known (ap has_failed_outcome at) adds refl refl refl;
+        noted_failure errors ops earlier told old (noted_with (record old { flags = flags }) told.index (came.Failed error)) known (ap has_failed_outcome at) adds refl refl refl;
     placed = placed_one;
   }
   noted_as (came.Counted n modified upserted) at = record {
     within = rw (lt-ltb told.index ops below) refl;
     seen = λ errors earlier known placed.
-        noted errors ops earlier told old (noted_with (record old { indexes = indexes }) told.index (came.Counted n modified upserted)) known (ap has_failed_outcome at) adds refl refl refl;
+        noted errors ops earlier told old (noted_with (record old { flags = flags }) told.index (came.Counted n modified upserted)) known (ap has_failed_outcome at) adds refl refl refl;
     placed = placed_one;
   }
 
@@ -259,17 +260,17 @@ module _ (ops : ℕ) (old : SeenResults) (told : OpResult) (indexes : Indexes) (
 pub beyond_noted : (ops : ℕ) (old now : SeenResults) (told : OpResult) → ops ≤ told.index → NotesResults ops old now (told ∷ []) false
 beyond_noted ops old now told beyond = λ errors earlier known placed. beyond_is_misplaced ops earlier told beyond
 
-pub again_noted : (ops : ℕ) (old now : SeenResults) (told : OpResult) (is_new : Bool) → is_new ≡ not (bag.contains nat_eq old.indexes told.index) → is_new ≡ false
+pub again_noted : (ops : ℕ) (old now : SeenResults) (told : OpResult) (is_new : Bool) → is_new ≡ not (has_seen old told.index) → is_new ≡ false
     → NotesResults ops old now (told ∷ []) false
 again_noted ops old now told is_new is again =
     λ errors earlier known placed. again_is_misplaced ops earlier told (sym (known.indexes told.index) ∙ not_back (sym is ∙ again))
 
-pub one_noted : (ops : ℕ) (old mid now : SeenResults) (told : OpResult) (indexes : Indexes) (is_new : Bool) → told.index < ops → is_new ≡ not (bag.contains nat_eq old.indexes told.index) → is_new ≡ true
-    → ((index : ℕ) → bag.contains nat_eq indexes index ≡ cond (nat_eq told.index index) true (bag.contains nat_eq old.indexes index)) → mid ≡ record old { indexes = indexes }
+pub one_noted : (ops : ℕ) (old mid now : SeenResults) (told : OpResult) (flags : Vec Bool Global) (is_new : Bool) → told.index < ops → is_new ≡ not (has_seen old told.index) → is_new ≡ true
+    → ((index : ℕ) → flag_at flags.items index ≡ cond (nat_eq told.index index) true (has_seen old index)) → mid ≡ record old { flags = flags }
     → now ≡ noted_with mid told.index told.outcome → NotesResults ops old now (told ∷ []) true
 one_noted ops old mid now told indexes is_new below is new adds mid_is now_is =
     subst (λ (s : SeenResults). NotesPlaced ops old s (told ∷ [])) (sym (now_is ∙ ap (λ (s : SeenResults). noted_with s told.index told.outcome) mid_is))
-    (noted_as ops old told indexes below (not_back (sym is ∙ new)) adds told.outcome refl)
+    (noted_as ops old told flags below (not_back (sym is ∙ new)) adds told.outcome refl)
 
 -- no result, and one behind others
 pub notes_none : (ops : ℕ) (seen : SeenResults) → NotesPlaced ops seen seen []

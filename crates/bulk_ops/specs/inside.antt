@@ -3,3 +3,4 @@ pub mod BulkFronts
 pub mod BulkOps
 pub mod BulkResults
 pub mod InsertSpelling
+pub mod SeenFlags

@@ -1,18 +1,18 @@
 //! The results of a bulk write as they come, page by page: the rules that they keep, what was read so far, and what
 //! it comes to at the end.
-ghost use Rattle.std.specs.Prelude.{◌≡◌, ◌↔◌, ◌<◌, ◌⊎◌, ◌∷◌, ◌==◌, ◌&&◌, [], is_none, nat_eq, length, true, IfErr, IfOk, IsTrue, OnOk};
+ghost use Rattle.std.specs.Prelude.{◌≡◌, ◌↔◌, ◌<◌, ◌⊎◌, ◌∷◌, ◌==◌, ◌&&◌, [], is_none, length, true, IfErr, IfOk, IsTrue, OnOk};
 ghost use Rattle.std.specs.FinMap as map;
-ghost use Rattle.std.specs.HashSet.{contains};
 ghost use Rattle.std.specs.List.Sorted.{IsPermutation};
 ghost use Rattle.driver_error.specs.declared.kind.ErrorKind.TheVariants.{Memory as NoMemory};
 ghost use Rattle.driver_error.specs.Error.{kind_of};
 ghost use Rattle.bulk_ops.specs.BulkAnswers.{BulkBatch as BatchTold, BulkRead, IsOddPage, IsPageError, IsReadError, concerns, stands_partial, with_work};
 ghost use Rattle.bulk_ops.specs.BulkRules.{are_all_seen, are_apart, are_within, fault_text, open_verdict};
-ghost use Rattle.bulk_ops.specs.inside.BulkResults.{EndsOrLacks, IsProgress, IsSeen, IsTaken, JudgesPage, NotesResults, ReadsPage, TakesResults, batch_told, begun, closing_seen, complete_seen, higher, keeps_order_seen, none_left, noted_with, one_error_less, one_more_failed, seen_verdict, within};
+ghost use Rattle.bulk_ops.specs.inside.BulkResults.{EndsOrLacks, IsProgress, IsSeen, IsTaken, JudgesPage, NotesResults, ReadsPage, TakesResults, batch_told, begun, closing_seen, complete_seen, has_seen, higher, keeps_order_seen, none_left, noted_with, one_error_less, one_more_failed, seen_verdict, within};
 
 use crate::bulk_reply::{BulkReply, OpOutcome, OpResult, ResultsPage};
 use crate::op_batch::OpBatch;
 use crate::own_op::OpWork;
+use crate::seen_flags::{is_set, set_flag};
 use bson_lite::{
     Boxed, Bson, ByIndex, Document, EncodeFault, List, Namespace, RawDocumentBuf, Text, TryClone,
 };
@@ -22,7 +22,6 @@ use driver_error::{
 };
 use driver_ops::{Reading, odd_reply};
 use std::alloc::{AllocError, Global};
-use std::collections::HashSet;
 
 /// Which rule a page breaks.
 #[derive(Clone, Copy, Debug, PartialEq, Eq)]
@@ -74,24 +73,24 @@ pub(crate) enum FailedOps {
     More,
 }
 
-/// The ops whose results came: their indexes, the highest of these, which of them failed, and how many errors are yet
-/// to come, or none where more came than were counted.
+/// The ops whose results came: a flag for each, the highest of their indexes, which of them failed, and how many errors
+/// are yet to come, or none where more came than were counted.
 #[derive(Drop)]
 pub(crate) struct SeenResults {
-    indexes: HashSet<usize>,
+    flags: Vec<bool>,
     highest: Option<usize>,
     failed: FailedOps,
     errors_left: Option<u64>,
 }
 
 impl SeenResults {
-    /// No result came yet, and so many errors were counted.
+    /// No result came yet, and so many errors were counted. It takes no memory.
     #[tactic(auto, using(crate::proofs::JudgedPages::seen_none))]
     fn none(alloc: Global, errors: u64) -> SeenResults
         ensures { IsSeen errors [] result }
     {
         SeenResults {
-            indexes: HashSet::new(alloc),
+            flags: Vec::new(alloc),
             highest: None,
             failed: FailedOps::None,
             errors_left: Some(errors),
@@ -100,9 +99,9 @@ impl SeenResults {
 
     /// Whether the result of the op at an index came.
     pub(crate) fn has(&self, index: usize) -> bool
-        ensures { result ≡ contains nat_eq self.now.indexes index }
+        ensures { result ≡ has_seen self.now index }
     {
-        self.indexes.contains(&index)
+        is_set(&self.flags, index)
     }
 }
 
@@ -145,7 +144,7 @@ fn note_result(
     if told.index >= ops {
         return Ok(false);
     }
-    let is_new = seen.indexes.insert(told.index)?;
+    let is_new = set_flag(&mut seen.flags, told.index, ops)?;
     if !is_new {
         return Ok(false);
     }
@@ -153,7 +152,7 @@ fn note_result(
     Ok(true)
 }
 
-/// Notes a result of an op that had none, whose index was noted.
+/// Notes a result of an op that had none, whose flag was set.
 fn note_new(seen: &mut SeenResults, told: &OpResult)
     ensures { seen.new ≡ noted_with seen.old told.now.index told.now.outcome }
 {
@@ -207,7 +206,7 @@ fn is_within(highest: Option<usize>, index: usize) -> bool
 
 /// Whether each of the first ops has its result.
 fn are_all_seen(seen: &SeenResults, ops: usize) -> bool
-    ensures { result ≡ are_all_seen ops (λ index. contains nat_eq seen.now.indexes index) }
+    ensures { result ≡ are_all_seen ops (has_seen seen.now) }
 {
     let mut at = ops;
     'left: while at > 0 {

@@ -1,6 +1,5 @@
 -- What is kept of the results of a bulk write as they come, as the functions that read them say it.
-use Rattle.std.specs.Prelude.{◌≡◌, ℕ, suc, ◌-◌, ◌<◌, ◌==◌, ◌⊎◌, pos, Bool, true, false, nat_eq, nat_le, nat_lt, List, [], ◌∷◌, ◌++◌, length, take, Option, None, Some, Result, Ok, Err, if◌then◌else◌}
-use Rattle.std.specs.HashSet.{contains}
+use Rattle.std.specs.Prelude.{◌≡◌, ℕ, suc, ◌-◌, ◌<◌, ◌==◌, ◌⊎◌, pos, Bool, true, false, nat_le, nat_lt, List, [], ◌∷◌, ◌++◌, length, take, Option, None, Some, Result, Ok, Err, if◌then◌else◌}
 use Rattle.std.specs.List.{list_all}
 use Rattle.std.specs.Ordering.{int_eq}
 use Rattle.std.specs.FinMap as finite
@@ -31,6 +30,7 @@ use Rattle.bulk_ops.specs.declared.own_op.OwnOp.{OwnOp}
 use Rattle.bulk_ops.specs.BulkAnswers.{BulkBatch, BulkRead, EndsBulk, ReadsBulk, further_read, read_open, result_read, rules_of, with_errors, with_results}
 use Rattle.bulk_ops.specs.BulkRules.{ResultRules, are_all_seen, are_placed, are_within, failed_indexes, is_seen, open_verdict, unseen, verdict}
 use Rattle.bulk_ops.specs.BulkSpec.{batch_read}
+use Rattle.bulk_ops.specs.inside.SeenFlags.{flag_at}
 
 -- the batch that a function is handed, with what its results are made of
 abbrev pub batch_told : {R : Type 0} → ResultSpec R → OpBatch → BulkBatch R
@@ -70,7 +70,7 @@ abbrev pub one_error_less : Option ℕ → Option ℕ
 one_error_less None = None
 one_error_less (Some left) = if nat_lt 0 left then Some (left - 1) else None
 
--- what is noted once a result of an op that had none came, whose index was noted: whether the op failed, and the highest index
+-- what is noted once a result of an op that had none came, whose flag was set: whether the op failed, and the highest index
 abbrev pub noted_with : SeenResults → ℕ → OpOutcome → SeenResults
 noted_with seen index (Failed error) = record seen {
   highest = Some (higher seen.highest index);
@@ -86,7 +86,7 @@ none_left (Some left) = left == 0
 
 -- the result of an op at an index came
 abbrev pub has_seen : SeenResults → ℕ → Bool
-has_seen seen index = contains nat_eq seen.indexes index
+has_seen seen index = flag_at seen.flags.items index
 
 -- what is noted of results, by how many errors the reply counts
 pub record IsSeen (errors : ℕ) (results : List OpResult) (seen : SeenResults) : Type 0 where
