@@ -11,9 +11,10 @@ ghost use Rattle.model_server.specs.Parts.{Makes, parts_of};
 
 use crate::cases::{Case, case_of, is_in_transaction, is_too_old, writes_of};
 use crate::change::{CursorChange, Effect};
-use crate::serving::{cursor_change, done_in, reply_in, step_in};
+use crate::kept_reply::Reply;
+use crate::serving::{cursor_change, done_in, kept_reply_in, step_in};
 use crate::statements::entries;
-use bson_lite::{Document, List};
+use bson_lite::List;
 use driver_link::{ById, Failing, Planned, PlannedConcern, Send, Server, Statement};
 use std::alloc::{AllocError, Global};
 
@@ -90,7 +91,7 @@ pub(crate) fn unnumbered_effect(
 /// What serving a send comes to, made in full.
 #[derive(Drop)]
 pub(crate) struct Prepared {
-    pub reply: Document,
+    pub reply: Reply,
     pub effect: Effect,
     pub change: CursorChange,
 }
@@ -117,7 +118,7 @@ pub(crate) fn prepare(
 {
     let case = case_of(alloc, server, send);
     let done = done_in(alloc, server, send, case, results, fail)?;
-    let reply = reply_in(alloc, server, send, case, page, concern, done.as_slice())?;
+    let reply = kept_reply_in(alloc, server, send, case, page, concern, done.as_slice())?;
     let effect = effect_of(alloc, send, case, done.as_slice())?;
     let change = cursor_change(alloc, send, case, page, done.as_slice())?;
     Ok(Prepared {
