@@ -9,10 +9,10 @@ ghost use Rattle.driver_link.specs.declared.machine.Server.{Server as State};
 ghost use Rattle.model_server.specs.Changes.{changed, effect_in};
 ghost use Rattle.model_server.specs.Parts.{Makes, parts_of};
 
-use crate::cases::{Case, case_of, is_in_transaction, is_too_old, writes_of};
+use crate::cases::{Case, is_in_transaction, is_too_old, met_of, writes_of};
 use crate::change::{CursorChange, Effect};
 use crate::kept_reply::Reply;
-use crate::serving::{cursor_change, done_in, kept_reply_in, step_in};
+use crate::serving::{cursor_change, done_under, kept_reply_in, step_in};
 use crate::statements::entries;
 use bson_lite::List;
 use driver_link::{ById, Failing, Planned, PlannedConcern, Send, Server, Statement};
@@ -116,8 +116,9 @@ pub(crate) fn prepare(
         serving (plan_of results.now fail.now concern.now page) (record server.now { trace = trace })
         send.now) }
 {
-    let case = case_of(alloc, server, send);
-    let done = done_in(alloc, server, send, case, results, fail)?;
+    let met = met_of(alloc, server, send);
+    let case = met.case;
+    let done = done_under(alloc, met.kept, &send.body, case, results, fail)?;
     let reply = kept_reply_in(alloc, server, send, case, page, concern, done.as_slice())?;
     let effect = effect_of(alloc, send, case, done.as_slice())?;
     let change = cursor_change(alloc, send, case, page, done.as_slice())?;

@@ -1,5 +1,6 @@
 //! What serving a send comes to: its statements, what it changes, and its reply.
-ghost use Rattle.std.specs.Prelude.{◌≡◌, [], List as Listed, Option as Maybe, ℕ, IfOk, IfSome};
+ghost use Rattle.std.specs.Prelude.{◌≡◌, [], List as Listed, Option as Maybe, ℕ, IfOk, IfSome, unwrap_or};
+ghost use Rattle.std.specs.Option.{option_copied};
 ghost use Rattle.driver_link.specs.Cases.{known_of, results_of};
 ghost use Rattle.bson_lite.specs.declared.bson.Bson as bson;
 ghost use Rattle.driver_link.specs.Cursors.{Reply as Answer, rows as all_rows, pages_left as pages_rest, with_cursor, cursors_with};
@@ -7,6 +8,7 @@ ghost use Rattle.driver_link.specs.Exchange.{plan_of};
 ghost use Rattle.driver_link.specs.Numbers.{reply_number};
 ghost use Rattle.driver_link.specs.Replies.{body_reply as reply_of_body, denied_reply as reply_denied, reply_in as reply_to_case, results_in, sum_of, transaction_of, write_errors};
 ghost use Rattle.driver_link.specs.Serving.{done_in as done_of_case, cursors_after, session_after};
+ghost use Rattle.driver_link.specs.Statements.{no_results};
 ghost use Rattle.driver_link.specs.declared.machine.Entry.{Entry as Written};
 ghost use Rattle.driver_link.specs.declared.machine.Failing.{Failing as Fails};
 ghost use Rattle.driver_link.specs.declared.machine.KnownSession.{KnownSession as Known};
@@ -33,7 +35,7 @@ use crate::statements::{
 };
 use bson_lite::{ByIndex, Document, List, TryClone};
 use driver_link::{
-    Failing, PlacedWrite, Planned, PlannedConcern, Send, SendBody, SendCommand, Server,
+    Counted, Failing, PlacedWrite, Planned, PlannedConcern, Send, SendBody, SendCommand, Server,
     ServerTransaction, Statement,
 };
 use std::alloc::{AllocError, Global};
@@ -52,11 +54,35 @@ pub fn done_in(
         done ≡ done_of_case (seen case entries) (plan_of results.now fail.now concern page)
         (results_of (known_of server.now send.now)) send.now.body) }
 {
+    done_under(
+        alloc,
+        kept_of(server, send),
+        &send.body,
+        case,
+        results,
+        fail,
+    )
+}
+
+/// The same of what a command asked for, by the results that are kept under the number of its send.
+pub(crate) fn done_under(
+    alloc: Global,
+    kept: Option<&ByIndex<Counted>>,
+    body: &SendBody,
+    case: Case,
+    results: &[Planned],
+    fail: &[Failing],
+) -> Result<List<Statement>, AllocError>
+    ensures { IfOk result
+        (λ done. (entries : Listed Written) (concern : Maybe Concern) (page : Maybe ℕ) →
+        done ≡ done_of_case (seen case entries) (plan_of results.now fail.now concern page)
+        (unwrap_or (option_copied kept.entry) no_results) body.now) }
+{
     let none = ByIndex::new(alloc);
-    let writes = writes_of(&send.body);
-    let ordered = is_ordered(&send.body);
+    let writes = writes_of(body);
+    let ordered = is_ordered(body);
     match case {
-        Case::Outside => match kept_of(server, send) {
+        Case::Outside => match kept {
             Some(kept) => statements(alloc, results, fail, ordered, kept, writes),
             None => statements(alloc, results, fail, ordered, &none, writes),
         },
