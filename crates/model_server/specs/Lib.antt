@@ -12,3 +12,4 @@ pub mod SomeField
 pub mod Transient
 pub mod Undoing
 pub mod Waiting
+pub mod inside

@@ -1,5 +1,5 @@
 //! Which case a send meets, by the numbers of sessions and the state of transactions.
-ghost use Rattle.std.specs.Prelude.{◌≡◌, List as Listed, unwrap_or};
+ghost use Rattle.std.specs.Prelude.{◌≡◌, List as Listed, None, true, unwrap_or};
 ghost use Rattle.std.specs.Option.{option_copied};
 ghost use Rattle.driver_link.specs.Cases.{body_writes, is_ordered as ordered_body, is_in_transaction as in_transaction_of, write_case as case_of_write, commit_case as case_of_commit, abort_case as case_of_abort, numbered_case as case_numbered, unnumbered_case as case_unnumbered, case_under as case_by_number, case_of as case_met, known_under, known_of, results_of, is_decided as decided};
 ghost use Rattle.driver_link.specs.Gathered.{entries_in, gathered_by};
@@ -146,42 +146,82 @@ fn unnumbered_case(body: &SendBody) -> Case
     }
 }
 
-/// The case of a send under a session and a number.
-#[tactic(auto, unfolding(driver_link::specs::Cases::case_under, driver_link::specs::Sessions::is_below, driver_link::specs::Sessions::is_new, driver_link::specs::Sessions::taken))]
-fn case_under(alloc: Global, id: [u8; 16], number: i64, server: &Server, send: &Send) -> Case
-    ensures { seen result (entries_in (known_under id number server.now send.now).transaction) ≡
-        case_by_number id number server.now send.now }
+/// What a send meets: its case, and the results that are kept under its number, where there are some.
+#[derive(Clone, Copy)]
+pub(crate) struct Met<'a> {
+    pub case: Case,
+    pub kept: Option<&'a ByIndex<Counted>>,
+}
+
+/// What a send meets whose number is new.
+fn met_anew<'a>(alloc: Global, number: i64, send: &Send) -> Met<'a>
+    ensures case { seen result.case
+        (entries_in (begun_with number (in_transaction_of send.now) send.now.start).transaction) ≡
+        case_numbered (begun_with number (in_transaction_of send.now) send.now.start) true send.now
+        send.now.body }
+    ensures kept { option_copied result.kept ≡ None }
 {
-    let in_transaction = is_in_transaction(send);
+    let known = begin_session(alloc, number, is_in_transaction(send), send.start);
+    Met {
+        case: numbered_case(&known, true, send),
+        kept: None,
+    }
+}
+
+/// What a send meets under a session and a number.
+#[tactic(auto, unfolding(driver_link::specs::Cases::case_under, driver_link::specs::Sessions::is_below, driver_link::specs::Sessions::is_new, driver_link::specs::Sessions::taken))]
+fn met_under<'a>(
+    alloc: Global,
+    id: [u8; 16],
+    number: i64,
+    server: &'a Server,
+    send: &Send,
+) -> Met<'a>
+    ensures case { seen result.case (entries_in (known_under id number server.now send.now).transaction) ≡
+        case_by_number id number server.now send.now }
+    ensures kept { unwrap_or (option_copied result.kept) no_results ≡
+        (known_under id number server.now send.now).kept }
+{
     let Some(known) = server.sessions.get(&id) else {
-        return numbered_case(
-            &begin_session(alloc, number, in_transaction, send.start),
-            true,
-            send,
-        );
+        return met_anew(alloc, number, send);
     };
     if number < known.greatest {
-        return Case::TooOld;
+        return Met {
+            case: Case::TooOld,
+            kept: Some(&known.kept),
+        };
     }
     if known.greatest < number {
-        return numbered_case(
-            &begin_session(alloc, number, in_transaction, send.start),
-            true,
-            send,
-        );
+        return met_anew(alloc, number, send);
     }
-    numbered_case(known, false, send)
+    Met {
+        case: numbered_case(known, false, send),
+        kept: Some(&known.kept),
+    }
+}
+
+/// What a send meets.
+#[tactic(auto, unfolding(driver_link::specs::Cases::case_as, driver_link::specs::Cases::known_as))]
+pub(crate) fn met_of<'a>(alloc: Global, server: &'a Server, send: &Send) -> Met<'a>
+    ensures case { seen result.case (gathered_by (known_of server.now send.now)) ≡
+        case_met server.now send.now }
+    ensures kept { unwrap_or (option_copied result.kept) no_results ≡
+        results_of (known_of server.now send.now) }
+{
+    match (send.session, send.number) {
+        (Some(id), Some(number)) => met_under(alloc, id, number, server, send),
+        _ => Met {
+            case: unnumbered_case(&send.body),
+            kept: None,
+        },
+    }
 }
 
 /// The case that a send meets.
-#[tactic(auto, unfolding(driver_link::specs::Cases::case_as, driver_link::specs::Cases::known_as))]
 pub fn case_of(alloc: Global, server: &Server, send: &Send) -> Case
     ensures { seen result (gathered_by (known_of server.now send.now)) ≡ case_met server.now send.now }
 {
-    match (send.session, send.number) {
-        (Some(id), Some(number)) => case_under(alloc, id, number, server, send),
-        _ => unnumbered_case(&send.body),
-    }
+    met_of(alloc, server, send).case
 }
 
 /// The results that are kept under the number of a send, where there are some.

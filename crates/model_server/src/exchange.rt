@@ -9,11 +9,12 @@ ghost use Rattle.driver_link.specs.declared.machine.Server.{Server as State};
 ghost use Rattle.model_server.specs.Changes.{changed, effect_in};
 ghost use Rattle.model_server.specs.Parts.{Makes, parts_of};
 
-use crate::cases::{Case, case_of, is_in_transaction, is_too_old, writes_of};
+use crate::cases::{Case, is_in_transaction, is_too_old, met_of, writes_of};
 use crate::change::{CursorChange, Effect};
-use crate::serving::{cursor_change, done_in, reply_in, step_in};
+use crate::kept_reply::Reply;
+use crate::serving::{cursor_change, done_under, kept_reply_in, step_in};
 use crate::statements::entries;
-use bson_lite::{Document, List};
+use bson_lite::List;
 use driver_link::{ById, Failing, Planned, PlannedConcern, Send, Server, Statement};
 use std::alloc::{AllocError, Global};
 
@@ -90,7 +91,7 @@ pub(crate) fn unnumbered_effect(
 /// What serving a send comes to, made in full.
 #[derive(Drop)]
 pub(crate) struct Prepared {
-    pub reply: Document,
+    pub reply: Reply,
     pub effect: Effect,
     pub change: CursorChange,
 }
@@ -115,9 +116,10 @@ pub(crate) fn prepare(
         serving (plan_of results.now fail.now concern.now page) (record server.now { trace = trace })
         send.now) }
 {
-    let case = case_of(alloc, server, send);
-    let done = done_in(alloc, server, send, case, results, fail)?;
-    let reply = reply_in(alloc, server, send, case, page, concern, done.as_slice())?;
+    let met = met_of(alloc, server, send);
+    let case = met.case;
+    let done = done_under(alloc, met.kept, &send.body, case, results, fail)?;
+    let reply = kept_reply_in(alloc, server, send, case, page, concern, done.as_slice())?;
     let effect = effect_of(alloc, send, case, done.as_slice())?;
     let change = cursor_change(alloc, send, case, page, done.as_slice())?;
     Ok(Prepared {

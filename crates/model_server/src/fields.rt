@@ -1,5 +1,6 @@
 //! Numbers and fields of a reply.
-ghost use Rattle.std.specs.Prelude.{◌≡◌, ℤ, pos, IfOk};
+ghost use Rattle.std.specs.Prelude.{◌≡◌, ℤ, pos, IfOk, IfSome};
+ghost use Rattle.bson_lite.specs.declared.bson.Bson as bson;
 ghost use Rattle.driver_link.specs.Numbers.{reply_number, reply_count};
 
 use bson_lite::Bson;
@@ -14,6 +15,17 @@ pub fn number(n: i64) -> Bson
         return Bson::Int32(n as i32);
     }
     Bson::Int64(n)
+}
+
+/// A number of 32 bits as a reply has it, where it is one.
+#[tactic(auto, unfolding(driver_link::specs::Numbers::reply_number))]
+pub(crate) fn small(n: i64) -> Option<i32>
+    ensures { IfSome result (λ small. reply_number n ≡ bson.Int32 small) }
+{
+    if -(1 << 31) - 1 < n && n < 1 << 31 {
+        return Some(n as i32);
+    }
+    None
 }
 
 /// A count as a reply has it. A count past the greatest i64 has no memory either.

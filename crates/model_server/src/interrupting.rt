@@ -21,6 +21,7 @@ use crate::cases::{Case, case_of, is_decided, is_in_transaction, kept_of, writes
 use crate::change::{CursorChange, Effect, SessionStep};
 use crate::exchange::{Prepared, prepare, unnumbered_effect};
 use crate::honesty::{Judgement, has_transient, honest, ran_before};
+use crate::kept_reply::Reply;
 use crate::refusing::can_be_transient;
 use crate::replying::error;
 use crate::serving::step_in;
@@ -251,7 +252,7 @@ fn interrupt_in(
     let transient = has_transient(answered.as_slice());
     let effect = interrupted_effect(alloc, send, case, done.as_slice(), transient)?;
     Ok(Prepared {
-        reply,
+        reply: Reply::whole(reply),
         effect,
         change: CursorChange::Nothing,
     })

@@ -14,6 +14,7 @@ pub mod exchange;
 pub mod fields;
 pub mod honesty;
 pub mod interrupting;
+mod kept_reply;
 pub mod laws;
 mod link;
 pub mod meeting;

@@ -10,9 +10,10 @@ use crate::change::{CursorChange, Effect, put_changes};
 use crate::copying::copied_send;
 use crate::exchange::{Prepared, prepare};
 use crate::interrupting::interrupt;
+use crate::kept_reply::Reply;
 use crate::refusing::refuse;
 use crate::replying::{REAUTHENTICATION_REQUIRED, error};
-use bson_lite::{Bytes, Document, List, Text, TryClone, encode};
+use bson_lite::{Bytes, List, Text, TryClone};
 use driver_error::IoKind;
 use driver_link::{
     Answered, Failing, Item, LinkCall, LinkFault, Planned, PlannedConcern, Send, Server,
@@ -24,7 +25,7 @@ use std::alloc::{AllocError, Global};
 pub(crate) enum Meeting {
     /// It has its effect, and is answered; without a reply the connection is reset.
     Comes {
-        answered: Option<Document>,
+        answered: Option<Reply>,
         effect: Effect,
         change: CursorChange,
     },
@@ -193,12 +194,15 @@ pub(crate) fn meet(
             labels,
         } => interrupted(server, alloc, send, *after, *code, labels),
         Item::Refused { code, labels } => refused(server, alloc, send, *code, labels),
-        Item::Reauthenticate => Ok(no_effect(Some(error(alloc, REAUTHENTICATION_REQUIRED, &[])?))),
+        Item::Reauthenticate => {
+            let reply = error(alloc, REAUTHENTICATION_REQUIRED, &[])?;
+            Ok(no_effect(Some(Reply::whole(reply))))
+        }
     }
 }
 
 /// A send that has no effect.
-fn no_effect(answered: Option<Document>) -> Meeting
+fn no_effect(answered: Option<Reply>) -> Meeting
     ensures { result ≡ Meeting.Comes answered Effect.Nothing CursorChange.Nothing }
 {
     Meeting::Comes {
@@ -208,7 +212,7 @@ fn no_effect(answered: Option<Document>) -> Meeting
     }
 }
 
-/// The bytes of a meeting's reply, where there is one. One that is too long has no memory either.
+/// The bytes of a meeting's reply, where there is one.
 fn reply_bytes(alloc: Global, made: &Meeting) -> Result<Option<Bytes>, AllocError>
     ensures { IfOk result (λ bytes. IsSpelled (reply_of made.now) bytes) }
 {
@@ -216,10 +220,10 @@ fn reply_bytes(alloc: Global, made: &Meeting) -> Result<Option<Bytes>, AllocErro
         Meeting::Comes {
             answered: Some(reply),
             ..
-        } => match encode(alloc, reply) {
-            Ok(bytes) => Ok(Some(bytes)),
-            Err(_) => Err(AllocError),
-        },
+        } => {
+            let bytes = reply.bytes(alloc)?;
+            Ok(Some(bytes))
+        }
         _ => Ok(None),
     }
 }

@@ -13,6 +13,7 @@ use crate::cases::{begin_session, is_in_transaction};
 use crate::change::{CursorChange, Effect, SessionStep};
 use crate::exchange::Prepared;
 use crate::honesty::{Judgement, has_transient, honest, ran_before};
+use crate::kept_reply::Reply;
 use crate::replying::error;
 use bson_lite::Text;
 use driver_link::{Send, Server, ServerTransaction};
@@ -101,7 +102,7 @@ pub(crate) fn refuse(
     let reply = error(alloc, code, answered.as_slice())?;
     let effect = refused_effect(send, answered.as_slice());
     Ok(Prepared {
-        reply,
+        reply: Reply::whole(reply),
         effect,
         change: CursorChange::Nothing,
     })

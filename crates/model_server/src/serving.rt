@@ -1,10 +1,14 @@
 //! What serving a send comes to: its statements, what it changes, and its reply.
-ghost use Rattle.std.specs.Prelude.{◌≡◌, List as Listed, Option as Maybe, ℕ, IfOk};
+ghost use Rattle.std.specs.Prelude.{◌≡◌, [], List as Listed, Option as Maybe, ℕ, IfOk, IfSome, unwrap_or};
+ghost use Rattle.std.specs.Option.{option_copied};
 ghost use Rattle.driver_link.specs.Cases.{known_of, results_of};
-ghost use Rattle.driver_link.specs.Cursors.{rows as all_rows, pages_left as pages_rest, with_cursor, cursors_with};
+ghost use Rattle.bson_lite.specs.declared.bson.Bson as bson;
+ghost use Rattle.driver_link.specs.Cursors.{Reply as Answer, rows as all_rows, pages_left as pages_rest, with_cursor, cursors_with};
 ghost use Rattle.driver_link.specs.Exchange.{plan_of};
-ghost use Rattle.driver_link.specs.Replies.{body_reply as reply_of_body, denied_reply as reply_denied, reply_in as reply_to_case, transaction_of};
+ghost use Rattle.driver_link.specs.Numbers.{reply_number};
+ghost use Rattle.driver_link.specs.Replies.{body_reply as reply_of_body, denied_reply as reply_denied, reply_in as reply_to_case, results_in, sum_of, transaction_of, write_errors};
 ghost use Rattle.driver_link.specs.Serving.{done_in as done_of_case, cursors_after, session_after};
+ghost use Rattle.driver_link.specs.Statements.{no_results};
 ghost use Rattle.driver_link.specs.declared.machine.Entry.{Entry as Written};
 ghost use Rattle.driver_link.specs.declared.machine.Failing.{Failing as Fails};
 ghost use Rattle.driver_link.specs.declared.machine.KnownSession.{KnownSession as Known};
@@ -15,10 +19,14 @@ ghost use Rattle.model_server.specs.Changes.{cursors_put};
 ghost use Rattle.model_server.specs.Does.{Does};
 ghost use Rattle.model_server.specs.Parts.{ran_of};
 ghost use Rattle.model_server.specs.Seen.{seen};
+ghost use Rattle.model_server.specs.inside.KeptReplies.{counted_reply};
 
 use crate::cases::{Case, begin_session, is_in_transaction, is_ordered, kept_of, writes_of};
 use crate::change::{CursorChange, SessionStep};
+use crate::counts::sum_n;
 use crate::cursors::{pages_left, rows};
+use crate::fields::small;
+use crate::kept_reply::Reply;
 use crate::replying::{
     TRANSACTION_TOO_OLD, cursor_reply, denied_reply, end_reply, error, write_reply,
 };
@@ -27,7 +35,7 @@ use crate::statements::{
 };
 use bson_lite::{ByIndex, Document, List, TryClone};
 use driver_link::{
-    Failing, PlacedWrite, Planned, PlannedConcern, Send, SendBody, SendCommand, Server,
+    Counted, Failing, PlacedWrite, Planned, PlannedConcern, Send, SendBody, SendCommand, Server,
     ServerTransaction, Statement,
 };
 use std::alloc::{AllocError, Global};
@@ -46,11 +54,35 @@ pub fn done_in(
         done ≡ done_of_case (seen case entries) (plan_of results.now fail.now concern page)
         (results_of (known_of server.now send.now)) send.now.body) }
 {
+    done_under(
+        alloc,
+        kept_of(server, send),
+        &send.body,
+        case,
+        results,
+        fail,
+    )
+}
+
+/// The same of what a command asked for, by the results that are kept under the number of its send.
+pub(crate) fn done_under(
+    alloc: Global,
+    kept: Option<&ByIndex<Counted>>,
+    body: &SendBody,
+    case: Case,
+    results: &[Planned],
+    fail: &[Failing],
+) -> Result<List<Statement>, AllocError>
+    ensures { IfOk result
+        (λ done. (entries : Listed Written) (concern : Maybe Concern) (page : Maybe ℕ) →
+        done ≡ done_of_case (seen case entries) (plan_of results.now fail.now concern page)
+        (unwrap_or (option_copied kept.entry) no_results) body.now) }
+{
     let none = ByIndex::new(alloc);
-    let writes = writes_of(&send.body);
-    let ordered = is_ordered(&send.body);
+    let writes = writes_of(body);
+    let ordered = is_ordered(body);
     match case {
-        Case::Outside => match kept_of(server, send) {
+        Case::Outside => match kept {
             Some(kept) => statements(alloc, results, fail, ordered, kept, writes),
             None => statements(alloc, results, fail, ordered, &none, writes),
         },
@@ -275,5 +307,92 @@ pub fn reply_in(
         Case::Denied => denied(alloc, server, send),
         Case::OfCursor => cursor_reply(alloc, &send.body, concern, cursors),
         _ => body_reply(alloc, &send.body, page, concern, cursors, done),
+    }
+}
+
+/// The number that the reply to statements has which insert or delete, where it has no write errors.
+#[tactic(auto, using(crate::proofs::KeptReplies::none_failed))]
+fn counted(done: &[Statement]) -> Result<Option<i32>, AllocError>
+    ensures number { IfOk result
+        (λ found. IfSome found
+        (λ n. reply_number (sum_of (λ counts. counts.n) (results_in done.now)) ≡ bson.Int32 n)) }
+    ensures errors { IfOk result (λ found. IfSome found (λ _. write_errors 0 done.now ≡ [])) }
+{
+    if has_failed(done) {
+        return Ok(None);
+    }
+    let sum = sum_n(done)?;
+    Ok(small(sum))
+}
+
+/// The number that the reply to what a command asked for has alone beside its first field, if it is such a
+/// reply.
+#[tactic(auto, using(crate::proofs::KeptReplies::inserts_counted, crate::proofs::KeptReplies::deletes_counted))]
+fn counted_body(
+    body: &SendBody,
+    concern: &Option<PlannedConcern>,
+    done: &[Statement],
+) -> Result<Option<i32>, AllocError>
+    ensures { IfOk result
+        (λ found. IfSome found
+        (λ n. (results : Listed Plans) (fail : Listed Fails) (page : Maybe ℕ)
+        (cursors : Listed (Maybe (Listed Answer))) →
+        counted_reply n ≡ reply_of_body body.now (plan_of results fail concern.now page) cursors done.now)) }
+{
+    match (body, concern) {
+        (
+            SendBody::Write {
+                command: SendCommand::Insert | SendCommand::Delete,
+                ..
+            },
+            None,
+        ) => counted(done),
+        _ => Ok(None),
+    }
+}
+
+/// The same of the reply to a send in its case.
+#[tactic(auto, unfolding(driver_link::specs::Replies::reply_in))]
+fn counted_in(
+    send: &Send,
+    case: Case,
+    concern: &Option<PlannedConcern>,
+    done: &[Statement],
+) -> Result<Option<i32>, AllocError>
+    ensures { IfOk result
+        (λ found. IfSome found
+        (λ n. (entries : Listed Written) (results : Listed Plans) (fail : Listed Fails) (page : Maybe ℕ)
+        (state : State) →
+        counted_reply n ≡ reply_to_case (seen case entries) (plan_of results fail concern.now page) done.now
+        state send.now)) }
+{
+    match case {
+        Case::Outside => counted_body(&send.body, concern, done),
+        Case::Gathers => counted_body(&send.body, concern, done),
+        _ => Ok(None),
+    }
+}
+
+/// The reply to a send in its case, as it is kept.
+pub(crate) fn kept_reply_in(
+    alloc: Global,
+    server: &Server,
+    send: &Send,
+    case: Case,
+    page: Option<u64>,
+    concern: &Option<PlannedConcern>,
+    done: &[Statement],
+) -> Result<Reply, AllocError>
+    ensures { IfOk result
+        (λ reply. (entries : Listed Written) (results : Listed Plans) (fail : Listed Fails) →
+        reply ≡ reply_to_case (seen case entries) (plan_of results fail concern.now page) done.now server.now
+        send.now) }
+{
+    match counted_in(send, case, concern, done)? {
+        Some(n) => Ok(Reply::counted(n)),
+        None => {
+            let reply = reply_in(alloc, server, send, case, page, concern, done)?;
+            Ok(Reply::whole(reply))
+        }
     }
 }

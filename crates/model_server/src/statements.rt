@@ -129,7 +129,7 @@ pub fn statements(
 ) -> Result<List<Statement>, AllocError>
     ensures { IfOk result (λ done. done ≡ all_statements results.now fail.now ordered kept.now 0 writes.now) }
 {
-    let mut done = List::new(alloc);
+    let mut done = List::with_capacity(alloc, writes.len())?;
     for (at, write) in writes.iter().enumerate() {
         let next = statement(alloc, results, fail, kept, at, write)?;
         let stops = ordered && is_failed(&next);
@@ -239,7 +239,7 @@ pub fn entries(
 ) -> Result<List<Entry>, AllocError>
     ensures { IfOk result (λ entries. entries ≡ entries_of session number writes.now done.now) }
 {
-    let mut entries = List::new(alloc);
+    let mut entries = List::with_capacity(alloc, done.len())?;
     for (at, write) in writes.iter().enumerate() {
         if at >= done.len() {
             return Ok(entries);
@@ -257,7 +257,7 @@ pub fn entries(
 pub fn ran_results(alloc: Global, done: &[Statement]) -> Result<List<(usize, Counted)>, AllocError>
     ensures { IfOk result (λ results. results ≡ ran_at 0 done.now) }
 {
-    let mut results = List::new(alloc);
+    let mut results = List::with_capacity(alloc, done.len())?;
     for (at, statement) in done.iter().enumerate() {
         match statement {
             Statement::Ran(counts) => results.push((at, copy_counts(alloc, counts)?))?,

@@ -16,7 +16,7 @@ use Rattle.model_server.proofs.interrupting.interrupt_in.Goals as goal
 pub returns-clause-reply : goal.returns-clause-reply
 returns-clause-reply c = λ trace.
     let entries = gathered_by (known_of c.args.server.now c.args.send.now) in
-    c.in_ok-reply.ensures
+    c.whole.ensures ∙ c.in_ok-reply.ensures
     ∙ (λ i. error_reply (to_z-of_z w32 c.args.code c.ranges.code i) c.as_slice-2.result.now)
     ∙ ap (error_reply c.args.code) (c.as_slice-2.ensures
     ∙ labels_law c.args.server.now trace c.args.send.now c.args.case c.args.after c.requires.case c.requires.open c.args.labels.now c.in_ok-answered.answered c.in_ok-done.done _ _ _

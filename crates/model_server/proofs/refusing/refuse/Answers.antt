@@ -8,7 +8,7 @@ use Rattle.model_server.proofs.refusing.refuse.Goals as goal
 
 pub returns-clause-reply : goal.returns-clause-reply
 returns-clause-reply c = λ trace.
-    c.in_ok-reply.ensures
+    c.whole.ensures ∙ c.in_ok-reply.ensures
     ∙ (λ i. error_reply (to_z-of_z w32 c.args.code c.ranges.code i) c.as_slice.result.now)
     ∙ ap (error_reply c.args.code) (c.as_slice.ensures
     ∙ refused_law c.args.server.now trace c.args.send.now c.args.labels.now c.in_ok-answered.answered _ _ c.ran_before.ensures c.can_be_transient.ensures c.in_ok-answered.ensures)
