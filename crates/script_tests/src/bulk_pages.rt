@@ -8,7 +8,7 @@ const TWO: &str =
 const TWO_VERBOSE: &str =
     "{\"bulkWrite\":{\"models\":[{\"insertOne\":{\"ns\":\"a.b\",\"doc\":[[\"x\",1]]}},{\"insertOne\":{\"ns\":\"a.b\",\"doc\":[[\"x\",1]]}}],\"verbose\":true}}";
 
-const ROWS: [Row; 5] = [
+const ROWS: [Row; 6] = [
     Row {
         calls: TWO,
         behind: "\"schedule\":[{\"serve\":{\"page\":1}}]",
@@ -62,6 +62,17 @@ totals: calls=1 ok=0 sends=3 entries=2
 ",
     },
     // The error stands on the page that is lost.
+    Row {
+        calls: TWO,
+        behind: "\"schedule\":[{\"serve\":{\"fail\":[[0,11000]],\"page\":0}},\"lost\"]",
+        report: "call 0 bulkWrite: err BulkWrite errors=- writeConcerns=- partial=0,0,0,0,0 labels=- source=Io
+send 0: bulkWrite session=1 number=1 places=0.0,0.1
+send 1: getMore session=1 number=- places=-
+ids: distinct
+waiting: 0
+totals: calls=1 ok=0 sends=2 entries=0
+",
+    },
     Row {
         calls: TWO_VERBOSE,
         behind: "\"schedule\":[{\"serve\":{\"fail\":[[0,11000]],\"page\":0}},\"lost\"]",
