@@ -35,7 +35,7 @@ use Rattle.driver_exec.specs.OperationCauses.{DrawsNumbers}
 use Rattle.driver_actions.specs.CallParts.{IsValidWrite, SendsOwn}
 use Rattle.driver_actions.specs.ManyCalls.{MakesMany}
 use Rattle.driver_actions.specs.ManyCompleteness.{CarrySame, InsertsHaveNumbers, IsGentleCallPart, IsGentleCallWhereTold, IsValidMany, MayCompleteCallWhereTold, ServesInserts}
-use Rattle.driver_actions.specs.ManyEntries.{AnswerStands, AnswerStandsWhereTold, MayWriteCall}
+use Rattle.driver_actions.specs.ManyEntries.{AnswerStands, AnswerStandsWhereTold}
 use Rattle.driver_actions.specs.ManyTold.{IsToldTruly, IsToldWhereTold}
 use Rattle.driver_actions.specs.Below.{AllBelow}
 use Rattle.driver_actions.specs.SingleCalls.{Makes, first_place}
@@ -53,12 +53,13 @@ use Rattle.bulk_actions.proofs.BulkCompleteness.{bulk_complete}
 use Rattle.bulk_actions.proofs.BulkNumbers.{bulk_moves}
 use Rattle.call_runs.specs.CallByCall.{CallCaused, with_clock}
 use Rattle.call_runs.specs.CallMaking.{MakesBulkCall, MakesCall}
-use Rattle.call_runs.specs.CallsLeft.{LeavesByCall, LeavesMany}
+use Rattle.call_runs.specs.CallsLeft.{LeavesBulkCall, LeavesByCall, LeavesMany}
 use Rattle.call_runs.specs.MainTheorem.{CallCompletes, CallEnds, IsGentle, IsValid, all_numbers_of, is_paged}
 use Rattle.call_runs.specs.Standing.{LeavesWhereTold, RunInvariant, RunState}
 use Rattle.call_runs.proofs.BulkLeft.{bulk_left_read, bulk_leaves}
-use Rattle.call_runs.proofs.EachCall.{caused_own, caused_replayed}
+use Rattle.call_runs.proofs.EachCall.{bulk_call_moves, caused_own, caused_replayed}
 use Rattle.call_runs.proofs.StandingRuns.{stands_count}
+use Rattle.call_runs.proofs.ToldAfter.{by_told}
 use Rattle.driver_inputs.specs.declared.call.Answer.{Answer}
 use Rattle.driver_inputs.specs.declared.call.Answer.TheVariants as answer
 use Rattle.driver_inputs.specs.declared.call.Call.{Call}
@@ -184,16 +185,6 @@ module _ (run : RunState) (calls : List Call) (before now : Moment) (left : Leav
   bulk_well models options false (Ok given) makes valid gentle = tt
   bulk_well models options false (Err error) makes valid gentle = bulk_memory summary_spec summary_merges models options error makes valid gentle.part gentle.sums
 
-  -- what holds of the server that is told after a call before which all stood
-  by_told : (P : ServerRun → ServerRun → Type 0) (Q : Option Pool → Option Pool → Option ServerRun → Option ServerRun → Type 0)
-      → ((pool pool_now : Pool) (told told_now : ServerRun) → Q (Some pool) (Some pool_now) (Some told) (Some told_now) → MayWriteCall pool pool_now told run.made → P told told_now)
-      → (store store_now : Option Pool) (link link_now : Option ServerRun) → Q store store_now link link_now → MayCompleteCallWhereTold most store store_now link run.made → IfSome link (λ told. IfSome link_now (λ told_now. P told told_now))
-  by_told P Q gives store store_now None link_now holds may = tt
-  by_told P Q gives store store_now (Some told) None holds may = tt
-  by_told P Q gives None store_now (Some told) (Some told_now) holds may = absurd may
-  by_told P Q gives (Some pool) None (Some told) (Some told_now) holds may = absurd may
-  by_told P Q gives (Some pool) (Some pool_now) (Some told) (Some told_now) holds may = gives pool pool_now told told_now holds may.writes
-
   -- what an insert of many documents that was made left
   leaves_many : (namespace : Namespace) (documents : List (List (Pair Bson))) (options : InsertManyOptions) (result : Result InsertManyResult Error)
       → MakesMany before now (in_collection namespace) documents options run.made result → LeavesMany run.made before now namespace documents options result
@@ -201,14 +192,22 @@ module _ (run : RunState) (calls : List Call) (before now : Moment) (left : Leav
       let moves = many_moves before now (in_collection namespace) documents options run.made result makes in
       let may = many_told before.store.pool now.store.pool (server_run before.link) (server_run now.link) refl refl refl refl moves.draws.more moves.draws.drawn left in
       record {
-        stand = by_told (λ told told_now. AnswerStands namespace documents run.made told_now.server.log result) (λ s t l m. AnswerStandsWhereTold namespace documents run.made s t l m result)
+        stand = by_told most run.made (λ told told_now. AnswerStands namespace documents run.made told_now.server.log result) (λ s t l m. AnswerStandsWhereTold namespace documents run.made s t l m result)
             (λ pool pool_now told told_now stands writes. stands writes) before.store.pool now.store.pool (server_run before.link) (server_run now.link)
             (many_listed before now (in_collection namespace) documents options run.made result makes) may;
-        told = λ first clock made. by_told (λ told told_now. IsToldTruly namespace documents run.made told told_now made.ends result) (λ s t l m. IsToldWhereTold namespace documents run.made s t l m made.ends result)
+        told = λ first clock made. by_told most run.made (λ told told_now. IsToldTruly namespace documents run.made told told_now made.ends result) (λ s t l m. IsToldWhereTold namespace documents run.made s t l m made.ends result)
             (λ pool pool_now told told_now truly writes. truly writes) before.store.pool now.store.pool (server_run before.link) (server_run now.link)
             (many_truly (with_clock before first) (with_clock now clock) (in_collection namespace) documents options run.made result made) may;
         fewest = many_fewest before now (in_collection namespace) documents options run.made result makes;
       }
+
+  -- what a bulk write left
+  leaves_bulk : (models : List WriteModel) (options : BulkWriteOptions) (verbose : Bool) (result : Result Answer Error) → MakesBulkCall before now models options verbose run.made result
+      → LeavesBulkCall run.made before now models options verbose result
+  leaves_bulk models options verbose result makes =
+      let moves = bulk_call_moves before now models options run.made verbose result makes in
+      bulk_leaves most run.made before now models options
+      (many_told before.store.pool now.store.pool (server_run before.link) (server_run now.link) refl refl refl refl moves.draws.more moves.draws.drawn left) verbose result makes
 
   -- and what each call did
   leaves : (call : Call) (result : Result Answer Error) → MakesCall before now call run.made result → LeavesByCall run.made before now call result
@@ -216,7 +215,7 @@ module _ (run : RunState) (calls : List Call) (before now : Moment) (left : Leav
   leaves (InsertMany namespace documents options) (Ok (answer.Many output)) makes = leaves_many namespace documents options (Ok output) makes
   leaves (InsertMany namespace documents options) (Ok other) makes = absurd makes
   leaves (InsertMany namespace documents options) (Err error) makes = leaves_many namespace documents options (Err error) makes
-  leaves (BulkWrite models options verbose) result makes = bulk_leaves run.made before now models options verbose result makes
+  leaves (BulkWrite models options verbose) result makes = leaves_bulk models options verbose result makes
 
   -- a call that is made ends well where it is valid and its part is gentle
   completes : (call : Call) (result : Result Answer Error) → MakesCall before now call run.made result → IsValid most before call → IsGentle run.made before now call → EndsWell result

@@ -28,7 +28,7 @@ use Rattle.driver_inputs.specs.declared.call.Outcome.{Outcome}
 use Rattle.driver_inputs.specs.Forms.{form_of}
 
 -- what a bulk write leaves
-bulk_call_moves : (before now : Moment) (models : List WriteModel) (options : BulkWriteOptions) (verbose : Bool) (number : ℕ) (result : Result Answer Error) → MakesBulkCall before now models options verbose number result
+pub bulk_call_moves : (before now : Moment) (models : List WriteModel) (options : BulkWriteOptions) (verbose : Bool) (number : ℕ) (result : Result Answer Error) → MakesBulkCall before now models options verbose number result
     → CallMoves true (bulk_numbers (server_setup (server_run before.link)) models options verbose) number before now
 bulk_call_moves before now models options true number (Ok (answer.Verbose output)) makes = bulk_moves verbose_spec before now models options number (Ok output) makes
 bulk_call_moves before now models options true number (Ok other) makes = absurd makes

@@ -13,3 +13,4 @@ pub mod ManyInLog
 pub mod RunSteps
 pub mod SpelledAnswers
 pub mod StandingRuns
+pub mod ToldAfter

@@ -1,14 +1,19 @@
 -- What an insert of many documents and a bulk write left, as calls of a list.
-use Rattle.std.specs.Prelude.{ℕ, Bool, true, false, List, IfSome, Result}
+use Rattle.std.specs.Prelude.{◌≡◌, ℕ, Bool, true, false, List, Option, None, Some, IfSome, Result, Ok, Err}
 use Rattle.bson_lite.specs.declared.bson.Bson.{Bson}
 use Rattle.bson_lite.specs.declared.document.Pair.{Pair}
 use Rattle.bson_lite.specs.declared.namespace.Namespace.{Namespace}
 use Rattle.driver_error.specs.declared.error.Error.{Error}
+use Rattle.driver_error.specs.declared.kind.ErrorKind.TheVariants as kind
 use Rattle.driver_error.specs.declared.results.InsertManyResult.{InsertManyResult}
+use Rattle.driver_error.specs.declared.write.BulkWriteError.{BulkWriteError}
+use Rattle.driver_error.specs.BulkErrors.{failures_in}
 use Rattle.driver_error.specs.BulkResults.{ResultSpec, summary_spec, verbose_spec}
+use Rattle.driver_error.specs.Error.{kind_of}
 use Rattle.driver_options.specs.declared.models.WriteModel.{WriteModel}
 use Rattle.driver_options.specs.declared.write_options.BulkWriteOptions.{BulkWriteOptions}
 use Rattle.driver_options.specs.declared.write_options.InsertManyOptions.{InsertManyOptions}
+use Rattle.driver_link.specs.declared.machine.Entry.{Entry}
 use Rattle.driver_link.specs.Clock.{ClockTells}
 use Rattle.driver_link.specs.LinkState.{server_run}
 use Rattle.driver_ops.specs.Targets.{in_collection}
@@ -18,7 +23,10 @@ use Rattle.driver_actions.specs.FewestBatches.{OkIsFewestCut}
 use Rattle.driver_actions.specs.ManyCalls.{MadeMany}
 use Rattle.driver_actions.specs.ManyEntries.{AnswerStands}
 use Rattle.driver_actions.specs.ManyTold.{IsToldTruly}
+use Rattle.bulk_actions.specs.BulkCalls.{MadeBulk}
+use Rattle.bulk_actions.specs.ErrorsTold.{TellsErrors}
 use Rattle.bulk_actions.specs.FewestBulk.{OkIsFewestBulk}
+use Rattle.bulk_actions.specs.PartlyTold.{HasToldSome}
 use Rattle.call_runs.specs.CallByCall.{with_clock}
 use Rattle.call_runs.specs.CallMaking.{OfMany, OfSummary, OfVerbose}
 use Rattle.driver_inputs.specs.declared.call.Answer.{Answer}
@@ -34,8 +42,30 @@ pub record LeavesMany (number : ℕ) (before now : Moment) (namespace : Namespac
       → IfSome (server_run before.link) (λ run. IfSome (server_run now.link) (λ run_now. IsToldTruly namespace documents number run run_now made.ends result))
   pub fewest : OkIsFewestCut before now namespace documents options number result
 
--- the sends of writes of an Ok of a bulk write are a cut into the fewest batches, where the link tells its server
+-- the partial result of a bulk write's failures, where there is one, is what entries of some of the models in a log tell
+abbrev pub PartStands : List WriteModel → ℕ → List Entry → Option BulkWriteError → Type 0
+PartStands models number log None = Unit {0}
+PartStands models number log (Some failures) = IfSome failures.partial_result (λ found. HasToldSome models number log found)
+
+-- so it is where a bulk write is answered with such failures
+abbrev pub ErrStands : {R : Type 0} → List WriteModel → ℕ → List Entry → Result R Error → Type 0
+ErrStands models number log (Ok output) = Unit {0}
+ErrStands models number log (Err error) = PartStands models number log (failures_in (kind_of error))
+
+-- whichever two clocks a bulk write was made between that is answered with such failures, each write error that they list is spelled by
+-- the reply to a send of the call, and all that its batches ended with are listed, where the link tells its server
+abbrev pub ErrIsSpelled : {R : Type 0} → ResultSpec R → ℕ → Moment → Moment → List WriteModel → BulkWriteOptions → Result R Error → Type 0
+ErrIsSpelled tells number before now models options (Ok output) = Unit {0}
+ErrIsSpelled tells number before now models options (Err error) =
+    (first clock : ClockTells) (made : MadeBulk tells (with_clock before first) (with_clock now clock) models options number (Err error)) (failures : BulkWriteError)
+    → kind_of error ≡ kind.BulkWrite failures
+    → IfSome (server_run before.link) (λ run. IfSome (server_run now.link) (λ run_now. TellsErrors number run run_now made.ends failures.write_errors))
+
+-- where the link tells its server, what an error of a bulk write tells of what succeeded stands in the log, and the write errors that it
+-- lists are spelled by replies; and the sends of writes of an Ok are a cut into the fewest batches
 pub record LeavesBulk {R : Type 0} (tells : ResultSpec R) (number : ℕ) (before now : Moment) (models : List WriteModel) (options : BulkWriteOptions) (result : Result R Error) : Type 0 where
+  pub partial : IfSome (server_run before.link) (λ run. IfSome (server_run now.link) (λ run_now. ErrStands models number run_now.server.log result))
+  pub told : ErrIsSpelled tells number before now models options result
   pub fewest : OkIsFewestBulk before now models options (is_verbose tells) number result
 
 -- so it is of a bulk write, by the results that it asks for
