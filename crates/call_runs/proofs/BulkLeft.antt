@@ -49,7 +49,7 @@ verbose_partly = record {
 
 -- a bulk write that may be made between these moments
 module _ (most number : ℕ) (before now : Moment) (models : List WriteModel) (options : BulkWriteOptions)
-    (may : MayCompleteCallWhereTold most before.store.pool now.store.pool (server_run before.link) (server_run now.link) number) where
+    (may : MayCompleteCallWhereTold most before.store.pool now.store.pool (server_run before.link) number) where
   -- a partial result that is told where the call may be made stands in the log
   part_in : (part : Option PartialBulkWriteResult)
       → IfSome part (λ found. PartialWhereTold models number found before.store.pool now.store.pool (server_run before.link) (server_run now.link))

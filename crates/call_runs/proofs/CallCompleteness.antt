@@ -205,7 +205,7 @@ module _ (run : RunState) (calls : List Call) (before now : Moment) (left : Leav
   leaves_bulk : (models : List WriteModel) (options : BulkWriteOptions) (verbose : Bool) (result : Result Answer Error) → MakesBulkCall before now models options verbose run.made result
       → LeavesBulkCall run.made before now models options verbose result
   leaves_bulk models options verbose result makes =
-      let moves = bulk_call_moves before now models options run.made verbose result makes in
+      let moves = bulk_call_moves before now models options verbose run.made result makes in
       bulk_leaves most run.made before now models options
       (many_told before.store.pool now.store.pool (server_run before.link) (server_run now.link) refl refl refl refl moves.draws.more moves.draws.drawn left) verbose result makes
 
