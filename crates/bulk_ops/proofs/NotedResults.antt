@@ -268,7 +268,7 @@ again_noted ops old now told is_new is again =
 pub one_noted : (ops : ℕ) (old mid now : SeenResults) (told : OpResult) (flags : Vec Bool Global) (is_new : Bool) → told.index < ops → is_new ≡ not (has_seen old told.index) → is_new ≡ true
     → ((index : ℕ) → flag_at flags.items index ≡ cond (nat_eq told.index index) true (has_seen old index)) → mid ≡ record old { flags = flags }
     → now ≡ noted_with mid told.index told.outcome → NotesResults ops old now (told ∷ []) true
-one_noted ops old mid now told indexes is_new below is new adds mid_is now_is =
+one_noted ops old mid now told flags is_new below is new adds mid_is now_is =
     subst (λ (s : SeenResults). NotesPlaced ops old s (told ∷ [])) (sym (now_is ∙ ap (λ (s : SeenResults). noted_with s told.index told.outcome) mid_is))
     (noted_as ops old told flags below (not_back (sym is ∙ new)) adds told.outcome refl)
 
