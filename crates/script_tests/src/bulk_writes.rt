@@ -42,10 +42,6 @@ const MANY_FIRST: &str =
 const MANY_LAST: &str =
     "{\"bulkWrite\":{\"models\":[{\"insertOne\":{\"ns\":\"a.b\",\"doc\":[[\"x\",1]]}},{\"insertOne\":{\"ns\":\"a.b\",\"doc\":[[\"x\",1]]}},{\"insertOne\":{\"ns\":\"a.b\",\"doc\":[[\"x\",1]]}},{\"updateMany\":{\"ns\":\"a.b\",\"filter\":[],\"update\":[[\"$set\",{\"doc\":[[\"y\",1]]}]]}}]}}";
 
-/// Two updates of one document each.
-const TWO_UPDATES: &str =
-    "{\"bulkWrite\":{\"models\":[{\"updateOne\":{\"ns\":\"a.b\",\"filter\":[],\"update\":[[\"$set\",{\"doc\":[[\"y\",1]]}]]}},{\"updateOne\":{\"ns\":\"a.b\",\"filter\":[],\"update\":[[\"$set\",{\"doc\":[[\"y\",1]]}]]}}]}}";
-
 const MANY_ALONE: &str =
     "{\"bulkWrite\":{\"models\":[{\"updateMany\":{\"ns\":\"a.b\",\"filter\":[],\"update\":[[\"$set\",{\"doc\":[[\"y\",1]]}]]}}]}}";
 
@@ -314,9 +310,9 @@ totals: calls=1 ok=1 sends=1 entries=2
     },
 ];
 
-/// Bulk writes of which a write, a write concern, a command or a sum of counts fails: an ordered one stops at a write,
-/// each stops at a command and at a sum, and the counts are those of what was told before and beside it.
-const FAILED: [Row; 15] = [
+/// Bulk writes of which a write, a write concern or a command fails: an ordered one stops at a write, each stops at a
+/// command, and the counts are those of what was told before and beside it.
+const FAILED: [Row; 14] = [
     Row {
         calls: FIVE,
         behind: "\"limits\":{\"batch\":2},\"schedule\":[\"serve\",{\"serve\":{\"fail\":[[0,11000]]}}]",
@@ -473,20 +469,6 @@ entry 0: 0.1 session=1 number=1 n=1
 ids: distinct
 waiting: 0
 totals: calls=1 ok=0 sends=2 entries=1
-",
-    },
-    // A sum of counts that has more than 64 bits is answered alone.
-    Row {
-        calls: TWO_UPDATES,
-        behind: "\"limits\":{\"batch\":1},\"schedule\":[{\"serve\":{\"results\":[{\"n\":9223372036854775807}]}},{\"serve\":{\"results\":[{\"n\":1}]}}]",
-        report: "call 0 bulkWrite: err InvalidResponse a sum of counts is out of the range of a 64-bit number labels=- source=-
-send 0: bulkWrite session=1 number=1 places=0.0
-send 1: bulkWrite session=1 number=2 places=0.1
-entry 0: 0.0 session=1 number=1 n=9223372036854775807
-entry 1: 0.1 session=1 number=2 n=1
-ids: distinct
-waiting: 0
-totals: calls=1 ok=0 sends=2 entries=2
 ",
     },
     // The first batch's is answered alone.
