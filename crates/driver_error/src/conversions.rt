@@ -7,7 +7,7 @@ ghost use Rattle.driver_error.specs.Kinds.{inner_labels};
 ghost use Rattle.driver_error.specs.LabelTexts.{no_labels};
 
 use crate::command::CommandErrorBody;
-use crate::error::{Error, concern_of};
+use crate::error::{Error, concern_error_of};
 use crate::kind::{ErrorKind, IoKind};
 use crate::labels::Labels;
 use crate::write::{IndexedWriteError, InsertManyError, WriteConcernError, WriteFailure};
@@ -96,7 +96,7 @@ impl From<CommandErrorBody> for Error {
 fn memory_of(kind: &ErrorKind) -> Option<Global>
     ensures { IfNone result (inner_labels kind.now ≡ []) }
 {
-    match concern_of(kind) {
+    match concern_error_of(kind) {
         None => None,
         Some(concern) => Some(concern.labels.allocator()),
     }

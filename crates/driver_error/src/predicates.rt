@@ -9,7 +9,7 @@ use crate::codes::{
     not_writable_codes, read_retryable_codes, recovering_codes, shutting_down_codes,
     unknown_commit_codes,
 };
-use crate::error::{Error, concern_of};
+use crate::error::{Error, concern_error_of};
 use crate::kind::{ErrorKind, IoKind};
 use crate::labels::{
     RESUMABLE_CHANGE_STREAM_ERROR, RETRYABLE_WRITE_ERROR, TRANSIENT_TRANSACTION_ERROR,
@@ -30,7 +30,7 @@ fn own_code(kind: &ErrorKind) -> Option<i32>
     if let ErrorKind::Command(error) = kind {
         return Some(error.code);
     }
-    match concern_of(kind) {
+    match concern_error_of(kind) {
         None => None,
         Some(concern) => Some(concern.code),
     }
