@@ -1,6 +1,5 @@
 //! What becomes an error, and what errors become.
 ghost use Rattle.std.specs.Prelude.{◌≡◌, [], IfNone};
-ghost use Rattle.std.specs.Option.{option_copied};
 ghost use Rattle.driver_error.specs.declared.kind.ErrorKind.TheVariants.{InvalidResponse};
 ghost use Rattle.driver_error.specs.Conversions.{IsMade, Converts, IsSingle, single_failure, first_failure, no_failure_text};
 ghost use Rattle.driver_error.specs.Kinds.{inner_labels};

@@ -1,5 +1,5 @@
 //! An error: its kind, its labels, and the error that caused it.
-ghost use Rattle.std.specs.Prelude.{◌≡◌, [], ◌++◌, None, Some, OnOk, OnErr, IfOk, IfNone};
+ghost use Rattle.std.specs.Prelude.{◌≡◌, [], ◌++◌, None, Some, OnOk, OnErr, IfOk};
 ghost use Rattle.std.specs.Option.{option_copied};
 ghost use Rattle.driver_error.specs.declared.kind.ErrorKind.TheVariants.{Custom};
 ghost use Rattle.driver_error.specs.Conversions.{IsMade, IsNew};
