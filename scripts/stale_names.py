@@ -16,10 +16,11 @@ import re
 
 ROOT = os.path.dirname(os.path.dirname(os.path.abspath(__file__)))
 
-# Words of others: of the toolchain, of std and the kit's crates, of MongoDB and of the system.
+# Words of others: of the toolchain, of a scratch copy, of std and the kit's crates, of MongoDB and of the system.
 FOREIGN = set("""
-rattle RT_JOBS must_fail oantt out/ cannot-infer-type
-Arc FinSet
+rattle RT_JOBS must_fail oantt out/ out/rlib cannot-infer-type match-options-6 Proof.antt FUNCTION_spec
+src/tiny.rt tiny_a
+Arc FinSet IntoIterator
 mongodb ClientSession add_labels_and_update_pin operationTime
 setsid nice renice awk
 """.split())
