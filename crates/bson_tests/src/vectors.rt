@@ -42,55 +42,20 @@ fn both_ways(alloc: Global, key: &str, value: Bson, bytes: &[u8]) -> Result<bool
 }
 
 #[test]
-fn standard_values(rt: HostRuntime) -> Result<(), Fail> {
+fn standard_numbers(rt: HostRuntime) -> Result<(), Fail> {
     let alloc = rt.alloc();
-    let table: [(&str, &str, Bson, &[u8]); 13] = [
+    let table: [(&str, &str, Bson, &[u8]); 4] = [
         (
             "double",
             "d",
             Bson::Double([0, 0, 0, 0, 0, 0, 0xf0, 0x3f]),
             b"\x10\0\0\0\x01d\0\0\0\0\0\0\0\xf0\x3f\0",
         ),
-        ("undefined", "a", Bson::Undefined, b"\x08\0\0\0\x06a\0\0"),
-        (
-            "object id",
-            "a",
-            Bson::ObjectId(ObjectId { bytes: CORPUS_ID }),
-            b"\x14\0\0\0\x07a\0\x56\xe1\xfc\x72\xe0\xc9\x17\xe9\xc4\x71\x41\x61\0",
-        ),
-        (
-            "boolean false",
-            "b",
-            Bson::Boolean(false),
-            b"\x09\0\0\0\x08b\0\0\0",
-        ),
-        (
-            "boolean true",
-            "b",
-            Bson::Boolean(true),
-            b"\x09\0\0\0\x08b\0\x01\0",
-        ),
-        (
-            "date time",
-            "a",
-            Bson::DateTime(-284_643_869_501),
-            b"\x10\0\0\0\x09a\0\xc3\x3c\xe7\xb9\xbd\xff\xff\xff\0",
-        ),
-        ("null", "a", Bson::Null, b"\x08\0\0\0\x0aa\0\0"),
         (
             "int 32",
             "i",
             Bson::Int32(-2_147_483_648),
             b"\x0c\0\0\0\x10i\0\0\0\0\x80\0",
-        ),
-        (
-            "timestamp",
-            "a",
-            Bson::Timestamp(Timestamp {
-                time: 123_456_789,
-                increment: 42,
-            }),
-            b"\x10\0\0\0\x11a\0\x2a\0\0\0\x15\xcd\x5b\x07\0",
         ),
         (
             "int 64",
@@ -104,6 +69,63 @@ fn standard_values(rt: HostRuntime) -> Result<(), Fail> {
             Bson::Decimal128([1, 0, 0, 0, 0, 0, 0, 0, 0, 0, 0, 0, 0, 0, 0x40, 0x30]),
             b"\x18\0\0\0\x13d\0\x01\0\0\0\0\0\0\0\0\0\0\0\0\0\x40\x30\0",
         ),
+    ];
+    for (name, key, value, bytes) in table {
+        assert!(rt; both_ways(alloc, key, value, bytes)?, "{name}");
+    }
+    Ok(())
+}
+
+#[test]
+fn standard_ids_and_times(rt: HostRuntime) -> Result<(), Fail> {
+    let alloc = rt.alloc();
+    let table: [(&str, &str, Bson, &[u8]); 3] = [
+        (
+            "object id",
+            "a",
+            Bson::ObjectId(ObjectId { bytes: CORPUS_ID }),
+            b"\x14\0\0\0\x07a\0\x56\xe1\xfc\x72\xe0\xc9\x17\xe9\xc4\x71\x41\x61\0",
+        ),
+        (
+            "date time",
+            "a",
+            Bson::DateTime(-284_643_869_501),
+            b"\x10\0\0\0\x09a\0\xc3\x3c\xe7\xb9\xbd\xff\xff\xff\0",
+        ),
+        (
+            "timestamp",
+            "a",
+            Bson::Timestamp(Timestamp {
+                time: 123_456_789,
+                increment: 42,
+            }),
+            b"\x10\0\0\0\x11a\0\x2a\0\0\0\x15\xcd\x5b\x07\0",
+        ),
+    ];
+    for (name, key, value, bytes) in table {
+        assert!(rt; both_ways(alloc, key, value, bytes)?, "{name}");
+    }
+    Ok(())
+}
+
+#[test]
+fn standard_marks(rt: HostRuntime) -> Result<(), Fail> {
+    let alloc = rt.alloc();
+    let table: [(&str, &str, Bson, &[u8]); 6] = [
+        ("undefined", "a", Bson::Undefined, b"\x08\0\0\0\x06a\0\0"),
+        (
+            "boolean false",
+            "b",
+            Bson::Boolean(false),
+            b"\x09\0\0\0\x08b\0\0\0",
+        ),
+        (
+            "boolean true",
+            "b",
+            Bson::Boolean(true),
+            b"\x09\0\0\0\x08b\0\x01\0",
+        ),
+        ("null", "a", Bson::Null, b"\x08\0\0\0\x0aa\0\0"),
         ("min key", "a", Bson::MinKey, b"\x08\0\0\0\xffa\0\0"),
         ("max key", "a", Bson::MaxKey, b"\x08\0\0\0\x7fa\0\0"),
     ];
@@ -114,9 +136,9 @@ fn standard_values(rt: HostRuntime) -> Result<(), Fail> {
 }
 
 #[test]
-fn standard_values_with_text(rt: HostRuntime) -> Result<(), Fail> {
+fn standard_texts(rt: HostRuntime) -> Result<(), Fail> {
     let alloc = rt.alloc();
-    let table: [(&str, &str, Bson, &[u8]); 7] = [
+    let table: [(&str, &str, Bson, &[u8]); 4] = [
         (
             "text",
             "a",
@@ -135,13 +157,26 @@ fn standard_values_with_text(rt: HostRuntime) -> Result<(), Fail> {
             Bson::Symbol(b_text(alloc)?),
             b"\x0e\0\0\0\x0ea\0\x02\0\0\0b\0\0",
         ),
+        ("regex", "a", regex(alloc)?, b"\x0f\0\0\0\x0ba\0abc\0im\0\0"),
+    ];
+    for (name, key, value, bytes) in table {
+        let copy = copied(alloc, &value)?;
+        assert!(rt; copy == value, "a copy of {name}");
+        assert!(rt; both_ways(alloc, key, value, bytes)?, "{name}");
+    }
+    Ok(())
+}
+
+#[test]
+fn standard_values_of_parts(rt: HostRuntime) -> Result<(), Fail> {
+    let alloc = rt.alloc();
+    let table: [(&str, &str, Bson, &[u8]); 3] = [
         (
             "binary",
             "x",
             binary(alloc)?,
             b"\x0f\0\0\0\x05x\0\x02\0\0\0\x04\xff\xff\0",
         ),
-        ("regex", "a", regex(alloc)?, b"\x0f\0\0\0\x0ba\0abc\0im\0\0"),
         (
             "array",
             "a",

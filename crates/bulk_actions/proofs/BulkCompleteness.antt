@@ -16,6 +16,7 @@ use Rattle.driver_options.specs.declared.write_options.BulkWriteOptions.{BulkWri
 use Rattle.driver_options.specs.Models.{is_multi}
 use Rattle.driver_link.specs.LinkState.{server_run, setup_of}
 use Rattle.driver_link.specs.ServerRun.{ServerRun}
+use Rattle.driver_link.proofs.ToldSetups.{served_setup}
 use Rattle.driver_session.specs.Pool.{Pool}
 use Rattle.driver_session.specs.Session.{last_number}
 use Rattle.driver_session.specs.StoreTells.{DrawnApartIn}
@@ -28,7 +29,6 @@ use Rattle.driver_exec.proofs.Moments.{before_refl}
 use Rattle.driver_inputs.specs.BulkInputs.{BulkInputRefused, IsBulkAccepted, TellsBulkInput, with_model_id, with_model_ids}
 use Rattle.driver_inputs.specs.ManyInputs.{AreTwelve}
 use Rattle.driver_actions.specs.ManyCompleteness.{IsGentleCallPart}
-use Rattle.driver_actions.proofs.InsertFit.{served_setup}
 use Rattle.bulk_actions.specs.BulkCalls.{EndsShort, MadeBulk, MakesBulk}
 use Rattle.bulk_actions.specs.BulkCompleteness.{BulkRepeats, CompletesBulk, IsGentleBulkPart, IsGentleBulkWhereTold, IsValidBulk, MayCompleteBulk, MayCompleteBulkWhereTold, ServesBulk, TakesModels}
 use Rattle.bulk_actions.specs.BulkIds.{PreparesOps}

@@ -20,6 +20,7 @@ use Rattle.driver_link.specs.LinkState.{server_run, setup_of}
 use Rattle.driver_link.specs.ServerRun.{ServerRun}
 use Rattle.driver_link.specs.Settled.{Has}
 use Rattle.driver_link.proofs.Lists.{has_either, has_left}
+use Rattle.driver_link.proofs.ToldSetups.{served_setup}
 use Rattle.driver_session.specs.Pool.{Pool}
 use Rattle.driver_session.specs.Session.{last_number}
 use Rattle.driver_session.specs.StoreTells.{DrawnApart, DrawnApartIn}
@@ -39,7 +40,6 @@ use Rattle.driver_exec.proofs.WholeOperation.{executes_client}
 use Rattle.driver_actions.specs.BatchPlans.{MakesAllPlanned, MakesPlanned, PlannedEnd, rest_of}
 use Rattle.driver_actions.specs.ManyCompleteness.{IsGentleCallPart, RaisesByWhereTold}
 use Rattle.driver_actions.specs.Numbers.{server_setup}
-use Rattle.driver_actions.proofs.InsertFit.{served_setup}
 use Rattle.driver_actions.proofs.MovesBeside.{GainsOwn}
 use Rattle.driver_actions.proofs.PlannedBatches as planned
 use Rattle.driver_actions.proofs.PlannedBatches.{IsNewFrom, fixed_or_one, is_fixed_or_one, mid_told, next_new, run_told}

@@ -50,8 +50,13 @@ impl<S> BulkWrites<S> for Client<S> {
         ensures same_client { result.client.ghost_name ≡ self.entry.ghost_name }
         ensures client { result.client.now ≡ self.old }
         ensures models { result.models.now ≡ models.now }
-        ensures options { result.options ≡ record
-            { ordered = Unset; bypass_document_validation = Unset; comment = Unset; write_concern = Unset; let_vars = Unset } }
+        ensures options { result.options ≡ record {
+          ordered = Unset;
+          bypass_document_validation = Unset;
+          comment = Unset;
+          write_concern = Unset;
+          let_vars = Unset;
+        } }
     {
         BulkWrite::of_kind(self, models)
     }
@@ -64,8 +69,13 @@ impl<'a, S, T> BulkWrite<'a, S, T> {
         ensures same_client { result.client.ghost_name ≡ client.entry.ghost_name }
         ensures client { result.client.now ≡ client.old }
         ensures models { result.models.now ≡ models.now }
-        ensures options { result.options ≡ record
-            { ordered = Unset; bypass_document_validation = Unset; comment = Unset; write_concern = Unset; let_vars = Unset } }
+        ensures options { result.options ≡ record {
+          ordered = Unset;
+          bypass_document_validation = Unset;
+          comment = Unset;
+          write_concern = Unset;
+          let_vars = Unset;
+        } }
     {
         BulkWrite {
             client,

@@ -24,7 +24,8 @@ pub(crate) fn own_ops<S: SessionStore>(
     ensures owns { IfOk result (λ own. OwnsOps (S.tells (store_of client.old)) (S.tells (store_of client.new))
         models.now own) }
     ensures refusal { IfErr result (λ error. TellsOneModel models.now error) }
-    ensures draws { DrawsForModels (S.tells (store_of client.old)) (S.tells (store_of client.new)) models.now }
+    ensures draws { DrawsForModels (S.tells (store_of client.old)) (S.tells (store_of client.new))
+        models.now }
     ensures options { options_of client.new ≡ options_of client.old }
 {
     let mut own = List::with_capacity(alloc, models.len())?;
@@ -43,7 +44,8 @@ fn sent_op<S: SessionStore>(
     model: &WriteModel,
 ) -> Result<OwnOp>
     ensures sends { SendsOp (S.tells (store_of client.old)) (S.tells (store_of client.new)) model.now result }
-    ensures draws { MayDrawForModel (S.tells (store_of client.old)) (S.tells (store_of client.new)) model.now }
+    ensures draws { MayDrawForModel (S.tells (store_of client.old)) (S.tells (store_of client.new))
+        model.now }
     ensures options { options_of client.new ≡ options_of client.old }
 {
     match model {

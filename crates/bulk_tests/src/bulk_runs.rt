@@ -1,30 +1,16 @@
 //! Bulk writes by the executor: which are sent again after a lost exchange, in the same bytes; whole frames, byte by
 //! byte; and which entries stand.
-ghost use Rattle.std.specs.Prelude.{◌≡◌, ◌<◌, drop, IfOk, length};
 ghost use Rattle.driver_link.specs.WellFormed.{IsWellFormed};
 
-use crate::bulk_models::{A_X, A_Z, B_Y, OPS, insert, is_op, let_go, named, number, six};
-use bson_lite::{Bson, Document, List};
-use bulk_actions::bulk_ops;
-use bulk_ops::{BulkWriteOp, OwnOp};
-use driver_attempt::{Client, Outside, Steps};
-use driver_error::{BulkWriteResult, IoKind, Result, SummaryBulkWriteResult};
-use driver_exec::execute_operation;
-use driver_link::{
-    CountingIds, FakeLink, Frame, Link, MemClock, Place, Schedule, Server, WriteKind,
-};
-use driver_options::{
-    BulkWriteOptions, ClientOptions, DeleteOneModel, Description, UpdateManyModel,
-    UpdateModifications, UpdateOneModel, WriteModel,
-};
-use driver_session::PlainStore;
+use crate::bulk_models::{A_X, A_Z, B_Y, OPS, is_op, let_go, six};
+use bson_lite::List;
+use driver_error::{IoKind, Result, SummaryBulkWriteResult};
+use driver_link::{FakeLink, Frame, Schedule, Server, WriteKind};
+use driver_options::Description;
 use model_server::{ModelServer, USUAL_SETUP};
-use rand_core::SeedableRng;
-use rand_pcg::Pcg32;
 use std::alloc::{AllocError, Global};
-use std::marker::Brand;
-use std::sync::ledger::{Blank, Ledger};
 use std::test::Fail;
+use test_parts::bulk_runs::{Kind, executed_from, models_of};
 use test_parts::faking::{Given, Servers, fake_link};
 use test_parts::inserting::{Ended, SERVER, how_ended};
 use test_parts::spelling::{FIRST_NUMBER, SESSION, joined};
@@ -97,15 +83,6 @@ const FRAMES: &[Framed] = &[
         numbers: &[0, 1],
     },
 ];
-
-/// A model of a row, in `shop.items`.
-#[derive(Clone, Copy)]
-pub(crate) enum Kind {
-    Insert,
-    UpdateOne,
-    UpdateMany,
-    DeleteOne,
-}
 
 /// A batch of a bulk write: what it shows, its models, the index of the first of them, whether the client's options forbid
 /// repeats, the server's batch limit and wire version, what the exchanges answer, how it ends, and how many frames went out.
@@ -229,161 +206,6 @@ const ROWS: &[Row] = &[
     },
 ];
 
-/// `{$set: {y: 2}}`
-fn change(alloc: Global) -> std::result::Result<UpdateModifications, AllocError> {
-    let mut document = Document::new(alloc);
-    document.push("$set", Bson::Document(number(alloc, "y", 2)?))?;
-    Ok(UpdateModifications::from(document))
-}
-
-/// A model of a row.
-fn model_of(alloc: Global, kind: Kind) -> std::result::Result<WriteModel, AllocError> {
-    let to = named(alloc, "shop", "items")?;
-    let filter = number(alloc, "x", 1)?;
-    Ok(match kind {
-        Kind::Insert => insert(alloc, to, filter),
-        Kind::UpdateOne => WriteModel::from(UpdateOneModel::new(to, filter, change(alloc)?)),
-        Kind::UpdateMany => WriteModel::from(UpdateManyModel::new(to, filter, change(alloc)?)),
-        Kind::DeleteOne => WriteModel::from(DeleteOneModel::new(to, filter)),
-    })
-}
-
-/// The models of a row.
-pub(crate) fn models_of(
-    alloc: Global,
-    kinds: &[Kind],
-) -> std::result::Result<List<WriteModel>, AllocError> {
-    let mut models = List::with_capacity(alloc, kinds.len())?;
-    for kind in kinds {
-        models.push(model_of(alloc, *kind)?)?;
-    }
-    Ok(models)
-}
-
-/// The places of so many writes.
-fn places(alloc: Global, count: usize) -> std::result::Result<List<Place>, AllocError>
-    ensures { IfOk result (λ places. length places ≡ count) }
-{
-    let mut places = List::with_capacity(alloc, count)?;
-    for index in 0..count {
-        places.push(Place {
-            call: 0,
-            index: index as u64,
-        })?;
-    }
-    Ok(places)
-}
-
-/// The places of so many writes as there are ops.
-fn places_of(alloc: Global, ops: &[OwnOp]) -> std::result::Result<List<Place>, AllocError>
-    ensures { IfOk result (λ places. length places ≡ length ops.now) }
-{
-    places(alloc, ops.len())
-}
-
-/// The ops from an index on, or none where there are no more.
-#[tactic(auto, using(driver_actions::proofs::BatchPlaces::left_whole))]
-fn later_ops(ops: &[OwnOp], first: usize) -> &[OwnOp]
-    ensures { result.now ≡ drop first ops.now }
-{
-    if first < ops.len() {
-        &ops[first..]
-    } else {
-        &ops[..0]
-    }
-}
-
-/// What a batch of a bulk write, from a model on, comes to over a link, and the link afterwards.
-fn executed<R: BulkWriteResult, L: Link + Drop, Q: Ledger>(
-    alloc: Global,
-    link: L,
-    models: &[WriteModel],
-    first: usize,
-    forbidden: bool,
-    unordered: bool,
-    blank: Blank,
-) -> (Result<R>, L)
-    requires name { blank.name ≡ Q.name }
-    requires parts { blank.parts ≡ Q.parts }
-    requires some { 0 < blank.parts }
-{
-    let options = ClientOptions {
-        client_number: 1,
-        retry_writes: if forbidden { Some(false) } else { None },
-        ..ClientOptions::default()
-    };
-    let mut client = Client::new(options, PlainStore::new(alloc, CountingIds::new()));
-    let mut outside = Outside {
-        link,
-        clock: MemClock::new(0, 0),
-        words: Pcg32::seed_from_u64(1),
-        call: 0,
-    };
-    let result = executed_by::<R, L, Q>(
-        alloc,
-        &mut client,
-        &mut outside,
-        models,
-        first,
-        unordered,
-        blank,
-    );
-    let Outside {
-        link,
-        clock: _,
-        words: _,
-        call: _,
-    } = outside;
-    (result, link)
-}
-
-/// What it comes to for a client.
-fn executed_by<R: BulkWriteResult, L: Link, Q: Ledger>(
-    alloc: Global,
-    client: &mut Client<PlainStore<CountingIds>>,
-    outside: &mut Outside<L, MemClock, Pcg32>,
-    models: &[WriteModel],
-    first: usize,
-    unordered: bool,
-    blank: Blank,
-) -> Result<R>
-    requires name { blank.name ≡ Q.name }
-    requires parts { blank.parts ≡ Q.parts }
-    requires some { 0 < blank.parts }
-{
-    let options = BulkWriteOptions {
-        ordered: if unordered { Some(false) } else { None },
-        ..BulkWriteOptions::default()
-    };
-    let ops = bulk_ops(alloc, client, models, &options)?;
-    let own = later_ops(ops.as_slice(), first);
-    let places = places_of(alloc, own)?;
-    let mut op: BulkWriteOp<'_, R> = BulkWriteOp::new(alloc, ops.as_slice(), first, &options)?;
-    let mut sends: Steps<Q> = Steps::new(blank);
-    execute_operation(
-        alloc,
-        client,
-        &mut op,
-        places.as_slice(),
-        outside,
-        &mut sends,
-    )
-}
-
-/// A batch of models over a link, from one on, and the link afterwards.
-fn over<L: Link + Drop>(
-    alloc: Global,
-    link: L,
-    models: &[WriteModel],
-    first: usize,
-    forbidden: bool,
-) -> (Result<SummaryBulkWriteResult>, L) {
-    let blank = Blank::new(1);
-    executed::<SummaryBulkWriteResult, L, Brand>(
-        alloc, link, models, first, forbidden, false, blank,
-    )
-}
-
 /// How it ended.
 fn ended(end: Result<SummaryBulkWriteResult>) -> Ended {
     match end {
@@ -452,7 +274,7 @@ fn ends(alloc: Global, row: Row) -> std::result::Result<bool, AllocError> {
     };
     let link = linked(alloc, server, row.given)?;
     let models = models_of(alloc, row.models)?;
-    let (result, link) = over(alloc, link, models.as_slice(), row.first, row.forbidden);
+    let (result, link) = executed_from(alloc, link, models.as_slice(), row.first, row.forbidden);
     let sent = has_frames(&link, row.frames);
     drop(link);
     drop(models);
@@ -523,7 +345,7 @@ fn sends(alloc: Global, framed: Framed) -> std::result::Result<bool, AllocError>
     let link = linked(alloc, server, &[Given::Reply(TWO_INSERTED)])?;
     let mut models = six(alloc)?;
     models.truncate(framed.models);
-    let (result, link) = over(alloc, link, models.as_slice(), framed.first, false);
+    let (result, link) = executed_from(alloc, link, models.as_slice(), framed.first, false);
     let sent = match link.frames() {
         [frame] => is_framed(frame, body.as_slice(), framed),
         _ => false,
@@ -559,7 +381,7 @@ fn has_entry(server: &Server, at: usize, kind: WriteKind) -> bool {
 fn stands(alloc: Global) -> std::result::Result<bool, AllocError> {
     let models = models_of(alloc, &[Kind::Insert, Kind::UpdateMany, Kind::DeleteOne])?;
     let link = ModelServer::new(alloc, USUAL_SETUP, all_served(alloc));
-    let (result, link) = over(alloc, link, models.as_slice(), 0, false);
+    let (result, link) = executed_from(alloc, link, models.as_slice(), 0, false);
     let stand = link.server().log.len() == 3
         && has_entry(link.server(), 0, WriteKind::Insert)
         && has_entry(link.server(), 1, WriteKind::Update)

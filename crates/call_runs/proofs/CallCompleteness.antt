@@ -23,6 +23,7 @@ use Rattle.driver_link.specs.declared.machine.Setup.{Setup}
 use Rattle.driver_link.specs.Retried.{IsGentleItem}
 use Rattle.driver_link.specs.LinkState.{server_run, setup_of}
 use Rattle.driver_link.specs.ServerRun.{ServerRun}
+use Rattle.driver_link.proofs.ToldSetups.{served_setup}
 use Rattle.driver_session.specs.Pool.{Pool}
 use Rattle.driver_session.specs.StoreTells.{DrawnApart, DrawnApartIn, GainsDrawn}
 use Rattle.driver_ops.specs.SendKinds.{first}
@@ -40,7 +41,6 @@ use Rattle.driver_actions.specs.ManyTold.{IsToldTruly, IsToldWhereTold}
 use Rattle.driver_actions.specs.Below.{AllBelow}
 use Rattle.driver_actions.specs.SingleCalls.{Makes, first_place}
 use Rattle.driver_actions.proofs.CallSends.{makes_alike}
-use Rattle.driver_actions.proofs.InsertFit.{served_setup}
 use Rattle.driver_actions.proofs.FewestCuts.{many_fewest}
 use Rattle.driver_actions.proofs.ManyCompleteness.{many_complete}
 use Rattle.driver_actions.proofs.ManyMade.{many_listed, many_moves}

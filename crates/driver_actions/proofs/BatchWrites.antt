@@ -24,13 +24,9 @@ use Rattle.write_ops.specs.InsertSpec.{AreOwn, insert_spec}
 use Rattle.driver_exec.specs.BetweenCalls.{MaySendPlaces}
 use Rattle.driver_actions.specs.Batches.{places_from, rest_of}
 use Rattle.driver_actions.specs.CallParts.{HasWriteOf}
+use Rattle.driver_actions.proofs.BatchPlaces.{places_length}
 use Rattle.driver_actions.proofs.PlannedBatches.{IsBelow, StandsAt, standing_may_send}
 pub use Rattle.driver_actions.proofs.PlannedBatches.{IsNewFrom, place_in}
-
--- the places of so many documents are so many
-pub places_length : (call index count : ℕ) → length (places_from call index count) ≡ count
-places_length call index zero = refl
-places_length call index (suc count) = ap suc (places_length call (index + 1) count)
 
 -- each is behind the first by its position
 pub place_at : (call index count at : ℕ) (place : Place) → slice_get (places_from call index count) at ≡ Some place → place ≡ place_in call (index + at)

@@ -39,7 +39,7 @@ use Rattle.driver_ops.specs.SendKinds.{first}
 use Rattle.driver_ops.specs.Targets.{namespace_of}
 use Rattle.write_ops.specs.declared.own_document.OwnDocument.{OwnDocument}
 use Rattle.write_ops.specs.InsertAnswers.{all_ids, odd_insert_text}
-use Rattle.write_ops.specs.InsertLaw.{AddsUp, IsReadExactly, TellsFailures, concern_of, failures_told}
+use Rattle.write_ops.specs.InsertLaw.{AddsUp, IsReadExactly, TellsFailures, failures_told, planned_concern}
 use Rattle.write_ops.specs.InsertLawful.{insert_lawful}
 use Rattle.write_ops.specs.InsertSpec.{AreOwn, ids_from, insert_spec, statements_fixed}
 use Rattle.write_ops.proofs.InsertLaw.{read_exactly}
@@ -109,32 +109,32 @@ module _ (target : OperationTarget) (index : ℕ) (own : List OwnDocument) (opti
     reads_alone = subst (λ pages. ReadsPages (insert_spec target index own options) count told.bytes pages (Err told.bare)) (told.alone refl) told.reads
 
     -- that of a statement that failed, or of a write concern
-    of_failed : AddsUp told.done → ((has_failed told.done ≡ true) ⊎ (is_some (concern_of met.item) ≡ true)) → TellsFailures told.done (concern_of met.item) (take count own) told.bare
+    of_failed : AddsUp told.done → ((has_failed told.done ≡ true) ⊎ (is_some (planned_concern met.item) ≡ true)) → TellsFailures told.done (planned_concern met.item) (take count own) told.bare
     of_failed up failed = elim (exact.failed told.done (record { told = told.told; failed = failed; adds_up = up }) told.bare reads_alone) [
       | inl memory ↦ absurd (not_memory failures (kind_of told.bare) is memory)
       | inr tells ↦ tells
     ]
 
     -- where neither is there, none was read
-    of_none : AddsUp told.done → has_failed told.done ≡ false → concern_of met.item ≡ None → ⊥
+    of_none : AddsUp told.done → has_failed told.done ≡ false → planned_concern met.item ≡ None → ⊥
     of_none up unfailed none =
         not_memory failures (kind_of told.bare) is
         (exact.there (record { done = told.done; told = told.told; unfailed = unfailed; adds_up = up; concern = none }) told.bare reads_alone)
 
     -- by whether there is a write concern error
-    by_concern : AddsUp told.done → has_failed told.done ≡ false → (concern : Option PlannedConcern) → concern_of met.item ≡ concern
-        → TellsFailures told.done (concern_of met.item) (take count own) told.bare
+    by_concern : AddsUp told.done → has_failed told.done ≡ false → (concern : Option PlannedConcern) → planned_concern met.item ≡ concern
+        → TellsFailures told.done (planned_concern met.item) (take count own) told.bare
     by_concern up unfailed None none = absurd (of_none up unfailed none)
     by_concern up unfailed (Some concern) there = of_failed up (inr (ap is_some there))
 
     -- by whether a statement failed
-    by_failed : AddsUp told.done → (failed : Bool) → has_failed told.done ≡ failed → TellsFailures told.done (concern_of met.item) (take count own) told.bare
+    by_failed : AddsUp told.done → (failed : Bool) → has_failed told.done ≡ failed → TellsFailures told.done (planned_concern met.item) (take count own) told.bare
     by_failed up true failed = of_failed up (inl failed)
-    by_failed up false unfailed = by_concern up unfailed (concern_of met.item) refl
+    by_failed up false unfailed = by_concern up unfailed (planned_concern met.item) refl
 
     -- by whether the others count one document each together
     by_counts : (test : Bool) → int_eq (sum_of (λ result. result.n) (results_in told.done)) (pos (length (results_in told.done))) ≡ test
-        → TellsFailures told.done (concern_of met.item) (take count own) told.bare
+        → TellsFailures told.done (planned_concern met.item) (take count own) told.bare
     by_counts true is_equal =
         by_failed ((Decides-int_eq (sum_of (λ result. result.n) (results_in told.done)) (pos (length (results_in told.done)))).0 is_equal) (has_failed told.done) refl
     by_counts false differs =
@@ -147,10 +147,10 @@ module _ (target : OperationTarget) (index : ℕ) (own : List OwnDocument) (opti
         ]
 
     -- so the ids are those of the documents whose statements ended well
-    pub failures_are : failures ≡ failures_told told.done (concern_of met.item) (take count own)
+    pub failures_are : failures ≡ failures_told told.done (planned_concern met.item) (take count own)
     failures_are =
         let tells = by_counts (int_eq (sum_of (λ result. result.n) (results_in told.done)) (pos (length (results_in told.done)))) refl in
-        let same : ◌≡◌ {A = ErrorKind} (kind.InsertMany failures) (kind.InsertMany (failures_told told.done (concern_of met.item) (take count own))) = sym is ∙ tells.kind_is in
+        let same : ◌≡◌ {A = ErrorKind} (kind.InsertMany failures) (kind.InsertMany (failures_told told.done (planned_concern met.item) (take count own))) = sym is ∙ tells.kind_is in
         cc
 
 -- what one batch tells
@@ -244,7 +244,7 @@ module _ (target : OperationTarget) (options : InsertManyOptions) (call : ℕ) (
       -- the failures that its end tells are those of the statements that the reply told of
       pub told_failures : (error : Error) → end.result ≡ Err error → (failures : InsertManyError) → kind_of error ≡ kind.InsertMany failures
           → (told : IsToldBy (insert_spec target index own options) count body run run_now error)
-          × (failures ≡ failures_told told.done (concern_of (next_step told.among.mid.schedule told.among.mid.server).item) (take count own))
+          × (failures ≡ failures_told told.done (planned_concern (next_step told.among.mid.schedule told.among.mid.server).item) (take count own))
       told_failures error is failures kind_is =
           let failure : IsReadFailure (kind_of error) = subst IsReadFailure (sym kind_is) tt in
           let told = reported error is failure in

@@ -24,7 +24,7 @@ use Rattle.driver_ops.specs.declared.target.OperationTarget.{OperationTarget}
 use Rattle.driver_ops.specs.Operations.{send_of}
 use Rattle.driver_ops.specs.Served.{statements_in}
 use Rattle.write_ops.specs.declared.own_document.OwnDocument.{OwnDocument}
-use Rattle.write_ops.specs.InsertLaw.{concern_of, concern_told}
+use Rattle.write_ops.specs.InsertLaw.{concern_told, planned_concern}
 use Rattle.write_ops.specs.InsertSpec.{AreOwn, insert_spec}
 use Rattle.driver_attempt.specs.Moment.{Moment}
 use Rattle.driver_exec.specs.BetweenCalls.{Between, Sound}
@@ -61,7 +61,7 @@ spelled_longer call start run last end failures more gained same spelled = recor
   done = spelled.done;
   told = subst (λ s. statements_in spelled.server spelled.send (next_step s spelled.server) ≡ Some spelled.done) (sym same) spelled.told;
   errors = spelled.errors;
-  concern = subst (λ s. failures.write_concern_error ≡ option_map concern_told (concern_of (next_step s spelled.server).item)) (sym same) spelled.concern;
+  concern = subst (λ s. failures.write_concern_error ≡ option_map concern_told (planned_concern (next_step s spelled.server).item)) (sym same) spelled.concern;
 }
 
 -- calls that were only counted before sends
@@ -108,7 +108,7 @@ module _ (target : OperationTarget) (options : InsertManyOptions) (call : ℕ) (
           told = subst (λ s. statements_in mid.server send (next_step s mid.server) ≡ Some told.done) (sym same) told.told;
           errors = ap (λ (f : InsertManyError). f.write_errors) read.1;
           concern = ap (λ (f : InsertManyError). f.write_concern_error) read.1
-              ∙ ap (λ (s : Schedule). option_map concern_told (concern_of (next_step s mid.server).item)) (sym same);
+              ∙ ap (λ (s : Schedule). option_map concern_told (planned_concern (next_step s mid.server).item)) (sym same);
         }
 
   -- the failures of each of the batches that follow one another from an index on are spelled so

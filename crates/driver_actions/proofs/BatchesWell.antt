@@ -20,6 +20,7 @@ use Rattle.driver_link.specs.LinkState.{server_run, setup_of}
 use Rattle.driver_link.specs.Retried.{IsNewNumber}
 use Rattle.driver_link.specs.ServerRun.{ServerRun, run_after}
 use Rattle.driver_link.specs.Settled.{IsPlain, IsUnnumbered}
+use Rattle.driver_link.proofs.ToldSetups.{served_setup}
 use Rattle.driver_session.specs.Pool.{Pool}
 use Rattle.driver_session.specs.Session.{Session, last_number}
 use Rattle.driver_session.specs.StoreTells.{DrawnApart, DrawnApartIn, LendsSession, StoreTells}
@@ -55,7 +56,6 @@ use Rattle.driver_actions.specs.ManyCompleteness.{CarrySame, InsertsHaveNumbers,
 use Rattle.driver_actions.specs.Numbers.{server_setup}
 use Rattle.driver_actions.proofs.BatchFit.{FitsOne, batch_unrefused}
 use Rattle.driver_actions.proofs.BatchNumbers.{batch_fewer, batch_setup, number_left, numbers_left}
-use Rattle.driver_actions.proofs.InsertFit.{served_setup}
 use Rattle.driver_actions.proofs.BatchWrites.{EachIs, IsNewFrom, batch_asks, batch_body, batch_may_send, own_rest, rest_is}
 use Rattle.driver_actions.proofs.BatchesMade.{batch_advances, batch_moves, batches_move, fixed_or_one, is_fixed_or_one, left_here, mid_told, new_behind, next_new, run_told}
 use Rattle.driver_actions.proofs.CallMoves.{GainsOwn}

@@ -22,6 +22,7 @@ use Rattle.driver_link.specs.Exchange.{next_step}
 use Rattle.driver_link.specs.LinkState.{server_run, setup_of}
 use Rattle.driver_link.specs.ServerRun.{ServerRun, run_after}
 use Rattle.driver_link.proofs.RetriedSends.{inserted_is}
+use Rattle.driver_link.proofs.ToldSetups.{served_setup}
 use Rattle.driver_session.specs.Pool.{Pool}
 use Rattle.driver_session.specs.Session.{Session, last_number}
 use Rattle.driver_session.specs.StoreTells.{DrawnApart, DrawnApartIn, LendsSession, StoreTells}
@@ -60,7 +61,7 @@ use Rattle.driver_actions.specs.SingleEntries.{IsNewPlace}
 use Rattle.driver_actions.specs.Singles.{BecomesSingle}
 use Rattle.driver_actions.specs.SingleCalls.{Made, Makes, Runs, Tells}
 use Rattle.driver_actions.proofs.CallSends.{pool_kept}
-use Rattle.driver_actions.proofs.InsertFit.{insert_unrefused, served_setup}
+use Rattle.driver_actions.proofs.InsertFit.{insert_unrefused}
 use Rattle.driver_actions.proofs.OwnIds.{OnlyDrew}
 use Rattle.driver_actions.proofs.CallWrites.Entries.{may_send, placed_at}
 use Rattle.driver_actions.proofs.CallWrites.Readiness.{MayGo, bare_goes, go_again, go_answered, lent_goes}

@@ -44,7 +44,7 @@ use Rattle.driver_exec.proofs.ReadFailures.{read_when_done, reworded_read}
 use Rattle.driver_actions.specs.declared.gathered.Gathered.{Gathered}
 use Rattle.driver_actions.specs.BatchTells.{concern_of_kind}
 use Rattle.driver_actions.specs.Batches.{BatchEnd, MakesBatch, MakesBatches}
-use Rattle.driver_actions.specs.ManyAnswers.{TellsGathered, count_of, failures_of, gathered, later_concern, nothing_gathered, with_kind, with_result}
+use Rattle.driver_actions.specs.ManyAnswers.{TellsGathered, count_of, gathered, gathered_failures, later_concern, nothing_gathered, with_kind, with_result}
 use Rattle.driver_actions.specs.inside.Taking.{AnswersTold}
 use Rattle.driver_actions.proofs.GatheredLaws.{labels_joined}
 
@@ -255,7 +255,7 @@ answers_gathered told (Ok output) has answers = answers
 answers_gathered told (Err error) has answers = (
   answers.0,
   elim answers.1 [
-    | inl made ↦ inl (subst (λ (labels : LabelSet). IsAlone (kind.InsertMany (failures_of told)) labels error)
+    | inl made ↦ inl (subst (λ (labels : LabelSet). IsAlone (kind.InsertMany (gathered_failures told)) labels error)
         (adds_nothing told.labels (labels_of_concern told.concern) has) made)
     | inr memory ↦ inr memory
   ],

@@ -30,7 +30,8 @@ use Rattle.driver_actions.specs.CallParts.{KeepsMakingWhereTold}
 use Rattle.driver_actions.specs.ManyAnswers.{nothing_gathered}
 use Rattle.driver_actions.specs.ManyCalls.{MadeMany, MakesMany, RanShort}
 use Rattle.driver_actions.proofs.BatchSizes.{ids_each, rest_sizes, sizes_are, sizes_length, takes_longest}
-use Rattle.driver_actions.proofs.BatchWrites.{IsOfCall, batch_writes, own_length, places_length}
+use Rattle.driver_actions.proofs.BatchPlaces.{places_length}
+use Rattle.driver_actions.proofs.BatchWrites.{IsOfCall, batch_writes, own_length}
 use Rattle.driver_actions.proofs.BatchesMade.{GoodDocuments, insert_planned}
 use Rattle.driver_actions.proofs.CallMoves.{copies, sends_gain}
 use Rattle.driver_actions.proofs.GatheredEnds.{all_ok}

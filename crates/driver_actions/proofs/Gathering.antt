@@ -18,7 +18,7 @@ use Rattle.write_ops.specs.InsertLawful.{Ids}
 use Rattle.write_ops.specs.InsertSpec.{id_beside}
 use Rattle.driver_actions.specs.declared.gathered.Gathered.{Gathered}
 use Rattle.driver_actions.specs.Batches.{tells_documents}
-use Rattle.driver_actions.specs.ManyAnswers.{later_concern, moved_error, put_ids, told_errors, with_failures, with_kind}
+use Rattle.driver_actions.specs.ManyAnswers.{later_concern, listed_errors, moved_error, put_ids, with_failures, with_kind}
 use Rattle.driver_actions.specs.inside.Taking.{Takes}
 
 -- the ids of one document more
@@ -32,7 +32,7 @@ put_more first at ids before so_far now is puts =
 pub failures_taken : (so_far : Gathered) (first count : ℕ) (labels : LabelSet) (failures : InsertManyError)
     (ids : Ids) (errors : List IndexedWriteError) (concern : Option WriteConcernError) (all : LabelSet)
     → ids ≡ put_ids first count failures.inserted_ids so_far.inserted_ids
-    → errors ≡ so_far.errors ++ map (moved_error first) (told_errors failures.write_errors)
+    → errors ≡ so_far.errors ++ map (moved_error first) (listed_errors failures.write_errors)
     → concern ≡ later_concern so_far.concern failures.write_concern_error
     → all ≡ with_labels so_far.labels (in_order labels)
     → ◌≡◌ {A = Gathered} (record { inserted_ids = ids; errors = errors; concern = concern; labels = all; failed = true })

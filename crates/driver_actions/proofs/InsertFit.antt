@@ -1,5 +1,5 @@
 -- An insert whose document fits into a command alone is refused no build.
-use Rattle.std.proofs.Common.{◌≡◌, ℕ, List, [], ◌∷◌, length, sym, ap, subst, arith, inl, inr}
+use Rattle.std.proofs.Common.{◌≡◌, ℕ, List, [], ◌∷◌, length, sym, subst, arith, inl, inr}
 use Rattle.std.specs.Prelude.{Option, Some}
 use Rattle.bson_lite.specs.declared.bson.Bson.{Bson}
 use Rattle.bson_lite.specs.declared.bson.ObjectId.{ObjectId}
@@ -12,9 +12,6 @@ use Rattle.driver_options.specs.declared.options.Description.{Description}
 use Rattle.driver_options.specs.declared.write_options.InsertManyOptions.{InsertManyOptions}
 use Rattle.driver_batches.specs.Sizes.{Fits}
 use Rattle.driver_link.specs.declared.machine.Setup.{Setup}
-use Rattle.driver_link.specs.LinkState.{Described, Making, Served, Untold, run_in, setup_in}
-use Rattle.driver_link.specs.ServerRun.{ServerRun}
-use Rattle.driver_link.proofs.Lists.{none_is_some, some_is_some}
 use Rattle.driver_ops.specs.Operations.{Refuses}
 use Rattle.driver_ops.specs.Targets.{in_collection}
 use Rattle.write_ops.specs.declared.own_document.OwnDocument.{OwnDocument}
@@ -24,12 +21,6 @@ use Rattle.driver_exec.proofs.FixedNumbers.{MayBeFixed}
 use Rattle.driver_exec.proofs.HeldSessions.{IsOf}
 use Rattle.driver_actions.specs.CallParts.{FitsAlone}
 use Rattle.driver_inputs.specs.Forms.{inserts}
-
--- a link that tells its server tells its setup
-pub served_setup : (making : Making) (run : ServerRun) → run_in making ≡ Some run → setup_in making ≡ Some run.setup
-served_setup Untold run is = absurd (none_is_some run is)
-served_setup (Described setup) run is = absurd (none_is_some run is)
-served_setup (Served found) run is = ap (λ (told : ServerRun). Some told.setup) (some_is_some found run is)
 
 -- a caller's document with its id, as it is sent
 module _ (namespace : Namespace) (document : List (Pair Bson)) (options : InsertManyOptions) (id : ObjectId) (own : OwnDocument) (twelve : length id.bytes ≡ 12)

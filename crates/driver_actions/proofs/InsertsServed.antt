@@ -32,7 +32,7 @@ use Rattle.driver_link.proofs.Plain.{case_above, known, plain_known, results_her
 use Rattle.driver_link.proofs.ServedSends.{taken_is}
 use Rattle.driver_link.proofs.Unnumbered.{case_free, results_free}
 use Rattle.driver_ops.specs.Served.{case_statements, met_statements, statements_in}
-use Rattle.write_ops.specs.InsertLaw.{AddsUp, CountsDocuments, concern_of}
+use Rattle.write_ops.specs.InsertLaw.{AddsUp, CountsDocuments, planned_concern}
 use Rattle.driver_exec.specs.Gentle.{IsLossy}
 use Rattle.driver_actions.specs.ManyCompleteness.{CountOneEach, ServesInserts}
 use Rattle.driver_actions.proofs.KeptCounts.{KeepsEach, MayGoUnder, PlansEach, RunsEach, again_under, first_under, meets_kept, taken_each}
@@ -112,7 +112,7 @@ record MeetsInserts (server : Server) (send : Send) (item : Item) : Type 0 where
   told : met_statements server send item ≡ Some done
   unfailed : has_failed done ≡ false
   adds_up : AddsUp done
-  concern : concern_of item ≡ None
+  concern : planned_concern item ≡ None
 
 -- inserts that are served outside transactions, by what is kept of their number
 served_counted : (server : Server) (send : Send) (results : List Planned) (fail : List Failing) (concern : Option PlannedConcern) (page : Option ℕ) (kept : Results)

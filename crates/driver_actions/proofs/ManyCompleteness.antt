@@ -16,6 +16,7 @@ use Rattle.driver_batches.specs.Sizes.{Fits}
 use Rattle.driver_link.specs.declared.machine.Setup.{Setup}
 use Rattle.driver_link.specs.LinkState.{server_run, setup_of}
 use Rattle.driver_link.specs.ServerRun.{ServerRun}
+use Rattle.driver_link.proofs.ToldSetups.{served_setup}
 use Rattle.driver_session.specs.Pool.{Pool}
 use Rattle.driver_session.specs.Session.{last_number}
 use Rattle.driver_session.specs.StoreTells.{DrawnApartIn}
@@ -34,7 +35,6 @@ use Rattle.driver_actions.specs.Numbers.{many_numbers, numbers_for}
 use Rattle.driver_actions.proofs.BatchFit.{FitsOne, setup_limits}
 use Rattle.driver_actions.proofs.BatchWrites.{EachIs}
 use Rattle.driver_actions.proofs.BatchesWell.{AllWell, batches_well}
-use Rattle.driver_actions.proofs.InsertFit.{served_setup}
 use Rattle.driver_actions.proofs.ManyMade.{IsGiven, made_drew, sent, sent_each}
 use Rattle.driver_actions.proofs.ManyNumbers.{made_sizes}
 use Rattle.driver_inputs.specs.ManyInputs.{AreTwelve, IsManyAccepted, ManyInputRefused, TellsManyInput}

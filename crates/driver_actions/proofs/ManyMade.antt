@@ -31,7 +31,7 @@ use Rattle.write_ops.specs.InsertSpec.{AreOwn}
 use Rattle.driver_attempt.specs.Moment.{Moment}
 use Rattle.driver_actions.specs.declared.gathered.Gathered.{Gathered}
 use Rattle.driver_actions.specs.Batches.{BatchEnd, MakesBatch, MakesBatches, goes_on, is_of_documents, tells_documents}
-use Rattle.driver_actions.specs.ManyAnswers.{AllOfDocuments, AnswersMany, EndsAlone, count_of, failures_of, gathered, nothing_gathered, with_kind, with_result}
+use Rattle.driver_actions.specs.ManyAnswers.{AllOfDocuments, AnswersMany, EndsAlone, count_of, gathered, gathered_failures, nothing_gathered, with_kind, with_result}
 use Rattle.driver_actions.specs.ManyCalls.{MadeMany, MakesMany, RanShort}
 use Rattle.driver_actions.specs.ManyEntries.{AnswerStands, AnswerStandsWhereTold, HasListed, IsOwnInsert, KeepsCall, KeepsCallWhereTold, ListedStand, ListsAll, MayWriteCall}
 use Rattle.driver_actions.specs.ManyIds.{DrawsOwnIds, MayDrawAllBy}
@@ -289,14 +289,14 @@ alone_other (end ∷ (next ∷ ends)) error alone = alone_other (next ∷ ends) 
 
 -- an error of the call that tells of its documents tells what was gathered
 pub failures_answered : (error : Error) (failures : InsertManyError) (ends : List BatchEnd) → kind_of error ≡ kind.InsertMany failures → AnswersMany ends (Err error)
-    → failures ≡ failures_of (gathered nothing_gathered ends)
+    → failures ≡ gathered_failures (gathered nothing_gathered ends)
 failures_answered error failures ends is answers = elim answers [
   | inl memory ↦ absurd (let e : ◌≡◌ {A = ErrorKind} (kind.InsertMany failures) kind.Memory = sym is ∙ memory in cc)
   | inr other ↦ elim other [
     | inl alone ↦ absurd (let e : ◌≡◌ {A = Bool} true false = sym (ap tells_documents is) ∙ alone_other ends error alone in cc)
     | inr told ↦ elim told.1.1 [
       | inl tells ↦
-          let same : ◌≡◌ {A = ErrorKind} (kind.InsertMany failures) (kind.InsertMany (failures_of (gathered nothing_gathered ends))) = sym is ∙ tells.kind_is in
+          let same : ◌≡◌ {A = ErrorKind} (kind.InsertMany failures) (kind.InsertMany (gathered_failures (gathered nothing_gathered ends))) = sym is ∙ tells.kind_is in
           cc
       | inr memory ↦ absurd (let e : ◌≡◌ {A = ErrorKind} (kind.InsertMany failures) kind.Memory = sym is ∙ memory.kind_is in cc)
     ]

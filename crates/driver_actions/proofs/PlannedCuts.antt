@@ -13,6 +13,7 @@ use Rattle.driver_link.specs.declared.machine.Setup.{Setup}
 use Rattle.driver_link.specs.Cases.{body_writes}
 use Rattle.driver_link.specs.LinkState.{server_run}
 use Rattle.driver_link.specs.ServerRun.{ServerRun, run_after}
+use Rattle.driver_link.proofs.ToldSetups.{served_setup}
 use Rattle.driver_session.proofs.PoolTells.{same_told}
 use Rattle.driver_ops.specs.Fields.{under}
 use Rattle.driver_ops.specs.Operations.{OperationSpec, Page, send_of}
@@ -24,7 +25,6 @@ use Rattle.driver_exec.proofs.PassesBy.{gives_leave}
 use Rattle.driver_actions.specs.BatchPlans.{AllDone, BatchPlan, MakesAllPlanned, MakesPlanned, PlannedEnd, places_from, rest_of}
 use Rattle.driver_actions.specs.FewestBatches.{places_of}
 use Rattle.driver_actions.specs.CallParts.{KeepsMakingWhereTold}
-use Rattle.driver_actions.proofs.InsertFit.{served_setup}
 use Rattle.driver_actions.proofs.PlannedBatches as planned
 use Rattle.driver_actions.proofs.PlannedBatches.{PlanWrites, fixed_or_one, run_told}
 

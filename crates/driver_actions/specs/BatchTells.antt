@@ -17,7 +17,7 @@ use Rattle.write_ops.specs.declared.own_document.OwnDocument.{OwnDocument}
 use Rattle.write_ops.specs.InsertAnswers.{all_ids}
 use Rattle.driver_actions.specs.BatchPlans.{AllDone}
 use Rattle.driver_actions.specs.Batches.{BatchEnd, is_of_documents, tells_documents}
-use Rattle.driver_actions.specs.ManyAnswers.{count_of, moved_error, told_errors}
+use Rattle.driver_actions.specs.ManyAnswers.{count_of, listed_errors, moved_error}
 
 -- the ids in the kind of an error; one that tells of no documents has none
 abbrev pub ids_of_kind : ErrorKind → finite.FinMap nat_cmp Bson
@@ -31,7 +31,7 @@ ids_of_end (Err error) = ids_of_kind (kind_of error)
 
 -- the write errors in the kind of an error
 abbrev pub errors_of_kind : ErrorKind → List IndexedWriteError
-errors_of_kind (kind.InsertMany failures) = told_errors failures.write_errors
+errors_of_kind (kind.InsertMany failures) = listed_errors failures.write_errors
 errors_of_kind _ = []
 
 -- the write errors that an end tells, by the indexes of its own batch

@@ -32,9 +32,9 @@ abbrev pub moved_error : ℕ → IndexedWriteError → IndexedWriteError
 moved_error first error = record error { index = first + error.index }
 
 -- the write errors that are told, if there are some
-abbrev pub told_errors : Option (List IndexedWriteError) → List IndexedWriteError
-told_errors None = []
-told_errors (Some errors) = errors
+abbrev pub listed_errors : Option (List IndexedWriteError) → List IndexedWriteError
+listed_errors None = []
+listed_errors (Some errors) = errors
 
 -- a write concern error, else the one before
 abbrev pub later_concern : Option WriteConcernError → Option WriteConcernError → Option WriteConcernError
@@ -50,7 +50,7 @@ count_of (Some count) = count
 abbrev pub with_failures : Gathered → ℕ → ℕ → LabelSet → InsertManyError → Gathered
 with_failures so_far first count labels failures = record {
   inserted_ids = put_ids first count failures.inserted_ids so_far.inserted_ids;
-  errors = so_far.errors ++ map (moved_error first) (told_errors failures.write_errors);
+  errors = so_far.errors ++ map (moved_error first) (listed_errors failures.write_errors);
   concern = later_concern so_far.concern failures.write_concern_error;
   labels = with_labels so_far.labels (in_order labels);
   failed = true;
@@ -72,13 +72,13 @@ gathered so_far [] = so_far
 gathered so_far (end ∷ ends) = gathered (with_result so_far end.first (count_of end.statements) end.result) ends
 
 -- the failures of a call, as batches told them
-abbrev pub failures_of : Gathered → InsertManyError
-failures_of told = record { write_errors = errors_there told.errors; write_concern_error = told.concern; inserted_ids = told.inserted_ids }
+abbrev pub gathered_failures : Gathered → InsertManyError
+gathered_failures told = record { write_errors = errors_there told.errors; write_concern_error = told.concern; inserted_ids = told.inserted_ids }
 
 -- what was told is answered: the ids of all documents, or an error of the failures with all labels, and nothing else in it
 abbrev pub TellsGathered : Gathered → Result InsertManyResult Error → Type 0
 TellsGathered told (Ok output) = (told.failed ≡ false) × (output ≡ record { inserted_ids = told.inserted_ids })
-TellsGathered told (Err error) = (told.failed ≡ true) × IsMade (kind.InsertMany (failures_of told)) told.labels error
+TellsGathered told (Err error) = (told.failed ≡ true) × IsMade (kind.InsertMany (gathered_failures told)) told.labels error
 
 -- each end is one of documents
 abbrev pub AllOfDocuments : List BatchEnd → Type 0

@@ -23,7 +23,7 @@ use Rattle.driver_ops.specs.declared.target.OperationTarget.{OperationTarget}
 use Rattle.driver_ops.specs.Served.{statements_in}
 use Rattle.driver_ops.specs.Targets.{namespace_of}
 use Rattle.write_ops.specs.InsertAnswers.{errors_there}
-use Rattle.write_ops.specs.InsertLaw.{concern_of, concern_told, errors_told}
+use Rattle.write_ops.specs.InsertLaw.{concern_told, errors_told, planned_concern}
 use Rattle.driver_attempt.specs.Moment.{Moment}
 use Rattle.driver_actions.specs.BatchTells.{all_errors}
 use Rattle.driver_actions.specs.Batches.{BatchEnd, places_from}
@@ -49,7 +49,7 @@ pub record IsSpelled (call : ℕ) (run run_now : ServerRun) (end : BatchEnd) (fa
   pub done : List Statement
   pub told : statements_in server send (next_step run_now.schedule server) ≡ Some done
   pub errors : failures.write_errors ≡ errors_there (errors_told 0 done)
-  pub concern : failures.write_concern_error ≡ option_map concern_told (concern_of (next_step run_now.schedule server).item)
+  pub concern : failures.write_concern_error ≡ option_map concern_told (planned_concern (next_step run_now.schedule server).item)
 
 -- what the ends of a call's batches tell is so: each id stands in the log, the failures are spelled by replies, and an error of the
 -- call of the same kind lists the write errors of all ends, in order and under the indexes of the caller's list

@@ -8,7 +8,7 @@ ghost use Rattle.driver_error.specs.LabelTexts.{in_order, with_labels};
 ghost use Rattle.write_ops.specs.InsertAnswers.{errors_there};
 ghost use Rattle.write_ops.specs.InsertSpec.{id_beside};
 ghost use Rattle.driver_actions.specs.Batches.{tells_documents};
-ghost use Rattle.driver_actions.specs.ManyAnswers.{failures_of, later_concern, moved_error, nothing_gathered, put_ids, told_errors, with_failures, with_kind};
+ghost use Rattle.driver_actions.specs.ManyAnswers.{gathered_failures, later_concern, listed_errors, moved_error, nothing_gathered, put_ids, with_failures, with_kind};
 ghost use Rattle.driver_actions.specs.inside.Taking.{AnswersTold, StopsWith, Takes};
 
 use bson_lite::{Boxed, Bson, ByIndex, List, Text, TryClone};
@@ -240,7 +240,7 @@ fn push_told(
     told: &Option<List<IndexedWriteError>>,
     all: &mut List<IndexedWriteError>,
 ) -> std::result::Result<(), AllocError>
-    ensures { OnOk result (all.new ≡ all.old ++ map (moved_error first) (told_errors told.now)) }
+    ensures { OnOk result (all.new ≡ all.old ++ map (moved_error first) (listed_errors told.now)) }
 {
     match told {
         None => Ok(()),
@@ -324,7 +324,7 @@ fn add_all(alloc: Global, all: &mut Labels, labels: &[Text]) -> std::result::Res
 
 /// The error of all failures that were told.
 fn failure(alloc: Global, told: Gathered) -> Error
-    ensures { IsNew (InsertMany (failures_of told)) (in_order told.labels) result }
+    ensures { IsNew (InsertMany (gathered_failures told)) (in_order told.labels) result }
 {
     let Gathered {
         inserted_ids,

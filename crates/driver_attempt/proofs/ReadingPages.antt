@@ -1,6 +1,6 @@
 -- The exchanges behind a command, from the reply and the pages that were read one after another.
 use Rattle.std.proofs.Common.{◌≡◌, ℕ, List, [], ◌∷◌, ◌++◌, refl, sym, ap, subst, ◌∙◌, inl, inr}
-use Rattle.std.specs.Prelude.{ℤ, Bool, true, false, ◌&&◌, ◌||◌, not, Option, None, Some, ◌⊎◌, is_some, is_ok, Result, Ok, Err, IfErr, IfOk}
+use Rattle.std.specs.Prelude.{ℤ, Bool, true, false, ◌&&◌, ◌||◌, not, Option, None, Some, is_some, is_ok, Result, Ok, Err, IfErr, IfOk}
 use Rattle.bson_lite.specs.declared.bson.Bson.{Bson}
 use Rattle.bson_lite.specs.declared.document.Pair.{Pair}
 use Rattle.bson_lite.specs.declared.namespace.Namespace.{Namespace}

@@ -1,7 +1,6 @@
 -- What the result of a bulk write is made of: its five counts, and in a verbose one the result of each write by its index.
 use Rattle.std.specs.Prelude.{◌≡◌, ℕ, ℤ, pos, ◌+ℤ◌, ◌≤ℤ◌, ◌⊎◌, Bool, true, false, List, codes, FitsSigned}
 use Rattle.std.specs.Int.{w64}
-use Rattle.std.specs.Ordering.{nat_cmp}
 use Rattle.std.specs.FinMap as finite
 use Rattle.bson_lite.specs.Unions.{AreDisjoint, union}
 use Rattle.driver_error.specs.declared.error.Error.{Error}

@@ -12,10 +12,10 @@ concern_of_failure (failure.WriteConcernError concern) = Some concern
 concern_of_failure (failure.WriteError error) = None
 
 -- the write concern error inside an insert of many documents or a single write
-abbrev pub concern_of : ErrorKind → Option WriteConcernError
-concern_of (kind.InsertMany error) = error.write_concern_error
-concern_of (kind.Write failure) = concern_of_failure failure
-concern_of _ = None
+abbrev pub concern_error_of : ErrorKind → Option WriteConcernError
+concern_error_of (kind.InsertMany error) = error.write_concern_error
+concern_error_of (kind.Write failure) = concern_of_failure failure
+concern_error_of _ = None
 
 abbrev pub labels_of_concern : Option WriteConcernError → List (List ℕ)
 labels_of_concern None = []
@@ -23,7 +23,7 @@ labels_of_concern (Some concern) = concern.labels
 
 -- the labels of that write concern error
 abbrev pub inner_labels : ErrorKind → List (List ℕ)
-inner_labels why = labels_of_concern (concern_of why)
+inner_labels why = labels_of_concern (concern_error_of why)
 
 abbrev pub code_of_concern : Option WriteConcernError → Option ℤ
 code_of_concern None = None
@@ -32,7 +32,7 @@ code_of_concern (Some concern) = Some concern.code
 -- the code of a command error or of that write concern error; codes of write errors never count
 abbrev pub own_code : ErrorKind → Option ℤ
 own_code (kind.Command error) = Some error.code
-own_code why = code_of_concern (concern_of why)
+own_code why = code_of_concern (concern_error_of why)
 
 -- the backoff in milliseconds that came with a command error
 abbrev pub backoff_of : ErrorKind → Option ℕ

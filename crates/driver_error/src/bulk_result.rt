@@ -53,7 +53,8 @@ pub trait BulkWriteResult: Drop {
             (added (tells.counts self.old) (five n_inserted n_matched n_modified n_upserted n_deleted))) }
         ensures err { OnErr result (self.new ≡ self.old) }
         ensures why { IfErr result (λ error. LeavesRange
-            (added (tells.counts self.old) (five n_inserted n_matched n_modified n_upserted n_deleted)) error) };
+            (added (tells.counts self.old) (five n_inserted n_matched n_modified n_upserted n_deleted))
+            error) };
 
     /// Keeps the result of an insert. It answers want of memory alone, and then changes nothing.
     fn add_insert_result(&mut self, index: usize, value: InsertOneResult) -> Result<()>

@@ -1,13 +1,12 @@
 //! What becomes an error, and what errors become.
 ghost use Rattle.std.specs.Prelude.{◌≡◌, [], IfNone};
-ghost use Rattle.std.specs.Option.{option_copied};
 ghost use Rattle.driver_error.specs.declared.kind.ErrorKind.TheVariants.{InvalidResponse};
 ghost use Rattle.driver_error.specs.Conversions.{IsMade, Converts, IsSingle, single_failure, first_failure, no_failure_text};
 ghost use Rattle.driver_error.specs.Kinds.{inner_labels};
 ghost use Rattle.driver_error.specs.LabelTexts.{no_labels};
 
 use crate::command::CommandErrorBody;
-use crate::error::{Error, concern_of};
+use crate::error::{Error, concern_error_of};
 use crate::kind::{ErrorKind, IoKind};
 use crate::labels::Labels;
 use crate::write::{IndexedWriteError, InsertManyError, WriteConcernError, WriteFailure};
@@ -96,7 +95,7 @@ impl From<CommandErrorBody> for Error {
 fn memory_of(kind: &ErrorKind) -> Option<Global>
     ensures { IfNone result (inner_labels kind.now ≡ []) }
 {
-    match concern_of(kind) {
+    match concern_error_of(kind) {
         None => None,
         Some(concern) => Some(concern.labels.allocator()),
     }

@@ -1,10 +1,10 @@
 //! An error: its kind, its labels, and the error that caused it.
-ghost use Rattle.std.specs.Prelude.{◌≡◌, [], ◌++◌, None, Some, OnOk, OnErr, IfOk, IfNone};
+ghost use Rattle.std.specs.Prelude.{◌≡◌, [], ◌++◌, None, Some, OnOk, OnErr, IfOk};
 ghost use Rattle.std.specs.Option.{option_copied};
 ghost use Rattle.driver_error.specs.declared.kind.ErrorKind.TheVariants.{Custom};
 ghost use Rattle.driver_error.specs.Conversions.{IsMade, IsNew};
 ghost use Rattle.driver_error.specs.Error.{kind_of, labels_of, source_of, response_of, wire_version_of, IsAlone, KeepsAllButLabels, HasSource, HasVersion, HasResponse, with_kind};
-ghost use Rattle.driver_error.specs.Kinds.{inner_labels, concern_of, backoff_of, custom_text};
+ghost use Rattle.driver_error.specs.Kinds.{backoff_of, concern_error_of, custom_text, inner_labels};
 ghost use Rattle.driver_error.specs.LabelTexts.{no_labels, label_set, with_label, has_label};
 
 use crate::kind::ErrorKind;
@@ -27,8 +27,8 @@ pub struct Error {
 }
 
 /// The write concern error inside an error of inserts or of a single write.
-pub(crate) fn concern_of(kind: &ErrorKind) -> Option<&WriteConcernError>
-    ensures { option_copied result ≡ concern_of kind.now }
+pub(crate) fn concern_error_of(kind: &ErrorKind) -> Option<&WriteConcernError>
+    ensures { option_copied result ≡ concern_error_of kind.now }
 {
     match kind {
         ErrorKind::InsertMany(failures) => failures.get().write_concern_error.as_ref(),
@@ -47,7 +47,7 @@ fn all_labels(
     ensures { IfOk result (λ all. all ≡ label_set (inner_labels kind.now ++ labels.now)) }
 {
     let all = Labels::from_texts(alloc, labels)?;
-    match concern_of(kind) {
+    match concern_error_of(kind) {
         None => Ok(all),
         Some(concern) => all.with_all(alloc, concern.labels.as_slice()),
     }

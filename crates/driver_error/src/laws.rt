@@ -133,8 +133,8 @@ pub fn what_is_followed_stands<R: BulkWriteResult>()
 
 /// The result in what stands keeps its variant, whether a batch more was answered Ok or failed.
 pub fn what_stands_keeps_its_kind<R: BulkWriteResult>()
-    ensures success { (before : ExecutionStatus R) (found : R) (now : ExecutionStatus R) → Stands R.tells before
-        → Succeeds R.tells before found (Ok now) → HasKind R.tells now }
+    ensures success { (before : ExecutionStatus R) (found : R) (now : ExecutionStatus R)
+        → Stands R.tells before → Succeeds R.tells before found (Ok now) → HasKind R.tells now }
     ensures failure { (before : ExecutionStatus R) (memory : Bool) (error : Error) (now : ExecutionStatus R)
         → Stands R.tells before → IsBulkOfKind R.tells (failures_in (kind_of error))
         → FailsWith R.tells before memory error (Ok now) → HasKind R.tells now }

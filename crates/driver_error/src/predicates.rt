@@ -2,14 +2,13 @@
 ghost use Rattle.std.specs.Prelude.{◌≡◌};
 ghost use Rattle.driver_error.specs.Chains.{contains_label, sdam_code};
 ghost use Rattle.driver_error.specs.Kinds.{own_code};
-ghost use Rattle.driver_error.specs.Error.{kind_of};
 ghost use Rattle.driver_error.specs.Predicates.{is_network_error, is_network_timeout, is_non_timeout_network_error, is_server_selection_error, is_auth_error, is_pool_cleared, is_incompatible_server, is_invalid_argument, is_ns_not_found, is_server_error, is_read_retryable, is_write_retryable, is_recovering, is_notwritableprimary, is_shutting_down, is_state_change_error, is_max_time_ms_expired_error, is_reauthentication_required, is_resumable, should_add_retryable_write_label, should_add_unknown_transaction_commit_result_label, code_among};
 
 use crate::codes::{
     not_writable_codes, read_retryable_codes, recovering_codes, shutting_down_codes,
     unknown_commit_codes,
 };
-use crate::error::{Error, concern_of};
+use crate::error::{Error, concern_error_of};
 use crate::kind::{ErrorKind, IoKind};
 use crate::labels::{
     RESUMABLE_CHANGE_STREAM_ERROR, RETRYABLE_WRITE_ERROR, TRANSIENT_TRANSACTION_ERROR,
@@ -30,7 +29,7 @@ fn own_code(kind: &ErrorKind) -> Option<i32>
     if let ErrorKind::Command(error) = kind {
         return Some(error.code);
     }
-    match concern_of(kind) {
+    match concern_error_of(kind) {
         None => None,
         Some(concern) => Some(concern.code),
     }

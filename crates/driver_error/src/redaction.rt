@@ -1,6 +1,6 @@
 //! Redaction: what a server said in messages, details and replies is taken out of an error and those below it. Ids and
 //! counts stay.
-ghost use Rattle.std.specs.Prelude.{◌≡◌, map, codes, IfOk, OnOk, OnErr};
+ghost use Rattle.std.specs.Prelude.{◌≡◌, map, IfOk, OnOk, OnErr};
 ghost use Rattle.std.specs.Option.{option_map};
 ghost use Rattle.bson_lite.specs.Indexed.{changed};
 ghost use Rattle.driver_error.specs.Redaction.{redacted, redacted_kind, redacted_many, redacted_bulk, redacted_command, redacted_failure, redacted_concern, redacted_write, redacted_indexed, redacted_text, redacted_reply};

@@ -12,7 +12,7 @@ use Rattle.driver_link.specs.declared.machine.SendBody.TheVariants.{Write, Commi
 use Rattle.driver_link.specs.declared.machine.Server.{Server}
 use Rattle.driver_link.specs.declared.machine.Statement.{Statement}
 use Rattle.driver_link.specs.Once.{Once}
-use Rattle.driver_link.specs.Cases.{Case, body_writes, case_as, case_of, is_decided, known_of, nothing, of_cursor, results_of, unnumbered_case, writes_of}
+use Rattle.driver_link.specs.Cases.{body_writes, case_as, case_of, is_decided, known_of, nothing, of_cursor, results_of, unnumbered_case, writes_of}
 use Rattle.driver_link.specs.Exchange.{interrupted, interrupted_labels}
 use Rattle.driver_link.specs.Honesty.{has_transient}
 use Rattle.driver_link.specs.Interrupting.{interrupted_case, interrupted_done, interrupted_in, interruption, told_of_error, transient_as, session_interrupted}

@@ -18,5 +18,6 @@ pub mod ServedSends
 pub mod SessionIds
 pub mod SettledExchanges
 pub mod TakenNumbers
+pub mod ToldSetups
 pub mod Unnumbered
 pub mod UnnumberedReplies

@@ -1,5 +1,5 @@
 -- The commands of a cursor ask for its next page, and for its end.
-use Rattle.std.proofs.Common.{◌≡◌, ℕ, ◌≤◌, ℤ, List, [], ◌∷◌, ◌++◌, length, refl, sym, ap, subst, ◌∙◌, arith}
+use Rattle.std.proofs.Common.{◌≡◌, ℕ, ◌≤◌, ℤ, List, [], ◌∷◌, ◌++◌, length, refl, sym, subst, arith}
 use Rattle.std.specs.Prelude.{Some, take}
 use Rattle.bson_lite.specs.declared.bson.Bson.{Bson}
 use Rattle.bson_lite.specs.declared.bson.Bson as bson
@@ -16,7 +16,7 @@ use Rattle.driver_link.specs.Reads.{SpellSequences}
 use Rattle.driver_link.proofs.Forms.{array_is, text_is}
 use Rattle.driver_ops.specs.declared.command.Command.{Command}
 use Rattle.driver_ops.specs.declared.target.OperationTarget.{OperationTarget}
-use Rattle.driver_ops.specs.Fields.{AreCommon, IsPlain}
+use Rattle.driver_ops.specs.Fields.{IsPlain}
 use Rattle.driver_ops.specs.GetMores.{AsksCursor, IsCursorCommand, kill_command, kill_spec, more_command, more_spec}
 use Rattle.driver_ops.specs.Operations.{CommandAsks, IsBuilt}
 use Rattle.driver_ops.specs.SendKinds.{SendKind}

@@ -1,5 +1,5 @@
 -- The commands of a cursor keep the law of operations: they write nothing.
-use Rattle.std.proofs.Common.{◌≡◌, ℤ, subst}
+use Rattle.std.proofs.Common.{ℤ, subst}
 use Rattle.driver_link.specs.Settled.{IsWrite}
 use Rattle.driver_ops.specs.declared.target.OperationTarget.{OperationTarget}
 use Rattle.driver_ops.specs.GetMores.{ReadsKill, ReadsMore, kill_spec, more_spec}

@@ -11,7 +11,7 @@ use driver_script::Script;
 use std::alloc::{AllocError, Global};
 use std::test::Fail;
 
-/// A call as a script writes it.
+/// The calls as a script writes them, in the order in which `is_call` numbers them.
 const CALLS: [&str; 9] = [
     "{\"insertOne\":{\"ns\":\"shop.items.old\",\"doc\":[[\"d\",1]],\"writeConcern\":{\"w\":11},\"comment\":12}}",
     "{\"updateOne\":{\"ns\":\"shop.items.old\",\"filter\":[[\"f\",2]],\"update\":[[\"$set\",3]],\"upsert\":true,\"writeConcern\":{\"w\":11},\"comment\":12}}",
@@ -135,6 +135,11 @@ pub(crate) fn is_namespace(namespace: &Namespace) -> bool {
     namespace.db.as_str() == "shop" && namespace.coll.as_str() == "items.old"
 }
 
+/// Whether a namespace and a filter are those of the calls.
+fn is_found(namespace: &Namespace, filter: &Document) -> bool {
+    is_namespace(namespace) && has_one(filter, "f", 2)
+}
+
 /// Whether a write concern asks for so many servers, and for nothing else.
 fn asks_for(concern: &Option<WriteConcern>, servers: u32) -> bool {
     match concern {
@@ -195,30 +200,35 @@ pub(crate) fn is_pipeline(update: &UpdateModifications) -> bool {
     }
 }
 
-/// Which of the calls a write is, with all its parts as they were written.
-fn is_call(write: &SingleWrite, number: usize) -> bool {
+/// Whether a write is the insert among the calls, with all its parts as they were written.
+fn is_insert(write: &SingleWrite) -> bool {
     match write {
         SingleWrite::InsertOne {
             namespace,
             document,
             options,
         } => {
-            number == 0
-                && is_namespace(namespace)
+            is_namespace(namespace)
                 && has_one(document, "d", 1)
                 && are_shared(&options.write_concern, &options.comment)
                 && options.ordered.is_none()
                 && options.bypass_document_validation.is_none()
         }
+        _ => false,
+    }
+}
+
+/// Whether a write is the update of one document, or that of all, with all its parts.
+fn is_update(write: &SingleWrite, of_all: bool) -> bool {
+    match write {
         SingleWrite::UpdateOne {
             namespace,
             filter,
             update,
             options,
         } => {
-            number == 1
-                && is_namespace(namespace)
-                && has_one(filter, "f", 2)
+            !of_all
+                && is_found(namespace, filter)
                 && is_document(update)
                 && are_update_options(options, Some(true))
         }
@@ -228,84 +238,117 @@ fn is_call(write: &SingleWrite, number: usize) -> bool {
             update,
             options,
         } => {
-            number == 2
-                && is_namespace(namespace)
-                && has_one(filter, "f", 2)
+            of_all
+                && is_found(namespace, filter)
                 && is_pipeline(update)
                 && are_update_options(options, Some(false))
         }
+        _ => false,
+    }
+}
+
+/// Whether a write is the replacement, with all its parts.
+fn is_replacement(write: &SingleWrite) -> bool {
+    match write {
         SingleWrite::ReplaceOne {
             namespace,
             filter,
             replacement,
             options,
         } => {
-            number == 3
-                && is_namespace(namespace)
-                && has_one(filter, "f", 2)
+            is_found(namespace, filter)
                 && has_one(replacement, "d", 1)
                 && are_update_options(options, None)
         }
+        _ => false,
+    }
+}
+
+/// Whether a write is the delete of one document, or that of all, with all its parts.
+fn is_delete(write: &SingleWrite, of_all: bool) -> bool {
+    match write {
         SingleWrite::DeleteOne {
             namespace,
             filter,
             options,
-        } => {
-            number == 4
-                && is_namespace(namespace)
-                && has_one(filter, "f", 2)
-                && are_delete_options(options)
-        }
+        } => !of_all && is_found(namespace, filter) && are_delete_options(options),
         SingleWrite::DeleteMany {
             namespace,
             filter,
             options,
-        } => {
-            number == 5
-                && is_namespace(namespace)
-                && has_one(filter, "f", 2)
-                && are_delete_options(options)
-        }
+        } => of_all && is_found(namespace, filter) && are_delete_options(options),
+        _ => false,
+    }
+}
+
+/// Whether a write is the delete that answers its document, with all its parts.
+fn is_find_and_delete(write: &SingleWrite) -> bool {
+    match write {
         SingleWrite::FindOneAndDelete {
             namespace,
             filter,
             options,
         } => {
-            number == 6
-                && is_namespace(namespace)
-                && has_one(filter, "f", 2)
+            is_found(namespace, filter)
                 && are_shared(&options.write_concern, &options.comment)
                 && options.sort.is_none()
                 && options.hint.is_none()
         }
+        _ => false,
+    }
+}
+
+/// Whether a write is the update that answers its document, with all its parts.
+fn is_find_and_update(write: &SingleWrite) -> bool {
+    match write {
         SingleWrite::FindOneAndUpdate {
             namespace,
             filter,
             update,
             options,
         } => {
-            number == 7
-                && is_namespace(namespace)
-                && has_one(filter, "f", 2)
+            is_found(namespace, filter)
                 && is_document(update)
                 && are_shared(&options.write_concern, &options.comment)
                 && options.upsert.is_none()
                 && options.return_document.is_none()
         }
+        _ => false,
+    }
+}
+
+/// Whether a write is the replacement that answers its document, with all its parts.
+fn is_find_and_replace(write: &SingleWrite) -> bool {
+    match write {
         SingleWrite::FindOneAndReplace {
             namespace,
             filter,
             replacement,
             options,
         } => {
-            number == 8
-                && is_namespace(namespace)
-                && has_one(filter, "f", 2)
+            is_found(namespace, filter)
                 && has_one(replacement, "d", 1)
                 && are_shared(&options.write_concern, &options.comment)
                 && options.upsert.is_none()
                 && options.return_document.is_none()
         }
+        _ => false,
+    }
+}
+
+/// Whether a write is the call of this number, with all its parts as they were written.
+fn is_call(write: &SingleWrite, number: usize) -> bool {
+    match number {
+        0 => is_insert(write),
+        1 => is_update(write, false),
+        2 => is_update(write, true),
+        3 => is_replacement(write),
+        4 => is_delete(write, false),
+        5 => is_delete(write, true),
+        6 => is_find_and_delete(write),
+        7 => is_find_and_update(write),
+        8 => is_find_and_replace(write),
+        _ => false,
     }
 }
 

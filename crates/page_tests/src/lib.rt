@@ -16,6 +16,4 @@ mod pages;
 #[cfg(test)]
 mod replies;
 #[cfg(test)]
-mod runs;
-#[cfg(test)]
 mod served;

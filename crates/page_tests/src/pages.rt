@@ -1,7 +1,6 @@
 //! Bulk writes whose answers come in pages, by the executor over a fake link: what goes out behind the command, which
 //! rules a page may break, and what the error tells then.
 use crate::replies::{Answer, First, Lack, Told, page_with, reply_bytes};
-use crate::runs::{Kind, executed_as, let_go, models_of};
 use bson_lite::{Bytes, List};
 use driver_error::{
     BulkWriteError, BulkWriteResult, Error, ErrorKind, IoKind, PartialBulkWriteResult, Result,
@@ -10,6 +9,7 @@ use driver_error::{
 use driver_link::{FakeLink, FakeStep, Frame, LinkFault};
 use std::alloc::{AllocError, Global};
 use std::test::Fail;
+use test_parts::bulk_runs::{Kind, executed_as, models_of};
 use test_parts::inserting::SERVER;
 
 /// Which rule a page breaks, by the message about it.
@@ -579,6 +579,11 @@ impl Looked for VerboseBulkWriteResult {
             .saturating_add(self.delete_results.len());
         Ended::Done(counts(&self.summary), results)
     }
+}
+
+/// Lets an error go.
+fn let_go(error: Error) {
+    drop(error);
 }
 
 /// How a bulk write ended.

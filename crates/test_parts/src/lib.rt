@@ -1,7 +1,8 @@
-//! What the crates of tests of calls share: the writes of rows, a fake link with the answers that a row names, the parts
-//! of bodies that rows spell, and what a row sees of an end. It has no tests, so that it is proved once.
+//! What the crates of tests of calls share: the writes of rows, bulk writes by the executor, a fake link with the answers
+//! that a row names, the parts of bodies that rows spell, and what a row sees of an end. It has no tests, so that it is proved once.
 #![tactic(auto)]
 
+pub mod bulk_runs;
 pub mod faking;
 mod finds;
 pub mod inserting;

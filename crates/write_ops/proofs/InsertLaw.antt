@@ -38,7 +38,7 @@ use Rattle.driver_ops.specs.Targets.{namespace_of}
 use Rattle.driver_ops.specs.lawful.InsertRead.{differ}
 use Rattle.write_ops.specs.declared.own_document.OwnDocument.{OwnDocument}
 use Rattle.write_ops.specs.InsertAnswers.{errors_there, failures_of, is_unfailed, tells_of_all}
-use Rattle.write_ops.specs.InsertLaw.{AddsUp, CountsDocuments, ExchangesInsert, IsReadExactly, TellsFailures, concern_of, concern_told, errors_told, failures_told}
+use Rattle.write_ops.specs.InsertLaw.{AddsUp, CountsDocuments, ExchangesInsert, IsReadExactly, TellsFailures, concern_told, errors_told, failures_told, planned_concern}
 use Rattle.write_ops.specs.InsertLawful.{Ids, insert_lawful}
 use Rattle.write_ops.specs.InsertSpec.{AreOwn, insert_spec}
 use Rattle.write_ops.specs.lawful.InsertFields.{fields_told, reply_read, reply_to, sum_in}
@@ -110,10 +110,10 @@ module _ (target : OperationTarget) (first : ℕ) (own : List OwnDocument) (opti
       (ended done told).ends
 
   -- and is spelled so
-  spelled_so : (done : List Statement) → statements_in server send step ≡ Some done → Spells (reply_to done (concern_of step.item)) reply
+  spelled_so : (done : List Statement) → statements_in server send step ≡ Some done → Spells (reply_to done (planned_concern step.item)) reply
   spelled_so done told =
       let tells = ended done told in
-      subst (λ (document : Reply). Spells document reply) (tells.is ∙ ap (reply_to done) (sym (ap concern_of tells.item_is))) made.spelled
+      subst (λ (document : Reply). Spells document reply) (tells.is ∙ ap (reply_to done) (sym (ap planned_concern tells.item_is))) made.spelled
 
   -- an output that is read is told by the entries of the documents
   only_told : (output : InsertManyResult) → ReadsOutput spec statements reply output → TellsOutput spec server send step output
@@ -132,23 +132,23 @@ module _ (target : OperationTarget) (first : ℕ) (own : List OwnDocument) (opti
         told = is.told;
         unfailed = none.0;
         adds_up = counts_only (insert_is_ordered options) (length (take statements own)) is.done (ends is.done is.told) is.answers.0;
-        concern = ap concern_of is.ended.item_is ∙ none.1;
+        concern = ap planned_concern is.ended.item_is ∙ none.1;
       }
 
   -- where the results count one each, the reply tells of all documents
-  tells_all : (done : List Statement) → statements_in server send step ≡ Some done → AddsUp done → tells_of_all (insert_is_ordered options) (take statements own) (fields_told done (concern_of step.item)) ≡ true
+  tells_all : (done : List Statement) → statements_in server send step ≡ Some done → AddsUp done → tells_of_all (insert_is_ordered options) (take statements own) (fields_told done (planned_concern step.item)) ≡ true
   tells_all done told up = counts_from (insert_is_ordered options) (length (take statements own)) done (ends done told) up
 
   -- and only there
   untold : (done : List Statement) → statements_in server send step ≡ Some done → (AddsUp done → ⊥)
-      → tells_of_all (insert_is_ordered options) (take statements own) (fields_told done (concern_of step.item)) ≡ true → ⊥
+      → tells_of_all (insert_is_ordered options) (take statements own) (fields_told done (planned_concern step.item)) ≡ true → ⊥
   untold done told short tells = short (counts_only (insert_is_ordered options) (length (take statements own)) done (ends done told) tells)
 
   -- an error tells of the failures as the statements ended
   tells_failures : (done : List Statement) → statements_in server send step ≡ Some done → AddsUp done → (error : Error) → ReadsAnswer spec statements reply (Err error)
-      → (kind_of error ≡ kind.Memory) ⊎ TellsFailures done (concern_of step.item) (take statements own) error
+      → (kind_of error ≡ kind.Memory) ⊎ TellsFailures done (planned_concern step.item) (take statements own) error
   tells_failures done told up error reads =
-      let concern = concern_of step.item in
+      let concern = planned_concern step.item in
       let says = reply_said (reply_number (sum_in done)) (write_errors 0 done) concern in
       let spelled = spelled_so done told in
       let same = failures_are (insert_is_ordered options) (take statements own) done concern (ends done told) in
@@ -163,20 +163,20 @@ module _ (target : OperationTarget) (first : ℕ) (own : List OwnDocument) (opti
   read_exactly = record {
     only = λ output reads. (only_counted output reads, only_told output reads);
     done = λ counts.
-        let concern = concern_of step.item in
+        let concern = planned_concern step.item in
         let says = reply_said (reply_number (sum_in counts.done)) (write_errors 0 counts.done) concern in
         let spelled = spelled_so counts.done counts.told in
         taken target first own options statements reply (reply_to counts.done concern) (fields_told counts.done concern) says (reply_read counts.done concern reply spelled) spelled
         (tells_all counts.done counts.told counts.adds_up) (fields_unfailed counts.done concern counts.unfailed counts.concern);
     there = λ counts error reads.
-        let concern = concern_of step.item in
+        let concern = planned_concern step.item in
         let says = reply_said (reply_number (sum_in counts.done)) (write_errors 0 counts.done) concern in
         let spelled = spelled_so counts.done counts.told in
         taken_only target first own options statements reply (reply_to counts.done concern) (fields_told counts.done concern) says (reply_read counts.done concern reply spelled) spelled
         (tells_all counts.done counts.told counts.adds_up) (fields_unfailed counts.done concern counts.unfailed counts.concern) error reads;
     failed = λ done fails error reads. tells_failures done fails.told fails.adds_up error reads;
     odd = λ done told short error reads.
-        let concern = concern_of step.item in
+        let concern = planned_concern step.item in
         let says = reply_said (reply_number (sum_in done)) (write_errors 0 done) concern in
         let spelled = spelled_so done told in
         odd_read target first own options statements reply (reply_to done concern) (fields_told done concern) says (reply_read done concern reply spelled) spelled (untold done told short) error reads;

@@ -55,7 +55,7 @@ use Rattle.write_ops.specs.declared.update.UpdateReply.{UpdateReply}
 use Rattle.write_ops.specs.CountAnswers.{AnswersDelete, AnswersUpdate, ReadsDelete, ReadsUpdate, delete_reply, delete_result, deleted_by, failed_write_in, update_reply, update_result, updated_by, upserted_in}
 use Rattle.write_ops.specs.DeleteLawful.{delete_reading}
 use Rattle.write_ops.specs.Deleting.{delete_statement}
-use Rattle.write_ops.specs.InsertLaw.{concern_of}
+use Rattle.write_ops.specs.InsertLaw.{planned_concern}
 use Rattle.write_ops.specs.StatementLaw.{CountsStatement, ExchangesStatement, IsReadAsCounted}
 use Rattle.write_ops.specs.StatementSpec.{delete_spec, statement_write, update_spec}
 use Rattle.write_ops.specs.UpdateLawful.{update_reading}
@@ -261,7 +261,7 @@ module _ (asks : SendCommand) (server : Server) (send : Send) (step : Scheduled)
   told_reply =
       let before = traced (after_picks server step.deliver) send in
       let told = one_told asks before send write one step.item counts.done found counts.told answer in
-      let none = sym (ap concern_of told.item_is) ∙ counts.concern in
+      let none = sym (ap planned_concern told.item_is) ∙ counts.concern in
       let alone = one_result told.statement result (sym (ap results_in told.alone) ∙ counts.counts) in
       (told.plan.page, (before.cursors, (told.statement, (alone, told.is ∙ ap (λ concern. write_reply asks told.plan.page concern before.cursors (write ∷ []) (told.statement ∷ [])) none))))
 
@@ -273,7 +273,7 @@ counts_one asks server send step write found one none = record {
   told = one.told;
   unfailed = ap has_failed one.alone.alone ∙ counted_unfailed one.alone.statement one.result one.counts;
   counts = ap results_in one.alone.alone ∙ result_one one.alone.statement one.result one.counts;
-  concern = ap concern_of one.alone.item_is ∙ none;
+  concern = ap planned_concern one.alone.item_is ∙ none;
 }
 
 module _ (target : OperationTarget) (filter : List (Pair Bson)) (change : UpdateOrReplace) (multi : Bool) (options : UpdateOptions) where

@@ -40,9 +40,9 @@ use Rattle.write_ops.specs.InsertAnswers.{all_ids, errors_there, odd_insert_text
 use Rattle.write_ops.specs.InsertSpec.{AsksInsert, insert_spec}
 
 -- the write concern error that an item plans
-abbrev pub concern_of : Item → Option PlannedConcern
-concern_of (Serve results fail concern page) = concern
-concern_of other = None
+abbrev pub planned_concern : Item → Option PlannedConcern
+planned_concern (Serve results fail concern page) = concern
+planned_concern other = None
 
 -- the write concern error of a plan, as a client reads it
 abbrev pub concern_told : PlannedConcern → WriteConcernError
@@ -83,13 +83,13 @@ pub record CountsDocuments (server : Server) (send : Send) (step : Scheduled) : 
   pub told : statements_in server send step ≡ Some done
   pub unfailed : has_failed done ≡ false
   pub adds_up : AddsUp done
-  pub concern : concern_of step.item ≡ None
+  pub concern : planned_concern step.item ≡ None
 
 -- in one exchange a statement of a send failed, or there is a write concern error; the results of the others count one document
 -- each together
 pub record FailsDocuments (server : Server) (send : Send) (step : Scheduled) (done : List Statement) : Type 0 where
   pub told : statements_in server send step ≡ Some done
-  pub failed : (has_failed done ≡ true) ⊎ IsSome (concern_of step.item)
+  pub failed : (has_failed done ≡ true) ⊎ IsSome (planned_concern step.item)
   pub adds_up : AddsUp done
 
 -- one exchange of the insert of so many of these documents, outside transactions, with the machine's own reply to it in bytes
@@ -120,6 +120,6 @@ pub record IsReadExactly (target : OperationTarget) (first : ℕ) (own : List Ow
   pub there : CountsDocuments server send step → (error : Error) → ReadsAnswer (insert_spec target first own options) statements reply (Err error)
       → kind_of error ≡ kind.Memory
   pub failed : (done : List Statement) → FailsDocuments server send step done → (error : Error) → ReadsAnswer (insert_spec target first own options) statements reply (Err error)
-      → (kind_of error ≡ kind.Memory) ⊎ TellsFailures done (concern_of step.item) (take statements own) error
+      → (kind_of error ≡ kind.Memory) ⊎ TellsFailures done (planned_concern step.item) (take statements own) error
   pub odd : (done : List Statement) → statements_in server send step ≡ Some done → (AddsUp done → ⊥) → (error : Error)
       → ReadsAnswer (insert_spec target first own options) statements reply (Err error) → (kind_of error ≡ kind.Memory) ⊎ (kind_of error ≡ kind.InvalidResponse odd_insert_text)

@@ -24,7 +24,7 @@ use Rattle.driver_ops.specs.Fields.{SendContext}
 use Rattle.driver_ops.specs.OperationLaw.{TellsOutput}
 use Rattle.driver_ops.specs.Operations.{OperationSpec, ReadsAnswer, send_of}
 use Rattle.driver_ops.specs.Served.{statements_in}
-use Rattle.write_ops.specs.InsertLaw.{concern_of}
+use Rattle.write_ops.specs.InsertLaw.{planned_concern}
 use Rattle.write_ops.specs.StatementSpec.{AsksStatement}
 
 -- one exchange of a command of one statement, outside transactions, with the machine's own reply to it in bytes
@@ -45,7 +45,7 @@ pub record CountsStatement (server : Server) (send : Send) (step : Scheduled) (r
   pub told : statements_in server send step ≡ Some done
   pub unfailed : has_failed done ≡ false
   pub counts : results_in done ≡ result ∷ []
-  pub concern : concern_of step.item ≡ None
+  pub concern : planned_concern step.item ≡ None
 
 -- the reply is read as done only where its statement counts the output so, and then its entry tells it; there it is read as that
 -- output, and as nothing else unless memory runs out

@@ -171,7 +171,8 @@ impl Operation for Insert<'_> {
         stays_for_retry()
     }
 
-    ghost law = { λ insert. insert_lawful insert.target insert.first insert.documents.now insert.options.now };
+    ghost law = { λ insert.
+        insert_lawful insert.target insert.first insert.documents.now insert.options.now };
 }
 
 /// An insert stops at the first document that fails, unless its options say that it goes on.

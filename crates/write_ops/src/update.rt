@@ -77,7 +77,8 @@ impl Update {
 impl Operation for Update {
     type Output = UpdateResult;
 
-    ghost spec = { λ update. update_spec update.target update.filter update.change update.multi update.options };
+    ghost spec = { λ update.
+        update_spec update.target update.filter update.change update.multi update.options };
 
     ghost built = { λ update. Some 1 };
 
@@ -163,7 +164,8 @@ impl Operation for Update {
         stays_for_retry()
     }
 
-    ghost law = { λ update. update_lawful update.target update.filter update.change update.multi update.options };
+    ghost law = { λ update.
+        update_lawful update.target update.filter update.change update.multi update.options };
 }
 
 /// The statement, field by field.

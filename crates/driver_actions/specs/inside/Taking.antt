@@ -8,7 +8,7 @@ use Rattle.driver_error.specs.Error.{kind_of}
 use Rattle.driver_error.specs.LabelTexts.{in_order}
 use Rattle.driver_actions.specs.declared.gathered.Gathered.{Gathered}
 use Rattle.driver_actions.specs.Batches.{is_of_documents}
-use Rattle.driver_actions.specs.ManyAnswers.{TellsGathered, failures_of, with_result}
+use Rattle.driver_actions.specs.ManyAnswers.{TellsGathered, gathered_failures, with_result}
 
 -- the end of a batch of so many documents was taken, and it is one of its documents
 abbrev pub Takes : Gathered → Gathered → ℕ → ℕ → Result InsertManyResult Error → Type 0
@@ -21,4 +21,4 @@ StopsWith end error = (kind_of error ≡ kind.Memory) ⊎ ((end ≡ Err error) �
 -- what was told is answered, where an error has the labels that were told and those of the write concern error inside
 abbrev pub AnswersTold : Gathered → Result InsertManyResult Error → Type 0
 AnswersTold told (Ok output) = TellsGathered told (Ok output)
-AnswersTold told (Err error) = (told.failed ≡ true) × IsNew (kind.InsertMany (failures_of told)) (in_order told.labels) error
+AnswersTold told (Err error) = (told.failed ≡ true) × IsNew (kind.InsertMany (gathered_failures told)) (in_order told.labels) error

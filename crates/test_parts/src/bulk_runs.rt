@@ -1,16 +1,17 @@
-//! Bulk writes of the models of a row by the executor, over any link.
+//! Bulk writes of the models of a row by the executor, over any link: whole, or a batch of them from a model on.
 ghost use Rattle.std.specs.Prelude.{◌≡◌, ◌<◌, drop, IfOk, length};
 
+use crate::writes::number;
 use bson_lite::{Bson, Document, List, Namespace, Text};
 use bulk_actions::bulk_ops;
 use bulk_ops::{BulkWriteOp, OwnOp};
 use driver_attempt::{Client, Outside, Steps};
-use driver_error::{BulkWriteResult, Error, Result};
+use driver_error::{BulkWriteResult, Result, SummaryBulkWriteResult};
 use driver_exec::execute_operation;
 use driver_link::{CountingIds, Link, MemClock, Place};
 use driver_options::{
-    BulkWriteOptions, ClientOptions, DeleteOneModel, InsertOneModel, UpdateModifications,
-    UpdateOneModel, WriteModel,
+    BulkWriteOptions, ClientOptions, DeleteOneModel, InsertOneModel, UpdateManyModel,
+    UpdateModifications, UpdateOneModel, WriteModel,
 };
 use driver_session::PlainStore;
 use rand_core::SeedableRng;
@@ -21,17 +22,11 @@ use std::sync::ledger::{Blank, Ledger};
 
 /// A model of a row, in `shop.items`.
 #[derive(Clone, Copy)]
-pub(crate) enum Kind {
+pub enum Kind {
     Insert,
     UpdateOne,
+    UpdateMany,
     DeleteOne,
-}
-
-/// `{key: number}`
-fn number(alloc: Global, key: &str, number: i32) -> std::result::Result<Document, AllocError> {
-    let mut document = Document::new(alloc);
-    document.push(key, Bson::Int32(number))?;
-    Ok(document)
 }
 
 /// A namespace by its two names.
@@ -56,12 +51,13 @@ fn model_of(alloc: Global, kind: Kind) -> std::result::Result<WriteModel, AllocE
     Ok(match kind {
         Kind::Insert => WriteModel::from(InsertOneModel::new(to, filter)),
         Kind::UpdateOne => WriteModel::from(UpdateOneModel::new(to, filter, change(alloc)?)),
+        Kind::UpdateMany => WriteModel::from(UpdateManyModel::new(to, filter, change(alloc)?)),
         Kind::DeleteOne => WriteModel::from(DeleteOneModel::new(to, filter)),
     })
 }
 
 /// The models of a row.
-pub(crate) fn models_of(
+pub fn models_of(
     alloc: Global,
     kinds: &[Kind],
 ) -> std::result::Result<List<WriteModel>, AllocError> {
@@ -183,7 +179,7 @@ fn executed_by<R: BulkWriteResult, L: Link, Q: Ledger>(
 }
 
 /// Models over a link for results of a kind, ordered or not, and the link afterwards.
-pub(crate) fn executed_as<R: BulkWriteResult, L: Link + Drop>(
+pub fn executed_as<R: BulkWriteResult, L: Link + Drop>(
     alloc: Global,
     link: L,
     models: &[WriteModel],
@@ -193,7 +189,16 @@ pub(crate) fn executed_as<R: BulkWriteResult, L: Link + Drop>(
     executed::<R, L, Brand>(alloc, link, models, 0, false, unordered, blank)
 }
 
-/// Lets an error go.
-pub(crate) fn let_go(error: Error) {
-    drop(error);
+/// A batch of models over a link, from one on, where the client's options may forbid repeats, and the link afterwards.
+pub fn executed_from<L: Link + Drop>(
+    alloc: Global,
+    link: L,
+    models: &[WriteModel],
+    first: usize,
+    forbidden: bool,
+) -> (Result<SummaryBulkWriteResult>, L) {
+    let blank = Blank::new(1);
+    executed::<SummaryBulkWriteResult, L, Brand>(
+        alloc, link, models, first, forbidden, false, blank,
+    )
 }

@@ -1,7 +1,7 @@
 -- A batch of a bulk write asks for the writes of the models that are left of those that were accepted, under as many places.
 use Rattle.std.proofs.Common.{ap, sym, ◌∙◌, drop, length}
 use Rattle.bulk_actions.proofs.OpsLeft.{later_bodies}
-use Rattle.page_tests.proofs.runs.executed_by.Goals as goal
+use Rattle.test_parts.proofs.bulk_runs.executed_by.Goals as goal
 
 pub execute_operation-requires : goal.execute_operation-requires
 execute_operation-requires g c =

@@ -1,5 +1,5 @@
 -- The ledger of the count.
-use Rattle.page_tests.proofs.runs.executed_as.Given as goal
+use Rattle.test_parts.proofs.bulk_runs.executed_from.Given as goal
 
 abbrev pub ghosts-executed : goal.ghosts-executed
 ghosts-executed g a = record { name = a.blank.name; parts = a.blank.parts }
