@@ -114,7 +114,7 @@ impl TryClone for VerboseBulkWriteResult {
     }
 }
 
-/// What a bulk write that failed did before.
+/// What succeeded in a bulk write that failed.
 #[derive(Debug, Drop)]
 pub enum PartialBulkWriteResult {
     Summary(SummaryBulkWriteResult),
