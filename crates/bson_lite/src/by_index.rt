@@ -241,7 +241,10 @@ fn put_entry<T: Drop>(
     ensures room { vec_capacity entries.old ≤ vec_capacity entries.new }
     ensures succeeds { vec_len entries.old < vec_capacity entries.old → IsOk result }
 {
-    match place_of(entries, index) {
+    if is_past(entries, index) {
+        return Ok(entries.push((index, value))?);
+    }
+    match place_among(entries, index) {
         Ok(at) => {
             entries[at] = (index, value);
             Ok(())
