@@ -1,5 +1,6 @@
 -- The key of an array's value, told by the digits of its place.
-use Rattle.std.proofs.Common.{◌≡◌, ℕ, ◌<◌, ◌^◌, List, ◌∷◌, ◌++◌, length, drop, Option, Some, None, refl, sym, ap, ◌∙◌, arith}
+use Rattle.std.proofs.Common.{◌≡◌, ℕ, ◌+◌, ◌≤◌, ◌<◌, ◌^◌, List, ◌∷◌, ◌++◌, length, drop, Option, Some, None, IfNone, IfSome, refl, sym, ap, ◌∙◌, arith}
+use denote.Ref.{Bor}
 use Rattle.std.proofs.lemmas.List.{drop_at, length-append}
 use Rattle.std.specs.Prelude.{decimal}
 use Rattle.bson_lite.specs.Parts.{place_at}
@@ -18,17 +19,23 @@ place_is place bytes rest small is =
 pub place_is_not : (place : ℕ) (bytes : List ℕ) → ((rest : List ℕ) → bytes ≡ decimal place ++ 0 ∷ rest → ⊥) → place_at place bytes ≡ None
 place_is_not place bytes never = none_from (place_at place bytes) (λ rest is. never rest (place_took place bytes rest is))
 
--- where nothing stands behind a key, no zero byte does
-pub nothing_behind : (bytes key behind rest : List ℕ) → bytes ≡ key ++ behind → length behind ≡ 0 → bytes ≡ key ++ 0 ∷ rest → ⊥
-nothing_behind bytes key behind rest is none other =
-    absurd (omega (arith, ap length is, ap length other, length-append key behind, length-append key (0 ∷ rest), none))
+-- they stand before what is behind them
+pub behind_shorter : (bytes key rest : List ℕ) → bytes ≡ key ++ 0 ∷ rest → length rest + 1 ≤ length bytes
+behind_shorter bytes key rest is = omega (arith, ap length is, length-append key (0 ∷ rest))
 
-heads : (x y : ℕ) (xs ys : List ℕ) → ◌≡◌ {A = List ℕ} (x ∷ xs) (y ∷ ys) → x ≡ y
-heads x y xs ys same = cc
+-- what stands behind a key is one list
+behind_same : (bytes key one other : List ℕ) → bytes ≡ key ++ one → bytes ≡ key ++ other → one ≡ other
+behind_same bytes key one other is same =
+    sym (drop_at key one (length key) refl) ∙ ap (drop (length key)) (sym is ∙ same) ∙ drop_at key other (length key) refl
 
--- where another byte stands behind it, no zero byte does
-pub other_behind : (bytes key behind after rest : List ℕ) (last : ℕ) → bytes ≡ key ++ behind → behind ≡ last ∷ after → (last ≡ 0 → ⊥) → bytes ≡ key ++ 0 ∷ rest → ⊥
-other_behind bytes key behind after rest last is first unlike other =
-    unlike (heads last 0 after rest
-    (sym (drop_at key (last ∷ after) (length key) refl) ∙ ap (drop (length key)) (sym (is ∙ ap (λ (t : List ℕ). key ++ t) first) ∙ other)
-    ∙ drop_at key (0 ∷ rest) (length key) refl))
+-- a zero byte that is found there ends the key
+pub behind_some : (bytes key behind : List ℕ) (found : Option (Bor (List ℕ))) → bytes ≡ key ++ behind
+    → IfSome found (λ rest. behind ≡ 0 ∷ rest.now) → IfSome found (λ rest. bytes ≡ key ++ 0 ∷ rest.now)
+behind_some bytes key behind None is first = tt
+behind_some bytes key behind (Some rest) is first = is ∙ ap (λ (after : List ℕ). key ++ after) first
+
+-- where none is found, none does
+pub behind_none : (bytes key behind : List ℕ) (found : Option (Bor (List ℕ))) → bytes ≡ key ++ behind
+    → IfNone found ((rest : List ℕ) → behind ≡ 0 ∷ rest → ⊥) → IfNone found ((rest : List ℕ) → bytes ≡ key ++ 0 ∷ rest → ⊥)
+behind_none bytes key behind None is none = λ rest other. none rest (behind_same bytes key behind (0 ∷ rest) is other)
+behind_none bytes key behind (Some rest) is none = tt

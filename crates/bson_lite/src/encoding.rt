@@ -23,6 +23,7 @@ const ID_LENGTH: usize = 17;
 const LONGEST: usize = 2_147_483_647;
 
 /// The one spelling of a document.
+#[tactic(auto, using(crate::proofs::Named::of_hundred))]
 pub fn encode(alloc: Global, document: &Document) -> Result<Bytes, EncodeFault>
     ensures { Encodes document.now result }
 {
@@ -41,6 +42,7 @@ pub fn encode_within(alloc: Global, document: &Document, levels: u32) -> Result<
 }
 
 /// The one spelling of a document once it has this id: put first, unless the document has one of its own.
+#[tactic(auto, using(crate::proofs::Named::of_hundred))]
 pub fn encode_with_id(
     alloc: Global,
     document: &Document,

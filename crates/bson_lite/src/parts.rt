@@ -210,13 +210,15 @@ pub(crate) fn type_of(at: usize, bytes: &[u8]) -> Result<(u8, &[u8]), DecodeFaul
     }
 }
 
-/// The key of an array's value, which is its place in decimal.
+/// The key of an array's value, which is its place in decimal. Digits are UTF-8 without a zero byte, so none is
+/// looked for.
+#[tactic(auto, using(crate::proofs::Places::behind_shorter))]
 pub(crate) fn place_of(at: usize, place: usize, bytes: &[u8]) -> Result<&[u8], DecodeFault>
     ensures gives { Gives (λ x. x.now) result (or_at at (place_at place bytes.now)) }
     ensures shorter { IfOk result (λ x. length x.now + 1 ≤ length bytes.now) }
 {
     let mut buffer = Buffer::new();
-    match behind_key(buffer.format(place), bytes) {
+    match behind_key(buffer.format(place).as_bytes(), bytes) {
         Some(rest) => Ok(rest),
         None => Err(DecodeFault::At { offset: at }),
     }
@@ -224,13 +226,26 @@ pub(crate) fn place_of(at: usize, place: usize, bytes: &[u8]) -> Result<&[u8], D
 
 /// What stands behind this key and the zero byte that ends it, where bytes begin with both.
 #[inline(always)]
-fn behind_key<'a>(key: &str, bytes: &'a [u8]) -> Option<&'a [u8]>
+fn behind_key<'a>(key: &[u8], bytes: &'a [u8]) -> Option<&'a [u8]>
     ensures some { IfSome result (λ rest. bytes.now ≡ key.now ++ 0 ∷ rest.now) }
     ensures none { IfNone result ((rest : List ℕ) → bytes.now ≡ key.now ++ 0 ∷ rest → ⊥) }
 {
-    let rest = bytes.strip_prefix(key.as_bytes())?;
-    let (last, rest) = rest.split_first()?;
-    if *last == 0 { Some(rest) } else { None }
+    match bytes.strip_prefix(key) {
+        None => None,
+        Some(behind) => behind_zero(behind),
+    }
+}
+
+/// What stands behind a zero byte, where bytes begin with one.
+#[inline(always)]
+fn behind_zero(bytes: &[u8]) -> Option<&[u8]>
+    ensures some { IfSome result (λ rest. bytes.now ≡ 0 ∷ rest.now) }
+    ensures none { IfNone result ((rest : List ℕ) → bytes.now ≡ 0 ∷ rest → ⊥) }
+{
+    match bytes {
+        [] => None,
+        [byte, rest @ ..] => if *byte == 0 { Some(rest) } else { None },
+    }
 }
 
 /// A document in its frame: the bytes of its pairs, and its last byte.
