@@ -144,16 +144,16 @@ fits_test : (long : ℕ) → long ≤ 2147483630 → nat_lt 2147483647 (long + 1
 fits_test long fits = grind (arith, nat_tests)
 
 -- what is not refused nests no deeper, and no zero byte stands where none may
-none_by : (deep zero long : Bool) → by_tests deep zero long ≡ None → (deep ≡ false) × (zero ≡ false)
-none_by true zero long is = absurd (let e : ◌≡◌ {A = Option EncodeFault} (Some TooDeep) None = is in cc)
-none_by false true long is = absurd (let e : ◌≡◌ {A = Option EncodeFault} (Some ZeroByte) None = is in cc)
-none_by false false long is = (refl, refl)
+pub tests_of_none : (deep zero long : Bool) → by_tests deep zero long ≡ None → (deep ≡ false) × (zero ≡ false)
+tests_of_none true zero long is = absurd (let e : ◌≡◌ {A = Option EncodeFault} (Some TooDeep) None = is in cc)
+tests_of_none false true long is = absurd (let e : ◌≡◌ {A = Option EncodeFault} (Some ZeroByte) None = is in cc)
+tests_of_none false false long is = (refl, refl)
 
 -- the refusal of one that is not refused without an id is by its length with the id
 by_length : (levels : ℕ) (id : ObjectId) (document : List (Pair Bson)) (long : Bool) → ◌≡◌ {A = Option Bson} (value_of id_key document) None → length id.bytes ≡ 12
     → refusal_within levels document ≡ None → nat_lt 2147483647 (length (spelling document) + 17) ≡ long → refusal_within levels (with_id id document) ≡ by_tests false false long
 by_length levels id document long none twelve taken at =
-    let tests = none_by (nat_lt levels (nesting document)) (zero_in document) (nat_lt 2147483647 (length (spelling document))) taken in
+    let tests = tests_of_none (nat_lt levels (nesting document)) (zero_in document) (nat_lt 2147483647 (length (spelling document))) taken in
     ap (refusal_within levels) (with_none id document (none_found document none)) ∙ refusal_named levels id document twelve
     ∙ ap (λ (deep : Bool). by_tests deep (zero_in document) (nat_lt 2147483647 (length (spelling document) + 17))) tests.0
     ∙ ap (λ (zero : Bool). by_tests false zero (nat_lt 2147483647 (length (spelling document) + 17))) tests.1

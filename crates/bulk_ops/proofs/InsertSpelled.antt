@@ -1,6 +1,6 @@
 -- The op of an insert in bytes: a document with the bytes of another in its place spells the op, where that nests one level less.
 use Rattle.std.proofs.Common.{◌≡◌, ℕ, ◌+◌, ◌≤◌, Bool, true, false, ◌||◌, ◌&&◌, List, [], ◌∷◌, ◌++◌, append-nil, length, refl, sym, ap, ◌∙◌, arith}
-use Rattle.std.specs.Prelude.{Option, None, Some, IfSome, nat_lt, pos, if◌then◌else◌}
+use Rattle.std.specs.Prelude.{Option, None, Some, IfSome, nat_lt, pos}
 use Rattle.std.proofs.lemmas.Bool.{ltb-false}
 use Rattle.std.specs.Str.{chars, is_utf8}
 use lib.Utf8.{encode}
@@ -10,9 +10,8 @@ use Rattle.bson_lite.specs.declared.bson.Bson.{Bson}
 use Rattle.bson_lite.specs.declared.bson.Bson.TheOpen.{Bson-F}
 use Rattle.bson_lite.specs.declared.bson.Bson.TheVariants.{rolls-Document}
 use Rattle.bson_lite.specs.declared.document.Pair.{Pair}
-use Rattle.bson_lite.specs.declared.fault.EncodeFault.{EncodeFault}
-use Rattle.bson_lite.specs.declared.fault.EncodeFault.TheVariants.{TooDeep}
 use Rattle.bson_lite.specs.Spelling.{Spells, body_of, depth, element, four, framed, nesting, refusal_within, spelled, spelling, valid, valid_pairs, zero_in, zero_within}
+use Rattle.bson_lite.proofs.Named.{tests_of_none}
 use Rattle.bson_lite.proofs.Nested.{Folded, folded}
 use Rattle.driver_link.specs.declared.keys.TheConstants.{DOCUMENT, INSERT}
 use Rattle.bulk_ops.specs.inside.BulkOps.{insert_op}
@@ -87,11 +86,7 @@ pub spelled_where_framed : (document : List (Pair Bson)) (own : List ℕ) (found
 spelled_where_framed document own None levels spells frames = tt
 spelled_where_framed document own (Some bytes) levels spells frames = op_spelled document own bytes levels spells frames
 
--- a number that no test says to be greater than 99 is not
-within : (deep : ℕ) (is_deep : Bool) (rest : Option EncodeFault) → nat_lt 99 deep ≡ is_deep → (if is_deep then Some TooDeep else rest) ≡ None → deep ≤ 99
-within deep true rest at none = absurd (let e : ◌≡◌ {A = Option EncodeFault} (Some TooDeep) None = none in cc)
-within deep false rest at none = ltb-false 99 deep at
-
 -- what is not refused within so many levels nests no deeper
 pub levels_taken : (document : List (Pair Bson)) → refusal_within 99 document ≡ None → nesting document ≤ 99
-levels_taken document taken = within (nesting document) (nat_lt 99 (nesting document)) _ refl taken
+levels_taken document taken =
+    ltb-false 99 (nesting document) (tests_of_none (nat_lt 99 (nesting document)) (zero_in document) (nat_lt 2147483647 (length (spelling document))) taken).0
