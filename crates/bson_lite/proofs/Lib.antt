@@ -3,10 +3,12 @@ pub mod Breaking
 pub mod Found
 pub mod FinMaps
 pub mod Framing
+pub mod Lengths
 pub mod Loops
 pub mod Named
 pub mod Nested
 pub mod Numbers
+pub mod Places
 pub mod Refusing
 pub mod Rising
 pub mod Sound

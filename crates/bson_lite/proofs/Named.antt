@@ -13,7 +13,7 @@ use Rattle.bson_lite.specs.declared.document.Pair.{Pair}
 use Rattle.bson_lite.specs.declared.fault.EncodeFault.{EncodeFault}
 use Rattle.bson_lite.specs.declared.fault.EncodeFault.TheVariants.{TooDeep, ZeroByte, TooLong, Memory}
 use Rattle.bson_lite.specs.Fields.{id_element, id_key, value_of, with_id}
-use Rattle.bson_lite.specs.Spelling.{Encodes, HasSpelling, Spells, body_of, deepest_pair, depth, element, framed, nesting, on_value, refusal, refusal_within, spelled, spelling, valid, valid_pairs, zero_in, zero_within}
+use Rattle.bson_lite.specs.Spelling.{Encodes, EncodesWithin, HasSpelling, Spells, body_of, deepest_pair, depth, element, framed, nesting, on_value, refusal_within, spelled, spelling, valid, valid_pairs, zero_in, zero_within}
 use Rattle.bson_lite.specs.Writing.{Puts}
 
 -- the pair of an id
@@ -79,10 +79,18 @@ with_none id document none = cond-false (is_some (value_of id_key document)) doc
 pub kept_with : (id : ObjectId) (document : List (Pair Bson)) (value : Bson) → ◌≡◌ {A = Option Bson} (Some value) (value_of id_key document) → with_id id document ≡ document
 kept_with id document value found = cond-true (is_some (value_of id_key document)) document (id_pair id ∷ document) (ap is_some (sym found))
 
-pub encodes_kept : (id : ObjectId) (document : List (Pair Bson)) (value : Bson) (result : Result (List ℕ) EncodeFault) → ◌≡◌ {A = Option Bson} (Some value) (value_of id_key document)
-    → Encodes document result → Encodes (with_id id document) result
-encodes_kept id document value result found encodes =
-    subst (λ (kept : List (Pair Bson)). Encodes kept result) (sym (kept_with id document value found)) encodes
+pub encodes_kept : (levels : ℕ) (id : ObjectId) (document : List (Pair Bson)) (value : Bson) (result : Result (List ℕ) EncodeFault) → ◌≡◌ {A = Option Bson} (Some value) (value_of id_key document)
+    → EncodesWithin levels document result → EncodesWithin levels (with_id id document) result
+encodes_kept levels id document value result found encodes =
+    subst (λ (kept : List (Pair Bson)). EncodesWithin levels kept result) (sym (kept_with id document value found)) encodes
+
+-- what is answered of a hundred levels is what `encode` answers
+pub of_hundred : (document : List (Pair Bson)) (result : Result (List ℕ) EncodeFault) → EncodesWithin 100 document result → Encodes document result
+of_hundred document (Ok bytes) encodes = encodes
+of_hundred document (Err TooDeep) encodes = encodes
+of_hundred document (Err ZeroByte) encodes = encodes
+of_hundred document (Err TooLong) encodes = encodes
+of_hundred document (Err Memory) encodes = encodes
 
 -- a refusal by the tests of depth, zero bytes and length
 abbrev pub by_tests : Bool → Bool → Bool → Option EncodeFault
@@ -116,20 +124,18 @@ refused_named levels id document fault twelve is =
 pub none_found : (document : List (Pair Bson)) → ◌≡◌ {A = Option Bson} (value_of id_key document) None → is_some (value_of id_key document) ≡ false
 none_found document none = ap (λ (found : Option Bson). is_some found) none
 
-refused_with : (id : ObjectId) (document : List (Pair Bson)) (fault : EncodeFault) → ◌≡◌ {A = Option Bson} (value_of id_key document) None → length id.bytes ≡ 12
-    → refusal document ≡ Some fault → refusal (with_id id document) ≡ Some fault
-refused_with id document fault none twelve is = ap refusal (with_none id document (none_found document none)) ∙ refused_named 100 id document fault twelve is
+refused_with : (levels : ℕ) (id : ObjectId) (document : List (Pair Bson)) (fault : EncodeFault) → ◌≡◌ {A = Option Bson} (value_of id_key document) None → length id.bytes ≡ 12
+    → refusal_within levels document ≡ Some fault → refusal_within levels (with_id id document) ≡ Some fault
+refused_with levels id document fault none twelve is =
+    ap (refusal_within levels) (with_none id document (none_found document none)) ∙ refused_named levels id document fault twelve is
 
 -- and that is what is answered
-pub fails_named : (id : ObjectId) (document : List (Pair Bson)) (fault : EncodeFault) → ◌≡◌ {A = Option Bson} (value_of id_key document) None → length id.bytes ≡ 12
-    → refusal document ≡ Some fault → Encodes (with_id id document) (Err fault)
-fails_named id document TooDeep none twelve is = refused_with id document TooDeep none twelve is
-fails_named id document ZeroByte none twelve is = refused_with id document ZeroByte none twelve is
-fails_named id document TooLong none twelve is = refused_with id document TooLong none twelve is
-fails_named id document Memory none twelve is = tt
-
-nests_test : (deep : ℕ) → deep ≤ 100 → nat_lt 100 deep ≡ false
-nests_test deep within = grind (arith, nat_tests)
+pub fails_named : (levels : ℕ) (id : ObjectId) (document : List (Pair Bson)) (fault : EncodeFault) → ◌≡◌ {A = Option Bson} (value_of id_key document) None → length id.bytes ≡ 12
+    → refusal_within levels document ≡ Some fault → EncodesWithin levels (with_id id document) (Err fault)
+fails_named levels id document TooDeep none twelve is = refused_with levels id document TooDeep none twelve is
+fails_named levels id document ZeroByte none twelve is = refused_with levels id document ZeroByte none twelve is
+fails_named levels id document TooLong none twelve is = refused_with levels id document TooLong none twelve is
+fails_named levels id document Memory none twelve is = tt
 
 long_test : (long : ℕ) → 2147483630 < long → nat_lt 2147483647 (long + 17) ≡ true
 long_test long more = grind (arith, nat_tests)
@@ -137,19 +143,26 @@ long_test long more = grind (arith, nat_tests)
 fits_test : (long : ℕ) → long ≤ 2147483630 → nat_lt 2147483647 (long + 17) ≡ false
 fits_test long fits = grind (arith, nat_tests)
 
--- the refusal of one that has a spelling is by its length with the id
-by_length : (id : ObjectId) (document : List (Pair Bson)) (long : Bool) → ◌≡◌ {A = Option Bson} (value_of id_key document) None → length id.bytes ≡ 12 → HasSpelling document
-    → nat_lt 2147483647 (length (spelling document) + 17) ≡ long → refusal (with_id id document) ≡ by_tests false false long
-by_length id document long none twelve has at =
-    ap refusal (with_none id document (none_found document none)) ∙ refusal_named 100 id document twelve
-    ∙ ap (λ (deep : Bool). by_tests deep (zero_in document) (nat_lt 2147483647 (length (spelling document) + 17))) (nests_test (nesting document) has.nests)
-    ∙ ap (λ (zero : Bool). by_tests false zero (nat_lt 2147483647 (length (spelling document) + 17))) has.zero_free
+-- what is not refused nests no deeper, and no zero byte stands where none may
+pub tests_of_none : (deep zero long : Bool) → by_tests deep zero long ≡ None → (deep ≡ false) × (zero ≡ false)
+tests_of_none true zero long is = absurd (let e : ◌≡◌ {A = Option EncodeFault} (Some TooDeep) None = is in cc)
+tests_of_none false true long is = absurd (let e : ◌≡◌ {A = Option EncodeFault} (Some ZeroByte) None = is in cc)
+tests_of_none false false long is = (refl, refl)
+
+-- the refusal of one that is not refused without an id is by its length with the id
+by_length : (levels : ℕ) (id : ObjectId) (document : List (Pair Bson)) (long : Bool) → ◌≡◌ {A = Option Bson} (value_of id_key document) None → length id.bytes ≡ 12
+    → refusal_within levels document ≡ None → nat_lt 2147483647 (length (spelling document) + 17) ≡ long → refusal_within levels (with_id id document) ≡ by_tests false false long
+by_length levels id document long none twelve taken at =
+    let tests = tests_of_none (nat_lt levels (nesting document)) (zero_in document) (nat_lt 2147483647 (length (spelling document))) taken in
+    ap (refusal_within levels) (with_none id document (none_found document none)) ∙ refusal_named levels id document twelve
+    ∙ ap (λ (deep : Bool). by_tests deep (zero_in document) (nat_lt 2147483647 (length (spelling document) + 17))) tests.0
+    ∙ ap (λ (zero : Bool). by_tests false zero (nat_lt 2147483647 (length (spelling document) + 17))) tests.1
     ∙ ap (λ (b : Bool). by_tests false false b) at
 
 -- one that is too long with an id
-pub too_long_named : (id : ObjectId) (document : List (Pair Bson)) → ◌≡◌ {A = Option Bson} (value_of id_key document) None → length id.bytes ≡ 12 → HasSpelling document
-    → 2147483630 < length (spelling document) → Encodes (with_id id document) (Err TooLong)
-too_long_named id document none twelve has more = by_length id document true none twelve has (long_test (length (spelling document)) more)
+pub too_long_named : (levels : ℕ) (id : ObjectId) (document : List (Pair Bson)) → ◌≡◌ {A = Option Bson} (value_of id_key document) None → length id.bytes ≡ 12
+    → refusal_within levels document ≡ None → 2147483630 < length (spelling document) → EncodesWithin levels (with_id id document) (Err TooLong)
+too_long_named levels id document none twelve taken more = by_length levels id document true none twelve taken (long_test (length (spelling document)) more)
 
 -- one that is not has a spelling
 has_named : (id : ObjectId) (document : List (Pair Bson)) → length id.bytes ≡ 12 → HasSpelling document → length (spelling document) ≤ 2147483630 → HasSpelling (id_pair id ∷ document)
@@ -169,16 +182,16 @@ pub room_named : (id : ObjectId) (document : List (Pair Bson)) (bytes : List ℕ
 room_named id document bytes twelve size = omega (arith, size, length_element id (body_of document) twelve)
 
 -- which it fills
-pub spells_named : (id : ObjectId) (document : List (Pair Bson)) (old new : List ℕ) (end : ℕ) → ◌≡◌ {A = Option Bson} (value_of id_key document) None → length id.bytes ≡ 12
-    → HasSpelling document → length (spelling document) ≤ 2147483630 → length old ≡ length (spelling document) + 17
-    → Puts (framed (id_element id ++ body_of document)) 0 old new end → Encodes (with_id id document) (Ok new)
-spells_named id document old new end none twelve has fits size puts =
+pub spells_named : (levels : ℕ) (id : ObjectId) (document : List (Pair Bson)) (old new : List ℕ) (end : ℕ) → ◌≡◌ {A = Option Bson} (value_of id_key document) None → length id.bytes ≡ 12
+    → refusal_within levels document ≡ None → HasSpelling document → length (spelling document) ≤ 2147483630 → length old ≡ length (spelling document) + 17
+    → Puts (framed (id_element id ++ body_of document)) 0 old new end → EncodesWithin levels (with_id id document) (Ok new)
+spells_named levels id document old new end none twelve taken has fits size puts =
     let whole : length new ≤ end = omega (arith, puts.0, puts.2, size, length_element id (body_of document) twelve) in
     let is : new ≡ framed (id_element id ++ body_of document) = sym (take_all end new whole) ∙ puts.1 in
     let spells : Spells (id_pair id ∷ document) new = record {
       has = has_named id document twelve has fits;
       is = is ∙ ap framed (sym (body_named id document));
     } in (
-      by_length id document false none twelve has (fits_test (length (spelling document)) fits),
+      by_length levels id document false none twelve taken (fits_test (length (spelling document)) fits),
       subst (λ (named : List (Pair Bson)). Spells named new) (sym (with_none id document (none_found document none))) spells,
     )

@@ -1,5 +1,5 @@
 -- Entries in the order of their indexes: where an index stands among them, and the finite map that they are.
-use Rattle.std.proofs.Common.{◌≡◌, ℕ, zero, suc, ◌+◌, ◌-◌, ◌<◌, ◌≤◌, Bool, true, false, cond, ◌&&◌, T, List, [], ◌∷◌, length, get_or, set, drop, Option, None, Some, Result, Ok, Err, IfOk, IfErr, OnOk, OnErr, refl, sym, ap, subst, ◌∙◌, arith}
+use Rattle.std.proofs.Common.{◌≡◌, ℕ, zero, suc, ◌+◌, ◌-◌, ◌<◌, ◌≤◌, Bool, true, false, cond, ◌&&◌, T, List, [], ◌∷◌, ◌++◌, length, get_or, set, drop, Option, None, Some, Result, Ok, Err, IfOk, IfErr, OnOk, OnErr, refl, sym, ap, subst, ◌∙◌, arith}
 use Rattle.std.proofs.lemmas.Bool.{eqb-true}
 use Rattle.std.proofs.lemmas.Bool.Decides.{nat_tests}
 use Rattle.std.proofs.lemmas.List.{drop_more}
@@ -177,6 +177,15 @@ module _ {X : Type 0} where
       let over : e.0 < index = gap.below zero e (omega arith) in
       ap (λ r. by_order r ((index, v) ∷ e ∷ es) ((e.0, v) ∷ es) (e ∷ finite.put nat_cmp index v es)) (greater index e.0 over)
       ∙ ap (λ rest. e ∷ rest) (put_gap es index v at (gap_of_tail e es index at gap))
+
+  insert_end : (es : List (ℕ × X)) (e : ℕ × X) → insert es (length es) e ≡ es ++ e ∷ []
+  insert_end [] e = refl
+  insert_end (first ∷ es) e = ap (λ rest. first ∷ rest) (insert_end es e)
+
+  -- one behind all that are there comes to the end
+  pub put_last : (es : List (ℕ × X)) (index : ℕ) (v : X) (count : ℕ) → count ≡ length es → IsGap index es count → finite.put nat_cmp index v es ≡ es ++ (index, v) ∷ []
+  put_last es index v count counts gap =
+      put_gap es index v count gap ∙ ap (λ (at : ℕ). insert es at (index, v)) counts ∙ insert_end es (index, v)
 
   -- an index that is there is found
   find_at : (es : List (ℕ × X)) → T (finite.is_sorted nat_cmp es) → (index at : ℕ) → IsAt index es at → (other : ℕ × X)

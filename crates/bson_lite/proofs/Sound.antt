@@ -70,7 +70,7 @@ pub record ItemTook (levels place : ℕ) (bytes : List ℕ) (x : Bson × List �
   pub zero_free : zero_within x.0 ≡ false
   pub well_formed : valid x.0 ≡ true
 
-place_took : (place : ℕ) (bytes after : List ℕ) → place_at place bytes ≡ Some after → bytes ≡ decimal place ++ 0 ∷ after
+pub place_took : (place : ℕ) (bytes after : List ℕ) → place_at place bytes ≡ Some after → bytes ≡ decimal place ++ 0 ∷ after
 unfolding place_at
 place_took place bytes after e =
     by_some (zero_ended bytes) (λ key. cond (bytes_eq key.0 (decimal place)) (Some key.1) None) after e (λ key k rest.

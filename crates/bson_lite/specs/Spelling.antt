@@ -185,6 +185,14 @@ refusal_within levels document =
 abbrev pub refusal : List (Pair Bson) → Option EncodeFault
 refusal document = refusal_within 100 document
 
+-- what may be answered where a document may nest so many levels deep
+abbrev pub EncodesWithin : ℕ → List (Pair Bson) → Result (List ℕ) EncodeFault → Type 0
+EncodesWithin levels document (Ok bytes) = (refusal_within levels document ≡ None) × Spells document bytes
+EncodesWithin levels document (Err TooDeep) = refusal_within levels document ≡ Some TooDeep
+EncodesWithin levels document (Err ZeroByte) = refusal_within levels document ≡ Some ZeroByte
+EncodesWithin levels document (Err TooLong) = refusal_within levels document ≡ Some TooLong
+EncodesWithin levels document (Err Memory) = Unit {0}
+
 -- what `encode` may answer
 abbrev pub Encodes : List (Pair Bson) → Result (List ℕ) EncodeFault → Type 0
 Encodes document (Ok bytes) = (refusal document ≡ None) × Spells document bytes

@@ -241,13 +241,33 @@ fn put_entry<T: Drop>(
     ensures room { vec_capacity entries.old ≤ vec_capacity entries.new }
     ensures succeeds { vec_len entries.old < vec_capacity entries.old → IsOk result }
 {
-    match place_of(entries, index) {
+    if is_past(entries, index) {
+        return push_entry(entries, index, value);
+    }
+    match place_among(entries, index) {
         Ok(at) => {
             entries[at] = (index, value);
             Ok(())
         }
         Err(at) => Ok(entries.insert(at, (index, value))?),
     }
+}
+
+/// Puts an entry behind all others. With room it succeeds.
+fn push_entry<T: Drop>(
+    entries: &mut Vec<(usize, T)>,
+    index: usize,
+    value: T,
+) -> Result<(), AllocError>
+    requires { IsGap index entries.old.items (vec_len entries.old) }
+    ensures ok { OnOk result (entries.new.items ≡ map.put nat_cmp index value entries.old.items) }
+    ensures err { OnErr result (entries.new.items ≡ entries.old.items) }
+    ensures len { vec_len entries.new ≤ vec_len entries.old + 1 }
+    ensures room { vec_capacity entries.old ≤ vec_capacity entries.new }
+    ensures succeeds { vec_len entries.old < vec_capacity entries.old → IsOk result }
+{
+    entries.push((index, value))?;
+    Ok(())
 }
 
 /// Puts entries for which there is room.

@@ -1,7 +1,7 @@
 //! From a document to its bytes, which are all there before the first is written.
 ghost use Rattle.std.specs.Prelude.{◌≡◌, ◌+◌, ◌%◌, ◌≤◌, ◌++◌, ◌∷◌, [], None, length, take, drop, map};
 ghost use Rattle.bson_lite.specs.Fields.{id_element, id_key, value_of, with_id};
-ghost use Rattle.bson_lite.specs.Spelling.{Encodes, refusal, spelled, framed, counted, four, body_of, numbered};
+ghost use Rattle.bson_lite.specs.Spelling.{Encodes, EncodesWithin, refusal, spelled, framed, counted, four, body_of, numbered};
 ghost use Rattle.bson_lite.specs.Writing.{HasRoom, Puts};
 
 use crate::bson::{Binary, Bson, ObjectId, Regex, Timestamp};
@@ -13,6 +13,9 @@ use crate::text::{Bytes, Text};
 use itoa::Buffer;
 use std::alloc::Global;
 
+/// The levels that a document may nest, the document itself counting 1.
+const LEVELS: u32 = 100;
+
 /// The length that the element of an object id adds to a document.
 const ID_LENGTH: usize = 17;
 
@@ -20,16 +23,26 @@ const ID_LENGTH: usize = 17;
 const LONGEST: usize = 2_147_483_647;
 
 /// The one spelling of a document.
+#[tactic(auto, using(crate::proofs::Named::of_hundred))]
 pub fn encode(alloc: Global, document: &Document) -> Result<Bytes, EncodeFault>
     ensures { Encodes document.now result }
 {
-    let length = surveyed(document)?;
+    encode_within(alloc, document, LEVELS)
+}
+
+/// The same where a document may nest so many levels deep, as one that is to stand in another.
+pub fn encode_within(alloc: Global, document: &Document, levels: u32) -> Result<Bytes, EncodeFault>
+    requires { levels ≤ 100 }
+    ensures { EncodesWithin levels document.now result }
+{
+    let length = surveyed(document, levels)?;
     let mut out = vec![in alloc; 0; length]?;
     put_document(out.as_mut_slice(), 0, document.pairs());
     Ok(Bytes::from_vec(out))
 }
 
 /// The one spelling of a document once it has this id: put first, unless the document has one of its own.
+#[tactic(auto, using(crate::proofs::Named::of_hundred))]
 pub fn encode_with_id(
     alloc: Global,
     document: &Document,
@@ -37,9 +50,22 @@ pub fn encode_with_id(
 ) -> Result<Bytes, EncodeFault>
     ensures { Encodes (with_id id.now document.now) result }
 {
+    encode_with_id_within(alloc, document, id, LEVELS)
+}
+
+/// The same where a document may nest so many levels deep, as one that is to stand in another.
+pub fn encode_with_id_within(
+    alloc: Global,
+    document: &Document,
+    id: &ObjectId,
+    levels: u32,
+) -> Result<Bytes, EncodeFault>
+    requires { levels ≤ 100 }
+    ensures { EncodesWithin levels (with_id id.now document.now) result }
+{
     match document.get(ID_KEY) {
-        Some(_) => encode(alloc, document),
-        None => encode_named(alloc, document, id),
+        Some(_) => encode_within(alloc, document, levels),
+        None => encode_named(alloc, document, id, levels),
     }
 }
 
@@ -47,18 +73,24 @@ pub fn encode_with_id(
 pub fn encode_refusal(document: &Document) -> Option<EncodeFault>
     ensures { result ≡ refusal document.now }
 {
-    match surveyed(document) {
+    match surveyed(document, LEVELS) {
         Ok(_) => None,
         Err(fault) => Some(fault),
     }
 }
 
 /// The spelling of a document without an id behind this one.
-fn encode_named(alloc: Global, document: &Document, id: &ObjectId) -> Result<Bytes, EncodeFault>
-    requires { value_of id_key document.now ≡ None }
-    ensures { Encodes (with_id id.now document.now) result }
+fn encode_named(
+    alloc: Global,
+    document: &Document,
+    id: &ObjectId,
+    levels: u32,
+) -> Result<Bytes, EncodeFault>
+    requires none { value_of id_key document.now ≡ None }
+    requires levels { levels ≤ 100 }
+    ensures { EncodesWithin levels (with_id id.now document.now) result }
 {
-    let length = surveyed(document)?;
+    let length = surveyed(document, levels)?;
     if length > LONGEST - ID_LENGTH {
         return Err(EncodeFault::TooLong);
     }

@@ -1,5 +1,5 @@
 //! Fields of a document by their keys, and the questions that calls ask of a document.
-ghost use Rattle.std.specs.Prelude.{◌≡◌, not, Some, OnErr, IfOk, OnOk};
+ghost use Rattle.std.specs.Prelude.{◌≡◌, bytes_eq, not, Some, OnErr, IfOk, OnOk};
 ghost use Rattle.std.specs.Option.{option_copied};
 ghost use Rattle.bson_lite.specs.Fields.{value_of, with_id, id_key, is_operator, begins_with_operator, int_of, int_of_double};
 
@@ -38,12 +38,21 @@ impl Document {
     {
         let pairs = self.pairs();
         for pair in pairs {
-            if pair.key.as_str() == key {
+            if is_same(pair.key.as_str(), key) {
                 return Some(&pair.value);
             }
         }
         None
     }
+}
+
+/// Whether two texts are the same. Of most that differ their lengths tell it.
+#[inline(always)]
+#[tactic(auto, using(crate::proofs::Lengths::unlike_lengths))]
+fn is_same(one: &str, other: &str) -> bool
+    ensures { result ≡ bytes_eq one.now other.now }
+{
+    one.len() == other.len() && one == other
 }
 
 /// The number of an `Int32` or an `Int64`, and of the doubles 1.0 and 0.0.

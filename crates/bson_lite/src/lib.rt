@@ -30,7 +30,7 @@ pub use by_index::{ByIndex, unite_four, unite_three};
 pub use copy::TryClone;
 pub use decoding::decode;
 pub use document::{Document, Pair};
-pub use encoding::{encode, encode_refusal, encode_with_id};
+pub use encoding::{encode, encode_refusal, encode_with_id, encode_with_id_within, encode_within};
 pub use fault::{DecodeFault, EncodeFault};
 pub use fields::{
     ID_KEY, get_int, get_or_prepend_id_field, replacement_document_check, update_document_check,

@@ -1,5 +1,5 @@
 //! Readers of the parts of a document. Each answers the part and the bytes after it.
-ghost use Rattle.std.specs.Prelude.{◌≡◌, ◌+◌, ◌≤◌, length, position, ◌==◌, IfOk};
+ghost use Rattle.std.specs.Prelude.{◌≡◌, ◌+◌, ◌≤◌, ℕ, List, ◌∷◌, ◌++◌, length, position, ◌==◌, IfNone, IfOk, IfSome};
 ghost use Rattle.std.specs.Int.{w32, w64};
 ghost use Rattle.bson_lite.specs.Parts.{some_at, byte_at, number_at, utf8_of, zero_ended, text_at, binary_at, regex_at, stamp_at, flag_at, leaf_at, more_at, type_at, place_at, frame_at};
 ghost use Rattle.bson_lite.specs.Reading.{Gives, or_at};
@@ -210,18 +210,42 @@ pub(crate) fn type_of(at: usize, bytes: &[u8]) -> Result<(u8, &[u8]), DecodeFaul
     }
 }
 
-/// The key of an array's value, which is its place in decimal.
-#[tactic(auto, unfolding(crate::specs::Parts::place_at))]
+/// The key of an array's value, which is its place in decimal. Digits are UTF-8 without a zero byte, so none is
+/// looked for.
+#[tactic(auto, using(crate::proofs::Places::behind_shorter))]
 pub(crate) fn place_of(at: usize, place: usize, bytes: &[u8]) -> Result<&[u8], DecodeFault>
     ensures gives { Gives (λ x. x.now) result (or_at at (place_at place bytes.now)) }
     ensures shorter { IfOk result (λ x. length x.now + 1 ≤ length bytes.now) }
 {
-    let (key, rest) = zero_ended_of(at, bytes)?;
     let mut buffer = Buffer::new();
-    if key != buffer.format(place) {
-        return Err(DecodeFault::At { offset: at });
+    match behind_key(buffer.format(place).as_bytes(), bytes) {
+        Some(rest) => Ok(rest),
+        None => Err(DecodeFault::At { offset: at }),
     }
-    Ok(rest)
+}
+
+/// What stands behind this key and the zero byte that ends it, where bytes begin with both.
+#[inline(always)]
+fn behind_key<'a>(key: &[u8], bytes: &'a [u8]) -> Option<&'a [u8]>
+    ensures some { IfSome result (λ rest. bytes.now ≡ key.now ++ 0 ∷ rest.now) }
+    ensures none { IfNone result ((rest : List ℕ) → bytes.now ≡ key.now ++ 0 ∷ rest → ⊥) }
+{
+    match bytes.strip_prefix(key) {
+        None => None,
+        Some(behind) => behind_zero(behind),
+    }
+}
+
+/// What stands behind a zero byte, where bytes begin with one.
+#[inline(always)]
+fn behind_zero(bytes: &[u8]) -> Option<&[u8]>
+    ensures some { IfSome result (λ rest. bytes.now ≡ 0 ∷ rest.now) }
+    ensures none { IfNone result ((rest : List ℕ) → bytes.now ≡ 0 ∷ rest → ⊥) }
+{
+    match bytes {
+        [] => None,
+        [byte, rest @ ..] => if *byte == 0 { Some(rest) } else { None },
+    }
 }
 
 /// A document in its frame: the bytes of its pairs, and its last byte.

@@ -1,8 +1,8 @@
 //! One walk over a document: where zero bytes stand, and how long its spelling is.
-ghost use Rattle.std.specs.Prelude.{◌≡◌, ◌+◌, ◌-◌, ◌^◌, ◌||◌, ◌∷◌, ◌++◌, [], min, true, nat_lt, length, map, decimal, None, Some, IfOk, IfErr};
+ghost use Rattle.std.specs.Prelude.{◌≡◌, ◌≤◌, ◌+◌, ◌-◌, ◌^◌, ◌||◌, ◌∷◌, ◌++◌, [], min, true, nat_lt, length, map, decimal, None, Some, IfOk, IfErr};
 ghost use Rattle.std.specs.Str.{is_utf8};
 ghost use Rattle.bson_lite.specs.Ranges.{fits};
-ghost use Rattle.bson_lite.specs.Spelling.{HasSpelling, refusal, refusal_within, spelled, spelling, zero_within, zero_in, zero_in_values, holds_zero, valid, valid_pairs, valid_values, body_of, numbered, counted};
+ghost use Rattle.bson_lite.specs.Spelling.{HasSpelling, refusal_within, spelled, spelling, zero_within, zero_in, zero_in_values, holds_zero, valid, valid_pairs, valid_values, body_of, numbered, counted};
 
 use crate::bson::{Bson, ObjectId, Timestamp};
 use crate::deeper::nests_deeper;
@@ -10,9 +10,6 @@ use crate::document::{Document, Pair};
 use crate::fault::EncodeFault;
 use crate::text::Text;
 use itoa::Buffer;
-
-/// The levels that a document may nest, the document itself counting 1.
-const LEVELS: u32 = 100;
 
 /// The greatest length that the format can state.
 const LIMIT: u64 = 2_147_483_647;
@@ -26,14 +23,15 @@ pub fn encoded_len(document: &Document) -> u64
     survey_pairs(document.pairs(), &mut met).saturating_add(5)
 }
 
-/// The length of a document's spelling, or why it has none.
-pub(crate) fn surveyed(document: &Document) -> Result<usize, EncodeFault>
+/// The length of a document's spelling, or why it has none where it may nest so many levels deep.
+pub(crate) fn surveyed(document: &Document, levels: u32) -> Result<usize, EncodeFault>
+    requires { levels ≤ 100 }
     ensures length { IfOk result (λ count. count ≡ length (spelling document.now)) }
     ensures has { IfOk result (λ _. HasSpelling document.now) }
-    ensures none { IfOk result (λ _. refusal document.now ≡ None) }
-    ensures why { IfErr result (λ fault. refusal document.now ≡ Some fault) }
+    ensures none { IfOk result (λ _. refusal_within levels document.now ≡ None) }
+    ensures why { IfErr result (λ fault. refusal_within levels document.now ≡ Some fault) }
 {
-    if nests_deeper(document, LEVELS) {
+    if nests_deeper(document, levels) {
         return Err(EncodeFault::TooDeep);
     }
     let mut met = false;

@@ -2,8 +2,9 @@
 //! The helpers promise nothing, so that a test's proof has little to read.
 use bson_lite::{
     Bson, Bytes, DecodeFault, Document, EncodeFault, ObjectId, RawDocumentBuf, Text, TryClone,
-    decode, encode, encode_refusal, encode_with_id, encoded_len, get_int, get_or_prepend_id_field,
-    refusal_within, replacement_document_check, update_document_check,
+    decode, encode, encode_refusal, encode_with_id, encode_with_id_within, encode_within,
+    encoded_len, get_int, get_or_prepend_id_field, refusal_within, replacement_document_check,
+    update_document_check,
 };
 use std::alloc::{AllocError, Global};
 use std::test::Fail;
@@ -67,6 +68,14 @@ fn nested(alloc: Global, levels: u32) -> Result<Document, AllocError> {
 
 fn refused_within(document: &Document, levels: u32) -> Option<EncodeFault> {
     refusal_within(document, levels)
+}
+
+fn spelled_within_three(alloc: Global, document: &Document) -> Result<Bytes, EncodeFault> {
+    encode_within(alloc, document, 3)
+}
+
+fn named_within_three(alloc: Global, document: &Document) -> Result<Bytes, EncodeFault> {
+    encode_with_id_within(alloc, document, &ObjectId { bytes: [0; 12] }, 3)
 }
 
 #[test]
@@ -150,6 +159,27 @@ fn refusals_by_levels(rt: HostRuntime) -> Result<(), Fail> {
     for (levels, refusal) in table {
         assert_eq!(rt; refused_within(&deep, levels), refusal, "{levels}");
     }
+    Ok(())
+}
+
+#[test]
+fn spellings_by_levels(rt: HostRuntime) -> Result<(), Fail> {
+    let alloc = rt.alloc();
+    let three = nested(alloc, 3)?;
+    assert!(rt; spelled_within_three(alloc, &three)? == spelled(alloc, &three)?);
+    assert_eq!(rt;
+        named_within_three(alloc, &three)?.len(),
+        17 + spelled(alloc, &three)?.len()
+    );
+    let four = nested(alloc, 4)?;
+    assert_eq!(rt;
+        spelled_within_three(alloc, &four).err(),
+        Some(EncodeFault::TooDeep)
+    );
+    assert_eq!(rt;
+        named_within_three(alloc, &four).err(),
+        Some(EncodeFault::TooDeep)
+    );
     Ok(())
 }
 

@@ -1,6 +1,7 @@
 -- The op of an insert in bytes: a document with the bytes of another in its place spells the op, where that nests one level less.
-use Rattle.std.proofs.Common.{◌≡◌, ℕ, ◌+◌, ◌≤◌, Bool, true, false, ◌||◌, ◌&&◌, List, [], ◌∷◌, ◌++◌, append-nil, length, refl, sym, ap, subst, ◌∙◌, arith}
-use Rattle.std.specs.Prelude.{Option, None, Some, IfSome, is_some, pos, if◌then◌else◌}
+use Rattle.std.proofs.Common.{◌≡◌, ℕ, ◌+◌, ◌≤◌, Bool, true, false, ◌||◌, ◌&&◌, List, [], ◌++◌, append-nil, length, refl, sym, ap, ◌∙◌, arith}
+use Rattle.std.specs.Prelude.{Option, None, Some, IfSome, nat_lt, pos}
+use Rattle.std.proofs.lemmas.Bool.{ltb-false}
 use Rattle.std.specs.Str.{chars, is_utf8}
 use lib.Utf8.{encode}
 use denote.Hole.Carrier.{roll}
@@ -8,11 +9,9 @@ use Rattle.bson_lite.specs.declared.bson.Bson as bson
 use Rattle.bson_lite.specs.declared.bson.Bson.{Bson}
 use Rattle.bson_lite.specs.declared.bson.Bson.TheOpen.{Bson-F}
 use Rattle.bson_lite.specs.declared.bson.Bson.TheVariants.{rolls-Document}
-use Rattle.bson_lite.specs.declared.bson.ObjectId.{ObjectId}
 use Rattle.bson_lite.specs.declared.document.Pair.{Pair}
-use Rattle.bson_lite.specs.Fields.{id_key, value_of, with_id}
-use Rattle.bson_lite.specs.Spelling.{Spells, body_of, depth, element, four, framed, nesting, spelled, spelling, valid, valid_pairs, zero_in, zero_within}
-use Rattle.bson_lite.proofs.Named.{id_pair, nesting_named}
+use Rattle.bson_lite.specs.Spelling.{Spells, body_of, depth, element, four, framed, nesting, refusal_within, spelled, spelling, valid, valid_pairs, zero_in, zero_within}
+use Rattle.bson_lite.proofs.Named.{tests_of_none}
 use Rattle.bson_lite.proofs.Nested.{Folded, folded}
 use Rattle.driver_link.specs.declared.keys.TheConstants.{DOCUMENT, INSERT}
 use Rattle.bulk_ops.specs.inside.BulkOps.{insert_op}
@@ -87,10 +86,7 @@ pub spelled_where_framed : (document : List (Pair Bson)) (own : List ℕ) (found
 spelled_where_framed document own None levels spells frames = tt
 spelled_where_framed document own (Some bytes) levels spells frames = op_spelled document own bytes levels spells frames
 
--- a document that gets an id nests as deep as before
-pub with_id_levels : (id : ObjectId) (document : List (Pair Bson)) → nesting document ≤ 99 → nesting (with_id id document) ≤ 99
-with_id_levels id document levels =
-    elim (is_some (value_of id_key document)) as (λ (has : Bool). nesting (if has then document else id_pair id ∷ document) ≤ 99) [
-      | true ↦ levels
-      | false ↦ subst (λ (deep : ℕ). deep ≤ 99) (sym (nesting_named id document)) levels
-    ]
+-- what is not refused within so many levels nests no deeper
+pub levels_taken : (document : List (Pair Bson)) → refusal_within 99 document ≡ None → nesting document ≤ 99
+levels_taken document taken =
+    ltb-false 99 (nesting document) (tests_of_none (nat_lt 99 (nesting document)) (zero_in document) (nat_lt 2147483647 (length (spelling document))) taken).0

@@ -1,11 +1,11 @@
 //! The op of an insert in bytes, from those of its document, of which no tree is made.
-ghost use Rattle.std.specs.Prelude.{◌≡◌, ◌+◌, ◌≤◌, ◌++◌, [], length, true, IfOk, IfSome, OnOk};
+ghost use Rattle.std.specs.Prelude.{◌≡◌, ◌+◌, ◌≤◌, ◌++◌, [], length, IfOk, IfSome, OnOk};
 ghost use Rattle.bson_lite.specs.Fields.{with_id};
-ghost use Rattle.bson_lite.specs.Spelling.{Spells, four, nesting};
+ghost use Rattle.bson_lite.specs.Spelling.{Spells, four};
 ghost use Rattle.bulk_ops.specs.inside.BulkOps.{insert_op};
 ghost use Rattle.bulk_ops.specs.inside.InsertSpelling.{FramesInsert, insert_elements};
 
-use bson_lite::{Bytes, Document, ObjectId, encode, encode_with_id, refusal_within};
+use bson_lite::{Bytes, Document, ObjectId, encode_with_id_within, encode_within};
 use std::alloc::{AllocError, Global};
 
 /// The levels that a document in an op may nest, itself counting 1: one less than a document's, since the op is one.
@@ -22,10 +22,7 @@ const LONGEST: usize = 2_147_483_647;
 pub(crate) fn insert_bytes(alloc: Global, document: &Document) -> Result<Option<Bytes>, AllocError>
     ensures { IfOk result (λ found. IfSome found (Spells (insert_op document.now))) }
 {
-    if !may_stand_in_op(document) {
-        return Ok(None);
-    }
-    match encode(alloc, document) {
+    match encode_within(alloc, document, LEVELS) {
         Ok(own) => op_around(alloc, &own),
         Err(_) => Ok(None),
     }
@@ -39,22 +36,9 @@ pub(crate) fn insert_bytes_with_id(
 ) -> Result<Option<Bytes>, AllocError>
     ensures { IfOk result (λ found. IfSome found (Spells (insert_op (with_id id.now document.now)))) }
 {
-    if !may_stand_in_op(document) {
-        return Ok(None);
-    }
-    match encode_with_id(alloc, document, id) {
+    match encode_with_id_within(alloc, document, id, LEVELS) {
         Ok(own) => op_around(alloc, &own),
         Err(_) => Ok(None),
-    }
-}
-
-/// Whether a document has a spelling and is not too deep for an op.
-fn may_stand_in_op(document: &Document) -> bool
-    ensures { result ≡ true → nesting document.now ≤ 99 }
-{
-    match refusal_within(document, LEVELS) {
-        None => true,
-        Some(_) => false,
     }
 }
 
