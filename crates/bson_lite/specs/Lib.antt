@@ -1,6 +1,7 @@
 pub mod Fields
 pub mod FirstBroken
 pub mod Indexed
+pub mod Keys
 pub mod Namespace
 pub mod PairCode
 pub mod Parts

@@ -5,6 +5,7 @@ use crate::boxed::Boxed;
 use crate::bson::{Binary, Bson, ObjectId, Regex, Timestamp};
 use crate::by_index::ByIndex;
 use crate::document::{Document, Pair};
+use crate::key::Key;
 use crate::list::List;
 use crate::namespace::Namespace;
 use crate::text::{Bytes, Text};
@@ -19,6 +20,12 @@ pub trait TryClone: Sized {
 impl TryClone for Text {
     fn try_clone(&self, alloc: Global) -> Result<Text, AllocError> {
         Text::from_str(alloc, self.as_str())
+    }
+}
+
+impl TryClone for Key {
+    fn try_clone(&self, alloc: Global) -> Result<Key, AllocError> {
+        Key::from_str(alloc, self.as_str())
     }
 }
 

@@ -9,9 +9,9 @@ use crate::bson::Bson;
 use crate::counting::elements_in;
 use crate::document::{Document, Pair};
 use crate::fault::DecodeFault;
+use crate::key::Key;
 use crate::list::List;
 use crate::parts::{frame_of, leaf_of, place_of, type_of, zero_ended_of};
-use crate::text::Text;
 use std::alloc::Global;
 
 /// The levels that may stand below a document.
@@ -124,7 +124,7 @@ fn pair_of(
 {
     let (kind, rest) = type_of(end - bytes.len(), bytes)?;
     let (key, rest) = zero_ended_of(end - rest.len(), rest)?;
-    let key = Text::from_str(alloc, key)?;
+    let key = Key::from_str(alloc, key)?;
     let (value, rest) = value_of(alloc, level, kind, end, rest)?;
     Ok((Pair { key, value }, rest))
 }

@@ -2,14 +2,14 @@
 ghost use Rattle.std.specs.Prelude.{◌≡◌, ◌++◌, [], ◌∷◌, length, IfOk, OnOk, OnErr, IsTrue, ◌↔◌};
 
 use crate::bson::Bson;
-use crate::text::Text;
+use crate::key::Key;
 use std::alloc::{AllocError, Global};
 use std::marker::Model;
 
 /// One element of a document.
 #[derive(Debug, PartialEq, Drop)]
 pub struct Pair<V> {
-    pub key: Text,
+    pub key: Key,
     pub value: V,
 }
 
@@ -77,7 +77,7 @@ impl<V: Drop> Document<V> {
         ensures ok { OnOk result (self.new ≡ self.old ++ record { key = key.now; value = value } ∷ []) }
         ensures err { OnErr result (self.new ≡ self.old) }
     {
-        let key = Text::from_str(*self.pairs.allocator(), key)?;
+        let key = Key::from_str(*self.pairs.allocator(), key)?;
         self.push_pair(Pair { key, value })
     }
 

@@ -6,7 +6,7 @@ ghost use Rattle.bson_lite.specs.Fields.{value_of, with_id, id_key, is_operator,
 use crate::bson::{Bson, ObjectId};
 use crate::copy::TryClone;
 use crate::document::{Document, Pair};
-use crate::text::Text;
+use crate::key::Key;
 use std::alloc::{AllocError, Global};
 
 /// The key of a document's id.
@@ -25,7 +25,7 @@ pub fn get_or_prepend_id_field(
     if let Some(value) = d.get(ID_KEY) {
         return value.try_clone(alloc);
     }
-    let key = Text::from_str(alloc, ID_KEY)?;
+    let key = Key::from_str(alloc, ID_KEY)?;
     let value = Bson::ObjectId(id);
     d.prepend_pair(Pair { key, value })?;
     Ok(Bson::ObjectId(id))

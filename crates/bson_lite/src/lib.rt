@@ -15,6 +15,7 @@ pub mod document;
 pub mod encoding;
 pub mod fault;
 pub mod fields;
+pub mod key;
 pub mod laws;
 pub mod list;
 pub mod namespace;
@@ -35,6 +36,7 @@ pub use fault::{DecodeFault, EncodeFault};
 pub use fields::{
     ID_KEY, get_int, get_or_prepend_id_field, replacement_document_check, update_document_check,
 };
+pub use key::Key;
 pub use laws::{
     breaks_at_first_broken, order_of_timestamps, read_is_spelled, round_trip, union_by_index,
 };

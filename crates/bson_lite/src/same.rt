@@ -3,6 +3,7 @@ ghost use Rattle.std.specs.Prelude.{◌≡◌, ◌↔◌, IsTrue};
 
 use crate::bson::{Binary, Bson, ObjectId, Regex, Timestamp};
 use crate::document::{Document, Pair};
+use crate::key::Key;
 use crate::list::List;
 use crate::namespace::Namespace;
 use crate::text::{Bytes, Text};
@@ -17,6 +18,20 @@ impl PartialEq for Text {
     ghost laws = { partial_equiv_from_equiv nat_list_eq_equiv };
 
     fn eq(&self, other: &Text) -> bool {
+        self.as_str() == other.as_str()
+    }
+}
+
+impl PartialEq for Key {
+    ghost use Rattle.std.specs.Prelude.{bytes_eq};
+    ghost use Rattle.std.specs.Cmp.{partial_equiv_from_equiv};
+    ghost use Rattle.std.specs.Cmp.Lexicographic.{nat_list_eq_equiv};
+
+    ghost eq = { bytes_eq };
+
+    ghost laws = { partial_equiv_from_equiv nat_list_eq_equiv };
+
+    fn eq(&self, other: &Key) -> bool {
         self.as_str() == other.as_str()
     }
 }
@@ -115,7 +130,7 @@ fn same_pairs(a: &[Pair<Bson>], b: &[Pair<Bson>]) -> bool
         return false;
     }
     for i in 0..a.len() {
-        if !same_text(&a[i].key, &b[i].key) || !same_value(&a[i].value, &b[i].value) {
+        if !same_key(&a[i].key, &b[i].key) || !same_value(&a[i].value, &b[i].value) {
             return false;
         }
     }
@@ -138,6 +153,12 @@ fn same_values(a: &[Bson], b: &[Bson]) -> bool
 }
 
 fn same_text(a: &Text, b: &Text) -> bool
+    ensures { IsTrue result ↔ (a.now ≡ b.now) }
+{
+    a.as_str() == b.as_str()
+}
+
+fn same_key(a: &Key, b: &Key) -> bool
     ensures { IsTrue result ↔ (a.now ≡ b.now) }
 {
     a.as_str() == b.as_str()

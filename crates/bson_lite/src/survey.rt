@@ -8,6 +8,7 @@ use crate::bson::{Bson, ObjectId, Timestamp};
 use crate::deeper::nests_deeper;
 use crate::document::{Document, Pair};
 use crate::fault::EncodeFault;
+use crate::key::Key;
 use crate::text::Text;
 use itoa::Buffer;
 
@@ -73,7 +74,7 @@ fn survey_pairs(pairs: &[Pair<Bson>], met: &mut bool) -> u64
 {
     let mut length = 0u64;
     for pair in pairs {
-        note_key(&pair.key, met);
+        note_key(pair.key.as_str(), met);
         let value = survey_value(&pair.value, met);
         length = with_element(length, head_len(&pair.key), value);
     }
@@ -106,8 +107,8 @@ fn survey_value(value: &Bson, met: &mut bool) -> u64
         Bson::Document(document) => survey_pairs(document.pairs(), met).saturating_add(5),
         Bson::Array(values) => survey_values(values.as_slice(), met).saturating_add(5),
         Bson::RegularExpression(regex) => {
-            note_key(&regex.pattern, met);
-            note_key(&regex.options, met);
+            note_key(regex.pattern.as_str(), met);
+            note_key(regex.options.as_str(), met);
             two_len(&regex.pattern, &regex.options)
         }
         Bson::Double(double) => double_len(double),
@@ -124,7 +125,7 @@ fn survey_value(value: &Bson, met: &mut bool) -> u64
 }
 
 /// Notes whether a text that must not hold a zero byte holds one.
-fn note_key(text: &Text, met: &mut bool)
+fn note_key(text: &str, met: &mut bool)
     ensures { met.new ≡ (met.old || holds_zero text.now) }
 {
     if has_zero(text) {
@@ -139,21 +140,21 @@ fn with_element(length: u64, head: u64, value: u64) -> u64
     length.saturating_add(head).saturating_add(value)
 }
 
-fn has_zero(text: &Text) -> bool
+fn has_zero(text: &str) -> bool
     ensures { result ≡ holds_zero text.now }
 {
-    text.as_str().as_bytes().iter().any(|byte| *byte == 0)
+    text.as_bytes().iter().any(|byte| *byte == 0)
 }
 
-fn key_len(key: &Text) -> usize
-    ensures length { result ≡ length key.now }
-    ensures utf8 { is_utf8 key.now ≡ true }
+fn byte_len(text: &Text) -> usize
+    ensures length { result ≡ length text.now }
+    ensures utf8 { is_utf8 text.now ≡ true }
 {
-    key.as_str().len()
+    text.as_str().len()
 }
 
 /// The length of a type byte and a key with a zero byte at its end.
-fn head_len(key: &Text) -> u64
+fn head_len(key: &Key) -> u64
     ensures length { result ≡ length key.now + 2 }
     ensures utf8 { is_utf8 key.now ≡ true }
 {
@@ -172,7 +173,7 @@ fn text_len(text: &Text) -> u64
     ensures length { result ≡ min (length (counted text.now)) (2 ^ 64 - 1) }
     ensures utf8 { is_utf8 text.now ≡ true }
 {
-    (key_len(text) as u64).saturating_add(5)
+    (byte_len(text) as u64).saturating_add(5)
 }
 
 /// The length of two texts with a zero byte at the end of each.
@@ -181,8 +182,8 @@ fn two_len(first: &Text, second: &Text) -> u64
     ensures first_utf8 { is_utf8 first.now ≡ true }
     ensures second_utf8 { is_utf8 second.now ≡ true }
 {
-    (key_len(first) as u64)
-        .saturating_add(key_len(second) as u64)
+    (byte_len(first) as u64)
+        .saturating_add(byte_len(second) as u64)
         .saturating_add(2)
 }
 

@@ -1,7 +1,7 @@
 //! Each container once with memory enough, and the text of a namespace.
-use crate::documents::{b_text, copied, spelled};
+use crate::documents::{copied, one, read, spelled};
 use bson_lite::{
-    Boxed, Bson, ByIndex, Bytes, Document, List, Namespace, ObjectId, Pair, Text, Timestamp,
+    Boxed, Bson, ByIndex, Bytes, Document, Key, List, Namespace, ObjectId, Pair, Text, Timestamp,
 };
 use std::alloc::{AllocError, Global};
 use std::fmt::Write;
@@ -10,11 +10,11 @@ use std::test::Fail;
 fn two_pairs(alloc: Global) -> Result<Document, AllocError> {
     let mut document = Document::with_capacity(alloc, 2)?;
     document.push_pair(Pair {
-        key: b_text(alloc)?,
+        key: Key::from_str(alloc, "b")?,
         value: Bson::Int32(2),
     })?;
     document.prepend_pair(Pair {
-        key: Text::from_str(alloc, "a")?,
+        key: Key::from_str(alloc, "a")?,
         value: Bson::Int32(1),
     })?;
     Ok(document)
@@ -28,6 +28,31 @@ fn pairs_at_both_ends(rt: HostRuntime) -> Result<(), Fail> {
         spelled(alloc, &document)?.as_slice(),
         b"\x13\0\0\0\x10a\0\x01\0\0\0\x10b\0\x02\0\0\0\0".as_slice()
     );
+    Ok(())
+}
+
+/// A document of one pair under this key, whose value is 1, as a copy of what its spelling reads as.
+fn under(alloc: Global, key: &str) -> Result<Document, Fail> {
+    let bytes = spelled(alloc, &one(alloc, key, Bson::Int32(1))?)?;
+    Ok(copied(alloc, &read(alloc, bytes.as_slice())?)?)
+}
+
+#[test]
+fn a_key_is_kept_whatever_its_length(rt: HostRuntime) -> Result<(), Fail> {
+    let alloc = rt.alloc();
+    for key in [
+        "",
+        "x",
+        "fifteen.letters",
+        "sixteen..letters",
+        "seventeen.letters",
+        "a key of more letters than stand in a value itself",
+    ] {
+        let document = under(alloc, key)?;
+        assert_eq!(rt; document.pairs()[0].key.as_str(), key);
+        assert!(rt; document == one(alloc, key, Bson::Int32(1))?, "{key}");
+        assert!(rt; document != one(alloc, "other", Bson::Int32(1))?, "{key}");
+    }
     Ok(())
 }
 
@@ -77,7 +102,7 @@ fn boxed(alloc: Global) -> Result<Boxed<Timestamp>, AllocError> {
 /// The pair of `b` and 2, as a copy.
 fn pair(alloc: Global) -> Result<Pair<Bson>, AllocError> {
     let pair = Pair {
-        key: b_text(alloc)?,
+        key: Key::from_str(alloc, "b")?,
         value: Bson::Int32(2),
     };
     copied(alloc, &pair)

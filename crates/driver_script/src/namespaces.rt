@@ -5,7 +5,7 @@ ghost use Rattle.driver_script.specs.Values.{text_of, namespace_of, two_texts};
 ghost use Rattle.serde_json.specs.View.{view};
 
 use crate::json::{FromJson, Unread};
-use bson_lite::{Namespace, Text};
+use bson_lite::{Key, Namespace, Text};
 use serde_json::Value;
 use std::alloc::Global;
 
@@ -16,6 +16,18 @@ impl FromJson for Text {
     fn read(alloc: Global, value: &Value) -> Result<Text, Unread> {
         match value {
             Value::String(text) => Ok(Text::from_str(alloc, text.as_str())?),
+            _ => Err(Unread::Wrong),
+        }
+    }
+}
+
+impl FromJson for Key {
+    ghost spec = { text_of };
+
+    #[tactic(auto, unfolding(crate::specs::Values::text_of))]
+    fn read(alloc: Global, value: &Value) -> Result<Key, Unread> {
+        match value {
+            Value::String(text) => Ok(Key::from_str(alloc, text.as_str())?),
             _ => Err(Unread::Wrong),
         }
     }

@@ -6,7 +6,7 @@ ghost use Rattle.serde_json.specs.View.{view, items_view};
 use crate::json::{FromJson, Unread, room_for};
 use crate::keys::{ARRAY, DOC};
 use crate::leaves::{integer, read_leaf};
-use bson_lite::{Bson, Document, List, Pair, Text};
+use bson_lite::{Bson, Document, Key, List, Pair, Text};
 use serde_json::Value;
 use std::alloc::Global;
 
@@ -116,7 +116,7 @@ fn read_pair(alloc: Global, value: &Value) -> Result<Pair<Bson>, Unread>
     match more.split_first() {
         Some(_) => Err(Unread::Wrong),
         None => Ok(Pair {
-            key: Text::read(alloc, key)?,
+            key: Key::read(alloc, key)?,
             value: read_value(alloc, inner)?,
         }),
     }

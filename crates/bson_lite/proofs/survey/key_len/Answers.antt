@@ -1,5 +1,0 @@
-use Rattle.std.proofs.lemmas.Str.{is_utf8-from_IsUtf8}
-use Rattle.bson_lite.proofs.survey.key_len.Goals as goal
-
-pub returns-clause-utf8 : goal.returns-clause-utf8
-returns-clause-utf8 c = is_utf8-from_IsUtf8 c.args.key.now c.as_str.ensures.utf8
