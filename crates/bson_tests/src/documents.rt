@@ -112,24 +112,45 @@ fn documents_behind_an_id(rt: HostRuntime) -> Result<(), Fail> {
 #[test]
 fn broken_bytes(rt: HostRuntime) {
     let alloc = rt.alloc();
-    let table: [(&[u8], usize); 8] = [
-        (&[12, 0, 0, 0, 16, b'x', 0, 1, 0, 0, 0], 0),
-        (&[5, 0, 0, 0, 1], 4),
-        (&[12, 0, 0, 0, 15, b'x', 0, 1, 0, 0, 0, 0], 4),
-        (&[12, 0, 0, 0, 16, 0xff, 0, 1, 0, 0, 0, 0], 5),
-        (&[9, 0, 0, 0, 8, b'b', 0, 2, 0], 7),
-        (&[13, 0, 0, 0, 3, b'x', 0, 5, 0, 0, 0, 7, 0], 11),
+    let table: [(&str, &[u8], usize); 8] = [
         (
+            "a byte is missing",
+            &[12, 0, 0, 0, 16, b'x', 0, 1, 0, 0, 0],
+            0,
+        ),
+        ("no zero byte at the end", &[5, 0, 0, 0, 1], 4),
+        (
+            "a type that is none",
+            &[12, 0, 0, 0, 15, b'x', 0, 1, 0, 0, 0, 0],
+            4,
+        ),
+        (
+            "a key that is no text",
+            &[12, 0, 0, 0, 16, 0xff, 0, 1, 0, 0, 0, 0],
+            5,
+        ),
+        ("a flag of 2", &[9, 0, 0, 0, 8, b'b', 0, 2, 0], 7),
+        (
+            "no zero byte at the end of a document inside",
+            &[13, 0, 0, 0, 3, b'x', 0, 5, 0, 0, 0, 7, 0],
+            11,
+        ),
+        (
+            "a place that is not 0",
             &[16, 0, 0, 0, 4, b'x', 0, 8, 0, 0, 0, 10, b'1', 0, 0, 0],
             12,
         ),
-        (&[12, 0, 0, 0, 2, b'x', 0, 0, 0, 0, 0, 0], 7),
+        (
+            "a text of length 0",
+            &[12, 0, 0, 0, 2, b'x', 0, 0, 0, 0, 0, 0],
+            7,
+        ),
     ];
-    for (bytes, offset) in table {
+    for (name, bytes, offset) in table {
         assert_eq!(rt;
             read(alloc, bytes).err(),
             Some(DecodeFault::At { offset }),
-            "at {offset}"
+            "{name}"
         );
     }
 }

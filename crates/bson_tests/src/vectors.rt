@@ -198,33 +198,55 @@ fn standard_values_of_parts(rt: HostRuntime) -> Result<(), Fail> {
     Ok(())
 }
 
+/// Whether bytes are read, and what they read as is spelled so.
+fn is_read_and_spelled(alloc: Global, bytes: &[u8]) -> bool {
+    let Ok(document) = read(alloc, bytes) else {
+        return false;
+    };
+    match spelled(alloc, &document) {
+        Ok(again) => again.as_slice() == bytes,
+        Err(_) => false,
+    }
+}
+
 #[test]
 fn standard_vectors_read_and_spelled(rt: HostRuntime) -> Result<(), Fail> {
     let alloc = rt.alloc();
-    let table: [&[u8]; 19] = [
-        b"\x05\0\0\0\0",
-        b"\x10\0\0\0\x01d\0\0\0\0\0\0\0\xf0\x3f\0",
-        b"\x0e\0\0\0\x02a\0\x02\0\0\0b\0\0",
-        b"\x14\0\0\0\x04a\0\x0c\0\0\0\x100\0\x0a\0\0\0\0\0",
-        b"\x0f\0\0\0\x05x\0\x02\0\0\0\0\xff\xff\0",
-        b"\x08\0\0\0\x06a\0\0",
-        b"\x14\0\0\0\x07a\0\x56\xe1\xfc\x72\xe0\xc9\x17\xe9\xc4\x71\x41\x61\0",
-        b"\x09\0\0\0\x08b\0\x01\0",
-        b"\x10\0\0\0\x09a\0\xc5\xd8\xd6\xcc\x3b\x01\0\0\0",
-        b"\x08\0\0\0\x0aa\0\0",
-        b"\x0f\0\0\0\x0ba\0abc\0im\0\0",
-        b"\x0e\0\0\0\x0da\0\x02\0\0\0b\0\0",
-        b"\x0e\0\0\0\x0ea\0\x02\0\0\0b\0\0",
-        b"\x0c\0\0\0\x10i\0\xff\xff\xff\xff\0",
-        b"\x10\0\0\0\x11a\0\x2a\0\0\0\x15\xcd\x5b\x07\0",
-        b"\x10\0\0\0\x12a\0\xff\xff\xff\xff\xff\xff\xff\xff\0",
-        b"\x18\0\0\0\x13d\0\x01\0\0\0\0\0\0\0\0\0\0\0\0\0\x40\x30\0",
-        b"\x08\0\0\0\x7fa\0\0",
-        b"\x08\0\0\0\xffa\0\0",
+    let table: [(&str, &[u8]); 19] = [
+        ("empty", b"\x05\0\0\0\0"),
+        ("double", b"\x10\0\0\0\x01d\0\0\0\0\0\0\0\xf0\x3f\0"),
+        ("text", b"\x0e\0\0\0\x02a\0\x02\0\0\0b\0\0"),
+        ("array", b"\x14\0\0\0\x04a\0\x0c\0\0\0\x100\0\x0a\0\0\0\0\0"),
+        ("binary", b"\x0f\0\0\0\x05x\0\x02\0\0\0\0\xff\xff\0"),
+        ("undefined", b"\x08\0\0\0\x06a\0\0"),
+        (
+            "object id",
+            b"\x14\0\0\0\x07a\0\x56\xe1\xfc\x72\xe0\xc9\x17\xe9\xc4\x71\x41\x61\0",
+        ),
+        ("boolean", b"\x09\0\0\0\x08b\0\x01\0"),
+        ("date", b"\x10\0\0\0\x09a\0\xc5\xd8\xd6\xcc\x3b\x01\0\0\0"),
+        ("null", b"\x08\0\0\0\x0aa\0\0"),
+        ("regular expression", b"\x0f\0\0\0\x0ba\0abc\0im\0\0"),
+        ("code", b"\x0e\0\0\0\x0da\0\x02\0\0\0b\0\0"),
+        ("symbol", b"\x0e\0\0\0\x0ea\0\x02\0\0\0b\0\0"),
+        ("int32", b"\x0c\0\0\0\x10i\0\xff\xff\xff\xff\0"),
+        (
+            "timestamp",
+            b"\x10\0\0\0\x11a\0\x2a\0\0\0\x15\xcd\x5b\x07\0",
+        ),
+        (
+            "int64",
+            b"\x10\0\0\0\x12a\0\xff\xff\xff\xff\xff\xff\xff\xff\0",
+        ),
+        (
+            "decimal128",
+            b"\x18\0\0\0\x13d\0\x01\0\0\0\0\0\0\0\0\0\0\0\0\0\x40\x30\0",
+        ),
+        ("max key", b"\x08\0\0\0\x7fa\0\0"),
+        ("min key", b"\x08\0\0\0\xffa\0\0"),
     ];
-    for bytes in table {
-        let document = read(alloc, bytes)?;
-        assert_eq!(rt; spelled(alloc, &document)?.as_slice(), bytes);
+    for (name, bytes) in table {
+        assert!(rt; is_read_and_spelled(alloc, bytes), "{name}");
     }
     Ok(())
 }

@@ -14,7 +14,10 @@ use std::test::Fail;
 #[test]
 fn kinds_are_copied(rt: HostRuntime) -> Result<(), Fail> {
     for (at, text) in texts().iter().enumerate() {
-        assert!(rt; copies_alike(rt.alloc(), kind(rt.alloc(), at)?)?, "{text}");
+        assert!(rt;
+            copies_alike(rt.alloc(), kind(rt.alloc(), at)?)?,
+            "row {at}, {text}"
+        );
     }
     assert!(rt; copies_alike(rt.alloc(), IoKind::Other)?);
     Ok(())

@@ -630,9 +630,15 @@ fn stays(alloc: Global, cause: Cause, side: Side) -> bool {
 
 #[test]
 fn an_error_of_another_kind_takes_no_failures(rt: HostRuntime) {
-    for cause in [Cause::Io, Cause::Command] {
-        assert!(rt; stays(rt.alloc(), cause, Side::Behind), "later ones");
-        assert!(rt; stays(rt.alloc(), cause, Side::Before), "earlier ones");
+    for (name, cause) in [("io", Cause::Io), ("command", Cause::Command)] {
+        assert!(rt;
+            stays(rt.alloc(), cause, Side::Behind),
+            "{name}, later ones"
+        );
+        assert!(rt;
+            stays(rt.alloc(), cause, Side::Before),
+            "{name}, earlier ones"
+        );
     }
 }
 
@@ -695,7 +701,11 @@ fn is_handed_back(alloc: Global, cause: Cause) -> bool {
 
 #[test]
 fn an_error_of_another_kind_is_handed_back(rt: HostRuntime) {
-    for cause in [Cause::Io, Cause::Command, Cause::Memory] {
-        assert!(rt; is_handed_back(rt.alloc(), cause));
+    for (name, cause) in [
+        ("io", Cause::Io),
+        ("command", Cause::Command),
+        ("memory", Cause::Memory),
+    ] {
+        assert!(rt; is_handed_back(rt.alloc(), cause), "{name}");
     }
 }

@@ -73,7 +73,7 @@ pub(crate) fn kind(alloc: Global, at: usize) -> Result<ErrorKind, AllocError> {
 fn kinds_print_their_texts(rt: HostRuntime) -> Result<(), Fail> {
     for (at, text) in texts().iter().enumerate() {
         let printed = text_of(rt.alloc(), at)?;
-        assert_eq!(rt; printed.as_str(), *text);
+        assert_eq!(rt; printed.as_str(), *text, "row {at}");
     }
     Ok(())
 }

@@ -357,7 +357,7 @@ fn first_that_fails(alloc: Global) -> Result<Option<&'static str>, AllocError> {
 #[test]
 fn bulk_writes_end_as_their_schedules_say(rt: HostRuntime) -> Result<(), Fail> {
     let failed = first_that_fails(rt.alloc())?;
-    assert!(rt; failed == None);
+    assert_eq!(rt; failed, None);
     Ok(())
 }
 

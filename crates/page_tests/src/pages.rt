@@ -1,7 +1,7 @@
 //! Bulk writes whose answers come in pages, by the executor over a fake link: what goes out behind the command, which
 //! rules a page may break, and what the error tells then.
 use crate::replies::{Answer, First, Lack, Told, page_with, reply_bytes};
-use bson_lite::{Bytes, List};
+use bson_lite::{Bson, Bytes, List};
 use driver_error::{
     BulkWriteError, BulkWriteResult, Error, ErrorKind, IoKind, PartialBulkWriteResult, Result,
     SummaryBulkWriteResult, VerboseBulkWriteResult,
@@ -697,6 +697,48 @@ fn an_answer_in_pages_is_read_to_its_end(rt: HostRuntime) -> std::result::Result
         let same = ends(rt.alloc(), *row)?;
         assert!(rt; same, "row {at}");
     }
+    Ok(())
+}
+
+/// Whether an update's result has the id of the document that it put in, and counts it as matched, as `n` does.
+fn is_put_in(found: &VerboseBulkWriteResult) -> bool {
+    let Some(result) = found.update_results.get(0) else {
+        return false;
+    };
+    result.matched_count == 1
+        && result.modified_count == 0
+        && matches!(result.upserted_id, Some(Bson::Int32(9)))
+        && counts(&found.summary) == [0, 0, 0, 1, 0]
+}
+
+/// Whether a bulk write of one update ends with such a result, where the reply tells of it.
+fn tells_what_is_put_in(alloc: Global) -> std::result::Result<bool, AllocError> {
+    let reply = First(0, [0, 0, 0, 1, 0], 0, &[Told::PutIn(0, 1, 9)], None, None);
+    let link = link_of(alloc, &[Answer::First(reply)])?;
+    let models = models_of(alloc, &[Kind::UpdateOne])?;
+    let (end, link) = executed_as::<VerboseBulkWriteResult, FakeLink>(
+        alloc,
+        link,
+        models.as_slice(),
+        false,
+    );
+    drop(link);
+    drop(models);
+    match end {
+        Ok(found) => Ok(is_put_in(&found)),
+        Err(error) => {
+            let_go(error);
+            Ok(false)
+        }
+    }
+}
+
+#[test]
+fn an_update_that_puts_in_tells_its_id_and_its_count(
+    rt: HostRuntime,
+) -> std::result::Result<(), Fail> {
+    let told = tells_what_is_put_in(rt.alloc())?;
+    assert!(rt; told);
     Ok(())
 }
 
