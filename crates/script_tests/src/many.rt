@@ -272,22 +272,37 @@ fn outcome_of(alloc: Global, errors: List<IndexedWriteError>) -> Result<Outcome,
     })
 }
 
-/// The report of a run of one insert of many that ended with these errors.
-fn report_of(alloc: Global, pairs: &[(usize, i32)]) -> Result<Bytes, AllocError> {
-    let script = match read_script(alloc, SCRIPT_OF_NONE.as_bytes()) {
-        Ok(script) => script,
-        Err(_) => return Err(AllocError),
-    };
+/// The outcomes of one insert of many that ended with these errors.
+fn outcomes_of(alloc: Global, pairs: &[(usize, i32)]) -> Result<List<Outcome>, AllocError> {
     let errors = errors_of(alloc, pairs)?;
-    let mut outcomes = List::new(alloc);
+    let mut outcomes = List::with_capacity(alloc, 1)?;
     outcomes.push(outcome_of(alloc, errors)?)?;
-    let run = Run {
-        script: Some(script),
-        outcomes: Some(outcomes),
-        client: None,
-        server: None,
-    };
-    report_text(alloc, &run)
+    Ok(outcomes)
+}
+
+/// A run of one insert of many that ended with these errors.
+fn run_of(alloc: Global, pairs: &[(usize, i32)]) -> Result<Run, AllocError> {
+    let outcomes = outcomes_of(alloc, pairs)?;
+    match read_script(alloc, SCRIPT_OF_NONE.as_bytes()) {
+        Ok(script) => Ok(Run {
+            script: Some(script),
+            outcomes: Some(outcomes),
+            client: None,
+            server: None,
+        }),
+        Err(_) => {
+            drop(outcomes);
+            Err(AllocError)
+        }
+    }
+}
+
+/// The report of such a run.
+fn report_of(alloc: Global, pairs: &[(usize, i32)]) -> Result<Bytes, AllocError> {
+    let run = run_of(alloc, pairs)?;
+    let text = report_text(alloc, &run);
+    drop(run);
+    text
 }
 
 /// The script of one insert of so many documents.

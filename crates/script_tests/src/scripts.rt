@@ -116,15 +116,25 @@ fn program<T: Wait + Threads>(
     let words = words_of(alloc, texts)?;
     let mut source = MemSource::new(input, List::new(alloc));
     let mut sink = MemSink::new(alloc, 1000, List::new(alloc))?;
+    let mut run = Run::new();
     let status = top(
         rt,
         alloc,
         words.as_slice(),
         &mut source,
         &mut sink,
-        &mut Run::new(),
+        &mut run,
     );
-    Ok((status, Bytes::from_slice(alloc, sink.contents())?))
+    drop(run);
+    drop(source);
+    drop(words);
+    written(alloc, status, sink)
+}
+
+/// The status with what was written.
+fn written(alloc: Global, status: u8, sink: MemSink) -> Result<(u8, Bytes), AllocError> {
+    let bytes = Bytes::from_slice(alloc, sink.contents())?;
+    Ok((status, bytes))
 }
 
 /// An input of so many spaces.
