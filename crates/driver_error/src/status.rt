@@ -108,8 +108,16 @@ fn made_of(alloc: Global, done: BulkWriteError, error: Error) -> Result<Error>
     ensures ok { IfOk result (IsMadeOf done error) }
     ensures err { IfErr result (IsAlone Memory no_labels) }
 {
-    let failed = Error::from_kind(ErrorKind::BulkWrite(Boxed::new(alloc, done)?));
-    Ok(failed.with_source(alloc, Some(error))?)
+    match Boxed::new(alloc, done) {
+        Ok(done) => {
+            let failed = Error::from_kind(ErrorKind::BulkWrite(done));
+            Ok(failed.with_source(alloc, Some(error))?)
+        }
+        Err(refused) => {
+            drop(error);
+            Err(Error::from(refused))
+        }
+    }
 }
 
 /// An error behind one of the bulk write: failures are merged into it, any other error is its source.
@@ -121,7 +129,10 @@ fn behind_error(alloc: Global, standing: Error, error: Error) -> Result<Error>
     match error.into_bulk_write() {
         Ok((failures, source)) => match standing.with_later(alloc, failures) {
             Ok(merged) => Ok(merged.with_source(alloc, source)?),
-            Err(refused) => Err(refused),
+            Err(refused) => {
+                drop(source);
+                Err(refused)
+            }
         },
         Err(error) => Ok(standing.with_source(alloc, Some(error))?),
     }

@@ -22,7 +22,7 @@ use Rattle.bson_lite.specs.declared.document.Document.TheView.{view, invariant}
 use Rattle.bson_lite.specs.contracts.document.Pair as Element
 use Rattle.bson_lite.specs.contracts.document.Document as Whole
 use Rattle.bson_lite.specs.contracts.document.Document.TheInside as Fields
-use Rattle.bson_lite.specs.contracts.text.Text as text
+use Rattle.bson_lite.specs.contracts.key.Key as keys
 use Rattle.bson_lite.specs.PairCode.{pair_code}
 
 -- a pair holds its value beside its key
@@ -59,7 +59,7 @@ module _ (R S : RattleType) (h : R.Denot → S.Denot) where
   element_places : Alike R S h → Alike (Element.the_row R) (Element.the_row S) (on_value h)
   element_places alike =
       struct_places (Element.the_type R) (Element.the_type S) ((λ key. key), (h, tt)) (on_value h) (λ d. refl) refl
-      (stays text.the_row, (laid R S h alike, tt))
+      (stays keys.the_row, (laid R S h alike, tt))
 
   pub the_places : Alike R S h → Alike (Whole.the_row R) (Whole.the_row S) ((the_former this).map R.Denot S.Denot h)
   the_places alike =
