@@ -1,5 +1,9 @@
 mod Bytes
+mod InRange
+mod Keys
+mod OneKey
 mod PlannedResults
 mod Readings
 mod Schedules
+mod Trees
 mod ValueLaws

@@ -5,8 +5,8 @@ use Rattle.driver_script.specs.Values.{pair_of}
 use Rattle.driver_script.proofs.ValueLaws.{two_items, pair_read, pair_wrong, values_more}
 use Rattle.driver_script.proofs.values.+value.Goals as goal
 use Rattle.serde_json.specs.Data.{array}
-use Rattle.serde_json.specs.View.{view, items_view}
-use Rattle.serde_json.specs.declared.value.Value as value
+use Rattle.driver_script.specs.inside.Tree.{view, items_view}
+use Rattle.json.specs.declared.value.Value as value
 
 pub read_pair-returns-in_err-read_value-in-None : goal.read_pair-returns-in_err-read_value-in-None
 read_pair-returns-in_err-read_value-in-None t c =
