@@ -23,19 +23,21 @@ with_true : (a : Bool) → (a && true) ≡ a
 with_true true = refl
 with_true false = refl
 
+keys_by : (keys : List (List ℕ)) (key one : List ℕ) (d e : Data) (ms : Members) (order : Ordering) → slice_cmp nat_cmp key one ≡ order
+    → has_keys_among keys (put key d ms) ≡ (among keys key && has_keys_among keys ms)
+    → has_keys_among keys (match_ordering order (member key d (member one e ms)) (member one d ms) (member one e (put key d ms))) ≡ (among keys key && (among keys one && has_keys_among keys ms))
+unfolding has_keys_among
+keys_by keys key one d e ms Less is rest = refl
+keys_by keys key one d e ms Equal is rest =
+    let same : key ≡ one = (bytes_eq-Decides key one).0 (sym (is_eq-slice_cmp key one) ∙ ap is_eq is) in
+    twice (among keys one) (has_keys_among keys ms) ∙ ap (λ k. among keys k && (among keys one && has_keys_among keys ms)) (sym same)
+keys_by keys key one d e ms Greater is rest = ap (λ more. among keys one && more) rest ∙ swap (among keys key) (among keys one) (has_keys_among keys ms)
+
 -- a member that goes in has its key among these, and the others theirs
 keys_put : (keys : List (List ℕ)) (key : List ℕ) (d : Data) (ms : Members) → has_keys_among keys (put key d ms) ≡ (among keys key && has_keys_among keys ms)
 unfolding has_keys_among
 keys_put keys key d no_members = refl
-keys_put keys key d (member one e ms) = by (slice_cmp nat_cmp key one) refl
-  where
-    by : (order : Ordering) → slice_cmp nat_cmp key one ≡ order
-        → has_keys_among keys (match_ordering order (member key d (member one e ms)) (member one d ms) (member one e (put key d ms))) ≡ (among keys key && (among keys one && has_keys_among keys ms))
-    by Less is = refl
-    by Equal is =
-        let same : key ≡ one = (bytes_eq-Decides key one).0 (sym (is_eq-slice_cmp key one) ∙ ap is_eq is) in
-        twice (among keys one) (has_keys_among keys ms) ∙ ap (λ k. among keys k && (among keys one && has_keys_among keys ms)) (sym same)
-    by Greater is = ap (λ rest. among keys one && rest) (keys_put keys key d ms) ∙ swap (among keys key) (among keys one) (has_keys_among keys ms)
+keys_put keys key d (member one e ms) = keys_by keys key one d e ms (slice_cmp nat_cmp key one) refl (keys_put keys key d ms)
 
 keys_behind : (keys : List (List ℕ)) (es : List Entry) (found : Members) → has_keys_among keys (members_behind es found) ≡ (keys_in keys es && has_keys_among keys found)
 unfolding keys_in

@@ -1,6 +1,7 @@
 mod Bytes
 mod InRange
 mod Keys
+mod Numbered
 mod OneKey
 mod PlannedResults
 mod Readings

@@ -15,6 +15,33 @@ enum Number {
     Float(f64),
 }
 
+impl Number {
+    /// The number, where it is a whole number of 64 bits with a sign.
+    fn as_i64(&self) -> Option<i64>
+        ensures { result ≡ as_i64 (num_of self.now) }
+    {
+        match *self {
+            Number::Whole(whole) => if whole <= i64::MAX as u64 {
+                Some(whole as i64)
+            } else {
+                None
+            },
+            Number::Negative(below) => Some(below),
+            Number::Float(_) => None,
+        }
+    }
+
+    /// The number, where it is a whole number of 64 bits without a sign.
+    fn as_u64(&self) -> Option<u64>
+        ensures { result ≡ as_u64 (num_of self.now) }
+    {
+        match *self {
+            Number::Whole(whole) => Some(whole),
+            _ => None,
+        }
+    }
+}
+
 /// Whether a number is in range.
 pub(crate) fn is_in_range(text: &str) -> bool
     ensures { result ≡ is_some (number_of text.now) }
@@ -22,30 +49,25 @@ pub(crate) fn is_in_range(text: &str) -> bool
     read_number(text).is_some()
 }
 
-/// The number, where it is a whole number of 64 bits with a sign.
-#[tactic(auto, unfolding(crate::specs::inside::Tree::number_read))]
+/// The whole number of 64 bits with a sign that a text is.
+#[tactic(auto, using(crate::proofs::Numbered::some_read, crate::proofs::Numbered::none_read))]
 pub(crate) fn whole_with_sign(text: &str) -> Option<i64>
     ensures { result ≡ as_i64 (number_read text.now) }
 {
     match read_number(text) {
-        Some(Number::Whole(whole)) => if whole <= i64::MAX as u64 {
-            Some(whole as i64)
-        } else {
-            None
-        },
-        Some(Number::Negative(below)) => Some(below),
-        _ => None,
+        Some(number) => number.as_i64(),
+        None => None,
     }
 }
 
-/// The number, where it is a whole number of 64 bits without a sign.
-#[tactic(auto, unfolding(crate::specs::inside::Tree::number_read))]
+/// The whole number of 64 bits without a sign that a text is.
+#[tactic(auto, using(crate::proofs::Numbered::some_read, crate::proofs::Numbered::none_read))]
 pub(crate) fn whole(text: &str) -> Option<u64>
     ensures { result ≡ as_u64 (number_read text.now) }
 {
     match read_number(text) {
-        Some(Number::Whole(whole)) => Some(whole),
-        _ => None,
+        Some(number) => number.as_u64(),
+        None => None,
     }
 }
 

@@ -133,7 +133,6 @@ pub(crate) fn as_u64(value: &Value<'_>) -> Option<u64>
 }
 
 /// The one key of an object, and what stands under it; none where it has no key or more than one.
-#[tactic(auto, using(crate::proofs::Trees::only_seen))]
 pub(crate) fn only_member<'v, 'a>(value: &'v Value<'a>) -> Option<(&'a str, &'v Value<'a>)>
     ensures { MatchOption result (only (view value.now) ≡ None)
         (λ m. view value.now ≡ object (member m.0.now (view m.1.now) no_members)) }
@@ -169,7 +168,7 @@ pub(crate) fn have_one_key(members: &[(&str, Value<'_>)]) -> bool
 }
 
 /// The last member, where each has its key.
-#[tactic(auto, using(crate::proofs::Trees::one_object, crate::proofs::Trees::none_only))]
+#[tactic(auto, using(crate::proofs::Trees::none_only))]
 fn only_of<'v, 'a>(members: &'v [(&'a str, Value<'a>)]) -> Option<(&'a str, &'v Value<'a>)>
     ensures { MatchOption result (only (object (members_view members.now)) ≡ None)
         (λ m. object (members_view members.now)
