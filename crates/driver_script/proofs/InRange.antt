@@ -8,6 +8,7 @@ use Rattle.json.specs.Token.{Token}
 use Rattle.json.specs.Lex.{tokens}
 use Rattle.json.specs.declared.value.Value.{Value}
 use Rattle.driver_script.proofs.Bytes.{value_read_text}
+use Rattle.driver_script.specs.Json.{GivesPart}
 use Rattle.driver_script.specs.Script.{value_read}
 use Rattle.driver_script.specs.inside.Tree.{GivesTree, data_of, has_numbers, items_data, items_have_numbers, members_data, members_have_numbers, number_read}
 use Rattle.driver_script.specs.declared.from_json.Unread.{Unread}
@@ -78,3 +79,8 @@ out_of_range text j is differs = ap whole is ∙ read_where j ∙ ap (λ test. i
 -- bytes that are a text have its tree
 pub bytes_read : (tree : Result (Value Global) Unread) (bytes text : List ℕ) → GivesTree tree (read text) → text ≡ bytes → IsUtf8 bytes → GivesTree tree (value_read bytes)
 bytes_read tree bytes text gives same is = subst (GivesTree tree) (ap read same ∙ sym (value_read_text bytes is)) gives
+
+-- what a tree is read as is what its data is read as
+pub read_on : {A : Type 0} (asked : Result A Unread) (form : Data → Option A) (given : Option Data) (d : Data) → given ≡ Some d → GivesPart asked (form d)
+    → GivesPart asked (option_and_then form given)
+read_on asked form given d is gives = subst (λ found. GivesPart asked (option_and_then form found)) (sym is) gives

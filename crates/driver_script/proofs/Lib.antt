@@ -1,6 +1,6 @@
 mod Bytes
 mod InRange
-mod Keys
+mod MemberKeys
 mod Numbered
 mod OneKey
 mod PlannedResults

@@ -1,5 +1,5 @@
 -- A tree, level by level, and the members of an object as they came.
-use Rattle.std.proofs.Common.{◌≡◌, ℕ, zero, suc, ◌&&◌, length, List, [], ◌∷◌, ◌++◌, Bool, true, false, true≢false, cond, MatchOption, is_eq, is_some, if◌then◌else◌, subst, Option, Some, None, option_map, option_and_then, bytes_eq, Bor, Global, nat_cmp, Ordering, Less, Equal, Greater, refl, sym, ap, ◌∙◌, arith}
+use Rattle.std.proofs.Common.{◌≡◌, ℕ, zero, suc, ◌&&◌, length, List, [], ◌∷◌, ◌++◌, Bool, true, false, true≢false, cond, MatchOption, is_eq, is_some, subst, Option, Some, None, option_map, bytes_eq, Bor, Global, Vec, nat_cmp, Ordering, Less, Equal, Greater, refl, sym, ap, ◌∙◌, arith}
 use Rattle.std.proofs.lemmas.Cmp.{nat_list_cmp_total, tied_itself}
 use Rattle.std.proofs.lemmas.Map.Text.{is_eq-slice_cmp}
 use Rattle.std.proofs.lemmas.Slice.Eq.{bytes_eq-Decides}
@@ -7,10 +7,11 @@ use Rattle.std.specs.Cmp.Lexicographic.{slice_cmp}
 use Rattle.std.specs.Ordering.{match_ordering}
 use Rattle.driver_script.specs.inside.Members.{all_are, only, only_in}
 use Rattle.driver_script.specs.inside.Tree.{data_of, items_data, members_behind, members_data, members_view, view}
+use Rattle.json.proofs.Trees.{view-Object}
 use Rattle.json.specs.Find as tree
 use Rattle.json.specs.Json as json
 use Rattle.json.specs.Value.{value_view}
-use Rattle.json.specs.declared.value.Value.{Value}
+use Rattle.json.specs.declared.value.Value.{Object, Value}
 use Rattle.serde_json.proofs.Views.{get_member-put, get_member-put_other}
 use Rattle.serde_json.specs.Data.{Data, Members, member, no_members, object, put}
 use Rattle.serde_json.specs.Find.{at, get, get_item, get_member}
@@ -18,6 +19,11 @@ use Rattle.serde_json.specs.Find.{at, get, get_item, get_member}
 -- a member of an object: its key and what stands under it
 abbrev pub Entry : Type 0
 Entry = Bor (List ℕ) × Value Global
+
+-- an object is its members
+pub view_object : (value : Value Global) (found : Vec Entry Global) (members : List Entry) → value ≡ Object found → members ≡ found.items
+    → view value ≡ object (members_view members)
+view_object value found members is same = ap view is ∙ ap data_of (view-Object found) ∙ ap (λ them. object (members_view them)) (sym same)
 
 -- ---- items
 

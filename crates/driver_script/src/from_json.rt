@@ -111,7 +111,7 @@ pub(crate) fn is_object_of(value: &Value<'_>, keys: &[&str]) -> bool
 }
 
 /// Whether each member's key is one of these.
-#[tactic(auto, using(crate::proofs::Keys::keys_view), unfolding(crate::specs::inside::Members::keys_in))]
+#[tactic(auto, using(crate::proofs::MemberKeys::keys_view), unfolding(crate::specs::inside::Members::keys_in))]
 fn have_keys_among(members: &[(&str, Value<'_>)], keys: &[&str]) -> bool
     ensures { result ≡ has_keys_among (map (λ key. key.now) keys.now) (members_view members.now) }
 {

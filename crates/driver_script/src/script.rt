@@ -72,6 +72,7 @@ fn wrong(alloc: Global) -> ScriptFault
 }
 
 /// The script that the bytes are.
+#[tactic(auto, using(crate::proofs::InRange::read_on))]
 fn any_script(alloc: Global, bytes: &[u8]) -> Result<Script, Unread>
     ensures { GivesPart result (option_and_then script_of (value_read bytes.now)) }
 {
