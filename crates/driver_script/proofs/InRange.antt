@@ -1,5 +1,5 @@
 -- A value of JSON is read as data where its numbers are in range.
-use Rattle.std.proofs.Common.{◌≡◌, ℕ, ◌&&◌, List, [], ◌∷◌, Bool, true, false, is_some, if◌then◌else◌, Option, Some, None, option_map, option_and_then, Global, refl, sym, ap, ◌∙◌, subst}
+use Rattle.std.proofs.Common.{◌≡◌, ℕ, ◌&&◌, List, [], Bool, true, false, is_some, if◌then◌else◌, Option, Some, None, option_map, option_and_then, Global, refl, sym, ap, ◌∙◌, subst}
 use Rattle.std.specs.Prelude.{Result, unwrap_or}
 use Rattle.std.specs.Float.Ieee.{nan}
 use Rattle.std.specs.Str.{IsUtf8}

@@ -1,5 +1,5 @@
 -- The number that a text is.
-use Rattle.std.proofs.Common.{◌≡◌, ℕ, List, Option, Some, None, refl, sym, ap, ◌∙◌}
+use Rattle.std.proofs.Common.{◌≡◌, ℕ, List, Some, None, sym, ap}
 use Rattle.std.specs.Prelude.{unwrap_or}
 use Rattle.std.specs.Float.Ieee.{nan}
 use Rattle.driver_script.specs.inside.Tree.{number_read}

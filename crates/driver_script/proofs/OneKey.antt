@@ -1,6 +1,6 @@
 -- Objects whose one key names what they are.
-use Rattle.std.proofs.Common.{◌≡◌, ℕ, List, [], ◌∷◌, ◌++◌, length, arith, Bool, true, false, true≢false, is_some, refl, sym, ap, ◌∙◌, subst}
-use Rattle.std.specs.Prelude.{Option, None, Some, Result}
+use Rattle.std.proofs.Common.{◌≡◌, ℕ, List, [], ◌∷◌, ◌++◌, length, arith, true, false, true≢false, is_some, refl, sym, ap, ◌∙◌, subst}
+use Rattle.std.specs.Prelude.{None, Result}
 use Rattle.bson_lite.specs.declared.bson.Bson.{Bson}
 use Rattle.driver_inputs.specs.declared.call.Call.{Call}
 use Rattle.driver_link.specs.declared.machine.Item.{Item}
