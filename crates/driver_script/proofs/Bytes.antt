@@ -9,10 +9,10 @@ use Rattle.serde_json.specs.Read.{read}
 pub value_read_text : (bytes : List ℕ) → IsUtf8 bytes → value_read bytes ≡ read bytes
 value_read_text bytes text = rw (is_utf8-from_IsUtf8 bytes text) refl
 
--- bytes that are no UTF-8, or that read as nothing, have no value
-pub value_read_none : (bytes : List ℕ) → (IsUtf8 bytes → read bytes ≡ None) → value_read bytes ≡ None
-value_read_none bytes none = by (is_utf8 bytes) refl
+-- bytes that are no UTF-8 have no value
+pub value_read_none : (bytes : List ℕ) → ¬ IsUtf8 bytes → value_read bytes ≡ None
+value_read_none bytes not_text = by (is_utf8 bytes) refl
   where
     by : (test : Bool) → is_utf8 bytes ≡ test → value_read bytes ≡ None
-    by true is = rw is (none (IsUtf8-from_is_utf8 bytes is))
+    by true is = absurd (not_text (IsUtf8-from_is_utf8 bytes is))
     by false is = rw is refl

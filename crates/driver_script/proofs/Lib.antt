@@ -1,5 +1,10 @@
 mod Bytes
+mod InRange
+mod MemberKeys
+mod Numbered
+mod OneKey
 mod PlannedResults
 mod Readings
 mod Schedules
+mod Trees
 mod ValueLaws

@@ -1,5 +1,5 @@
 -- Pairs and arrays of a script, from what their parts are read as.
-use Rattle.std.proofs.Common.{◌≡◌, ℕ, ◌<◌, ◌+◌, List, [], ◌∷◌, ◌++◌, length, drop, get_or, refl, sym, ap, ◌∙◌, arith}
+use Rattle.std.proofs.Common.{◌≡◌, ℕ, ◌<◌, ◌+◌, List, [], ◌∷◌, ◌++◌, length, drop, get_or, Global, refl, sym, ap, ◌∙◌, arith}
 use Rattle.std.specs.Prelude.{Option, None, Some, Err}
 use Rattle.std.specs.List.{IsFirstAndRest}
 use Rattle.std.specs.Option.{option_and_then, option_map}
@@ -8,11 +8,11 @@ use Rattle.bson_lite.specs.declared.bson.Bson.{Bson}
 use Rattle.bson_lite.specs.declared.document.Pair.{Pair}
 use Rattle.driver_script.specs.Json.{GivesPart}
 use Rattle.driver_script.specs.Values.{text_of, value_of, pair_of, values_of}
-use Rattle.driver_script.specs.declared.json.Unread.{Unread}
-use Rattle.driver_script.specs.declared.json.Unread.TheVariants.{Wrong, Memory}
+use Rattle.driver_script.specs.declared.from_json.Unread.{Unread}
+use Rattle.driver_script.specs.declared.from_json.Unread.TheVariants.{Wrong, Memory}
 use Rattle.serde_json.specs.Data.{Data, array, Items, no_items, item}
-use Rattle.serde_json.specs.View.{view, items_view}
-use Rattle.serde_json.specs.declared.value.Value.{Value}
+use Rattle.driver_script.specs.inside.Tree.{view, items_view}
+use Rattle.json.specs.declared.value.Value.{Value}
 
 -- a list of two
 pub two_items : {X : Type 0} (items rest more : List X) (key inner : X) → IsFirstAndRest items key rest → IsFirstAndRest rest inner more → length more ≡ 0
@@ -31,14 +31,14 @@ unfolding pair_of
 pair_is key inner = refl
 
 -- what a list of two is read as
-pub pair_read : (items : List Value) (key inner : Value) (text : List ℕ) (value : Bson) → items ≡ key ∷ (inner ∷ []) → text_of (view key) ≡ Some text
+pub pair_read : (items : List (Value Global)) (key inner : Value Global) (text : List ℕ) (value : Bson) → items ≡ key ∷ (inner ∷ []) → text_of (view key) ≡ Some text
     → value_of (view inner) ≡ Some value → pair_of (array (items_view items)) ≡ Some (record { key = text; value = value })
 pair_read items key inner text value two is was =
     ap (λ i. pair_of (array (items_view i))) two ∙ pair_is (view key) (view inner)
     ∙ ap (λ t. pair_by t (value_of (view inner))) is ∙ ap (λ v. pair_by (Some text) v) was
 
 -- where its value is wrong, so is the pair
-pub pair_wrong : (items : List Value) (key inner : Value) (text : List ℕ) (unread : Unread) → items ≡ key ∷ (inner ∷ []) → text_of (view key) ≡ Some text
+pub pair_wrong : (items : List (Value Global)) (key inner : Value Global) (text : List ℕ) (unread : Unread) → items ≡ key ∷ (inner ∷ []) → text_of (view key) ≡ Some text
     → GivesPart {A = Bson} (Err unread) (value_of (view inner)) → GivesPart {A = Pair Bson} (Err unread) (pair_of (array (items_view items)))
 pair_wrong items key inner text Wrong two is was =
     ap (λ i. pair_of (array (items_view i))) two ∙ pair_is (view key) (view inner)
@@ -58,7 +58,7 @@ one_more made value None = refl
 one_more made value (Some rest) = ap (λ r. Some r) (append_assoc made (value ∷ []) rest)
 
 -- one value more was read
-pub values_more : (made now : List Bson) (value : Bson) (items : List Value) (at : ℕ) (one : Value) (all : Option (List Bson)) → at < length items
+pub values_more : (made now : List Bson) (value : Bson) (items : List (Value Global)) (at : ℕ) (one : Value Global) (all : Option (List Bson)) → at < length items
     → one ≡ get_or items at one → value_of (view one) ≡ Some value → now ≡ made ++ value ∷ []
     → option_map (λ r. made ++ r) (values_of (items_view (drop at items))) ≡ all
     → option_map (λ r. now ++ r) (values_of (items_view (drop (at + 1) items))) ≡ all

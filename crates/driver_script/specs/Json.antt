@@ -2,8 +2,8 @@
 use Rattle.std.specs.Prelude.{◌≡◌, ℕ, Bool, true, false, ◌&&◌, List, [], ◌∷◌, Option, None, Some, Result, Ok, Err, bytes_eq}
 use Rattle.std.specs.List.{list_any}
 use Rattle.std.specs.Option.{option_and_then, option_map}
-use Rattle.driver_script.specs.declared.json.Unread.{Unread}
-use Rattle.driver_script.specs.declared.json.Unread.TheVariants.{Wrong, Memory}
+use Rattle.driver_script.specs.declared.from_json.Unread.{Unread}
+use Rattle.driver_script.specs.declared.from_json.Unread.TheVariants.{Wrong, Memory}
 use Rattle.serde_json.specs.Data.{Data, array, object, Items, no_items, item, Members, no_members, member}
 use Rattle.serde_json.specs.Find.{get}
 

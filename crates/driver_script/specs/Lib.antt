@@ -9,3 +9,4 @@ pub mod Plans
 pub mod ScheduleSteps
 pub mod Script
 pub mod Values
+pub mod inside

@@ -2,9 +2,9 @@
 ghost use Rattle.std.specs.Prelude.{◌≡◌};
 ghost use Rattle.driver_script.specs.Calls.{bulk_manner_of, bulk_options, bulk_write_of, call_of, call_under, delete_call_of, delete_many_of, delete_one_of, delete_options, find_delete_options, find_one_and_delete_of, find_one_and_replace_of, find_one_and_update_of, find_replace_options, find_under, find_update_options, insert_many_of, insert_one_of, insert_options, insert_options_of, replace_one_of, shared_of, update_call_of, update_many_of, update_one_of, update_options, update_under, write_under};
 ghost use Rattle.driver_script.specs.Json.{GivesPart};
-ghost use Rattle.serde_json.specs.View.{view};
+ghost use Rattle.driver_script.specs.inside.Tree.{view};
 
-use crate::json::{FromJson, Unread, is_object_of, read_needed, read_optional};
+use crate::from_json::{FromJson, Unread, is_object_of, read_needed, read_optional};
 use crate::keys::{
     BULK_WRITE, COMMENT, DELETE_MANY, DELETE_ONE, DOC, DOCS, FILTER, FIND_ONE_AND_DELETE,
     FIND_ONE_AND_REPLACE, FIND_ONE_AND_UPDATE, INSERT_MANY, INSERT_ONE, MODELS, NS, ORDERED,
@@ -14,13 +14,14 @@ use crate::parts::{
     DeleteParts, InsertParts, ReplaceParts, UpdateParts, delete_parts, insert_parts, replace_parts,
     update_parts,
 };
+use crate::tree::only_member;
 use bson_lite::Bson;
 use driver_inputs::{Call, SingleWrite};
 use driver_options::{
     BulkWriteOptions, DeleteOptions, FindOneAndDeleteOptions, FindOneAndReplaceOptions,
     FindOneAndUpdateOptions, InsertManyOptions, UpdateOptions, WriteConcern,
 };
-use serde_json::Value;
+use json::Value;
 use std::alloc::Global;
 
 /// The options that every write has.
@@ -54,7 +55,7 @@ pub(crate) struct BulkManner {
 /// The options that every write has, under their keys.
 #[inline(always)]
 #[tactic(auto, unfolding(crate::specs::Calls::shared_of))]
-fn read_shared(alloc: Global, value: &Value) -> Result<SharedOptions, Unread>
+fn read_shared(alloc: Global, value: &Value<'_>) -> Result<SharedOptions, Unread>
     ensures { GivesPart result (shared_of (view value.now)) }
 {
     let write_concern = read_optional(alloc, value, WRITE_CONCERN)?;
@@ -80,7 +81,7 @@ fn insert_options(ordered: Option<bool>, shared: SharedOptions) -> InsertManyOpt
 
 #[inline(always)]
 #[tactic(auto, unfolding(crate::specs::Calls::insert_one_of))]
-fn insert_one(alloc: Global, value: &Value) -> Result<Call, Unread>
+fn insert_one(alloc: Global, value: &Value<'_>) -> Result<Call, Unread>
     ensures { GivesPart result (insert_one_of (view value.now)) }
 {
     if !is_object_of(value, &[NS, DOC, WRITE_CONCERN, COMMENT]) {
@@ -102,7 +103,7 @@ fn insert_one(alloc: Global, value: &Value) -> Result<Call, Unread>
 
 /// The options of an insert of many documents, under their keys.
 #[tactic(auto, unfolding(crate::specs::Calls::insert_options_of))]
-fn read_insert_options(alloc: Global, value: &Value) -> Result<InsertManyOptions, Unread>
+fn read_insert_options(alloc: Global, value: &Value<'_>) -> Result<InsertManyOptions, Unread>
     ensures { GivesPart result (insert_options_of (view value.now)) }
 {
     let ordered = read_optional(alloc, value, ORDERED)?;
@@ -111,7 +112,7 @@ fn read_insert_options(alloc: Global, value: &Value) -> Result<InsertManyOptions
 }
 
 #[tactic(auto, unfolding(crate::specs::Calls::insert_many_of))]
-fn insert_many(alloc: Global, value: &Value) -> Result<Call, Unread>
+fn insert_many(alloc: Global, value: &Value<'_>) -> Result<Call, Unread>
     ensures { GivesPart result (insert_many_of (view value.now)) }
 {
     if !is_object_of(value, &[NS, DOCS, ORDERED, WRITE_CONCERN, COMMENT]) {
@@ -142,7 +143,7 @@ fn bulk_options(ordered: Option<bool>, shared: SharedOptions) -> BulkWriteOption
 
 /// How a bulk write is made, under its keys: it is verbose only where that is said.
 #[tactic(auto, unfolding(crate::specs::Calls::bulk_manner_of))]
-fn read_bulk_manner(alloc: Global, value: &Value) -> Result<BulkManner, Unread>
+fn read_bulk_manner(alloc: Global, value: &Value<'_>) -> Result<BulkManner, Unread>
     ensures { GivesPart result (bulk_manner_of (view value.now)) }
 {
     let ordered = read_optional(alloc, value, ORDERED)?;
@@ -155,7 +156,7 @@ fn read_bulk_manner(alloc: Global, value: &Value) -> Result<BulkManner, Unread>
 }
 
 #[tactic(auto, unfolding(crate::specs::Calls::bulk_write_of))]
-fn bulk_write(alloc: Global, value: &Value) -> Result<Call, Unread>
+fn bulk_write(alloc: Global, value: &Value<'_>) -> Result<Call, Unread>
     ensures { GivesPart result (bulk_write_of (view value.now)) }
 {
     if !is_object_of(value, &[MODELS, ORDERED, VERBOSE, WRITE_CONCERN, COMMENT]) {
@@ -188,7 +189,7 @@ fn update_options(upsert: Option<bool>, shared: SharedOptions) -> UpdateOptions
 }
 
 #[tactic(auto, unfolding(crate::specs::Calls::update_call_of))]
-fn update_call(alloc: Global, value: &Value) -> Result<UpdateCall, Unread>
+fn update_call(alloc: Global, value: &Value<'_>) -> Result<UpdateCall, Unread>
     ensures { GivesPart result (update_call_of (view value.now)) }
 {
     if !is_object_of(value, &[NS, FILTER, UPDATE, UPSERT, WRITE_CONCERN, COMMENT]) {
@@ -200,7 +201,7 @@ fn update_call(alloc: Global, value: &Value) -> Result<UpdateCall, Unread>
 }
 
 #[tactic(auto, unfolding(crate::specs::Calls::update_one_of))]
-fn update_one(alloc: Global, value: &Value) -> Result<Call, Unread>
+fn update_one(alloc: Global, value: &Value<'_>) -> Result<Call, Unread>
     ensures { GivesPart result (update_one_of (view value.now)) }
 {
     let UpdateCall { parts, shared } = update_call(alloc, value)?;
@@ -221,7 +222,7 @@ fn update_one(alloc: Global, value: &Value) -> Result<Call, Unread>
 }
 
 #[tactic(auto, unfolding(crate::specs::Calls::update_many_of))]
-fn update_many(alloc: Global, value: &Value) -> Result<Call, Unread>
+fn update_many(alloc: Global, value: &Value<'_>) -> Result<Call, Unread>
     ensures { GivesPart result (update_many_of (view value.now)) }
 {
     let UpdateCall { parts, shared } = update_call(alloc, value)?;
@@ -242,7 +243,7 @@ fn update_many(alloc: Global, value: &Value) -> Result<Call, Unread>
 }
 
 #[tactic(auto, unfolding(crate::specs::Calls::replace_one_of))]
-fn replace_one(alloc: Global, value: &Value) -> Result<Call, Unread>
+fn replace_one(alloc: Global, value: &Value<'_>) -> Result<Call, Unread>
     ensures { GivesPart result (replace_one_of (view value.now)) }
 {
     if !is_object_of(value, &[NS, FILTER, DOC, UPSERT, WRITE_CONCERN, COMMENT]) {
@@ -279,7 +280,7 @@ fn delete_options(shared: SharedOptions) -> DeleteOptions
 }
 
 #[tactic(auto, unfolding(crate::specs::Calls::delete_call_of))]
-fn delete_call(alloc: Global, value: &Value) -> Result<DeleteCall, Unread>
+fn delete_call(alloc: Global, value: &Value<'_>) -> Result<DeleteCall, Unread>
     ensures { GivesPart result (delete_call_of (view value.now)) }
 {
     if !is_object_of(value, &[NS, FILTER, WRITE_CONCERN, COMMENT]) {
@@ -291,7 +292,7 @@ fn delete_call(alloc: Global, value: &Value) -> Result<DeleteCall, Unread>
 }
 
 #[tactic(auto, unfolding(crate::specs::Calls::delete_one_of))]
-fn delete_one(alloc: Global, value: &Value) -> Result<Call, Unread>
+fn delete_one(alloc: Global, value: &Value<'_>) -> Result<Call, Unread>
     ensures { GivesPart result (delete_one_of (view value.now)) }
 {
     let DeleteCall { parts, shared } = delete_call(alloc, value)?;
@@ -306,7 +307,7 @@ fn delete_one(alloc: Global, value: &Value) -> Result<Call, Unread>
 }
 
 #[tactic(auto, unfolding(crate::specs::Calls::delete_many_of))]
-fn delete_many(alloc: Global, value: &Value) -> Result<Call, Unread>
+fn delete_many(alloc: Global, value: &Value<'_>) -> Result<Call, Unread>
     ensures { GivesPart result (delete_many_of (view value.now)) }
 {
     let DeleteCall { parts, shared } = delete_call(alloc, value)?;
@@ -337,7 +338,7 @@ fn find_delete_options(shared: SharedOptions) -> FindOneAndDeleteOptions
 }
 
 #[tactic(auto, unfolding(crate::specs::Calls::find_one_and_delete_of))]
-fn find_one_and_delete(alloc: Global, value: &Value) -> Result<Call, Unread>
+fn find_one_and_delete(alloc: Global, value: &Value<'_>) -> Result<Call, Unread>
     ensures { GivesPart result (find_one_and_delete_of (view value.now)) }
 {
     let DeleteCall { parts, shared } = delete_call(alloc, value)?;
@@ -372,7 +373,7 @@ fn find_update_options(shared: SharedOptions) -> FindOneAndUpdateOptions
 }
 
 #[tactic(auto, unfolding(crate::specs::Calls::find_one_and_update_of))]
-fn find_one_and_update(alloc: Global, value: &Value) -> Result<Call, Unread>
+fn find_one_and_update(alloc: Global, value: &Value<'_>) -> Result<Call, Unread>
     ensures { GivesPart result (find_one_and_update_of (view value.now)) }
 {
     if !is_object_of(value, &[NS, FILTER, UPDATE, WRITE_CONCERN, COMMENT]) {
@@ -412,7 +413,7 @@ fn find_replace_options(shared: SharedOptions) -> FindOneAndReplaceOptions
 }
 
 #[tactic(auto, unfolding(crate::specs::Calls::find_one_and_replace_of))]
-fn find_one_and_replace(alloc: Global, value: &Value) -> Result<Call, Unread>
+fn find_one_and_replace(alloc: Global, value: &Value<'_>) -> Result<Call, Unread>
     ensures { GivesPart result (find_one_and_replace_of (view value.now)) }
 {
     if !is_object_of(value, &[NS, FILTER, DOC, WRITE_CONCERN, COMMENT]) {
@@ -434,7 +435,7 @@ fn find_one_and_replace(alloc: Global, value: &Value) -> Result<Call, Unread>
 
 /// The write that answers a document, whose parts stand under its name.
 #[tactic(auto, unfolding(crate::specs::Calls::find_under))]
-fn find_under(alloc: Global, name: &str, value: &Value) -> Result<Call, Unread>
+fn find_under(alloc: Global, name: &str, value: &Value<'_>) -> Result<Call, Unread>
     ensures { GivesPart result (find_under name.now (view value.now)) }
 {
     if name == FIND_ONE_AND_DELETE {
@@ -451,7 +452,7 @@ fn find_under(alloc: Global, name: &str, value: &Value) -> Result<Call, Unread>
 
 /// The update or replacement whose parts stand under its name, or a write that answers a document.
 #[tactic(auto, unfolding(crate::specs::Calls::update_under))]
-fn update_under(alloc: Global, name: &str, value: &Value) -> Result<Call, Unread>
+fn update_under(alloc: Global, name: &str, value: &Value<'_>) -> Result<Call, Unread>
     ensures { GivesPart result (update_under name.now (view value.now)) }
 {
     if name == UPDATE_ONE {
@@ -469,7 +470,7 @@ fn update_under(alloc: Global, name: &str, value: &Value) -> Result<Call, Unread
 /// The write of one statement whose parts stand under its name.
 #[inline(always)]
 #[tactic(auto, unfolding(crate::specs::Calls::write_under))]
-fn write_under(alloc: Global, name: &str, value: &Value) -> Result<Call, Unread>
+fn write_under(alloc: Global, name: &str, value: &Value<'_>) -> Result<Call, Unread>
     ensures { GivesPart result (write_under name.now (view value.now)) }
 {
     if name == INSERT_ONE {
@@ -488,7 +489,7 @@ fn write_under(alloc: Global, name: &str, value: &Value) -> Result<Call, Unread>
 /// statement.
 #[inline(always)]
 #[tactic(auto, unfolding(crate::specs::Calls::call_under))]
-fn call_under(alloc: Global, name: &str, value: &Value) -> Result<Call, Unread>
+fn call_under(alloc: Global, name: &str, value: &Value<'_>) -> Result<Call, Unread>
     ensures { GivesPart result (call_under name.now (view value.now)) }
 {
     if name == INSERT_MANY {
@@ -503,15 +504,11 @@ fn call_under(alloc: Global, name: &str, value: &Value) -> Result<Call, Unread>
 impl FromJson for Call {
     ghost spec = { call_of };
 
-    #[tactic(auto, unfolding(crate::specs::Calls::call_of))]
-    fn read(alloc: Global, value: &Value) -> Result<Call, Unread> {
-        let Value::Object(members) = value else {
-            return Err(Unread::Wrong);
-        };
-        let mut entries = members.iter();
-        match (entries.next(), entries.next()) {
-            (Some((name, inner)), None) => call_under(alloc, name.as_str(), inner),
-            _ => Err(Unread::Wrong),
+    #[tactic(auto, using(crate::proofs::OneKey::call_one, crate::proofs::OneKey::call_none))]
+    fn read(alloc: Global, value: &Value<'_>) -> Result<Call, Unread> {
+        match only_member(value) {
+            Some((name, inner)) => call_under(alloc, name, inner),
+            None => Err(Unread::Wrong),
         }
     }
 }

@@ -2,18 +2,19 @@
 ghost use Rattle.std.specs.Prelude.{◌≡◌};
 ghost use Rattle.driver_script.specs.Json.{GivesPart};
 ghost use Rattle.driver_script.specs.Values.{tagged_leaf, whole_of, small_of, count_of, code_of, stamp_of, sized_of, bytes_of, whole_number};
-ghost use Rattle.serde_json.specs.View.{view};
+ghost use Rattle.driver_script.specs.inside.Tree.{view};
 
-use crate::json::{FromJson, Unread};
+use crate::from_json::{FromJson, Unread};
 use crate::keys::{BYTES, DATE, DOUBLE, INT64, OID, TS};
+use crate::tree::{as_i64, as_u64, item_at};
 use bson_lite::{Binary, Bson, Bytes, ObjectId, Timestamp};
 use hex::{FromHex, FromHexError};
-use serde_json::Value;
+use json::Value;
 use std::alloc::Global;
 
 /// A value that holds no other, under a key which says what it is.
 #[tactic(auto, unfolding(crate::specs::Values::tagged_leaf))]
-pub(crate) fn read_leaf(alloc: Global, key: &str, value: &Value) -> Result<Bson, Unread>
+pub(crate) fn read_leaf(alloc: Global, key: &str, value: &Value<'_>) -> Result<Bson, Unread>
     ensures { GivesPart result (tagged_leaf key.now (view value.now)) }
 {
     if key == INT64 {
@@ -41,10 +42,10 @@ pub(crate) fn read_leaf(alloc: Global, key: &str, value: &Value) -> Result<Bson,
 
 /// A whole number of 64 bits with a sign.
 #[tactic(auto, unfolding(crate::specs::Values::whole_of))]
-fn whole(value: &Value) -> Result<i64, Unread>
+fn whole(value: &Value<'_>) -> Result<i64, Unread>
     ensures { GivesPart result (whole_of (view value.now)) }
 {
-    match value.as_i64() {
+    match as_i64(value) {
         Some(number) => Ok(number),
         None => Err(Unread::Wrong),
     }
@@ -52,10 +53,10 @@ fn whole(value: &Value) -> Result<i64, Unread>
 
 /// A number of 32 bits without a sign.
 #[tactic(auto, unfolding(crate::specs::Values::small_of))]
-fn small(value: &Value) -> Result<u32, Unread>
+fn small(value: &Value<'_>) -> Result<u32, Unread>
     ensures { GivesPart result (small_of (view value.now)) }
 {
-    let Some(number) = value.as_u64() else {
+    let Some(number) = as_u64(value) else {
         return Err(Unread::Wrong);
     };
     match u32::try_from(number) {
@@ -67,7 +68,7 @@ fn small(value: &Value) -> Result<u32, Unread>
 impl FromJson for u32 {
     ghost spec = { small_of };
 
-    fn read(_alloc: Global, value: &Value) -> Result<u32, Unread> {
+    fn read(_alloc: Global, value: &Value<'_>) -> Result<u32, Unread> {
         small(value)
     }
 }
@@ -76,8 +77,8 @@ impl FromJson for u64 {
     ghost spec = { count_of };
 
     #[tactic(auto, unfolding(crate::specs::Values::count_of))]
-    fn read(_alloc: Global, value: &Value) -> Result<u64, Unread> {
-        match value.as_u64() {
+    fn read(_alloc: Global, value: &Value<'_>) -> Result<u64, Unread> {
+        match as_u64(value) {
             Some(number) => Ok(number),
             None => Err(Unread::Wrong),
         }
@@ -87,7 +88,7 @@ impl FromJson for u64 {
 impl FromJson for i64 {
     ghost spec = { whole_of };
 
-    fn read(_alloc: Global, value: &Value) -> Result<i64, Unread> {
+    fn read(_alloc: Global, value: &Value<'_>) -> Result<i64, Unread> {
         whole(value)
     }
 }
@@ -96,8 +97,8 @@ impl FromJson for i32 {
     ghost spec = { code_of };
 
     #[tactic(auto, unfolding(crate::specs::Values::code_of))]
-    fn read(_alloc: Global, value: &Value) -> Result<i32, Unread> {
-        let Some(number) = value.as_i64() else {
+    fn read(_alloc: Global, value: &Value<'_>) -> Result<i32, Unread> {
+        let Some(number) = as_i64(value) else {
             return Err(Unread::Wrong);
         };
         match i32::try_from(number) {
@@ -109,13 +110,13 @@ impl FromJson for i32 {
 
 /// A time and an increment, as a list of the two.
 #[tactic(auto, unfolding(crate::specs::Values::stamp_of, crate::specs::Values::item_of))]
-fn stamp(value: &Value) -> Result<Timestamp, Unread>
+fn stamp(value: &Value<'_>) -> Result<Timestamp, Unread>
     ensures { GivesPart result (stamp_of (view value.now)) }
 {
-    if value.get(2).is_some() {
+    if item_at(value, 2).is_some() {
         return Err(Unread::Wrong);
     }
-    let (Some(time), Some(increment)) = (value.get(0), value.get(1)) else {
+    let (Some(time), Some(increment)) = (item_at(value, 0), item_at(value, 1)) else {
         return Err(Unread::Wrong);
     };
     Ok(Timestamp {
@@ -126,13 +127,13 @@ fn stamp(value: &Value) -> Result<Timestamp, Unread>
 
 /// So many bytes, two hexadecimal digits of either case for each.
 #[tactic(auto, unfolding(crate::specs::Values::sized_of))]
-fn sized<const N: usize>(value: &Value) -> Result<[u8; N], Unread>
+fn sized<const N: usize>(value: &Value<'_>) -> Result<[u8; N], Unread>
     ensures { GivesPart result (sized_of N (view value.now)) }
 {
     let Value::String(text) = value else {
         return Err(Unread::Wrong);
     };
-    match <[u8; N] as FromHex>::from_hex(text.as_str()) {
+    match <[u8; N] as FromHex>::from_hex(text) {
         Ok(bytes) => Ok(bytes),
         Err(_) => Err(Unread::Wrong),
     }
@@ -140,13 +141,13 @@ fn sized<const N: usize>(value: &Value) -> Result<[u8; N], Unread>
 
 /// Bytes of any number, two hexadecimal digits of either case for each.
 #[tactic(auto, unfolding(crate::specs::Values::bytes_of))]
-fn read_bytes(alloc: Global, value: &Value) -> Result<Bytes, Unread>
+fn read_bytes(alloc: Global, value: &Value<'_>) -> Result<Bytes, Unread>
     ensures { GivesPart result (bytes_of (view value.now)) }
 {
     let Value::String(text) = value else {
         return Err(Unread::Wrong);
     };
-    match hex::decode(alloc, text.as_str()) {
+    match hex::decode(alloc, text) {
         Ok(bytes) => Ok(Bytes::from_vec(bytes)),
         Err(FromHexError::OutOfMemory) => Err(Unread::Memory),
         Err(_) => Err(Unread::Wrong),

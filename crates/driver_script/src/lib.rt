@@ -4,18 +4,20 @@
 #![tactic(auto)]
 
 mod calls;
-mod json;
+mod from_json;
 pub mod keys;
 pub mod laws;
 mod leaves;
 mod limits;
 mod models;
 mod namespaces;
+mod numbers;
 mod options;
 mod parts;
 mod plans;
 mod schedule;
 pub mod script;
+mod tree;
 mod values;
 
 pub use script::{MOST_CALLS, Script, ScriptFault, read_script};

@@ -1,9 +1,9 @@
 //! Readers of the models of a bulk write: each is an object whose one key names what it does.
 ghost use Rattle.driver_script.specs.Json.{GivesPart};
 ghost use Rattle.driver_script.specs.Models.{delete_many_model_of, delete_one_model_of, deleting_of, insert_one_model_of, model_of, model_under, replace_one_model_of, update_many_model_of, update_model_under, update_one_model_of, updating_of};
-ghost use Rattle.serde_json.specs.View.{view};
+ghost use Rattle.driver_script.specs.inside.Tree.{view};
 
-use crate::json::{FromJson, Unread, is_object_of};
+use crate::from_json::{FromJson, Unread, is_object_of};
 use crate::keys::{
     DELETE_MANY, DELETE_ONE, DOC, FILTER, INSERT_ONE, NS, REPLACE_ONE, UPDATE, UPDATE_MANY,
     UPDATE_ONE, UPSERT,
@@ -12,15 +12,16 @@ use crate::parts::{
     DeleteParts, InsertParts, ReplaceParts, UpdateParts, delete_parts, insert_parts, replace_parts,
     update_parts,
 };
+use crate::tree::only_member;
 use driver_options::{
     DeleteManyModel, DeleteOneModel, InsertOneModel, ReplaceOneModel, UpdateManyModel,
     UpdateOneModel, WriteModel,
 };
-use serde_json::Value;
+use json::Value;
 use std::alloc::Global;
 
 #[tactic(auto, unfolding(crate::specs::Models::insert_one_model_of))]
-fn insert_one_model(alloc: Global, value: &Value) -> Result<WriteModel, Unread>
+fn insert_one_model(alloc: Global, value: &Value<'_>) -> Result<WriteModel, Unread>
     ensures { GivesPart result (insert_one_model_of (view value.now)) }
 {
     if !is_object_of(value, &[NS, DOC]) {
@@ -38,7 +39,7 @@ fn insert_one_model(alloc: Global, value: &Value) -> Result<WriteModel, Unread>
 
 /// The parts of an update, one or many, and no other key.
 #[tactic(auto, unfolding(crate::specs::Models::updating_of))]
-fn updating(alloc: Global, value: &Value) -> Result<UpdateParts, Unread>
+fn updating(alloc: Global, value: &Value<'_>) -> Result<UpdateParts, Unread>
     ensures { GivesPart result (updating_of (view value.now)) }
 {
     if !is_object_of(value, &[NS, FILTER, UPDATE, UPSERT]) {
@@ -48,7 +49,7 @@ fn updating(alloc: Global, value: &Value) -> Result<UpdateParts, Unread>
 }
 
 #[tactic(auto, unfolding(crate::specs::Models::update_one_model_of))]
-fn update_one_model(alloc: Global, value: &Value) -> Result<WriteModel, Unread>
+fn update_one_model(alloc: Global, value: &Value<'_>) -> Result<WriteModel, Unread>
     ensures { GivesPart result (update_one_model_of (view value.now)) }
 {
     let UpdateParts {
@@ -70,7 +71,7 @@ fn update_one_model(alloc: Global, value: &Value) -> Result<WriteModel, Unread>
 }
 
 #[tactic(auto, unfolding(crate::specs::Models::update_many_model_of))]
-fn update_many_model(alloc: Global, value: &Value) -> Result<WriteModel, Unread>
+fn update_many_model(alloc: Global, value: &Value<'_>) -> Result<WriteModel, Unread>
     ensures { GivesPart result (update_many_model_of (view value.now)) }
 {
     let UpdateParts {
@@ -91,7 +92,7 @@ fn update_many_model(alloc: Global, value: &Value) -> Result<WriteModel, Unread>
 }
 
 #[tactic(auto, unfolding(crate::specs::Models::replace_one_model_of))]
-fn replace_one_model(alloc: Global, value: &Value) -> Result<WriteModel, Unread>
+fn replace_one_model(alloc: Global, value: &Value<'_>) -> Result<WriteModel, Unread>
     ensures { GivesPart result (replace_one_model_of (view value.now)) }
 {
     if !is_object_of(value, &[NS, FILTER, DOC, UPSERT]) {
@@ -116,7 +117,7 @@ fn replace_one_model(alloc: Global, value: &Value) -> Result<WriteModel, Unread>
 
 /// The parts of a delete, one or many, and no other key.
 #[tactic(auto, unfolding(crate::specs::Models::deleting_of))]
-fn deleting(alloc: Global, value: &Value) -> Result<DeleteParts, Unread>
+fn deleting(alloc: Global, value: &Value<'_>) -> Result<DeleteParts, Unread>
     ensures { GivesPart result (deleting_of (view value.now)) }
 {
     if !is_object_of(value, &[NS, FILTER]) {
@@ -126,7 +127,7 @@ fn deleting(alloc: Global, value: &Value) -> Result<DeleteParts, Unread>
 }
 
 #[tactic(auto, unfolding(crate::specs::Models::delete_one_model_of))]
-fn delete_one_model(alloc: Global, value: &Value) -> Result<WriteModel, Unread>
+fn delete_one_model(alloc: Global, value: &Value<'_>) -> Result<WriteModel, Unread>
     ensures { GivesPart result (delete_one_model_of (view value.now)) }
 {
     let DeleteParts { namespace, filter } = deleting(alloc, value)?;
@@ -139,7 +140,7 @@ fn delete_one_model(alloc: Global, value: &Value) -> Result<WriteModel, Unread>
 }
 
 #[tactic(auto, unfolding(crate::specs::Models::delete_many_model_of))]
-fn delete_many_model(alloc: Global, value: &Value) -> Result<WriteModel, Unread>
+fn delete_many_model(alloc: Global, value: &Value<'_>) -> Result<WriteModel, Unread>
     ensures { GivesPart result (delete_many_model_of (view value.now)) }
 {
     let DeleteParts { namespace, filter } = deleting(alloc, value)?;
@@ -153,7 +154,7 @@ fn delete_many_model(alloc: Global, value: &Value) -> Result<WriteModel, Unread>
 
 /// The model of an update or a replacement whose parts stand under its name.
 #[tactic(auto, unfolding(crate::specs::Models::update_model_under))]
-fn update_model_under(alloc: Global, name: &str, value: &Value) -> Result<WriteModel, Unread>
+fn update_model_under(alloc: Global, name: &str, value: &Value<'_>) -> Result<WriteModel, Unread>
     ensures { GivesPart result (update_model_under name.now (view value.now)) }
 {
     if name == UPDATE_ONE {
@@ -170,7 +171,7 @@ fn update_model_under(alloc: Global, name: &str, value: &Value) -> Result<WriteM
 
 /// The model whose parts stand under its name.
 #[tactic(auto, unfolding(crate::specs::Models::model_under))]
-fn model_under(alloc: Global, name: &str, value: &Value) -> Result<WriteModel, Unread>
+fn model_under(alloc: Global, name: &str, value: &Value<'_>) -> Result<WriteModel, Unread>
     ensures { GivesPart result (model_under name.now (view value.now)) }
 {
     if name == INSERT_ONE {
@@ -188,15 +189,11 @@ fn model_under(alloc: Global, name: &str, value: &Value) -> Result<WriteModel, U
 impl FromJson for WriteModel {
     ghost spec = { model_of };
 
-    #[tactic(auto, unfolding(crate::specs::Models::model_of))]
-    fn read(alloc: Global, value: &Value) -> Result<WriteModel, Unread> {
-        let Value::Object(members) = value else {
-            return Err(Unread::Wrong);
-        };
-        let mut entries = members.iter();
-        match (entries.next(), entries.next()) {
-            (Some((name, inner)), None) => model_under(alloc, name.as_str(), inner),
-            _ => Err(Unread::Wrong),
+    #[tactic(auto, using(crate::proofs::OneKey::model_one, crate::proofs::OneKey::model_none))]
+    fn read(alloc: Global, value: &Value<'_>) -> Result<WriteModel, Unread> {
+        match only_member(value) {
+            Some((name, inner)) => model_under(alloc, name, inner),
+            None => Err(Unread::Wrong),
         }
     }
 }

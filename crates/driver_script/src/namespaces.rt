@@ -2,20 +2,21 @@
 ghost use Rattle.driver_link.specs.Writes.{cut};
 ghost use Rattle.driver_script.specs.Json.{GivesPart};
 ghost use Rattle.driver_script.specs.Values.{text_of, namespace_of, two_texts};
-ghost use Rattle.serde_json.specs.View.{view};
+ghost use Rattle.driver_script.specs.inside.Tree.{view};
 
-use crate::json::{FromJson, Unread};
+use crate::from_json::{FromJson, Unread};
+use crate::tree::item_at;
 use bson_lite::{Key, Namespace, Text};
-use serde_json::Value;
+use json::Value;
 use std::alloc::Global;
 
 impl FromJson for Text {
     ghost spec = { text_of };
 
     #[tactic(auto, unfolding(crate::specs::Values::text_of))]
-    fn read(alloc: Global, value: &Value) -> Result<Text, Unread> {
+    fn read(alloc: Global, value: &Value<'_>) -> Result<Text, Unread> {
         match value {
-            Value::String(text) => Ok(Text::from_str(alloc, text.as_str())?),
+            Value::String(text) => Ok(Text::from_str(alloc, text)?),
             _ => Err(Unread::Wrong),
         }
     }
@@ -25,9 +26,9 @@ impl FromJson for Key {
     ghost spec = { text_of };
 
     #[tactic(auto, unfolding(crate::specs::Values::text_of))]
-    fn read(alloc: Global, value: &Value) -> Result<Key, Unread> {
+    fn read(alloc: Global, value: &Value<'_>) -> Result<Key, Unread> {
         match value {
-            Value::String(text) => Ok(Key::from_str(alloc, text.as_str())?),
+            Value::String(text) => Ok(Key::from_str(alloc, text)?),
             _ => Err(Unread::Wrong),
         }
     }
@@ -37,9 +38,9 @@ impl FromJson for Namespace {
     ghost spec = { namespace_of };
 
     #[tactic(auto, unfolding(crate::specs::Values::namespace_of))]
-    fn read(alloc: Global, value: &Value) -> Result<Namespace, Unread> {
+    fn read(alloc: Global, value: &Value<'_>) -> Result<Namespace, Unread> {
         match value {
-            Value::String(text) => cut_at_dot(alloc, text.as_str()),
+            Value::String(text) => cut_at_dot(alloc, text),
             Value::Array(_) => read_two_texts(alloc, value),
             _ => Err(Unread::Wrong),
         }
@@ -60,13 +61,13 @@ fn cut_at_dot(alloc: Global, text: &str) -> Result<Namespace, Unread>
 }
 
 #[tactic(auto, unfolding(crate::specs::Values::two_texts, crate::specs::Values::item_of))]
-fn read_two_texts(alloc: Global, value: &Value) -> Result<Namespace, Unread>
+fn read_two_texts(alloc: Global, value: &Value<'_>) -> Result<Namespace, Unread>
     ensures { GivesPart result (two_texts (view value.now)) }
 {
-    if value.get(2).is_some() {
+    if item_at(value, 2).is_some() {
         return Err(Unread::Wrong);
     }
-    let (Some(db), Some(coll)) = (value.get(0), value.get(1)) else {
+    let (Some(db), Some(coll)) = (item_at(value, 0), item_at(value, 1)) else {
         return Err(Unread::Wrong);
     };
     Ok(Namespace {

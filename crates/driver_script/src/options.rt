@@ -2,21 +2,21 @@
 ghost use Rattle.std.specs.Prelude.{◌≡◌, IfOk};
 ghost use Rattle.driver_script.specs.Options.{acknowledgment_named, acknowledgment_of, client_options_of, flag_of, level_named, read_concern_of, write_concern_of};
 
-use crate::json::{FromJson, Unread, is_object_of, read_optional};
+use crate::from_json::{FromJson, Unread, is_object_of, read_optional};
 use crate::keys::{
     AVAILABLE, JOURNAL, LINEARIZABLE, LOCAL, MAJORITY, READ_CONCERN, RETRY_WRITES, SNAPSHOT, W,
     W_TIMEOUT, WRITE_CONCERN,
 };
 use bson_lite::Text;
 use driver_options::{Acknowledgment, ClientOptions, ReadConcern, ReadConcernLevel, WriteConcern};
-use serde_json::Value;
+use json::Value;
 use std::alloc::{AllocError, Global};
 
 impl FromJson for bool {
     ghost spec = { flag_of };
 
     #[tactic(auto, unfolding(crate::specs::Options::flag_of))]
-    fn read(_alloc: Global, value: &Value) -> Result<bool, Unread> {
+    fn read(_alloc: Global, value: &Value<'_>) -> Result<bool, Unread> {
         match value {
             Value::Bool(flag) => Ok(*flag),
             _ => Err(Unread::Wrong),
@@ -39,10 +39,10 @@ impl FromJson for Acknowledgment {
     ghost spec = { acknowledgment_of };
 
     #[tactic(auto, unfolding(crate::specs::Options::acknowledgment_of))]
-    fn read(alloc: Global, value: &Value) -> Result<Acknowledgment, Unread> {
+    fn read(alloc: Global, value: &Value<'_>) -> Result<Acknowledgment, Unread> {
         match value {
             Value::Number(_) => Ok(Acknowledgment::Nodes(u32::read(alloc, value)?)),
-            Value::String(name) => Ok(acknowledgment_named(alloc, name.as_str())?),
+            Value::String(name) => Ok(acknowledgment_named(alloc, name)?),
             _ => Err(Unread::Wrong),
         }
     }
@@ -52,7 +52,7 @@ impl FromJson for WriteConcern {
     ghost spec = { write_concern_of };
 
     #[tactic(auto, unfolding(crate::specs::Options::write_concern_of))]
-    fn read(alloc: Global, value: &Value) -> Result<WriteConcern, Unread> {
+    fn read(alloc: Global, value: &Value<'_>) -> Result<WriteConcern, Unread> {
         if !is_object_of(value, &[W, W_TIMEOUT, JOURNAL]) {
             return Err(Unread::Wrong);
         }
@@ -94,10 +94,10 @@ impl FromJson for ReadConcern {
     ghost spec = { read_concern_of };
 
     #[tactic(auto, unfolding(crate::specs::Options::read_concern_of))]
-    fn read(alloc: Global, value: &Value) -> Result<ReadConcern, Unread> {
+    fn read(alloc: Global, value: &Value<'_>) -> Result<ReadConcern, Unread> {
         match value {
             Value::String(name) => {
-                let level = level_named(alloc, name.as_str())?;
+                let level = level_named(alloc, name)?;
                 Ok(ReadConcern { level })
             }
             _ => Err(Unread::Wrong),
@@ -109,7 +109,7 @@ impl FromJson for ClientOptions {
     ghost spec = { client_options_of };
 
     #[tactic(auto, unfolding(crate::specs::Options::client_options_of))]
-    fn read(alloc: Global, value: &Value) -> Result<ClientOptions, Unread> {
+    fn read(alloc: Global, value: &Value<'_>) -> Result<ClientOptions, Unread> {
         if !is_object_of(value, &[RETRY_WRITES, WRITE_CONCERN, READ_CONCERN]) {
             return Err(Unread::Wrong);
         }

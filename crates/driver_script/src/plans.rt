@@ -3,15 +3,16 @@ ghost use Rattle.std.specs.Prelude.{◌≡◌, pos, IfOk};
 ghost use Rattle.std.specs.Option.{option_map};
 ghost use Rattle.driver_script.specs.Json.{GivesPart};
 ghost use Rattle.driver_script.specs.Plans.{built_code, built_plan, concern_error_of, failing_of, is_built_code, is_spelled_within, may_be_found, may_be_upserted, planned_of, serve_of, serve_with};
-ghost use Rattle.serde_json.specs.View.{view};
+ghost use Rattle.driver_script.specs.inside.Tree.{view};
 
-use crate::json::{FromJson, Unread, is_object_of, read_needed, read_optional};
+use crate::from_json::{FromJson, Unread, is_object_of, read_needed, read_optional};
 use crate::keys::{
     CODE, FAIL, MESSAGE, MODIFIED, N, PAGE, RESULTS, UPSERTED, VALUE, WRITE_CONCERN_ERROR,
 };
+use crate::tree::item_at;
 use bson_lite::{Bson, Document, List, TryClone, refusal_within};
 use driver_link::{Failing, Item, Planned, PlannedConcern};
-use serde_json::Value;
+use json::Value;
 use std::alloc::{AllocError, Global};
 
 /// The levels that a document may nest which stands in a reply.
@@ -101,7 +102,7 @@ impl FromJson for Planned {
     ghost spec = { planned_of };
 
     #[tactic(auto, unfolding(crate::specs::Plans::planned_of, crate::specs::Plans::plan_in))]
-    fn read(alloc: Global, value: &Value) -> Result<Planned, Unread> {
+    fn read(alloc: Global, value: &Value<'_>) -> Result<Planned, Unread> {
         if !is_object_of(value, &[N, MODIFIED, UPSERTED, VALUE]) {
             return Err(Unread::Wrong);
         }
@@ -125,11 +126,11 @@ impl FromJson for Failing {
     ghost spec = { failing_of };
 
     #[tactic(auto, unfolding(crate::specs::Plans::failing_of, crate::specs::Plans::failing_in, crate::specs::Values::item_of))]
-    fn read(alloc: Global, value: &Value) -> Result<Failing, Unread> {
-        if value.get(2).is_some() {
+    fn read(alloc: Global, value: &Value<'_>) -> Result<Failing, Unread> {
+        if item_at(value, 2).is_some() {
             return Err(Unread::Wrong);
         }
-        let (Some(place), Some(code)) = (value.get(0), value.get(1)) else {
+        let (Some(place), Some(code)) = (item_at(value, 0), item_at(value, 1)) else {
             return Err(Unread::Wrong);
         };
         let at = u64::read(alloc, place)?;
@@ -142,7 +143,7 @@ impl FromJson for PlannedConcern {
     ghost spec = { concern_error_of };
 
     #[tactic(auto, unfolding(crate::specs::Plans::concern_error_of, crate::specs::Plans::concern_error_in))]
-    fn read(alloc: Global, value: &Value) -> Result<PlannedConcern, Unread> {
+    fn read(alloc: Global, value: &Value<'_>) -> Result<PlannedConcern, Unread> {
         if !is_object_of(value, &[CODE, MESSAGE]) {
             return Err(Unread::Wrong);
         }
@@ -173,7 +174,7 @@ fn serve_with(
 
 /// A send that is served, of which these parts are set.
 #[tactic(auto, unfolding(crate::specs::Plans::serve_of, crate::specs::Plans::serve_in))]
-pub(crate) fn served(alloc: Global, value: &Value) -> Result<Item, Unread>
+pub(crate) fn served(alloc: Global, value: &Value<'_>) -> Result<Item, Unread>
     ensures { GivesPart result (serve_of (view value.now)) }
 {
     if !is_object_of(value, &[RESULTS, FAIL, WRITE_CONCERN_ERROR, PAGE]) {

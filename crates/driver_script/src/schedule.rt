@@ -1,21 +1,23 @@
 //! Readers of the script's schedule: its steps, and the calls of the link that fail.
-ghost use Rattle.std.specs.Prelude.{◌≡◌};
+ghost use Rattle.std.specs.Prelude.{◌≡◌, is_some, true};
 ghost use Rattle.std.specs.List.{list_all};
 ghost use Rattle.driver_link.specs.Exchange.{usual_item};
 ghost use Rattle.driver_script.specs.Json.{GivesPart};
 ghost use Rattle.driver_script.specs.ScheduleSteps.{built_reply, delivering_of, faults_of, interrupted_of, is_built_label, item_in, item_named, item_under, no_faults, refused_of, reply_of, schedule_with, step_of};
-ghost use Rattle.serde_json.specs.View.{view};
+ghost use Rattle.driver_script.specs.inside.Tree.{view};
+ghost use Rattle.serde_json.specs.Find.{as_object};
 
-use crate::json::{FromJson, Unread, is_object_of, read_needed, read_optional};
+use crate::from_json::{FromJson, Unread, is_object_of, read_needed, read_optional};
 use crate::keys::{
     AFTER, CHECK_OUT, CODE, DELIVER, INTERRUPTED, ITEM, LABELS, LATE, LOST, REFUSED, REPLY_LOST,
     SELECT, SERVE,
 };
 use crate::plans::{is_built_code, served};
+use crate::tree::only_member;
 use bson_lite::{List, Text};
 use driver_error::{RETRYABLE_ERROR, SYSTEM_OVERLOADED_ERROR};
 use driver_link::{Item, Schedule, Scheduled};
-use serde_json::Value;
+use json::Value;
 use std::alloc::Global;
 
 /// What an item answers: an error with these labels.
@@ -66,7 +68,7 @@ fn built_reply(reply: ErrorReply) -> Result<ErrorReply, Unread>
 
 /// The error reply whose parts stand under their keys.
 #[tactic(auto, unfolding(crate::specs::ScheduleSteps::reply_of))]
-fn read_reply(alloc: Global, value: &Value) -> Result<ErrorReply, Unread>
+fn read_reply(alloc: Global, value: &Value<'_>) -> Result<ErrorReply, Unread>
     ensures { GivesPart result (reply_of (view value.now)) }
 {
     let code = read_needed(alloc, value, CODE)?;
@@ -75,7 +77,7 @@ fn read_reply(alloc: Global, value: &Value) -> Result<ErrorReply, Unread>
 }
 
 #[tactic(auto, unfolding(crate::specs::ScheduleSteps::interrupted_of))]
-fn interrupted(alloc: Global, value: &Value) -> Result<Item, Unread>
+fn interrupted(alloc: Global, value: &Value<'_>) -> Result<Item, Unread>
     ensures { GivesPart result (interrupted_of (view value.now)) }
 {
     if !is_object_of(value, &[AFTER, CODE, LABELS]) {
@@ -91,7 +93,7 @@ fn interrupted(alloc: Global, value: &Value) -> Result<Item, Unread>
 }
 
 #[tactic(auto, unfolding(crate::specs::ScheduleSteps::refused_of))]
-fn refused(alloc: Global, value: &Value) -> Result<Item, Unread>
+fn refused(alloc: Global, value: &Value<'_>) -> Result<Item, Unread>
     ensures { GivesPart result (refused_of (view value.now)) }
 {
     if !is_object_of(value, &[CODE, LABELS]) {
@@ -135,7 +137,7 @@ fn usual_item(alloc: Global) -> Item
 
 /// The item whose parts stand under its name.
 #[tactic(auto, unfolding(crate::specs::ScheduleSteps::item_under))]
-fn item_under(alloc: Global, name: &str, value: &Value) -> Result<Item, Unread>
+fn item_under(alloc: Global, name: &str, value: &Value<'_>) -> Result<Item, Unread>
     ensures { GivesPart result (item_under name.now (view value.now)) }
 {
     if name == SERVE {
@@ -150,20 +152,26 @@ fn item_under(alloc: Global, name: &str, value: &Value) -> Result<Item, Unread>
     Err(Unread::Wrong)
 }
 
+/// The item of an object, whose one key names it.
+#[tactic(auto, using(crate::proofs::OneKey::item_one, crate::proofs::OneKey::item_none))]
+fn read_named_item(alloc: Global, value: &Value<'_>) -> Result<Item, Unread>
+    requires { is_some (as_object (view value.now)) ≡ true }
+    ensures { GivesPart result (item_in (view value.now)) }
+{
+    match only_member(value) {
+        Some((name, inner)) => item_under(alloc, name, inner),
+        None => Err(Unread::Wrong),
+    }
+}
+
 impl FromJson for Item {
     ghost spec = { item_in };
 
     #[tactic(auto, unfolding(crate::specs::ScheduleSteps::item_in))]
-    fn read(alloc: Global, value: &Value) -> Result<Item, Unread> {
+    fn read(alloc: Global, value: &Value<'_>) -> Result<Item, Unread> {
         match value {
-            Value::String(name) => item_named(alloc, name.as_str()),
-            Value::Object(members) => {
-                let mut entries = members.iter();
-                match (entries.next(), entries.next()) {
-                    (Some((name, inner)), None) => item_under(alloc, name.as_str(), inner),
-                    _ => Err(Unread::Wrong),
-                }
-            }
+            Value::String(name) => item_named(alloc, name),
+            Value::Object(_) => read_named_item(alloc, value),
             _ => Err(Unread::Wrong),
         }
     }
@@ -171,7 +179,7 @@ impl FromJson for Item {
 
 /// A step with the waiting sends to serve before its item.
 #[tactic(auto, unfolding(crate::specs::ScheduleSteps::delivering_of))]
-fn delivering(alloc: Global, value: &Value) -> Result<Scheduled, Unread>
+fn delivering(alloc: Global, value: &Value<'_>) -> Result<Scheduled, Unread>
     ensures { GivesPart result (delivering_of (view value.now)) }
 {
     let deliver = read_needed(alloc, value, DELIVER)?;
@@ -183,7 +191,7 @@ impl FromJson for Scheduled {
     ghost spec = { step_of };
 
     #[tactic(auto, unfolding(crate::specs::ScheduleSteps::step_of))]
-    fn read(alloc: Global, value: &Value) -> Result<Scheduled, Unread> {
+    fn read(alloc: Global, value: &Value<'_>) -> Result<Scheduled, Unread> {
         if is_object_of(value, &[DELIVER, ITEM]) {
             return delivering(alloc, value);
         }
@@ -199,7 +207,7 @@ impl FromJson for Faults {
     ghost spec = { faults_of };
 
     #[tactic(auto, unfolding(crate::specs::ScheduleSteps::faults_of))]
-    fn read(alloc: Global, value: &Value) -> Result<Faults, Unread> {
+    fn read(alloc: Global, value: &Value<'_>) -> Result<Faults, Unread> {
         if !is_object_of(value, &[SELECT, CHECK_OUT]) {
             return Err(Unread::Wrong);
         }

@@ -4,15 +4,16 @@ ghost use Rattle.driver_link.specs.WellFormed.{IsWellFormed};
 ghost use Rattle.driver_script.specs.Json.{GivesPart};
 ghost use Rattle.driver_script.specs.Script.{script_of, script, value_read, usual_options, IsWrong, ReadsScript};
 
-use crate::json::{FromJson, Unread, is_object_of, read_needed, read_optional};
+use crate::from_json::{FromJson, Unread, is_object_of, read_needed, read_optional};
 use crate::keys::{CALLS, FAULTS, LATE, LIMITS, OPTIONS, SCHEDULE};
 use crate::limits::{no_limits, setup_with};
 use crate::schedule::{no_faults, schedule_with};
+use crate::tree::read_tree;
 use bson_lite::{List, Text};
 use driver_inputs::Call;
 use driver_link::{Schedule, Setup};
 use driver_options::ClientOptions;
-use serde_json::Value;
+use json::{Scratch, Value};
 use std::alloc::{AllocError, Global};
 
 /// The greatest number of calls of a script.
@@ -70,19 +71,13 @@ fn wrong(alloc: Global) -> ScriptFault
     }
 }
 
-#[tactic(auto, using(crate::proofs::Bytes::value_read_text, crate::proofs::Bytes::value_read_none))]
+/// The script that the bytes are.
+#[tactic(auto, using(crate::proofs::InRange::read_on))]
 fn any_script(alloc: Global, bytes: &[u8]) -> Result<Script, Unread>
     ensures { GivesPart result (option_and_then script_of (value_read bytes.now)) }
 {
-    let value = match Value::from_slice(alloc, bytes) {
-        Ok(value) => value,
-        Err(error) => {
-            if error.is_memory() {
-                return Err(Unread::Memory);
-            }
-            return Err(Unread::Wrong);
-        }
-    };
+    let mut scratch = Scratch::new(alloc);
+    let value = read_tree(alloc, bytes, &mut scratch)?;
     Script::read(alloc, &value)
 }
 
@@ -90,7 +85,7 @@ impl FromJson for Script {
     ghost spec = { script_of };
 
     #[tactic(auto, unfolding(crate::specs::Script::script_of, crate::specs::Script::script_around))]
-    fn read(alloc: Global, value: &Value) -> Result<Script, Unread> {
+    fn read(alloc: Global, value: &Value<'_>) -> Result<Script, Unread> {
         if !is_object_of(value, &[OPTIONS, LIMITS, CALLS, SCHEDULE, FAULTS, LATE]) {
             return Err(Unread::Wrong);
         }

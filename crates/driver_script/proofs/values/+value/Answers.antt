@@ -1,12 +1,20 @@
--- A pair is a list of two, and an array is read value by value.
-use Rattle.std.proofs.Common.{rules, ◌≡◌, ◌∙◌, ap}
+-- An object is read by its members, a pair is a list of two, and an array is read value by value.
+use Rattle.std.proofs.Common.{rules, ◌≡◌, ◌∙◌, ap, subst, sym}
 use Rattle.std.proofs.lemmas.Result.{err_from_is_err_and}
-use Rattle.driver_script.specs.Values.{pair_of}
+use Rattle.bson_lite.specs.declared.bson.Bson.{Bson}
+use Rattle.driver_script.specs.Json.{GivesPart}
+use Rattle.driver_script.specs.Values.{pair_of, value_of}
+use Rattle.driver_script.proofs.Trees.{view_object}
 use Rattle.driver_script.proofs.ValueLaws.{two_items, pair_read, pair_wrong, values_more}
 use Rattle.driver_script.proofs.values.+value.Goals as goal
 use Rattle.serde_json.specs.Data.{array}
-use Rattle.serde_json.specs.View.{view, items_view}
-use Rattle.serde_json.specs.declared.value.Value as value
+use Rattle.driver_script.specs.inside.Tree.{view, items_view}
+use Rattle.json.specs.declared.value.Value as value
+
+pub read_value-returns-in-Object : goal.read_value-returns-in-Object
+read_value-returns-in-Object t c =
+    let seen = view_object c.args.value.now c.in-Object.members c.as_slice.result.now c.in-Object.is c.as_slice.ensures.value in
+    subst (GivesPart {A = Bson} c.read_object.result) (ap value_of (sym seen)) c.read_object.ensures
 
 pub read_pair-returns-in_err-read_value-in-None : goal.read_pair-returns-in_err-read_value-in-None
 read_pair-returns-in_err-read_value-in-None t c =

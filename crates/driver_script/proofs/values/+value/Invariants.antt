@@ -3,7 +3,7 @@ use Rattle.std.proofs.Common.{◌≡◌, ◌++◌, drop}
 use Rattle.std.specs.Option.{option_map}
 use Rattle.driver_script.specs.Values.{pairs_of, values_of}
 use Rattle.driver_script.proofs.values.+value.Given as goal
-use Rattle.serde_json.specs.View.{items_view}
+use Rattle.driver_script.specs.inside.Tree.{items_view}
 
 abbrev pub invariant-read_pairs-loop-item : goal.invariant-read_pairs-loop-item
 invariant-read_pairs-loop-item l =

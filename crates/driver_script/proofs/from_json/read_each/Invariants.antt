@@ -2,8 +2,8 @@
 use Rattle.std.proofs.Common.{◌≡◌, ◌++◌, drop}
 use Rattle.std.specs.Option.{option_map}
 use Rattle.driver_script.specs.Json.{each}
-use Rattle.driver_script.proofs.json.read_each.Given as goal
-use Rattle.serde_json.specs.View.{items_view}
+use Rattle.driver_script.proofs.from_json.read_each.Given as goal
+use Rattle.driver_script.specs.inside.Tree.{items_view}
 
 abbrev pub invariant-loop-item : goal.invariant-loop-item
 invariant-loop-item g l =

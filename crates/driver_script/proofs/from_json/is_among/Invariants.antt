@@ -1,7 +1,7 @@
 -- The keys that are left decide.
 use Rattle.std.proofs.Common.{◌≡◌, map, drop}
 use Rattle.driver_script.specs.Json.{among}
-use Rattle.driver_script.proofs.json.is_among.Given as goal
+use Rattle.driver_script.proofs.from_json.is_among.Given as goal
 
 abbrev pub invariant-loop-known : goal.invariant-loop-known
 invariant-loop-known l =

@@ -1,0 +1,105 @@
+-- Objects whose one key names what they are.
+use Rattle.std.proofs.Common.{◌≡◌, ℕ, List, [], ◌∷◌, ◌++◌, length, arith, true, false, true≢false, is_some, refl, sym, ap, ◌∙◌, subst}
+use Rattle.std.specs.Prelude.{None, Result}
+use Rattle.bson_lite.specs.declared.bson.Bson.{Bson}
+use Rattle.driver_inputs.specs.declared.call.Call.{Call}
+use Rattle.driver_link.specs.declared.machine.Item.{Item}
+use Rattle.driver_options.specs.declared.models.WriteModel.{WriteModel}
+use Rattle.driver_script.specs.Calls.{call_of, call_under}
+use Rattle.driver_script.specs.Json.{GivesPart}
+use Rattle.driver_script.specs.Models.{model_of, model_under}
+use Rattle.driver_script.specs.ScheduleSteps.{item_in, item_under}
+use Rattle.driver_script.specs.Values.{array_of, document_of, tagged, value_of}
+use Rattle.driver_script.specs.declared.from_json.Unread.{Unread}
+use Rattle.driver_script.proofs.Trees.{Entry, one_is}
+use Rattle.driver_script.specs.inside.Members.{only, only_in}
+use Rattle.driver_script.specs.inside.Tree.{members_view, view}
+use Rattle.serde_json.specs.Data.{Data, null, boolean, number, string, array, object, Members, no_members, member}
+use Rattle.serde_json.specs.Find.{as_object}
+
+-- ---- calls
+
+call_is : (name : List ℕ) (inner : Data) → call_of (object (member name inner no_members)) ≡ call_under name inner
+unfolding call_of
+call_is name inner = refl
+
+pub call_one : (read : Result Call Unread) (d inner : Data) (name : List ℕ) → d ≡ object (member name inner no_members) → GivesPart read (call_under name inner) → GivesPart read (call_of d)
+call_one read d inner name is gives = subst (GivesPart read) (sym (ap call_of is ∙ call_is name inner)) gives
+
+pub call_none : (d : Data) → only d ≡ None → call_of d ≡ None
+unfolding call_of
+call_none null is = refl
+call_none (boolean flag) is = refl
+call_none (number n) is = refl
+call_none (string text) is = refl
+call_none (array items) is = refl
+call_none (object no_members) is = refl
+call_none (object (member name inner no_members)) is = absurd (cc)
+call_none (object (member name inner (member two e more))) is = refl
+
+-- ---- models
+
+model_is : (name : List ℕ) (inner : Data) → model_of (object (member name inner no_members)) ≡ model_under name inner
+unfolding model_of
+model_is name inner = refl
+
+pub model_one : (read : Result WriteModel Unread) (d inner : Data) (name : List ℕ) → d ≡ object (member name inner no_members) → GivesPart read (model_under name inner) → GivesPart read (model_of d)
+model_one read d inner name is gives = subst (GivesPart read) (sym (ap model_of is ∙ model_is name inner)) gives
+
+pub model_none : (d : Data) → only d ≡ None → model_of d ≡ None
+unfolding model_of
+model_none null is = refl
+model_none (boolean flag) is = refl
+model_none (number n) is = refl
+model_none (string text) is = refl
+model_none (array items) is = refl
+model_none (object no_members) is = refl
+model_none (object (member name inner no_members)) is = absurd (cc)
+model_none (object (member name inner (member two e more))) is = refl
+
+-- ---- items of a schedule
+
+item_is : (name : List ℕ) (inner : Data) → item_in (object (member name inner no_members)) ≡ item_under name inner
+unfolding item_in
+item_is name inner = refl
+
+pub item_one : (read : Result Item Unread) (d inner : Data) (name : List ℕ) → d ≡ object (member name inner no_members) → GivesPart read (item_under name inner) → GivesPart read (item_in d)
+item_one read d inner name is gives = subst (GivesPart read) (sym (ap item_in is ∙ item_is name inner)) gives
+
+pub item_none : (d : Data) → is_some (as_object d) ≡ true → only d ≡ None → item_in d ≡ None
+unfolding item_in
+item_none null there is = absurd (cc)
+item_none (boolean flag) there is = absurd (cc)
+item_none (number n) there is = absurd (cc)
+item_none (string text) there is = absurd (cc)
+item_none (array items) there is = absurd (cc)
+item_none (object no_members) there is = refl
+item_none (object (member name inner no_members)) there is = absurd (cc)
+item_none (object (member name inner (member two e more))) there is = refl
+
+-- ---- values
+
+value_is : (key : List ℕ) (inner : Data) → value_of (object (member key inner no_members)) ≡ tagged key inner (document_of inner) (array_of inner)
+unfolding value_of
+value_is key inner = refl
+
+value_one : (read : Result Bson Unread) (left : Members) (inner : Data) (key : List ℕ) → left ≡ member key inner no_members
+    → GivesPart read (tagged key inner (document_of inner) (array_of inner)) → GivesPart read (value_of (object left))
+value_one read left inner key is gives = subst (GivesPart read) (sym (ap (λ them. value_of (object them)) is ∙ value_is key inner)) gives
+
+-- the last member says what the value is, where all have its key
+pub value_last : (read : Result Bson Unread) (ms rest : List Entry) (m : Entry) → ms ≡ rest ++ m ∷ [] → is_some (only_in (members_view ms)) ≡ true
+    → GivesPart read (tagged m.0.now (view m.1) (document_of (view m.1)) (array_of (view m.1))) → GivesPart read (value_of (object (members_view ms)))
+value_last read ms rest m is one gives = value_one read (members_view ms) (view m.1) m.0.now (one_is ms rest m is one) gives
+
+-- no members are no value
+pub value_empty : (ms : List Entry) → length ms ≡ 0 → value_of (object (members_view ms)) ≡ None
+unfolding value_of
+value_empty [] is = refl
+value_empty (m ∷ ms) is = absurd (omega (arith, is))
+
+pub value_none : (left : Members) → is_some (only_in left) ≡ false → value_of (object left) ≡ None
+unfolding value_of
+value_none no_members is = refl
+value_none (member key inner no_members) is = absurd (true≢false is)
+value_none (member key inner (member two e more)) is = refl
