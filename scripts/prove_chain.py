@@ -56,6 +56,15 @@ def at_work(name):
     return found
 
 
+def itself(pid):
+    """The process of `rt ci`, where that of the script which calls it was given: a halt of the script halts nothing."""
+    with open(f"/proc/{pid}/cmdline", "rb") as line:
+        if line.read().endswith(b"/rt\0ci\0"):
+            return pid
+    with open(f"/proc/{pid}/task/{pid}/children", encoding="utf8") as children:
+        return itself(int(children.read().split()[0]))
+
+
 def say(*words):
     print(time.strftime("%H:%M:%S"), *words, flush=True)
 
@@ -83,7 +92,7 @@ def prove(name, gate, clone, logs):
 
 
 def main():
-    gate, clone, logs, chain = int(sys.argv[1]), sys.argv[2], sys.argv[3], sys.argv[4:]
+    gate, clone, logs, chain = itself(int(sys.argv[1])), sys.argv[2], sys.argv[3], sys.argv[4:]
     below = libraries(clone)
     os.makedirs(logs, exist_ok=True)
     for name in chain:
