@@ -6,9 +6,15 @@ use std::fmt;
 use std::marker::Model;
 
 /// A `Box` seen as the value in it, and printed as that.
-#[derive(Drop)]
 pub struct Boxed<T> {
     inner: Box<T>,
+}
+
+impl<T: Drop> Drop for Boxed<T> {
+    fn drop(self) {
+        let Boxed { inner } = self;
+        drop(inner);
+    }
 }
 
 impl<T> Model for Boxed<T> {

@@ -14,9 +14,16 @@ pub struct Pair<V> {
 }
 
 /// The pairs of a document, seen as the list of them. Written alone, `Document` holds `Bson` values.
-#[derive(Debug, Drop)]
+#[derive(Debug)]
 pub struct Document<V = Bson> {
     pairs: Vec<Pair<V>>,
+}
+
+impl<V: Drop> Drop for Document<V> {
+    fn drop(self) {
+        let Document { pairs } = self;
+        drop(pairs);
+    }
 }
 
 impl<V> Model for Document<V> {

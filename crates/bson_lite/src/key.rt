@@ -15,9 +15,15 @@ enum Kept {
 }
 
 /// A key seen as the list of its UTF-8 bytes. One of at most 16 bytes takes no memory.
-#[derive(Drop)]
 pub struct Key {
     kept: Kept,
+}
+
+impl Drop for Key {
+    fn drop(self) {
+        let Key { kept } = self;
+        drop(kept);
+    }
 }
 
 impl Model for Key {

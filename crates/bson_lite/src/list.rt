@@ -6,9 +6,16 @@ use std::alloc::{AllocError, Global};
 use std::marker::Model;
 
 /// A `Vec` seen as the list of its items.
-#[derive(Debug, Drop)]
+#[derive(Debug)]
 pub struct List<T> {
     items: Vec<T>,
+}
+
+impl<T: Drop> Drop for List<T> {
+    fn drop(self) {
+        let List { items } = self;
+        drop(items);
+    }
 }
 
 impl<T> Model for List<T> {

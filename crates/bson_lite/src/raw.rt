@@ -12,9 +12,16 @@ use std::alloc::{AllocError, Global};
 use std::marker::Model;
 
 /// The bytes that spell a document, seen as the list of them.
-#[derive(Debug, Drop)]
+#[derive(Debug)]
 pub struct RawDocumentBuf {
     bytes: Bytes,
+}
+
+impl Drop for RawDocumentBuf {
+    fn drop(self) {
+        let RawDocumentBuf { bytes } = self;
+        drop(bytes);
+    }
 }
 
 impl Model for RawDocumentBuf {

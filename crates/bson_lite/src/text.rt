@@ -7,9 +7,15 @@ use std::fmt;
 use std::marker::Model;
 
 /// A `String` seen as the list of its UTF-8 bytes.
-#[derive(Drop)]
 pub struct Text {
     inner: String,
+}
+
+impl Drop for Text {
+    fn drop(self) {
+        let Text { inner } = self;
+        drop(inner);
+    }
 }
 
 impl Model for Text {
@@ -93,9 +99,16 @@ impl fmt::Debug for Text {
 }
 
 /// A `Vec<u8>` seen as the list of its bytes.
-#[derive(Debug, Drop)]
+#[derive(Debug)]
 pub struct Bytes {
     inner: Vec<u8>,
+}
+
+impl Drop for Bytes {
+    fn drop(self) {
+        let Bytes { inner } = self;
+        drop(inner);
+    }
 }
 
 impl Model for Bytes {

@@ -113,7 +113,15 @@ fn make_in<S: SessionStore, L: Link, K: Clock, R: Rng>(
         } => {
             let change = UpdateOrReplace::UpdateModifications(update.try_clone(alloc)?);
             update_found(
-                alloc, client, outside, namespace, filter, change, false, options, place,
+                alloc,
+                client,
+                outside,
+                namespace,
+                filter,
+                change,
+                false,
+                options.get(),
+                place,
             )
         }
         SingleWrite::UpdateMany {
@@ -124,7 +132,15 @@ fn make_in<S: SessionStore, L: Link, K: Clock, R: Rng>(
         } => {
             let change = UpdateOrReplace::UpdateModifications(update.try_clone(alloc)?);
             update_found(
-                alloc, client, outside, namespace, filter, change, true, options, place,
+                alloc,
+                client,
+                outside,
+                namespace,
+                filter,
+                change,
+                true,
+                options.get(),
+                place,
             )
         }
         SingleWrite::ReplaceOne {
@@ -135,7 +151,15 @@ fn make_in<S: SessionStore, L: Link, K: Clock, R: Rng>(
         } => {
             let change = UpdateOrReplace::Replacement(replacement.try_clone(alloc)?);
             update_found(
-                alloc, client, outside, namespace, filter, change, false, options, place,
+                alloc,
+                client,
+                outside,
+                namespace,
+                filter,
+                change,
+                false,
+                options.get(),
+                place,
             )
         }
         SingleWrite::DeleteOne {
@@ -143,27 +167,56 @@ fn make_in<S: SessionStore, L: Link, K: Clock, R: Rng>(
             filter,
             options,
         } => delete_found(
-            alloc, client, outside, namespace, filter, false, options, place,
+            alloc,
+            client,
+            outside,
+            namespace,
+            filter,
+            false,
+            options.get(),
+            place,
         ),
         SingleWrite::DeleteMany {
             namespace,
             filter,
             options,
         } => delete_found(
-            alloc, client, outside, namespace, filter, true, options, place,
+            alloc,
+            client,
+            outside,
+            namespace,
+            filter,
+            true,
+            options.get(),
+            place,
         ),
         SingleWrite::FindOneAndDelete {
             namespace,
             filter,
             options,
-        } => find_one_and_delete(alloc, client, outside, namespace, filter, options, place),
+        } => find_one_and_delete(
+            alloc,
+            client,
+            outside,
+            namespace,
+            filter,
+            options.get(),
+            place,
+        ),
         SingleWrite::FindOneAndUpdate {
             namespace,
             filter,
             update,
             options,
         } => find_one_and_update(
-            alloc, client, outside, namespace, filter, update, options, place,
+            alloc,
+            client,
+            outside,
+            namespace,
+            filter,
+            update,
+            options.get(),
+            place,
         ),
         SingleWrite::FindOneAndReplace {
             namespace,
@@ -177,7 +230,7 @@ fn make_in<S: SessionStore, L: Link, K: Clock, R: Rng>(
             namespace,
             filter,
             replacement,
-            options,
+            options.get(),
             place,
         ),
     }

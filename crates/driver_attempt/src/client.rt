@@ -12,10 +12,17 @@ use driver_session::{ServerSession, SessionStore};
 use std::alloc::Global;
 
 /// A client over a store of sessions.
-#[derive(Drop)]
 pub struct Client<S> {
     options: ClientOptions,
     store: S,
+}
+
+impl<S: Drop> Drop for Client<S> {
+    fn drop(self) {
+        let Client { options, store } = self;
+        drop(options);
+        drop(store);
+    }
 }
 
 impl<S> Client<S> {

@@ -106,22 +106,31 @@ fn memory_of(kind: &ErrorKind) -> Option<Global>
 pub fn convert_insert_many_error(alloc: Global, error: Error) -> Error
     ensures { Converts error result }
 {
-    let Error {
-        kind,
-        labels,
-        wire_version,
-        source,
-        server_response,
-    } = error;
-    match kind {
-        ErrorKind::InsertMany(failures) => single_error(alloc, failures, labels),
-        kind => Error {
+    error.converted(alloc)
+}
+
+impl Error {
+    /// The same, of the error itself.
+    fn converted(self, alloc: Global) -> Error
+        ensures { Converts self result }
+    {
+        let Error {
             kind,
             labels,
             wire_version,
             source,
             server_response,
-        },
+        } = self;
+        match kind {
+            ErrorKind::InsertMany(failures) => single_error(alloc, failures, labels),
+            kind => Error {
+                kind,
+                labels,
+                wire_version,
+                source,
+                server_response,
+            },
+        }
     }
 }
 

@@ -17,13 +17,30 @@ use std::alloc::{AllocError, Global};
 pub type Result<T> = std::result::Result<T, Error>;
 
 /// An error of the driver.
-#[derive(Debug, Drop)]
+#[derive(Debug)]
 pub struct Error {
     pub(crate) kind: ErrorKind,
     pub(crate) labels: Labels,
     pub(crate) wire_version: Option<i32>,
     pub(crate) source: Option<Boxed<Error>>,
     pub(crate) server_response: Option<RawDocumentBuf>,
+}
+
+impl Drop for Error {
+    #[cycle(error_drop)]
+    fn drop(self) {
+        let Error {
+            kind,
+            labels,
+            wire_version: _,
+            source,
+            server_response,
+        } = self;
+        drop(kind);
+        drop(labels);
+        drop(source);
+        drop(server_response);
+    }
 }
 
 /// The write concern error inside an error of inserts or of a single write.
@@ -194,11 +211,32 @@ impl Error {
         ensures { IfOk result (λ error. HasSource source self error) }
     {
         match boxed(alloc, source) {
-            Ok(source) => Ok(Error { source, ..self }),
+            Ok(source) => Ok(self.over(source)),
             Err(refused) => {
                 drop(self);
                 Err(refused)
             }
+        }
+    }
+
+    /// The same error with this source, which has its place already.
+    fn over(self, source: Option<Boxed<Error>>) -> Error
+        ensures { HasSource source self result }
+    {
+        let Error {
+            kind,
+            labels,
+            wire_version,
+            source: old,
+            server_response,
+        } = self;
+        drop(old);
+        Error {
+            kind,
+            labels,
+            wire_version,
+            source,
+            server_response,
         }
     }
 
@@ -230,9 +268,19 @@ impl Error {
     pub fn with_wire_version(self, wire_version: Option<i32>) -> Error
         ensures { HasVersion wire_version self result }
     {
+        let Error {
+            kind,
+            labels,
+            wire_version: _,
+            source,
+            server_response,
+        } = self;
         Error {
+            kind,
+            labels,
             wire_version,
-            ..self
+            source,
+            server_response,
         }
     }
 
@@ -240,9 +288,20 @@ impl Error {
     pub fn with_server_response(self, response: Option<RawDocumentBuf>) -> Error
         ensures { HasResponse response self result }
     {
+        let Error {
+            kind,
+            labels,
+            wire_version,
+            source,
+            server_response: old,
+        } = self;
+        drop(old);
         Error {
+            kind,
+            labels,
+            wire_version,
+            source,
             server_response: response,
-            ..self
         }
     }
 }

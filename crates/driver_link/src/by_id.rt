@@ -8,9 +8,16 @@ use std::collections::HashMap;
 use std::marker::Model;
 
 /// A `HashMap` from session ids to values, seen as a finite map.
-#[derive(Debug, Drop)]
+#[derive(Debug)]
 pub struct ById<T> {
     entries: HashMap<[u8; 16], T>,
+}
+
+impl<T: Drop> Drop for ById<T> {
+    fn drop(self) {
+        let ById { entries } = self;
+        drop(entries);
+    }
 }
 
 impl<T> Model for ById<T> {

@@ -39,11 +39,22 @@ impl TryClone for FakeStep {
 }
 
 /// A connection as a link notes it: unlike the connection it may be let go.
-#[derive(Debug, Drop)]
+#[derive(Debug)]
 pub struct NotedConn {
     address: Address,
     description: Description,
     number: u64,
+}
+
+impl Drop for NotedConn {
+    fn drop(self) {
+        let NotedConn {
+            address,
+            description: _,
+            number: _,
+        } = self;
+        drop(address);
+    }
 }
 
 impl Model for NotedConn {
@@ -90,7 +101,7 @@ impl NotedConn {
 }
 
 /// A link without a server, which answers by its steps and keeps what it was asked and given.
-#[derive(Debug, Drop)]
+#[derive(Debug)]
 pub struct FakeLink {
     descriptions: List<Description>,
     steps: List<FakeStep>,
@@ -104,6 +115,34 @@ pub struct FakeLink {
     over: List<u64>,
     answered: List<Answered>,
     faults: u64,
+}
+
+impl Drop for FakeLink {
+    fn drop(self) {
+        let FakeLink {
+            descriptions,
+            steps,
+            check_outs: _,
+            exchanges: _,
+            asked,
+            addresses,
+            connections,
+            out,
+            frames,
+            over,
+            answered,
+            faults: _,
+        } = self;
+        drop(descriptions);
+        drop(steps);
+        drop(asked);
+        drop(addresses);
+        drop(connections);
+        drop(out);
+        drop(frames);
+        drop(over);
+        drop(answered);
+    }
 }
 
 impl Model for FakeLink {

@@ -31,11 +31,24 @@ pub struct Documents {
 }
 
 /// One command in bytes: a body, and sequences of documents beside it.
-#[derive(Debug, Drop)]
+#[derive(Debug)]
 pub struct Frame {
     database: Text,
     body: Bytes,
     sequences: List<Sequence>,
+}
+
+impl Drop for Frame {
+    fn drop(self) {
+        let Frame {
+            database,
+            body,
+            sequences,
+        } = self;
+        drop(database);
+        drop(body);
+        drop(sequences);
+    }
 }
 
 impl Model for Frame {

@@ -12,12 +12,24 @@ use std::io::{Cursor, Read};
 use std::marker::Model;
 
 /// Input from memory.
-#[derive(Drop)]
 pub struct MemSource {
     bytes: Cursor<Vec<u8>>,
     fails: List<u64>,
     calls: u64,
     faults: u64,
+}
+
+impl Drop for MemSource {
+    fn drop(self) {
+        let MemSource {
+            bytes,
+            fails,
+            calls: _,
+            faults: _,
+        } = self;
+        drop(bytes);
+        drop(fails);
+    }
 }
 
 impl Model for MemSource {
@@ -79,13 +91,26 @@ impl Source for MemSource {
 }
 
 /// Output into memory that was reserved.
-#[derive(Drop)]
 pub struct MemSink {
     bytes: Vec<u8>,
     room: usize,
     fails: List<u64>,
     calls: u64,
     faults: u64,
+}
+
+impl Drop for MemSink {
+    fn drop(self) {
+        let MemSink {
+            bytes,
+            room: _,
+            fails,
+            calls: _,
+            faults: _,
+        } = self;
+        drop(bytes);
+        drop(fails);
+    }
 }
 
 impl Model for MemSink {

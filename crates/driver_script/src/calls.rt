@@ -15,7 +15,7 @@ use crate::parts::{
     update_parts,
 };
 use crate::tree::only_member;
-use bson_lite::Bson;
+use bson_lite::{Boxed, Bson};
 use driver_inputs::{Call, SingleWrite};
 use driver_options::{
     BulkWriteOptions, DeleteOptions, FindOneAndDeleteOptions, FindOneAndReplaceOptions,
@@ -211,12 +211,13 @@ fn update_one(alloc: Global, value: &Value<'_>) -> Result<Call, Unread>
         update,
         upsert,
     } = parts;
+    let options = Boxed::new(alloc, update_options(upsert, shared))?;
     Ok(Call::Single {
         write: SingleWrite::UpdateOne {
             namespace,
             filter,
             update,
-            options: update_options(upsert, shared),
+            options,
         },
     })
 }
@@ -232,12 +233,13 @@ fn update_many(alloc: Global, value: &Value<'_>) -> Result<Call, Unread>
         update,
         upsert,
     } = parts;
+    let options = Boxed::new(alloc, update_options(upsert, shared))?;
     Ok(Call::Single {
         write: SingleWrite::UpdateMany {
             namespace,
             filter,
             update,
-            options: update_options(upsert, shared),
+            options,
         },
     })
 }
@@ -256,12 +258,13 @@ fn replace_one(alloc: Global, value: &Value<'_>) -> Result<Call, Unread>
         upsert,
     } = replace_parts(alloc, value)?;
     let shared = read_shared(alloc, value)?;
+    let options = Boxed::new(alloc, update_options(upsert, shared))?;
     Ok(Call::Single {
         write: SingleWrite::ReplaceOne {
             namespace,
             filter,
             replacement,
-            options: update_options(upsert, shared),
+            options,
         },
     })
 }
@@ -297,11 +300,12 @@ fn delete_one(alloc: Global, value: &Value<'_>) -> Result<Call, Unread>
 {
     let DeleteCall { parts, shared } = delete_call(alloc, value)?;
     let DeleteParts { namespace, filter } = parts;
+    let options = Boxed::new(alloc, delete_options(shared))?;
     Ok(Call::Single {
         write: SingleWrite::DeleteOne {
             namespace,
             filter,
-            options: delete_options(shared),
+            options,
         },
     })
 }
@@ -312,11 +316,12 @@ fn delete_many(alloc: Global, value: &Value<'_>) -> Result<Call, Unread>
 {
     let DeleteCall { parts, shared } = delete_call(alloc, value)?;
     let DeleteParts { namespace, filter } = parts;
+    let options = Boxed::new(alloc, delete_options(shared))?;
     Ok(Call::Single {
         write: SingleWrite::DeleteMany {
             namespace,
             filter,
-            options: delete_options(shared),
+            options,
         },
     })
 }
@@ -343,11 +348,12 @@ fn find_one_and_delete(alloc: Global, value: &Value<'_>) -> Result<Call, Unread>
 {
     let DeleteCall { parts, shared } = delete_call(alloc, value)?;
     let DeleteParts { namespace, filter } = parts;
+    let options = Boxed::new(alloc, find_delete_options(shared))?;
     Ok(Call::Single {
         write: SingleWrite::FindOneAndDelete {
             namespace,
             filter,
-            options: find_delete_options(shared),
+            options,
         },
     })
 }
@@ -383,12 +389,13 @@ fn find_one_and_update(alloc: Global, value: &Value<'_>) -> Result<Call, Unread>
     let filter = read_needed(alloc, value, FILTER)?;
     let update = read_needed(alloc, value, UPDATE)?;
     let shared = read_shared(alloc, value)?;
+    let options = Boxed::new(alloc, find_update_options(shared))?;
     Ok(Call::Single {
         write: SingleWrite::FindOneAndUpdate {
             namespace,
             filter,
             update,
-            options: find_update_options(shared),
+            options,
         },
     })
 }
@@ -423,12 +430,13 @@ fn find_one_and_replace(alloc: Global, value: &Value<'_>) -> Result<Call, Unread
     let filter = read_needed(alloc, value, FILTER)?;
     let replacement = read_needed(alloc, value, DOC)?;
     let shared = read_shared(alloc, value)?;
+    let options = Boxed::new(alloc, find_replace_options(shared))?;
     Ok(Call::Single {
         write: SingleWrite::FindOneAndReplace {
             namespace,
             filter,
             replacement,
-            options: find_replace_options(shared),
+            options,
         },
     })
 }

@@ -12,9 +12,15 @@ use std::alloc::Global;
 use std::marker::Model;
 
 /// A store that its one owner lends from. It tells its pool.
-#[derive(Drop)]
 pub struct PlainStore<I> {
     state: StoreState<I>,
+}
+
+impl<I: Drop> Drop for PlainStore<I> {
+    fn drop(self) {
+        let PlainStore { state } = self;
+        drop(state);
+    }
 }
 
 impl<I> Model for PlainStore<I> {

@@ -47,13 +47,29 @@ pub enum StoreEvent {
 
 /// The sessions of one store: the source of ids, the idle ones with the front first, the ids that are
 /// lent, all ids that were drawn, and the history.
-#[derive(Drop)]
 pub struct StoreState<I> {
     ids: I,
     idle: VecDeque<IdleSession>,
     lent: Vec<[u8; 16]>,
     drawn: Vec<[u8; 16]>,
     history: Vec<StoreEvent>,
+}
+
+impl<I: Drop> Drop for StoreState<I> {
+    fn drop(self) {
+        let StoreState {
+            ids,
+            idle,
+            lent,
+            drawn,
+            history,
+        } = self;
+        drop(ids);
+        drop(idle);
+        drop(lent);
+        drop(drawn);
+        drop(history);
+    }
 }
 
 impl<I> Model for StoreState<I> {

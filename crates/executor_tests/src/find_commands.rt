@@ -1,7 +1,7 @@
 //! The writes that answer a document, over a fake link, by the bytes that they send: which fields their command has,
 //! in which order, with every option and with none.
 use crate::statements::{ENGLISH, Hinted, Said, Shared, VARIABLES, filters, sends, shared_options};
-use bson_lite::Document;
+use bson_lite::{Boxed, Document};
 use driver_inputs::SingleWrite;
 use driver_options::{
     Acknowledgment, FindOneAndDeleteOptions, FindOneAndReplaceOptions, FindOneAndUpdateOptions,
@@ -186,7 +186,7 @@ fn update(alloc: Global) -> Result<SingleWrite, AllocError> {
         namespace: namespace(alloc, "shop")?,
         filter: number(alloc, "x", 1)?,
         update: UpdateModifications::Document(operators(alloc, number(alloc, "y", 2)?)?),
-        options: all_of_update(alloc)?,
+        options: Boxed::new(alloc, all_of_update(alloc)?)?,
     })
 }
 
@@ -220,7 +220,7 @@ fn delete(alloc: Global) -> Result<SingleWrite, AllocError> {
     Ok(SingleWrite::FindOneAndDelete {
         namespace: namespace(alloc, "shop")?,
         filter: number(alloc, "x", 1)?,
-        options: all_of_delete(alloc)?,
+        options: Boxed::new(alloc, all_of_delete(alloc)?)?,
     })
 }
 
@@ -254,7 +254,7 @@ fn replacement(alloc: Global) -> Result<SingleWrite, AllocError> {
         namespace: namespace(alloc, "shop")?,
         filter: number(alloc, "x", 1)?,
         replacement: number(alloc, "y", 2)?,
-        options: all_of_replace(alloc)?,
+        options: Boxed::new(alloc, all_of_replace(alloc)?)?,
     })
 }
 
@@ -267,7 +267,7 @@ fn piped_update(alloc: Global) -> Result<SingleWrite, AllocError> {
         namespace: namespace(alloc, "shop")?,
         filter: number(alloc, "x", 1)?,
         update: UpdateModifications::Pipeline(stages),
-        options: FindOneAndUpdateOptions::default(),
+        options: Boxed::new(alloc, FindOneAndUpdateOptions::default())?,
     })
 }
 

@@ -1,6 +1,6 @@
 //! Updates and deletes over a fake link, by the bytes that they send: which fields their commands and statements
 //! have, in which order, with every option and with none.
-use bson_lite::{Bson, Document, List, Text};
+use bson_lite::{Boxed, Bson, Document, List, Text};
 use driver_inputs::SingleWrite;
 use driver_options::{
     Acknowledgment, DeleteOptions, Hint, InsertManyOptions, UpdateModifications, UpdateOptions,
@@ -233,7 +233,7 @@ fn update_of_all(alloc: Global) -> Result<SingleWrite, AllocError> {
         namespace: namespace(alloc, "shop")?,
         filter: number(alloc, "x", 1)?,
         update: UpdateModifications::Document(operators(alloc, number(alloc, "y", 2)?)?),
-        options: all_of_update(alloc)?,
+        options: Boxed::new(alloc, all_of_update(alloc)?)?,
     })
 }
 
@@ -263,7 +263,7 @@ fn delete_of_one(alloc: Global) -> Result<SingleWrite, AllocError> {
     Ok(SingleWrite::DeleteOne {
         namespace: namespace(alloc, "shop")?,
         filter: number(alloc, "x", 1)?,
-        options: all_of_delete(alloc)?,
+        options: Boxed::new(alloc, all_of_delete(alloc)?)?,
     })
 }
 
@@ -276,7 +276,7 @@ fn piped_update(alloc: Global) -> Result<SingleWrite, AllocError> {
         namespace: namespace(alloc, "shop")?,
         filter: number(alloc, "x", 1)?,
         update: UpdateModifications::Pipeline(stages),
-        options: UpdateOptions::default(),
+        options: Boxed::new(alloc, UpdateOptions::default())?,
     })
 }
 

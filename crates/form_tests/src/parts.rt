@@ -230,7 +230,7 @@ fn is_update(write: &SingleWrite, of_all: bool) -> bool {
             !of_all
                 && is_found(namespace, filter)
                 && is_document(update)
-                && are_update_options(options, Some(true))
+                && are_update_options(options.get(), Some(true))
         }
         SingleWrite::UpdateMany {
             namespace,
@@ -241,7 +241,7 @@ fn is_update(write: &SingleWrite, of_all: bool) -> bool {
             of_all
                 && is_found(namespace, filter)
                 && is_pipeline(update)
-                && are_update_options(options, Some(false))
+                && are_update_options(options.get(), Some(false))
         }
         _ => false,
     }
@@ -258,7 +258,7 @@ fn is_replacement(write: &SingleWrite) -> bool {
         } => {
             is_found(namespace, filter)
                 && has_one(replacement, "d", 1)
-                && are_update_options(options, None)
+                && are_update_options(options.get(), None)
         }
         _ => false,
     }
@@ -271,12 +271,12 @@ fn is_delete(write: &SingleWrite, of_all: bool) -> bool {
             namespace,
             filter,
             options,
-        } => !of_all && is_found(namespace, filter) && are_delete_options(options),
+        } => !of_all && is_found(namespace, filter) && are_delete_options(options.get()),
         SingleWrite::DeleteMany {
             namespace,
             filter,
             options,
-        } => of_all && is_found(namespace, filter) && are_delete_options(options),
+        } => of_all && is_found(namespace, filter) && are_delete_options(options.get()),
         _ => false,
     }
 }
@@ -290,9 +290,9 @@ fn is_find_and_delete(write: &SingleWrite) -> bool {
             options,
         } => {
             is_found(namespace, filter)
-                && are_shared(&options.write_concern, &options.comment)
-                && options.sort.is_none()
-                && options.hint.is_none()
+                && are_shared(&options.get().write_concern, &options.get().comment)
+                && options.get().sort.is_none()
+                && options.get().hint.is_none()
         }
         _ => false,
     }
@@ -309,9 +309,9 @@ fn is_find_and_update(write: &SingleWrite) -> bool {
         } => {
             is_found(namespace, filter)
                 && is_document(update)
-                && are_shared(&options.write_concern, &options.comment)
-                && options.upsert.is_none()
-                && options.return_document.is_none()
+                && are_shared(&options.get().write_concern, &options.get().comment)
+                && options.get().upsert.is_none()
+                && options.get().return_document.is_none()
         }
         _ => false,
     }
@@ -328,9 +328,9 @@ fn is_find_and_replace(write: &SingleWrite) -> bool {
         } => {
             is_found(namespace, filter)
                 && has_one(replacement, "d", 1)
-                && are_shared(&options.write_concern, &options.comment)
-                && options.upsert.is_none()
-                && options.return_document.is_none()
+                && are_shared(&options.get().write_concern, &options.get().comment)
+                && options.get().upsert.is_none()
+                && options.get().return_document.is_none()
         }
         _ => false,
     }

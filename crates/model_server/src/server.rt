@@ -32,7 +32,7 @@ pub(crate) struct Calls {
 }
 
 /// A server in memory, which answers by its schedule.
-#[derive(Debug, Drop)]
+#[derive(Debug)]
 pub struct ModelServer {
     pub(crate) server: Server,
     pub(crate) setup: Setup,
@@ -40,6 +40,23 @@ pub struct ModelServer {
     pub(crate) calls: Calls,
     pub(crate) answered: List<Answered>,
     pub(crate) faults: u64,
+}
+
+impl Drop for ModelServer {
+    fn drop(self) {
+        let ModelServer {
+            server,
+            setup,
+            schedule,
+            calls: _,
+            answered,
+            faults: _,
+        } = self;
+        drop(server);
+        drop(setup);
+        drop(schedule);
+        drop(answered);
+    }
 }
 
 impl Model for ModelServer {

@@ -3,6 +3,7 @@ use crate::writes::{
     Asked, Concern, Part, Shared, array_filters, change_document, database, document_at,
     modifications, namespace, option_at, shared_options, write_concern,
 };
+use bson_lite::Boxed;
 use driver_inputs::SingleWrite;
 use driver_options::{FindOneAndDeleteOptions, FindOneAndReplaceOptions, FindOneAndUpdateOptions};
 use std::alloc::{AllocError, Global};
@@ -102,7 +103,7 @@ pub(crate) fn find_and_delete(
     Ok(SingleWrite::FindOneAndDelete {
         namespace: namespace(alloc, database(asked))?,
         filter: document_at(alloc, asked, Part::Filter, "x", 1)?,
-        options: delete_options(alloc, asked, own)?,
+        options: Boxed::new(alloc, delete_options(alloc, asked, own)?)?,
     })
 }
 
@@ -116,7 +117,7 @@ pub(crate) fn find_and_update(
         namespace: namespace(alloc, database(asked))?,
         filter: document_at(alloc, asked, Part::Filter, "x", 1)?,
         update: modifications(alloc, asked)?,
-        options: update_options(alloc, asked, own)?,
+        options: Boxed::new(alloc, update_options(alloc, asked, own)?)?,
     })
 }
 
@@ -130,6 +131,6 @@ pub(crate) fn find_and_replace(
         namespace: namespace(alloc, database(asked))?,
         filter: document_at(alloc, asked, Part::Filter, "x", 1)?,
         replacement: change_document(alloc, asked)?,
-        options: replace_options(alloc, asked, own)?,
+        options: Boxed::new(alloc, replace_options(alloc, asked, own)?)?,
     })
 }

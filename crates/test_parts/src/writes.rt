@@ -1,7 +1,7 @@
 //! Single writes as rows spell them: to `items`, of what the filter `{x: 1}` finds, with small documents where a
 //! row asks for no others.
 use crate::finds::{find_and_delete, find_and_replace, find_and_update};
-use bson_lite::{Bson, Document, List, Namespace, Text};
+use bson_lite::{Boxed, Bson, Document, List, Namespace, Text};
 use driver_inputs::SingleWrite;
 use driver_options::{
     Acknowledgment, DeleteOptions, Hint, InsertManyOptions, UpdateModifications, UpdateOptions,
@@ -368,7 +368,7 @@ fn update(alloc: Global, asked: Asked, own: Concern) -> Result<SingleWrite, Allo
     let namespace = namespace(alloc, database(asked))?;
     let filter = document_at(alloc, asked, Part::Filter, "x", 1)?;
     let update = modifications(alloc, asked)?;
-    let options = update_options(alloc, asked, own)?;
+    let options = Boxed::new(alloc, update_options(alloc, asked, own)?)?;
     Ok(match asked.kind {
         Kind::UpdateMany => SingleWrite::UpdateMany {
             namespace,
@@ -391,7 +391,7 @@ fn replace(alloc: Global, asked: Asked, own: Concern) -> Result<SingleWrite, All
         namespace: namespace(alloc, database(asked))?,
         filter: document_at(alloc, asked, Part::Filter, "x", 1)?,
         replacement: change_document(alloc, asked)?,
-        options: update_options(alloc, asked, own)?,
+        options: Boxed::new(alloc, update_options(alloc, asked, own)?)?,
     })
 }
 
@@ -416,7 +416,7 @@ fn delete_options(alloc: Global, asked: Asked, own: Concern) -> Result<DeleteOpt
 fn delete(alloc: Global, asked: Asked, own: Concern) -> Result<SingleWrite, AllocError> {
     let namespace = namespace(alloc, database(asked))?;
     let filter = document_at(alloc, asked, Part::Filter, "x", 1)?;
-    let options = delete_options(alloc, asked, own)?;
+    let options = Boxed::new(alloc, delete_options(alloc, asked, own)?)?;
     Ok(match asked.kind {
         Kind::DeleteMany => SingleWrite::DeleteMany {
             namespace,

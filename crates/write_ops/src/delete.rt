@@ -33,12 +33,25 @@ use std::alloc::{AllocError, Global};
 const ODD_DELETE: &str = "the reply does not tell of a delete";
 
 /// A delete of one of the documents that a filter finds in a collection, or of all of them.
-#[derive(Drop)]
 pub struct Delete {
     target: OperationTarget,
     filter: Document,
     multi: bool,
     options: DeleteOptions,
+}
+
+impl Drop for Delete {
+    fn drop(self) {
+        let Delete {
+            target,
+            filter,
+            multi: _,
+            options,
+        } = self;
+        drop(target);
+        drop(filter);
+        drop(options);
+    }
 }
 
 impl Delete {

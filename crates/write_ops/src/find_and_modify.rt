@@ -40,12 +40,26 @@ const ODD_FIND: &str = "the reply does not tell of a findAndModify";
 
 /// A change, a replacement or a delete of one of the documents that a filter finds in a collection, which answers
 /// that document.
-#[derive(Drop)]
 pub struct FindAndModify {
     target: OperationTarget,
     filter: Document,
     modification: Modification,
     options: FindAndModifyOptions,
+}
+
+impl Drop for FindAndModify {
+    fn drop(self) {
+        let FindAndModify {
+            target,
+            filter,
+            modification,
+            options,
+        } = self;
+        drop(target);
+        drop(filter);
+        drop(modification);
+        drop(options);
+    }
 }
 
 impl FindAndModify {

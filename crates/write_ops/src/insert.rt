@@ -48,13 +48,25 @@ const ODD_INSERT: &str = "the reply does not tell of the inserted documents";
 
 /// The insert of documents into a collection: those of a caller's list from an index on. The first build takes the
 /// longest front of them that its connection takes, and later ones take the same documents.
-#[derive(Drop)]
 pub struct Insert<'a> {
     target: OperationTarget,
     first: usize,
     documents: &'a [OwnDocument],
     options: &'a InsertManyOptions,
     fixed: Option<BuiltFront>,
+}
+
+impl<'a> Drop for Insert<'a> {
+    fn drop(self) {
+        let Insert {
+            target,
+            first: _,
+            documents: _,
+            options: _,
+            fixed: _,
+        } = self;
+        drop(target);
+    }
 }
 
 impl<'a> Insert<'a> {

@@ -40,13 +40,28 @@ use std::alloc::{AllocError, Global};
 const ODD_UPDATE: &str = "the reply does not tell of an update";
 
 /// An update or a replacement of one of the documents that a filter finds in a collection, or of all of them.
-#[derive(Drop)]
 pub struct Update {
     target: OperationTarget,
     filter: Document,
     change: UpdateOrReplace,
     multi: bool,
     options: UpdateOptions,
+}
+
+impl Drop for Update {
+    fn drop(self) {
+        let Update {
+            target,
+            filter,
+            change,
+            multi: _,
+            options,
+        } = self;
+        drop(target);
+        drop(filter);
+        drop(change);
+        drop(options);
+    }
 }
 
 impl Update {
