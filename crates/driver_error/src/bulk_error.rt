@@ -7,7 +7,7 @@ ghost use Rattle.driver_error.specs.BulkErrors.{IsAlikeBefore, IsAlikeIn, JoinsE
 ghost use Rattle.driver_error.specs.BulkResults.{AllFit, RefusesMerge, added, merged_verbose};
 
 use crate::bulk_result::added_counts;
-use crate::error::{Error, Result};
+use crate::error::{Error, Parts, Result};
 use crate::kind::ErrorKind;
 use crate::results::{PartialBulkWriteResult, SummaryBulkWriteResult, VerboseBulkWriteResult};
 use crate::write::{BulkWriteError, WriteError};
@@ -58,13 +58,13 @@ impl Error {
         requires { IsAlikeIn (failures_in (kind_of self)) later.partial_result }
         ensures { JoinsLater (failures_in (kind_of self)) later self result }
     {
-        let Error {
+        let Parts {
             kind,
             labels,
             wire_version,
             source,
             server_response,
-        } = self;
+        } = self.into_parts();
         match kind {
             ErrorKind::BulkWrite(failures) => {
                 let kind = joined(alloc, failures.into_inner(), later)?;
@@ -97,13 +97,13 @@ impl Error {
         requires { IsAlikeBefore (failures_in (kind_of self)) earlier.partial_result }
         ensures { JoinsEarlier (failures_in (kind_of self)) earlier self result }
     {
-        let Error {
+        let Parts {
             kind,
             labels,
             wire_version,
             source,
             server_response,
-        } = self;
+        } = self.into_parts();
         match kind {
             ErrorKind::BulkWrite(failures) => {
                 let kind = joined(alloc, earlier, failures.into_inner())?;
@@ -133,13 +133,13 @@ impl Error {
     pub fn into_bulk_write(self) -> std::result::Result<(BulkWriteError, Option<Error>), Error>
         ensures { TakesApart (failures_in (kind_of self)) self result }
     {
-        let Error {
+        let Parts {
             kind,
             labels,
             wire_version,
             source,
             server_response,
-        } = self;
+        } = self.into_parts();
         match kind {
             ErrorKind::BulkWrite(failures) => Ok((failures.into_inner(), unboxed(source))),
             kind => Err(Error {

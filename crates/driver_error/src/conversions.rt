@@ -6,7 +6,7 @@ ghost use Rattle.driver_error.specs.Kinds.{inner_labels};
 ghost use Rattle.driver_error.specs.LabelTexts.{no_labels};
 
 use crate::command::CommandErrorBody;
-use crate::error::{Error, concern_error_of};
+use crate::error::{Error, Parts, concern_error_of};
 use crate::kind::{ErrorKind, IoKind};
 use crate::labels::Labels;
 use crate::write::{IndexedWriteError, InsertManyError, WriteConcernError, WriteFailure};
@@ -106,31 +106,22 @@ fn memory_of(kind: &ErrorKind) -> Option<Global>
 pub fn convert_insert_many_error(alloc: Global, error: Error) -> Error
     ensures { Converts error result }
 {
-    error.converted(alloc)
-}
-
-impl Error {
-    /// The same, of the error itself.
-    fn converted(self, alloc: Global) -> Error
-        ensures { Converts self result }
-    {
-        let Error {
+    let Parts {
+        kind,
+        labels,
+        wire_version,
+        source,
+        server_response,
+    } = error.into_parts();
+    match kind {
+        ErrorKind::InsertMany(failures) => single_error(alloc, failures, labels),
+        kind => Error {
             kind,
             labels,
             wire_version,
             source,
             server_response,
-        } = self;
-        match kind {
-            ErrorKind::InsertMany(failures) => single_error(alloc, failures, labels),
-            kind => Error {
-                kind,
-                labels,
-                wire_version,
-                source,
-                server_response,
-            },
-        }
+        },
     }
 }
 

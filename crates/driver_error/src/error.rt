@@ -43,6 +43,16 @@ impl Drop for Error {
     }
 }
 
+/// What an error holds, taken apart.
+#[derive(Drop)]
+pub(crate) struct Parts {
+    pub(crate) kind: ErrorKind,
+    pub(crate) labels: Labels,
+    pub(crate) wire_version: Option<i32>,
+    pub(crate) source: Option<Boxed<Error>>,
+    pub(crate) server_response: Option<RawDocumentBuf>,
+}
+
 /// The write concern error inside an error of inserts or of a single write.
 pub(crate) fn concern_error_of(kind: &ErrorKind) -> Option<&WriteConcernError>
     ensures { option_copied result ≡ concern_error_of kind.now }
@@ -216,6 +226,30 @@ impl Error {
                 drop(self);
                 Err(refused)
             }
+        }
+    }
+
+    /// What it holds, moved out.
+    pub(crate) fn into_parts(self) -> Parts
+        ensures kind { result.kind ≡ kind_of self }
+        ensures labels { result.labels ≡ labels_of self }
+        ensures version { result.wire_version ≡ wire_version_of self }
+        ensures source { result.source ≡ source_of self }
+        ensures response { result.server_response ≡ response_of self }
+    {
+        let Error {
+            kind,
+            labels,
+            wire_version,
+            source,
+            server_response,
+        } = self;
+        Parts {
+            kind,
+            labels,
+            wire_version,
+            source,
+            server_response,
         }
     }
 
