@@ -20,7 +20,7 @@ use std::alloc::{AllocError, Global};
 pub const MOST_CALLS: usize = 10_000;
 
 /// What a script asks for.
-#[derive(Debug, Drop)]
+#[derive(Debug)]
 pub struct Script {
     pub options: ClientOptions,
     pub setup: Setup,
@@ -28,6 +28,23 @@ pub struct Script {
     pub schedule: Schedule,
     /// The waiting sends to serve after the calls, by the order of lateness from 0.
     pub late: List<u64>,
+}
+
+impl Drop for Script {
+    fn drop(self) {
+        let Script {
+            options,
+            setup,
+            calls,
+            schedule,
+            late,
+        } = self;
+        drop(options);
+        drop(setup);
+        drop(calls);
+        drop(schedule);
+        drop(late);
+    }
 }
 
 /// Why bytes are not run as a script.

@@ -10,12 +10,26 @@ use driver_session::PlainStore;
 use model_server::ModelServer;
 
 /// The script of a run, the outcomes of its calls, its client and its server, where it has come so far.
-#[derive(Drop)]
 pub struct Run {
     pub script: Option<Script>,
     pub outcomes: Option<List<Outcome>>,
     pub client: Option<Client<PlainStore<CountingIds>>>,
     pub server: Option<ModelServer>,
+}
+
+impl Drop for Run {
+    fn drop(self) {
+        let Run {
+            script,
+            outcomes,
+            client,
+            server,
+        } = self;
+        drop(script);
+        drop(outcomes);
+        drop(client);
+        drop(server);
+    }
 }
 
 impl Run {
