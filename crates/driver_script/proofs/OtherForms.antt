@@ -1,10 +1,16 @@
 -- Values of a kind other than the one that is asked for.
-use Rattle.std.proofs.Common.{◌≡◌, ℕ, List, Bool, false, Option, None, option_map, refl}
+use Rattle.std.proofs.Common.{◌≡◌, ℕ, List, false, Option, None, option_map, refl, subst, sym}
+use Rattle.std.specs.Prelude.{Result}
+use Rattle.bson_lite.specs.declared.namespace.Namespace.{Namespace}
 use Rattle.json.specs.Json.{Json, null, boolean, number, string, array, object}
 use Rattle.json.specs.Find.{as_array, as_bool, as_object, as_str}
 use Rattle.serde_json.specs.Data.{Data}
+use Rattle.driver_options.specs.declared.concerns.Acknowledgment.{Acknowledgment}
 use Rattle.driver_options.specs.declared.concerns.Acknowledgment.TheVariants.{Nodes}
-use Rattle.driver_script.specs.Json.{has_only, list_of}
+use Rattle.driver_options.specs.declared.updates.UpdateModifications.{UpdateModifications}
+use Rattle.driver_script.specs.Json.{GivesPart, has_only, list_of}
+use Rattle.driver_script.specs.Parts.{pipeline_of, update_of}
+use Rattle.driver_script.specs.declared.from_json.Unread.{Unread}
 use Rattle.driver_script.specs.Options.{acknowledgment_of, flag_of, read_concern_of}
 use Rattle.driver_script.specs.Values.{array_of, bytes_of, document_of, item_of, namespace_of, pair_of, sized_of, small_of, text_of, two_texts}
 use Rattle.driver_script.specs.inside.Tree.{view}
@@ -47,6 +53,19 @@ no_pair (string s) is = refl
 no_pair (array js) is = absurd (cc)
 no_pair (object ms) is = refl
 
+pipeline_left : (j : Json) → as_array j ≡ None → update_of (view j) ≡ pipeline_of (view j)
+unfolding update_of pipeline_of has_only
+pipeline_left null is = refl
+pipeline_left (boolean b) is = refl
+pipeline_left (number s) is = refl
+pipeline_left (string s) is = refl
+pipeline_left (array js) is = absurd (cc)
+pipeline_left (object ms) is = refl
+
+-- what is no array is an update where it is a pipeline
+pub pipeline_read : (read : Result UpdateModifications Unread) (j : Json) → as_array j ≡ None → GivesPart read (pipeline_of (view j)) → GivesPart read (update_of (view j))
+pipeline_read read j is gives = subst (GivesPart read) (sym (pipeline_left j is)) gives
+
 -- ---- no object
 
 pub has_none : (keys : List (List ℕ)) (j : Json) → as_object j ≡ None → has_only keys (view j) ≡ false
@@ -87,8 +106,7 @@ not_sized count (string s) is = absurd (cc)
 not_sized count (array js) is = refl
 not_sized count (object ms) is = refl
 
--- what is no text is a namespace where it is a list of two
-pub two_texts_left : (j : Json) → as_str j ≡ None → namespace_of (view j) ≡ two_texts (view j)
+two_texts_left : (j : Json) → as_str j ≡ None → namespace_of (view j) ≡ two_texts (view j)
 unfolding namespace_of two_texts item_of
 two_texts_left null is = refl
 two_texts_left (boolean b) is = refl
@@ -97,8 +115,11 @@ two_texts_left (string s) is = absurd (cc)
 two_texts_left (array js) is = refl
 two_texts_left (object ms) is = refl
 
--- what is no text names servers where it is a number
-pub nodes_left : (j : Json) → as_str j ≡ None → acknowledgment_of (view j) ≡ option_map Nodes (small_of (view j))
+-- what is no text is a namespace where it is a list of two
+pub two_texts_read : (read : Result Namespace Unread) (j : Json) → as_str j ≡ None → GivesPart read (two_texts (view j)) → GivesPart read (namespace_of (view j))
+two_texts_read read j is gives = subst (GivesPart read) (sym (two_texts_left j is)) gives
+
+nodes_left : (j : Json) → as_str j ≡ None → acknowledgment_of (view j) ≡ option_map Nodes (small_of (view j))
 unfolding acknowledgment_of small_of
 nodes_left null is = refl
 nodes_left (boolean b) is = refl
@@ -106,6 +127,11 @@ nodes_left (number s) is = refl
 nodes_left (string s) is = absurd (cc)
 nodes_left (array js) is = refl
 nodes_left (object ms) is = refl
+
+-- what is no text names servers where it is a number
+pub nodes_read : (read : Result Acknowledgment Unread) (j : Json) → as_str j ≡ None → GivesPart read (option_map Nodes (small_of (view j)))
+    → GivesPart read (acknowledgment_of (view j))
+nodes_read read j is gives = subst (GivesPart read) (sym (nodes_left j is)) gives
 
 pub no_level : (j : Json) → as_str j ≡ None → read_concern_of (view j) ≡ None
 unfolding read_concern_of

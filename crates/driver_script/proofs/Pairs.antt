@@ -1,5 +1,5 @@
 -- Pairs of a script, from what their parts are read as.
-use Rattle.std.proofs.Common.{◌≡◌, ℕ, List, Option, None, Some, refl, sym, ap, ◌∙◌, subst}
+use Rattle.std.proofs.Common.{◌≡◌, ℕ, List, Option, Some, refl, ap, ◌∙◌}
 use Rattle.std.specs.Prelude.{Err}
 use Rattle.std.specs.Option.{option_and_then, option_map}
 use Rattle.bson_lite.specs.declared.bson.Bson.{Bson}

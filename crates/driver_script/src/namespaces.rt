@@ -36,7 +36,7 @@ impl FromJson for Key {
 impl FromJson for Namespace {
     ghost spec = { namespace_of };
 
-    #[tactic(auto, unfolding(crate::specs::Values::namespace_of), using(crate::proofs::OtherForms::two_texts_left))]
+    #[tactic(auto, unfolding(crate::specs::Values::namespace_of), using(crate::proofs::OtherForms::two_texts_read))]
     fn read(alloc: Global, value: &Json<'_, '_>) -> Result<Namespace, Unread> {
         match value.as_str() {
             Some(text) => cut_at_dot(alloc, text),

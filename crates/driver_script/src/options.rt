@@ -1,6 +1,10 @@
 //! Readers of the options of a script's client, and of concerns.
-ghost use Rattle.std.specs.Prelude.{◌≡◌, IfOk};
+ghost use Rattle.std.specs.Prelude.{◌≡◌, IfOk, option_map};
+ghost use Rattle.driver_options.specs.declared.concerns.Acknowledgment.TheVariants.{Nodes};
+ghost use Rattle.driver_script.specs.Json.{GivesPart};
 ghost use Rattle.driver_script.specs.Options.{acknowledgment_named, acknowledgment_of, client_options_of, flag_of, level_named, read_concern_of, write_concern_of};
+ghost use Rattle.driver_script.specs.Values.{small_of};
+ghost use Rattle.driver_script.specs.inside.Tree.{view};
 
 use crate::from_json::{FromJson, Unread, is_object_of, read_optional};
 use crate::keys::{
@@ -35,14 +39,21 @@ fn acknowledgment_named(alloc: Global, name: &str) -> Result<Acknowledgment, All
     Ok(Acknowledgment::Custom(Text::from_str(alloc, name)?))
 }
 
+/// So many servers.
+fn nodes(alloc: Global, value: &Json<'_, '_>) -> Result<Acknowledgment, Unread>
+    ensures { GivesPart result (option_map Nodes (small_of (view value.now))) }
+{
+    Ok(Acknowledgment::Nodes(u32::read(alloc, value)?))
+}
+
 impl FromJson for Acknowledgment {
     ghost spec = { acknowledgment_of };
 
-    #[tactic(auto, unfolding(crate::specs::Options::acknowledgment_of), using(crate::proofs::OtherForms::nodes_left))]
+    #[tactic(auto, unfolding(crate::specs::Options::acknowledgment_of), using(crate::proofs::OtherForms::nodes_read))]
     fn read(alloc: Global, value: &Json<'_, '_>) -> Result<Acknowledgment, Unread> {
         match value.as_str() {
             Some(name) => Ok(acknowledgment_named(alloc, name)?),
-            None => Ok(Acknowledgment::Nodes(u32::read(alloc, value)?)),
+            None => nodes(alloc, value),
         }
     }
 }

@@ -6,7 +6,7 @@ ghost use Rattle.driver_script.specs.inside.Tree.{view};
 
 use crate::from_json::{FromJson, Unread, is_object_of, read_needed, read_optional};
 use crate::keys::{DOC, FILTER, NS, PIPELINE, UPDATE, UPSERT};
-use crate::tree::{Json, Kind};
+use crate::tree::Json;
 use bson_lite::{Document, Namespace};
 use driver_options::UpdateModifications;
 use std::alloc::Global;
@@ -57,12 +57,11 @@ fn pipeline(alloc: Global, value: &Json<'_, '_>) -> Result<UpdateModifications, 
 impl FromJson for UpdateModifications {
     ghost spec = { update_of };
 
-    #[tactic(auto, unfolding(crate::specs::Parts::update_of))]
+    #[tactic(auto, unfolding(crate::specs::Parts::update_of), using(crate::proofs::OtherForms::pipeline_read))]
     fn read(alloc: Global, value: &Json<'_, '_>) -> Result<UpdateModifications, Unread> {
-        match value.kind() {
-            Kind::Array(_) => Ok(UpdateModifications::Document(Document::read(alloc, value)?)),
-            Kind::Object(_) => pipeline(alloc, value),
-            _ => Err(Unread::Wrong),
+        match value.items() {
+            Some(_) => Ok(UpdateModifications::Document(Document::read(alloc, value)?)),
+            None => pipeline(alloc, value),
         }
     }
 }

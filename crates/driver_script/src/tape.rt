@@ -31,11 +31,7 @@ pub(crate) fn read_tape<'a>(
 
 /// The tape of a text in JSON.
 #[tactic(auto, using(crate::proofs::InRange::fit_read, crate::proofs::InRange::unfit_read, crate::proofs::InRange::none_read))]
-fn read_text<'a>(
-    alloc: Global,
-    text: &'a str,
-    scratch: &'a mut Scratch,
-) -> Result<Tape<'a>, Unread>
+fn read_text<'a>(alloc: Global, text: &'a str, scratch: &'a mut Scratch) -> Result<Tape<'a>, Unread>
     ensures { GivesTape result (read text.now) }
 {
     let tape = match Tape::parse(text, scratch, Vec::new(alloc)) {
@@ -76,11 +72,7 @@ fn level_after(level: usize, node: &Node<'_>) -> Option<usize>
             None
         },
         Node::EndObject | Node::EndArray => Some(level.saturating_sub(1)),
-        Node::Number(text) => if is_in_range(text) {
-            Some(level)
-        } else {
-            None
-        },
+        Node::Number(text) => if is_in_range(text) { Some(level) } else { None },
         _ => Some(level),
     }
 }

@@ -219,7 +219,8 @@ impl<'t, 'a> Items<'t, 'a> {
     /// The next item.
     #[inline(always)]
     pub(crate) fn next(&mut self) -> Option<Json<'t, 'a>>
-        ensures { MatchOption result (self.old ≡ tree.no_items) (λ value. self.old ≡ tree.item value self.new) }
+        ensures { MatchOption result (self.old ≡ tree.no_items)
+            (λ value. self.old ≡ tree.item value self.new) }
     {
         let Some(element) = self.items.next() else {
             return None;
@@ -261,11 +262,7 @@ impl<'t, 'a> Members<'t, 'a> {
 
 /// What stands last under a key that each member has which is left: this value, where none is left.
 #[tactic(auto, unfolding(crate::specs::inside::Members::last_of))]
-fn last_of<'t, 'a>(
-    key: &str,
-    first: Json<'t, 'a>,
-    members: Members<'t, 'a>,
-) -> Option<Json<'t, 'a>>
+fn last_of<'t, 'a>(key: &str, first: Json<'t, 'a>, members: Members<'t, 'a>) -> Option<Json<'t, 'a>>
     ensures { result ≡ last_of key.now first.entry members.entry }
 {
     let mut last = first;

@@ -1,5 +1,5 @@
 -- Values, items and members of JSON, as they are found in the tokens that begin with them, and as they are stored.
-use Rattle.std.specs.Prelude.{◌≡◌, ℕ, ◌+◌, ◌≤◌, max, List, [], ◌∷◌, ◌++◌, length, Option, Some, None, refl}
+use Rattle.std.specs.Prelude.{◌≡◌, ℕ, ◌+◌, ◌≤◌, List, [], ◌∷◌, ◌++◌, length, Option, Some, None, refl}
 use Rattle.std.specs.Coded.{Coded, code_by}
 use Rattle.std.proofs.Common.{sym, ap, ◌∙◌, subst, arith, append_assoc, append-nil, length-append}
 use Rattle.json.specs.Token.{Token, tokens_code}
@@ -91,9 +91,11 @@ items_by (item j js) ts None e h =
     let is : item j js ≡ item f.1 f.3 = f.5 in
     let first : f.1 ≡ j = cc in
     let more : f.3 ≡ js = cc in
-    let rest = items_by js f.2 (after_end_array f.2) refl (subst (InItems f.2) more f.6) in
-    (rest.0, value-json_tokens_back f.0 ts f.2 f.1 f.4 ∙ ap (λ i. json_tokens i ++ f.2) first ∙ ap (λ l. json_tokens j ++ l) rest.1
-    ∙ sym (append_assoc (json_tokens j) (items_tokens js) rest.0))
+    let rest = items_by js f.2 (after_end_array f.2) refl (subst (InItems f.2) more f.6) in (
+      rest.0,
+      value-json_tokens_back f.0 ts f.2 f.1 f.4 ∙ ap (λ i. json_tokens i ++ f.2) first ∙ ap (λ l. json_tokens j ++ l) rest.1
+          ∙ sym (append_assoc (json_tokens j) (items_tokens js) rest.0),
+    )
 
 pub items_is : (ts : List Token) (js : Items) → InItems ts js → items_at ts ≡ js
 unfolding items_at
@@ -122,10 +124,12 @@ members_by (member key j ms) ts (Some (Some k, s)) e h =
     let same : k ≡ key = cc in
     let first : f.1 ≡ j = cc in
     let more : f.3 ≡ ms = cc in
-    let rest = members_by ms f.2 (read_key f.2) refl (subst (InMembers f.2) more f.6) in
-    (rest.0, opens ∙ ap (λ n. Token.key n ∷ s) same ∙ ap (λ l. Token.key key ∷ l)
-    (value-json_tokens_back f.0 s f.2 f.1 f.4 ∙ ap (λ i. json_tokens i ++ f.2) first ∙ ap (λ l. json_tokens j ++ l) rest.1
-    ∙ sym (append_assoc (json_tokens j) (members_tokens ms) rest.0)))
+    let rest = members_by ms f.2 (read_key f.2) refl (subst (InMembers f.2) more f.6) in (
+      rest.0,
+      opens ∙ ap (λ n. Token.key n ∷ s) same ∙ ap (λ l. Token.key key ∷ l)
+          (value-json_tokens_back f.0 s f.2 f.1 f.4 ∙ ap (λ i. json_tokens i ++ f.2) first ∙ ap (λ l. json_tokens j ++ l) rest.1
+          ∙ sym (append_assoc (json_tokens j) (members_tokens ms) rest.0)),
+    )
 
 pub members_is : (ts : List Token) (ms : Members) → InMembers ts ms → members_at ts ≡ ms
 unfolding members_at
