@@ -148,14 +148,14 @@ impl<'t, 'a> Json<'t, 'a> {
         if let Some(text) = self.as_str() {
             return Kind::String(text);
         }
-        if let Some(items) = self.items() {
-            return Kind::Array(items);
+        if let Some(text) = self.as_number() {
+            return Kind::Number(text);
         }
         if let Some(members) = self.members() {
             return Kind::Object(members);
         }
-        if let Some(text) = self.as_number() {
-            return Kind::Number(text);
+        if let Some(items) = self.items() {
+            return Kind::Array(items);
         }
         match self.as_bool() {
             Some(flag) => Kind::Bool(flag),
@@ -243,7 +243,7 @@ impl<'t, 'a> Members<'t, 'a> {
     }
 
     /// The one key, and what stands under it last; none where there is no key or more than one.
-    #[tactic(auto, using(crate::proofs::Only::only_seen, crate::proofs::Only::only_smaller, crate::proofs::Only::none_seen))]
+    #[tactic(auto, using(crate::proofs::Only::only_seen, crate::proofs::Only::none_seen))]
     pub(crate) fn only(self) -> Option<(&'a str, Json<'t, 'a>)>
         ensures is { MatchOption result (only_in (members_view self.entry) ≡ None)
             (λ m. members_view self.entry ≡ member m.0.now (view m.1) no_members) }
