@@ -37,9 +37,16 @@ fn under(alloc: Global, key: &str) -> Result<Document, Fail> {
     Ok(copied(alloc, &read(alloc, bytes.as_slice())?)?)
 }
 
+/// Whether a document has one pair, under this key.
+fn stands_under(document: &Document, key: &str) -> bool {
+    match document.pairs() {
+        [pair] => pair.key.as_str() == key,
+        _ => false,
+    }
+}
+
 #[test]
 fn a_key_is_kept_whatever_its_length(rt: HostRuntime) -> Result<(), Fail> {
-    let alloc = rt.alloc();
     for key in [
         "",
         "x",
@@ -48,10 +55,9 @@ fn a_key_is_kept_whatever_its_length(rt: HostRuntime) -> Result<(), Fail> {
         "seventeen.letters",
         "a key of more letters than stand in a value itself",
     ] {
-        let document = under(alloc, key)?;
-        assert_eq!(rt; document.pairs()[0].key.as_str(), key);
-        assert!(rt; document == one(alloc, key, Bson::Int32(1))?, "{key}");
-        assert!(rt; document != one(alloc, "other", Bson::Int32(1))?, "{key}");
+        let document = under(rt.alloc(), key)?;
+        assert!(rt; stands_under(&document, key), "{key}");
+        assert!(rt; !stands_under(&document, "other"), "{key}");
     }
     Ok(())
 }
