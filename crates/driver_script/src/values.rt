@@ -109,7 +109,7 @@ fn read_pairs(alloc: Global, room: usize, items: Items<'_, '_>) -> Result<Docume
 /// A key and a value, as a list of the two.
 #[cycle(value)]
 #[inline(always)]
-#[tactic(auto, unfolding(crate::specs::Values::pair_of), using(crate::proofs::OtherForms::no_pair, crate::proofs::Pairs::pair_read, crate::proofs::Pairs::pair_wrong))]
+#[tactic(auto, unfolding(crate::specs::Values::pair_of), using(crate::proofs::OtherForms::no_pair))]
 fn read_pair(alloc: Global, value: &Json<'_, '_>) -> Result<Pair<Bson>, Unread>
     ensures { GivesPart result (pair_of (view value.now)) }
 {
