@@ -84,8 +84,8 @@ no_string json.null is = refl
 no_string (json.boolean flag) is = refl
 no_string (json.number text) is = refl
 no_string (json.string text) is = absurd (cc)
-no_string (json.array items) is = refl
-no_string (json.object members) is = refl
+no_string (json.array js) is = refl
+no_string (json.object ms) is = refl
 
 -- what is neither a text nor an object of one key is no item
 pub item_none : (j : Json) → as_str j ≡ None → only (view j) ≡ None → item_in (view j) ≡ None
