@@ -3,8 +3,11 @@ mod InRange
 mod MemberKeys
 mod Numbered
 mod OneKey
+mod Only
+mod OtherForms
+mod Pairs
+mod Places
 mod PlannedResults
 mod Readings
 mod Schedules
 mod Trees
-mod ValueLaws

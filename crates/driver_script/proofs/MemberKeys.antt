@@ -1,13 +1,13 @@
 -- The keys of an object, whose members go in one after another.
-use Rattle.std.proofs.Common.{◌≡◌, ℕ, List, [], ◌∷◌, Bool, true, false, ◌&&◌, Ordering, Less, Equal, Greater, is_eq, nat_cmp, bytes_eq, refl, sym, ap, ◌∙◌}
+use Rattle.std.proofs.Common.{◌≡◌, ℕ, List, Bool, true, false, ◌&&◌, Ordering, Less, Equal, Greater, is_eq, nat_cmp, refl, sym, ap, ◌∙◌}
 use Rattle.std.proofs.lemmas.Map.Text.{is_eq-slice_cmp}
 use Rattle.std.proofs.lemmas.Slice.Eq.{bytes_eq-Decides}
 use Rattle.std.specs.Cmp.Lexicographic.{slice_cmp}
 use Rattle.std.specs.Ordering.{match_ordering}
 use Rattle.driver_script.specs.Json.{among, has_keys_among}
 use Rattle.driver_script.specs.inside.Members.{keys_in}
-use Rattle.driver_script.proofs.Trees.{Entry}
-use Rattle.driver_script.specs.inside.Tree.{members_behind, members_view, view}
+use Rattle.driver_script.specs.inside.Tree.{data_of, members_data, members_view}
+use Rattle.json.specs.Json as json
 use Rattle.serde_json.specs.Data.{Data, Members, member, no_members, put}
 
 swap : (a b c : Bool) → (b && (a && c)) ≡ (a && (b && c))
@@ -18,6 +18,10 @@ swap false false c = refl
 twice : (a b : Bool) → (a && b) ≡ (a && (a && b))
 twice true b = refl
 twice false b = refl
+
+grouped : (a b c : Bool) → (a && (b && c)) ≡ ((a && b) && c)
+grouped true b c = refl
+grouped false b c = refl
 
 with_true : (a : Bool) → (a && true) ≡ a
 with_true true = refl
@@ -39,18 +43,14 @@ unfolding has_keys_among
 keys_put keys key d no_members = refl
 keys_put keys key d (member one e ms) = keys_by keys key one d e ms (slice_cmp nat_cmp key one) refl (keys_put keys key d ms)
 
-keys_behind : (keys : List (List ℕ)) (es : List Entry) (found : Members) → has_keys_among keys (members_behind es found) ≡ (keys_in keys es && has_keys_among keys found)
+keys_behind : (keys : List (List ℕ)) (ms : json.Members) (found : Members) → has_keys_among keys (members_data ms found) ≡ (keys_in keys ms && has_keys_among keys found)
 unfolding keys_in
-keys_behind keys [] found = refl
-keys_behind keys (e ∷ es) found =
-    keys_behind keys es (put e.0.now (view e.1) found) ∙ ap (λ front. keys_in keys es && front) (keys_put keys e.0.now (view e.1) found)
-    ∙ swap (among keys e.0.now) (keys_in keys es) (has_keys_among keys found) ∙ by (among keys e.0.now) (keys_in keys es) (has_keys_among keys found)
-  where
-    by : (a b c : Bool) → (a && (b && c)) ≡ ((a && b) && c)
-    by true b c = refl
-    by false b c = refl
+keys_behind keys json.no_members found = refl
+keys_behind keys (json.member key j ms) found =
+    keys_behind keys ms (put key (data_of j) found) ∙ ap (λ front. keys_in keys ms && front) (keys_put keys key (data_of j) found)
+    ∙ swap (among keys key) (keys_in keys ms) (has_keys_among keys found) ∙ grouped (among keys key) (keys_in keys ms) (has_keys_among keys found)
 
 -- the members that came have the keys of the object
-pub keys_view : (keys : List (List ℕ)) (es : List Entry) → keys_in keys es ≡ has_keys_among keys (members_view es)
+pub keys_view : (keys : List (List ℕ)) (ms : json.Members) → keys_in keys ms ≡ has_keys_among keys (members_view ms)
 unfolding has_keys_among
-keys_view keys es = sym (keys_behind keys es no_members ∙ with_true (keys_in keys es))
+keys_view keys ms = sym (keys_behind keys ms no_members ∙ with_true (keys_in keys ms))

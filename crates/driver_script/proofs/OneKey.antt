@@ -1,5 +1,5 @@
 -- Objects whose one key names what they are.
-use Rattle.std.proofs.Common.{◌≡◌, ℕ, List, [], ◌∷◌, ◌++◌, length, arith, true, false, true≢false, is_some, refl, sym, ap, ◌∙◌, subst}
+use Rattle.std.proofs.Common.{◌≡◌, ℕ, List, refl, sym, ap, ◌∙◌, subst}
 use Rattle.std.specs.Prelude.{None, Result}
 use Rattle.bson_lite.specs.declared.bson.Bson.{Bson}
 use Rattle.driver_inputs.specs.declared.call.Call.{Call}
@@ -11,11 +11,13 @@ use Rattle.driver_script.specs.Models.{model_of, model_under}
 use Rattle.driver_script.specs.ScheduleSteps.{item_in, item_under}
 use Rattle.driver_script.specs.Values.{array_of, document_of, tagged, value_of}
 use Rattle.driver_script.specs.declared.from_json.Unread.{Unread}
-use Rattle.driver_script.proofs.Trees.{Entry, one_is}
 use Rattle.driver_script.specs.inside.Members.{only, only_in}
-use Rattle.driver_script.specs.inside.Tree.{members_view, view}
+use Rattle.driver_script.specs.inside.Tree.{view}
 use Rattle.serde_json.specs.Data.{Data, null, boolean, number, string, array, object, Members, no_members, member}
-use Rattle.serde_json.specs.Find.{as_object}
+use Rattle.serde_json.specs.Find.{as_str as as_text}
+use Rattle.json.specs.Find.{as_str}
+use Rattle.json.specs.Json as json
+use Rattle.json.specs.Json.{Json}
 
 -- ---- calls
 
@@ -66,16 +68,28 @@ item_is name inner = refl
 pub item_one : (read : Result Item Unread) (d inner : Data) (name : List ℕ) → d ≡ object (member name inner no_members) → GivesPart read (item_under name inner) → GivesPart read (item_in d)
 item_one read d inner name is gives = subst (GivesPart read) (sym (ap item_in is ∙ item_is name inner)) gives
 
-pub item_none : (d : Data) → is_some (as_object d) ≡ true → only d ≡ None → item_in d ≡ None
+item_by : (d : Data) → as_text d ≡ None → only d ≡ None → item_in d ≡ None
 unfolding item_in
-item_none null there is = absurd (cc)
-item_none (boolean flag) there is = absurd (cc)
-item_none (number n) there is = absurd (cc)
-item_none (string text) there is = absurd (cc)
-item_none (array items) there is = absurd (cc)
-item_none (object no_members) there is = refl
-item_none (object (member name inner no_members)) there is = absurd (cc)
-item_none (object (member name inner (member two e more))) there is = refl
+item_by null other is = refl
+item_by (boolean flag) other is = refl
+item_by (number n) other is = refl
+item_by (string text) other is = absurd (cc)
+item_by (array items) other is = refl
+item_by (object no_members) other is = refl
+item_by (object (member name inner no_members)) other is = absurd (cc)
+item_by (object (member name inner (member two e more))) other is = refl
+
+no_string : (j : Json) → as_str j ≡ None → as_text (view j) ≡ None
+no_string json.null is = refl
+no_string (json.boolean flag) is = refl
+no_string (json.number text) is = refl
+no_string (json.string text) is = absurd (cc)
+no_string (json.array js) is = refl
+no_string (json.object ms) is = refl
+
+-- what is neither a text nor an object of one key is no item
+pub item_none : (j : Json) → as_str j ≡ None → only (view j) ≡ None → item_in (view j) ≡ None
+item_none j other is = item_by (view j) (no_string j other) is
 
 -- ---- values
 
@@ -83,23 +97,12 @@ value_is : (key : List ℕ) (inner : Data) → value_of (object (member key inne
 unfolding value_of
 value_is key inner = refl
 
-value_one : (read : Result Bson Unread) (left : Members) (inner : Data) (key : List ℕ) → left ≡ member key inner no_members
+pub value_one : (read : Result Bson Unread) (left : Members) (inner : Data) (key : List ℕ) → left ≡ member key inner no_members
     → GivesPart read (tagged key inner (document_of inner) (array_of inner)) → GivesPart read (value_of (object left))
 value_one read left inner key is gives = subst (GivesPart read) (sym (ap (λ them. value_of (object them)) is ∙ value_is key inner)) gives
 
--- the last member says what the value is, where all have its key
-pub value_last : (read : Result Bson Unread) (ms rest : List Entry) (m : Entry) → ms ≡ rest ++ m ∷ [] → is_some (only_in (members_view ms)) ≡ true
-    → GivesPart read (tagged m.0.now (view m.1) (document_of (view m.1)) (array_of (view m.1))) → GivesPart read (value_of (object (members_view ms)))
-value_last read ms rest m is one gives = value_one read (members_view ms) (view m.1) m.0.now (one_is ms rest m is one) gives
-
--- no members are no value
-pub value_empty : (ms : List Entry) → length ms ≡ 0 → value_of (object (members_view ms)) ≡ None
-unfolding value_of
-value_empty [] is = refl
-value_empty (m ∷ ms) is = absurd (omega (arith, is))
-
-pub value_none : (left : Members) → is_some (only_in left) ≡ false → value_of (object left) ≡ None
+pub value_none : (left : Members) → only_in left ≡ None → value_of (object left) ≡ None
 unfolding value_of
 value_none no_members is = refl
-value_none (member key inner no_members) is = absurd (true≢false is)
+value_none (member key inner no_members) is = absurd (cc)
 value_none (member key inner (member two e more)) is = refl

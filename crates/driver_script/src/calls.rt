@@ -14,14 +14,13 @@ use crate::parts::{
     DeleteParts, InsertParts, ReplaceParts, UpdateParts, delete_parts, insert_parts, replace_parts,
     update_parts,
 };
-use crate::tree::only_member;
+use crate::tree::Json;
 use bson_lite::{Boxed, Bson};
 use driver_inputs::{Call, SingleWrite};
 use driver_options::{
     BulkWriteOptions, DeleteOptions, FindOneAndDeleteOptions, FindOneAndReplaceOptions,
     FindOneAndUpdateOptions, InsertManyOptions, UpdateOptions, WriteConcern,
 };
-use json::Value;
 use std::alloc::Global;
 
 /// The options that every write has.
@@ -55,7 +54,7 @@ pub(crate) struct BulkManner {
 /// The options that every write has, under their keys.
 #[inline(always)]
 #[tactic(auto, unfolding(crate::specs::Calls::shared_of))]
-fn read_shared(alloc: Global, value: &Value<'_>) -> Result<SharedOptions, Unread>
+fn read_shared(alloc: Global, value: &Json<'_, '_>) -> Result<SharedOptions, Unread>
     ensures { GivesPart result (shared_of (view value.now)) }
 {
     let write_concern = read_optional(alloc, value, WRITE_CONCERN)?;
@@ -81,7 +80,7 @@ fn insert_options(ordered: Option<bool>, shared: SharedOptions) -> InsertManyOpt
 
 #[inline(always)]
 #[tactic(auto, unfolding(crate::specs::Calls::insert_one_of))]
-fn insert_one(alloc: Global, value: &Value<'_>) -> Result<Call, Unread>
+fn insert_one(alloc: Global, value: &Json<'_, '_>) -> Result<Call, Unread>
     ensures { GivesPart result (insert_one_of (view value.now)) }
 {
     if !is_object_of(value, &[NS, DOC, WRITE_CONCERN, COMMENT]) {
@@ -103,7 +102,7 @@ fn insert_one(alloc: Global, value: &Value<'_>) -> Result<Call, Unread>
 
 /// The options of an insert of many documents, under their keys.
 #[tactic(auto, unfolding(crate::specs::Calls::insert_options_of))]
-fn read_insert_options(alloc: Global, value: &Value<'_>) -> Result<InsertManyOptions, Unread>
+fn read_insert_options(alloc: Global, value: &Json<'_, '_>) -> Result<InsertManyOptions, Unread>
     ensures { GivesPart result (insert_options_of (view value.now)) }
 {
     let ordered = read_optional(alloc, value, ORDERED)?;
@@ -112,7 +111,7 @@ fn read_insert_options(alloc: Global, value: &Value<'_>) -> Result<InsertManyOpt
 }
 
 #[tactic(auto, unfolding(crate::specs::Calls::insert_many_of))]
-fn insert_many(alloc: Global, value: &Value<'_>) -> Result<Call, Unread>
+fn insert_many(alloc: Global, value: &Json<'_, '_>) -> Result<Call, Unread>
     ensures { GivesPart result (insert_many_of (view value.now)) }
 {
     if !is_object_of(value, &[NS, DOCS, ORDERED, WRITE_CONCERN, COMMENT]) {
@@ -143,7 +142,7 @@ fn bulk_options(ordered: Option<bool>, shared: SharedOptions) -> BulkWriteOption
 
 /// How a bulk write is made, under its keys: it is verbose only where that is said.
 #[tactic(auto, unfolding(crate::specs::Calls::bulk_manner_of))]
-fn read_bulk_manner(alloc: Global, value: &Value<'_>) -> Result<BulkManner, Unread>
+fn read_bulk_manner(alloc: Global, value: &Json<'_, '_>) -> Result<BulkManner, Unread>
     ensures { GivesPart result (bulk_manner_of (view value.now)) }
 {
     let ordered = read_optional(alloc, value, ORDERED)?;
@@ -156,7 +155,7 @@ fn read_bulk_manner(alloc: Global, value: &Value<'_>) -> Result<BulkManner, Unre
 }
 
 #[tactic(auto, unfolding(crate::specs::Calls::bulk_write_of))]
-fn bulk_write(alloc: Global, value: &Value<'_>) -> Result<Call, Unread>
+fn bulk_write(alloc: Global, value: &Json<'_, '_>) -> Result<Call, Unread>
     ensures { GivesPart result (bulk_write_of (view value.now)) }
 {
     if !is_object_of(value, &[MODELS, ORDERED, VERBOSE, WRITE_CONCERN, COMMENT]) {
@@ -189,7 +188,7 @@ fn update_options(upsert: Option<bool>, shared: SharedOptions) -> UpdateOptions
 }
 
 #[tactic(auto, unfolding(crate::specs::Calls::update_call_of))]
-fn update_call(alloc: Global, value: &Value<'_>) -> Result<UpdateCall, Unread>
+fn update_call(alloc: Global, value: &Json<'_, '_>) -> Result<UpdateCall, Unread>
     ensures { GivesPart result (update_call_of (view value.now)) }
 {
     if !is_object_of(value, &[NS, FILTER, UPDATE, UPSERT, WRITE_CONCERN, COMMENT]) {
@@ -201,7 +200,7 @@ fn update_call(alloc: Global, value: &Value<'_>) -> Result<UpdateCall, Unread>
 }
 
 #[tactic(auto, unfolding(crate::specs::Calls::update_one_of))]
-fn update_one(alloc: Global, value: &Value<'_>) -> Result<Call, Unread>
+fn update_one(alloc: Global, value: &Json<'_, '_>) -> Result<Call, Unread>
     ensures { GivesPart result (update_one_of (view value.now)) }
 {
     let UpdateCall { parts, shared } = update_call(alloc, value)?;
@@ -223,7 +222,7 @@ fn update_one(alloc: Global, value: &Value<'_>) -> Result<Call, Unread>
 }
 
 #[tactic(auto, unfolding(crate::specs::Calls::update_many_of))]
-fn update_many(alloc: Global, value: &Value<'_>) -> Result<Call, Unread>
+fn update_many(alloc: Global, value: &Json<'_, '_>) -> Result<Call, Unread>
     ensures { GivesPart result (update_many_of (view value.now)) }
 {
     let UpdateCall { parts, shared } = update_call(alloc, value)?;
@@ -245,7 +244,7 @@ fn update_many(alloc: Global, value: &Value<'_>) -> Result<Call, Unread>
 }
 
 #[tactic(auto, unfolding(crate::specs::Calls::replace_one_of))]
-fn replace_one(alloc: Global, value: &Value<'_>) -> Result<Call, Unread>
+fn replace_one(alloc: Global, value: &Json<'_, '_>) -> Result<Call, Unread>
     ensures { GivesPart result (replace_one_of (view value.now)) }
 {
     if !is_object_of(value, &[NS, FILTER, DOC, UPSERT, WRITE_CONCERN, COMMENT]) {
@@ -283,7 +282,7 @@ fn delete_options(shared: SharedOptions) -> DeleteOptions
 }
 
 #[tactic(auto, unfolding(crate::specs::Calls::delete_call_of))]
-fn delete_call(alloc: Global, value: &Value<'_>) -> Result<DeleteCall, Unread>
+fn delete_call(alloc: Global, value: &Json<'_, '_>) -> Result<DeleteCall, Unread>
     ensures { GivesPart result (delete_call_of (view value.now)) }
 {
     if !is_object_of(value, &[NS, FILTER, WRITE_CONCERN, COMMENT]) {
@@ -295,7 +294,7 @@ fn delete_call(alloc: Global, value: &Value<'_>) -> Result<DeleteCall, Unread>
 }
 
 #[tactic(auto, unfolding(crate::specs::Calls::delete_one_of))]
-fn delete_one(alloc: Global, value: &Value<'_>) -> Result<Call, Unread>
+fn delete_one(alloc: Global, value: &Json<'_, '_>) -> Result<Call, Unread>
     ensures { GivesPart result (delete_one_of (view value.now)) }
 {
     let DeleteCall { parts, shared } = delete_call(alloc, value)?;
@@ -311,7 +310,7 @@ fn delete_one(alloc: Global, value: &Value<'_>) -> Result<Call, Unread>
 }
 
 #[tactic(auto, unfolding(crate::specs::Calls::delete_many_of))]
-fn delete_many(alloc: Global, value: &Value<'_>) -> Result<Call, Unread>
+fn delete_many(alloc: Global, value: &Json<'_, '_>) -> Result<Call, Unread>
     ensures { GivesPart result (delete_many_of (view value.now)) }
 {
     let DeleteCall { parts, shared } = delete_call(alloc, value)?;
@@ -343,7 +342,7 @@ fn find_delete_options(shared: SharedOptions) -> FindOneAndDeleteOptions
 }
 
 #[tactic(auto, unfolding(crate::specs::Calls::find_one_and_delete_of))]
-fn find_one_and_delete(alloc: Global, value: &Value<'_>) -> Result<Call, Unread>
+fn find_one_and_delete(alloc: Global, value: &Json<'_, '_>) -> Result<Call, Unread>
     ensures { GivesPart result (find_one_and_delete_of (view value.now)) }
 {
     let DeleteCall { parts, shared } = delete_call(alloc, value)?;
@@ -379,7 +378,7 @@ fn find_update_options(shared: SharedOptions) -> FindOneAndUpdateOptions
 }
 
 #[tactic(auto, unfolding(crate::specs::Calls::find_one_and_update_of))]
-fn find_one_and_update(alloc: Global, value: &Value<'_>) -> Result<Call, Unread>
+fn find_one_and_update(alloc: Global, value: &Json<'_, '_>) -> Result<Call, Unread>
     ensures { GivesPart result (find_one_and_update_of (view value.now)) }
 {
     if !is_object_of(value, &[NS, FILTER, UPDATE, WRITE_CONCERN, COMMENT]) {
@@ -420,7 +419,7 @@ fn find_replace_options(shared: SharedOptions) -> FindOneAndReplaceOptions
 }
 
 #[tactic(auto, unfolding(crate::specs::Calls::find_one_and_replace_of))]
-fn find_one_and_replace(alloc: Global, value: &Value<'_>) -> Result<Call, Unread>
+fn find_one_and_replace(alloc: Global, value: &Json<'_, '_>) -> Result<Call, Unread>
     ensures { GivesPart result (find_one_and_replace_of (view value.now)) }
 {
     if !is_object_of(value, &[NS, FILTER, DOC, WRITE_CONCERN, COMMENT]) {
@@ -443,7 +442,7 @@ fn find_one_and_replace(alloc: Global, value: &Value<'_>) -> Result<Call, Unread
 
 /// The write that answers a document, whose parts stand under its name.
 #[tactic(auto, unfolding(crate::specs::Calls::find_under))]
-fn find_under(alloc: Global, name: &str, value: &Value<'_>) -> Result<Call, Unread>
+fn find_under(alloc: Global, name: &str, value: &Json<'_, '_>) -> Result<Call, Unread>
     ensures { GivesPart result (find_under name.now (view value.now)) }
 {
     if name == FIND_ONE_AND_DELETE {
@@ -460,7 +459,7 @@ fn find_under(alloc: Global, name: &str, value: &Value<'_>) -> Result<Call, Unre
 
 /// The update or replacement whose parts stand under its name, or a write that answers a document.
 #[tactic(auto, unfolding(crate::specs::Calls::update_under))]
-fn update_under(alloc: Global, name: &str, value: &Value<'_>) -> Result<Call, Unread>
+fn update_under(alloc: Global, name: &str, value: &Json<'_, '_>) -> Result<Call, Unread>
     ensures { GivesPart result (update_under name.now (view value.now)) }
 {
     if name == UPDATE_ONE {
@@ -478,7 +477,7 @@ fn update_under(alloc: Global, name: &str, value: &Value<'_>) -> Result<Call, Un
 /// The write of one statement whose parts stand under its name.
 #[inline(always)]
 #[tactic(auto, unfolding(crate::specs::Calls::write_under))]
-fn write_under(alloc: Global, name: &str, value: &Value<'_>) -> Result<Call, Unread>
+fn write_under(alloc: Global, name: &str, value: &Json<'_, '_>) -> Result<Call, Unread>
     ensures { GivesPart result (write_under name.now (view value.now)) }
 {
     if name == INSERT_ONE {
@@ -497,7 +496,7 @@ fn write_under(alloc: Global, name: &str, value: &Value<'_>) -> Result<Call, Unr
 /// statement.
 #[inline(always)]
 #[tactic(auto, unfolding(crate::specs::Calls::call_under))]
-fn call_under(alloc: Global, name: &str, value: &Value<'_>) -> Result<Call, Unread>
+fn call_under(alloc: Global, name: &str, value: &Json<'_, '_>) -> Result<Call, Unread>
     ensures { GivesPart result (call_under name.now (view value.now)) }
 {
     if name == INSERT_MANY {
@@ -513,9 +512,9 @@ impl FromJson for Call {
     ghost spec = { call_of };
 
     #[tactic(auto, using(crate::proofs::OneKey::call_one, crate::proofs::OneKey::call_none))]
-    fn read(alloc: Global, value: &Value<'_>) -> Result<Call, Unread> {
-        match only_member(value) {
-            Some((name, inner)) => call_under(alloc, name, inner),
+    fn read(alloc: Global, value: &Json<'_, '_>) -> Result<Call, Unread> {
+        match value.only_member() {
+            Some((name, inner)) => call_under(alloc, name, &inner),
             None => Err(Unread::Wrong),
         }
     }

@@ -6,15 +6,14 @@ ghost use Rattle.driver_script.specs.inside.Tree.{view};
 
 use crate::from_json::{FromJson, Unread};
 use crate::keys::{BYTES, DATE, DOUBLE, INT64, OID, TS};
-use crate::tree::{as_i64, as_u64, item_at};
+use crate::tree::Json;
 use bson_lite::{Binary, Bson, Bytes, ObjectId, Timestamp};
 use hex::{FromHex, FromHexError};
-use json::Value;
 use std::alloc::Global;
 
 /// A value that holds no other, under a key which says what it is.
 #[tactic(auto, unfolding(crate::specs::Values::tagged_leaf))]
-pub(crate) fn read_leaf(alloc: Global, key: &str, value: &Value<'_>) -> Result<Bson, Unread>
+pub(crate) fn read_leaf(alloc: Global, key: &str, value: &Json<'_, '_>) -> Result<Bson, Unread>
     ensures { GivesPart result (tagged_leaf key.now (view value.now)) }
 {
     if key == INT64 {
@@ -42,10 +41,10 @@ pub(crate) fn read_leaf(alloc: Global, key: &str, value: &Value<'_>) -> Result<B
 
 /// A whole number of 64 bits with a sign.
 #[tactic(auto, unfolding(crate::specs::Values::whole_of))]
-fn whole(value: &Value<'_>) -> Result<i64, Unread>
+fn whole(value: &Json<'_, '_>) -> Result<i64, Unread>
     ensures { GivesPart result (whole_of (view value.now)) }
 {
-    match as_i64(value) {
+    match value.as_i64() {
         Some(number) => Ok(number),
         None => Err(Unread::Wrong),
     }
@@ -53,10 +52,10 @@ fn whole(value: &Value<'_>) -> Result<i64, Unread>
 
 /// A number of 32 bits without a sign.
 #[tactic(auto, unfolding(crate::specs::Values::small_of))]
-fn small(value: &Value<'_>) -> Result<u32, Unread>
+fn small(value: &Json<'_, '_>) -> Result<u32, Unread>
     ensures { GivesPart result (small_of (view value.now)) }
 {
-    let Some(number) = as_u64(value) else {
+    let Some(number) = value.as_u64() else {
         return Err(Unread::Wrong);
     };
     match u32::try_from(number) {
@@ -68,7 +67,7 @@ fn small(value: &Value<'_>) -> Result<u32, Unread>
 impl FromJson for u32 {
     ghost spec = { small_of };
 
-    fn read(_alloc: Global, value: &Value<'_>) -> Result<u32, Unread> {
+    fn read(_alloc: Global, value: &Json<'_, '_>) -> Result<u32, Unread> {
         small(value)
     }
 }
@@ -77,8 +76,8 @@ impl FromJson for u64 {
     ghost spec = { count_of };
 
     #[tactic(auto, unfolding(crate::specs::Values::count_of))]
-    fn read(_alloc: Global, value: &Value<'_>) -> Result<u64, Unread> {
-        match as_u64(value) {
+    fn read(_alloc: Global, value: &Json<'_, '_>) -> Result<u64, Unread> {
+        match value.as_u64() {
             Some(number) => Ok(number),
             None => Err(Unread::Wrong),
         }
@@ -88,7 +87,7 @@ impl FromJson for u64 {
 impl FromJson for i64 {
     ghost spec = { whole_of };
 
-    fn read(_alloc: Global, value: &Value<'_>) -> Result<i64, Unread> {
+    fn read(_alloc: Global, value: &Json<'_, '_>) -> Result<i64, Unread> {
         whole(value)
     }
 }
@@ -97,8 +96,8 @@ impl FromJson for i32 {
     ghost spec = { code_of };
 
     #[tactic(auto, unfolding(crate::specs::Values::code_of))]
-    fn read(_alloc: Global, value: &Value<'_>) -> Result<i32, Unread> {
-        let Some(number) = as_i64(value) else {
+    fn read(_alloc: Global, value: &Json<'_, '_>) -> Result<i32, Unread> {
+        let Some(number) = value.as_i64() else {
             return Err(Unread::Wrong);
         };
         match i32::try_from(number) {
@@ -110,27 +109,27 @@ impl FromJson for i32 {
 
 /// A time and an increment, as a list of the two.
 #[tactic(auto, unfolding(crate::specs::Values::stamp_of, crate::specs::Values::item_of))]
-fn stamp(value: &Value<'_>) -> Result<Timestamp, Unread>
+fn stamp(value: &Json<'_, '_>) -> Result<Timestamp, Unread>
     ensures { GivesPart result (stamp_of (view value.now)) }
 {
-    if item_at(value, 2).is_some() {
+    if value.at(2).is_some() {
         return Err(Unread::Wrong);
     }
-    let (Some(time), Some(increment)) = (item_at(value, 0), item_at(value, 1)) else {
+    let (Some(time), Some(increment)) = (value.at(0), value.at(1)) else {
         return Err(Unread::Wrong);
     };
     Ok(Timestamp {
-        time: small(time)?,
-        increment: small(increment)?,
+        time: small(&time)?,
+        increment: small(&increment)?,
     })
 }
 
 /// So many bytes, two hexadecimal digits of either case for each.
-#[tactic(auto, unfolding(crate::specs::Values::sized_of))]
-fn sized<const N: usize>(value: &Value<'_>) -> Result<[u8; N], Unread>
+#[tactic(auto, unfolding(crate::specs::Values::sized_of), using(crate::proofs::OtherForms::not_sized))]
+fn sized<const N: usize>(value: &Json<'_, '_>) -> Result<[u8; N], Unread>
     ensures { GivesPart result (sized_of N (view value.now)) }
 {
-    let Value::String(text) = value else {
+    let Some(text) = value.as_str() else {
         return Err(Unread::Wrong);
     };
     match <[u8; N] as FromHex>::from_hex(text) {
@@ -140,11 +139,11 @@ fn sized<const N: usize>(value: &Value<'_>) -> Result<[u8; N], Unread>
 }
 
 /// Bytes of any number, two hexadecimal digits of either case for each.
-#[tactic(auto, unfolding(crate::specs::Values::bytes_of))]
-fn read_bytes(alloc: Global, value: &Value<'_>) -> Result<Bytes, Unread>
+#[tactic(auto, unfolding(crate::specs::Values::bytes_of), using(crate::proofs::OtherForms::no_bytes))]
+fn read_bytes(alloc: Global, value: &Json<'_, '_>) -> Result<Bytes, Unread>
     ensures { GivesPart result (bytes_of (view value.now)) }
 {
-    let Value::String(text) = value else {
+    let Some(text) = value.as_str() else {
         return Err(Unread::Wrong);
     };
     match hex::decode(alloc, text) {

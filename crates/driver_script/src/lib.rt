@@ -17,6 +17,7 @@ mod parts;
 mod plans;
 mod schedule;
 pub mod script;
+mod tape;
 mod tree;
 mod values;
 

@@ -4,9 +4,9 @@ ghost use Rattle.driver_script.specs.Limits.{limits_of, no_limits, setup_with};
 
 use crate::from_json::{FromJson, Unread, is_object_of, read_optional};
 use crate::keys::{BATCH, BSON, MESSAGE, WIRE};
+use crate::tree::Json;
 use driver_link::Setup;
 use driver_options::Description;
-use json::Value;
 use std::alloc::Global;
 
 /// The limits of a server that are set: the bytes of a document and of a message, the writes of a batch, and the wire
@@ -23,7 +23,7 @@ impl FromJson for Limits {
     ghost spec = { limits_of };
 
     #[tactic(auto, unfolding(crate::specs::Limits::limits_of))]
-    fn read(alloc: Global, value: &Value<'_>) -> Result<Limits, Unread> {
+    fn read(alloc: Global, value: &Json<'_, '_>) -> Result<Limits, Unread> {
         if !is_object_of(value, &[BSON, MESSAGE, BATCH, WIRE]) {
             return Err(Unread::Wrong);
         }

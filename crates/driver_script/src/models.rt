@@ -12,16 +12,15 @@ use crate::parts::{
     DeleteParts, InsertParts, ReplaceParts, UpdateParts, delete_parts, insert_parts, replace_parts,
     update_parts,
 };
-use crate::tree::only_member;
+use crate::tree::Json;
 use driver_options::{
     DeleteManyModel, DeleteOneModel, InsertOneModel, ReplaceOneModel, UpdateManyModel,
     UpdateOneModel, WriteModel,
 };
-use json::Value;
 use std::alloc::Global;
 
 #[tactic(auto, unfolding(crate::specs::Models::insert_one_model_of))]
-fn insert_one_model(alloc: Global, value: &Value<'_>) -> Result<WriteModel, Unread>
+fn insert_one_model(alloc: Global, value: &Json<'_, '_>) -> Result<WriteModel, Unread>
     ensures { GivesPart result (insert_one_model_of (view value.now)) }
 {
     if !is_object_of(value, &[NS, DOC]) {
@@ -39,7 +38,7 @@ fn insert_one_model(alloc: Global, value: &Value<'_>) -> Result<WriteModel, Unre
 
 /// The parts of an update, one or many, and no other key.
 #[tactic(auto, unfolding(crate::specs::Models::updating_of))]
-fn updating(alloc: Global, value: &Value<'_>) -> Result<UpdateParts, Unread>
+fn updating(alloc: Global, value: &Json<'_, '_>) -> Result<UpdateParts, Unread>
     ensures { GivesPart result (updating_of (view value.now)) }
 {
     if !is_object_of(value, &[NS, FILTER, UPDATE, UPSERT]) {
@@ -49,7 +48,7 @@ fn updating(alloc: Global, value: &Value<'_>) -> Result<UpdateParts, Unread>
 }
 
 #[tactic(auto, unfolding(crate::specs::Models::update_one_model_of))]
-fn update_one_model(alloc: Global, value: &Value<'_>) -> Result<WriteModel, Unread>
+fn update_one_model(alloc: Global, value: &Json<'_, '_>) -> Result<WriteModel, Unread>
     ensures { GivesPart result (update_one_model_of (view value.now)) }
 {
     let UpdateParts {
@@ -71,7 +70,7 @@ fn update_one_model(alloc: Global, value: &Value<'_>) -> Result<WriteModel, Unre
 }
 
 #[tactic(auto, unfolding(crate::specs::Models::update_many_model_of))]
-fn update_many_model(alloc: Global, value: &Value<'_>) -> Result<WriteModel, Unread>
+fn update_many_model(alloc: Global, value: &Json<'_, '_>) -> Result<WriteModel, Unread>
     ensures { GivesPart result (update_many_model_of (view value.now)) }
 {
     let UpdateParts {
@@ -92,7 +91,7 @@ fn update_many_model(alloc: Global, value: &Value<'_>) -> Result<WriteModel, Unr
 }
 
 #[tactic(auto, unfolding(crate::specs::Models::replace_one_model_of))]
-fn replace_one_model(alloc: Global, value: &Value<'_>) -> Result<WriteModel, Unread>
+fn replace_one_model(alloc: Global, value: &Json<'_, '_>) -> Result<WriteModel, Unread>
     ensures { GivesPart result (replace_one_model_of (view value.now)) }
 {
     if !is_object_of(value, &[NS, FILTER, DOC, UPSERT]) {
@@ -117,7 +116,7 @@ fn replace_one_model(alloc: Global, value: &Value<'_>) -> Result<WriteModel, Unr
 
 /// The parts of a delete, one or many, and no other key.
 #[tactic(auto, unfolding(crate::specs::Models::deleting_of))]
-fn deleting(alloc: Global, value: &Value<'_>) -> Result<DeleteParts, Unread>
+fn deleting(alloc: Global, value: &Json<'_, '_>) -> Result<DeleteParts, Unread>
     ensures { GivesPart result (deleting_of (view value.now)) }
 {
     if !is_object_of(value, &[NS, FILTER]) {
@@ -127,7 +126,7 @@ fn deleting(alloc: Global, value: &Value<'_>) -> Result<DeleteParts, Unread>
 }
 
 #[tactic(auto, unfolding(crate::specs::Models::delete_one_model_of))]
-fn delete_one_model(alloc: Global, value: &Value<'_>) -> Result<WriteModel, Unread>
+fn delete_one_model(alloc: Global, value: &Json<'_, '_>) -> Result<WriteModel, Unread>
     ensures { GivesPart result (delete_one_model_of (view value.now)) }
 {
     let DeleteParts { namespace, filter } = deleting(alloc, value)?;
@@ -140,7 +139,7 @@ fn delete_one_model(alloc: Global, value: &Value<'_>) -> Result<WriteModel, Unre
 }
 
 #[tactic(auto, unfolding(crate::specs::Models::delete_many_model_of))]
-fn delete_many_model(alloc: Global, value: &Value<'_>) -> Result<WriteModel, Unread>
+fn delete_many_model(alloc: Global, value: &Json<'_, '_>) -> Result<WriteModel, Unread>
     ensures { GivesPart result (delete_many_model_of (view value.now)) }
 {
     let DeleteParts { namespace, filter } = deleting(alloc, value)?;
@@ -154,7 +153,7 @@ fn delete_many_model(alloc: Global, value: &Value<'_>) -> Result<WriteModel, Unr
 
 /// The model of an update or a replacement whose parts stand under its name.
 #[tactic(auto, unfolding(crate::specs::Models::update_model_under))]
-fn update_model_under(alloc: Global, name: &str, value: &Value<'_>) -> Result<WriteModel, Unread>
+fn update_model_under(alloc: Global, name: &str, value: &Json<'_, '_>) -> Result<WriteModel, Unread>
     ensures { GivesPart result (update_model_under name.now (view value.now)) }
 {
     if name == UPDATE_ONE {
@@ -171,7 +170,7 @@ fn update_model_under(alloc: Global, name: &str, value: &Value<'_>) -> Result<Wr
 
 /// The model whose parts stand under its name.
 #[tactic(auto, unfolding(crate::specs::Models::model_under))]
-fn model_under(alloc: Global, name: &str, value: &Value<'_>) -> Result<WriteModel, Unread>
+fn model_under(alloc: Global, name: &str, value: &Json<'_, '_>) -> Result<WriteModel, Unread>
     ensures { GivesPart result (model_under name.now (view value.now)) }
 {
     if name == INSERT_ONE {
@@ -190,9 +189,9 @@ impl FromJson for WriteModel {
     ghost spec = { model_of };
 
     #[tactic(auto, using(crate::proofs::OneKey::model_one, crate::proofs::OneKey::model_none))]
-    fn read(alloc: Global, value: &Value<'_>) -> Result<WriteModel, Unread> {
-        match only_member(value) {
-            Some((name, inner)) => model_under(alloc, name, inner),
+    fn read(alloc: Global, value: &Json<'_, '_>) -> Result<WriteModel, Unread> {
+        match value.only_member() {
+            Some((name, inner)) => model_under(alloc, name, &inner),
             None => Err(Unread::Wrong),
         }
     }

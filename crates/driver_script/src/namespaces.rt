@@ -5,19 +5,18 @@ ghost use Rattle.driver_script.specs.Values.{text_of, namespace_of, two_texts};
 ghost use Rattle.driver_script.specs.inside.Tree.{view};
 
 use crate::from_json::{FromJson, Unread};
-use crate::tree::item_at;
+use crate::tree::Json;
 use bson_lite::{Key, Namespace, Text};
-use json::Value;
 use std::alloc::Global;
 
 impl FromJson for Text {
     ghost spec = { text_of };
 
-    #[tactic(auto, unfolding(crate::specs::Values::text_of))]
-    fn read(alloc: Global, value: &Value<'_>) -> Result<Text, Unread> {
-        match value {
-            Value::String(text) => Ok(Text::from_str(alloc, text)?),
-            _ => Err(Unread::Wrong),
+    #[tactic(auto, unfolding(crate::specs::Values::text_of), using(crate::proofs::OtherForms::no_text))]
+    fn read(alloc: Global, value: &Json<'_, '_>) -> Result<Text, Unread> {
+        match value.as_str() {
+            Some(text) => Ok(Text::from_str(alloc, text)?),
+            None => Err(Unread::Wrong),
         }
     }
 }
@@ -25,11 +24,11 @@ impl FromJson for Text {
 impl FromJson for Key {
     ghost spec = { text_of };
 
-    #[tactic(auto, unfolding(crate::specs::Values::text_of))]
-    fn read(alloc: Global, value: &Value<'_>) -> Result<Key, Unread> {
-        match value {
-            Value::String(text) => Ok(Key::from_str(alloc, text)?),
-            _ => Err(Unread::Wrong),
+    #[tactic(auto, unfolding(crate::specs::Values::text_of), using(crate::proofs::OtherForms::no_text))]
+    fn read(alloc: Global, value: &Json<'_, '_>) -> Result<Key, Unread> {
+        match value.as_str() {
+            Some(text) => Ok(Key::from_str(alloc, text)?),
+            None => Err(Unread::Wrong),
         }
     }
 }
@@ -37,12 +36,11 @@ impl FromJson for Key {
 impl FromJson for Namespace {
     ghost spec = { namespace_of };
 
-    #[tactic(auto, unfolding(crate::specs::Values::namespace_of))]
-    fn read(alloc: Global, value: &Value<'_>) -> Result<Namespace, Unread> {
-        match value {
-            Value::String(text) => cut_at_dot(alloc, text),
-            Value::Array(_) => read_two_texts(alloc, value),
-            _ => Err(Unread::Wrong),
+    #[tactic(auto, unfolding(crate::specs::Values::namespace_of), using(crate::proofs::OtherForms::two_texts_read))]
+    fn read(alloc: Global, value: &Json<'_, '_>) -> Result<Namespace, Unread> {
+        match value.as_str() {
+            Some(text) => cut_at_dot(alloc, text),
+            None => read_two_texts(alloc, value),
         }
     }
 }
@@ -61,17 +59,17 @@ fn cut_at_dot(alloc: Global, text: &str) -> Result<Namespace, Unread>
 }
 
 #[tactic(auto, unfolding(crate::specs::Values::two_texts, crate::specs::Values::item_of))]
-fn read_two_texts(alloc: Global, value: &Value<'_>) -> Result<Namespace, Unread>
+fn read_two_texts(alloc: Global, value: &Json<'_, '_>) -> Result<Namespace, Unread>
     ensures { GivesPart result (two_texts (view value.now)) }
 {
-    if item_at(value, 2).is_some() {
+    if value.at(2).is_some() {
         return Err(Unread::Wrong);
     }
-    let (Some(db), Some(coll)) = (item_at(value, 0), item_at(value, 1)) else {
+    let (Some(db), Some(coll)) = (value.at(0), value.at(1)) else {
         return Err(Unread::Wrong);
     };
     Ok(Namespace {
-        db: Text::read(alloc, db)?,
-        coll: Text::read(alloc, coll)?,
+        db: Text::read(alloc, &db)?,
+        coll: Text::read(alloc, &coll)?,
     })
 }

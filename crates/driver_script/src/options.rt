@@ -1,25 +1,29 @@
 //! Readers of the options of a script's client, and of concerns.
-ghost use Rattle.std.specs.Prelude.{◌≡◌, IfOk};
+ghost use Rattle.std.specs.Prelude.{◌≡◌, IfOk, option_map};
+ghost use Rattle.driver_options.specs.declared.concerns.Acknowledgment.TheVariants.{Nodes};
+ghost use Rattle.driver_script.specs.Json.{GivesPart};
 ghost use Rattle.driver_script.specs.Options.{acknowledgment_named, acknowledgment_of, client_options_of, flag_of, level_named, read_concern_of, write_concern_of};
+ghost use Rattle.driver_script.specs.Values.{small_of};
+ghost use Rattle.driver_script.specs.inside.Tree.{view};
 
 use crate::from_json::{FromJson, Unread, is_object_of, read_optional};
 use crate::keys::{
     AVAILABLE, JOURNAL, LINEARIZABLE, LOCAL, MAJORITY, READ_CONCERN, RETRY_WRITES, SNAPSHOT, W,
     W_TIMEOUT, WRITE_CONCERN,
 };
+use crate::tree::Json;
 use bson_lite::Text;
 use driver_options::{Acknowledgment, ClientOptions, ReadConcern, ReadConcernLevel, WriteConcern};
-use json::Value;
 use std::alloc::{AllocError, Global};
 
 impl FromJson for bool {
     ghost spec = { flag_of };
 
-    #[tactic(auto, unfolding(crate::specs::Options::flag_of))]
-    fn read(_alloc: Global, value: &Value<'_>) -> Result<bool, Unread> {
-        match value {
-            Value::Bool(flag) => Ok(*flag),
-            _ => Err(Unread::Wrong),
+    #[tactic(auto, unfolding(crate::specs::Options::flag_of), using(crate::proofs::OtherForms::no_flag))]
+    fn read(_alloc: Global, value: &Json<'_, '_>) -> Result<bool, Unread> {
+        match value.as_bool() {
+            Some(flag) => Ok(flag),
+            None => Err(Unread::Wrong),
         }
     }
 }
@@ -35,15 +39,21 @@ fn acknowledgment_named(alloc: Global, name: &str) -> Result<Acknowledgment, All
     Ok(Acknowledgment::Custom(Text::from_str(alloc, name)?))
 }
 
+/// So many servers.
+fn nodes(alloc: Global, value: &Json<'_, '_>) -> Result<Acknowledgment, Unread>
+    ensures { GivesPart result (option_map Nodes (small_of (view value.now))) }
+{
+    Ok(Acknowledgment::Nodes(u32::read(alloc, value)?))
+}
+
 impl FromJson for Acknowledgment {
     ghost spec = { acknowledgment_of };
 
-    #[tactic(auto, unfolding(crate::specs::Options::acknowledgment_of))]
-    fn read(alloc: Global, value: &Value<'_>) -> Result<Acknowledgment, Unread> {
-        match value {
-            Value::Number(_) => Ok(Acknowledgment::Nodes(u32::read(alloc, value)?)),
-            Value::String(name) => Ok(acknowledgment_named(alloc, name)?),
-            _ => Err(Unread::Wrong),
+    #[tactic(auto, unfolding(crate::specs::Options::acknowledgment_of), using(crate::proofs::OtherForms::nodes_read))]
+    fn read(alloc: Global, value: &Json<'_, '_>) -> Result<Acknowledgment, Unread> {
+        match value.as_str() {
+            Some(name) => Ok(acknowledgment_named(alloc, name)?),
+            None => nodes(alloc, value),
         }
     }
 }
@@ -52,7 +62,7 @@ impl FromJson for WriteConcern {
     ghost spec = { write_concern_of };
 
     #[tactic(auto, unfolding(crate::specs::Options::write_concern_of))]
-    fn read(alloc: Global, value: &Value<'_>) -> Result<WriteConcern, Unread> {
+    fn read(alloc: Global, value: &Json<'_, '_>) -> Result<WriteConcern, Unread> {
         if !is_object_of(value, &[W, W_TIMEOUT, JOURNAL]) {
             return Err(Unread::Wrong);
         }
@@ -93,14 +103,14 @@ fn level_named(alloc: Global, name: &str) -> Result<ReadConcernLevel, AllocError
 impl FromJson for ReadConcern {
     ghost spec = { read_concern_of };
 
-    #[tactic(auto, unfolding(crate::specs::Options::read_concern_of))]
-    fn read(alloc: Global, value: &Value<'_>) -> Result<ReadConcern, Unread> {
-        match value {
-            Value::String(name) => {
+    #[tactic(auto, unfolding(crate::specs::Options::read_concern_of), using(crate::proofs::OtherForms::no_level))]
+    fn read(alloc: Global, value: &Json<'_, '_>) -> Result<ReadConcern, Unread> {
+        match value.as_str() {
+            Some(name) => {
                 let level = level_named(alloc, name)?;
                 Ok(ReadConcern { level })
             }
-            _ => Err(Unread::Wrong),
+            None => Err(Unread::Wrong),
         }
     }
 }
@@ -109,7 +119,7 @@ impl FromJson for ClientOptions {
     ghost spec = { client_options_of };
 
     #[tactic(auto, unfolding(crate::specs::Options::client_options_of))]
-    fn read(alloc: Global, value: &Value<'_>) -> Result<ClientOptions, Unread> {
+    fn read(alloc: Global, value: &Json<'_, '_>) -> Result<ClientOptions, Unread> {
         if !is_object_of(value, &[RETRY_WRITES, WRITE_CONCERN, READ_CONCERN]) {
             return Err(Unread::Wrong);
         }

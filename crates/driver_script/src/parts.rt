@@ -6,9 +6,9 @@ ghost use Rattle.driver_script.specs.inside.Tree.{view};
 
 use crate::from_json::{FromJson, Unread, is_object_of, read_needed, read_optional};
 use crate::keys::{DOC, FILTER, NS, PIPELINE, UPDATE, UPSERT};
+use crate::tree::Json;
 use bson_lite::{Document, Namespace};
 use driver_options::UpdateModifications;
-use json::Value;
 use std::alloc::Global;
 
 /// What the insert of one document is made of.
@@ -44,7 +44,7 @@ pub(crate) struct DeleteParts {
 }
 
 #[tactic(auto, unfolding(crate::specs::Parts::pipeline_of))]
-fn pipeline(alloc: Global, value: &Value<'_>) -> Result<UpdateModifications, Unread>
+fn pipeline(alloc: Global, value: &Json<'_, '_>) -> Result<UpdateModifications, Unread>
     ensures { GivesPart result (pipeline_of (view value.now)) }
 {
     if !is_object_of(value, &[PIPELINE]) {
@@ -57,19 +57,18 @@ fn pipeline(alloc: Global, value: &Value<'_>) -> Result<UpdateModifications, Unr
 impl FromJson for UpdateModifications {
     ghost spec = { update_of };
 
-    #[tactic(auto, unfolding(crate::specs::Parts::update_of))]
-    fn read(alloc: Global, value: &Value<'_>) -> Result<UpdateModifications, Unread> {
-        match value {
-            Value::Array(_) => Ok(UpdateModifications::Document(Document::read(alloc, value)?)),
-            Value::Object(_) => pipeline(alloc, value),
-            _ => Err(Unread::Wrong),
+    #[tactic(auto, unfolding(crate::specs::Parts::update_of), using(crate::proofs::OtherForms::pipeline_read))]
+    fn read(alloc: Global, value: &Json<'_, '_>) -> Result<UpdateModifications, Unread> {
+        match value.items() {
+            Some(_) => Ok(UpdateModifications::Document(Document::read(alloc, value)?)),
+            None => pipeline(alloc, value),
         }
     }
 }
 
 /// The parts of the insert of one document, under their keys.
 #[tactic(auto, unfolding(crate::specs::Parts::insert_parts_of))]
-pub(crate) fn insert_parts(alloc: Global, value: &Value<'_>) -> Result<InsertParts, Unread>
+pub(crate) fn insert_parts(alloc: Global, value: &Json<'_, '_>) -> Result<InsertParts, Unread>
     ensures { GivesPart result (insert_parts_of (view value.now)) }
 {
     let namespace = read_needed(alloc, value, NS)?;
@@ -82,7 +81,7 @@ pub(crate) fn insert_parts(alloc: Global, value: &Value<'_>) -> Result<InsertPar
 
 /// Those of an update.
 #[tactic(auto, unfolding(crate::specs::Parts::update_parts_of))]
-pub(crate) fn update_parts(alloc: Global, value: &Value<'_>) -> Result<UpdateParts, Unread>
+pub(crate) fn update_parts(alloc: Global, value: &Json<'_, '_>) -> Result<UpdateParts, Unread>
     ensures { GivesPart result (update_parts_of (view value.now)) }
 {
     let namespace = read_needed(alloc, value, NS)?;
@@ -99,7 +98,7 @@ pub(crate) fn update_parts(alloc: Global, value: &Value<'_>) -> Result<UpdatePar
 
 /// Those of a replacement.
 #[tactic(auto, unfolding(crate::specs::Parts::replace_parts_of))]
-pub(crate) fn replace_parts(alloc: Global, value: &Value<'_>) -> Result<ReplaceParts, Unread>
+pub(crate) fn replace_parts(alloc: Global, value: &Json<'_, '_>) -> Result<ReplaceParts, Unread>
     ensures { GivesPart result (replace_parts_of (view value.now)) }
 {
     let namespace = read_needed(alloc, value, NS)?;
@@ -116,7 +115,7 @@ pub(crate) fn replace_parts(alloc: Global, value: &Value<'_>) -> Result<ReplaceP
 
 /// Those of a delete.
 #[tactic(auto, unfolding(crate::specs::Parts::delete_parts_of))]
-pub(crate) fn delete_parts(alloc: Global, value: &Value<'_>) -> Result<DeleteParts, Unread>
+pub(crate) fn delete_parts(alloc: Global, value: &Json<'_, '_>) -> Result<DeleteParts, Unread>
     ensures { GivesPart result (delete_parts_of (view value.now)) }
 {
     let namespace = read_needed(alloc, value, NS)?;

@@ -9,10 +9,9 @@ use crate::from_json::{FromJson, Unread, is_object_of, read_needed, read_optiona
 use crate::keys::{
     CODE, FAIL, MESSAGE, MODIFIED, N, PAGE, RESULTS, UPSERTED, VALUE, WRITE_CONCERN_ERROR,
 };
-use crate::tree::item_at;
+use crate::tree::Json;
 use bson_lite::{Bson, Document, List, TryClone, refusal_within};
 use driver_link::{Failing, Item, Planned, PlannedConcern};
-use json::Value;
 use std::alloc::{AllocError, Global};
 
 /// The levels that a document may nest which stands in a reply.
@@ -102,7 +101,7 @@ impl FromJson for Planned {
     ghost spec = { planned_of };
 
     #[tactic(auto, unfolding(crate::specs::Plans::planned_of, crate::specs::Plans::plan_in))]
-    fn read(alloc: Global, value: &Value<'_>) -> Result<Planned, Unread> {
+    fn read(alloc: Global, value: &Json<'_, '_>) -> Result<Planned, Unread> {
         if !is_object_of(value, &[N, MODIFIED, UPSERTED, VALUE]) {
             return Err(Unread::Wrong);
         }
@@ -126,15 +125,15 @@ impl FromJson for Failing {
     ghost spec = { failing_of };
 
     #[tactic(auto, unfolding(crate::specs::Plans::failing_of, crate::specs::Plans::failing_in, crate::specs::Values::item_of))]
-    fn read(alloc: Global, value: &Value<'_>) -> Result<Failing, Unread> {
-        if item_at(value, 2).is_some() {
+    fn read(alloc: Global, value: &Json<'_, '_>) -> Result<Failing, Unread> {
+        if value.at(2).is_some() {
             return Err(Unread::Wrong);
         }
-        let (Some(place), Some(code)) = (item_at(value, 0), item_at(value, 1)) else {
+        let (Some(place), Some(code)) = (value.at(0), value.at(1)) else {
             return Err(Unread::Wrong);
         };
-        let at = u64::read(alloc, place)?;
-        let code = built_code(i32::read(alloc, code)?)?;
+        let at = u64::read(alloc, &place)?;
+        let code = built_code(i32::read(alloc, &code)?)?;
         Ok(Failing { at, code })
     }
 }
@@ -143,7 +142,7 @@ impl FromJson for PlannedConcern {
     ghost spec = { concern_error_of };
 
     #[tactic(auto, unfolding(crate::specs::Plans::concern_error_of, crate::specs::Plans::concern_error_in))]
-    fn read(alloc: Global, value: &Value<'_>) -> Result<PlannedConcern, Unread> {
+    fn read(alloc: Global, value: &Json<'_, '_>) -> Result<PlannedConcern, Unread> {
         if !is_object_of(value, &[CODE, MESSAGE]) {
             return Err(Unread::Wrong);
         }
@@ -174,7 +173,7 @@ fn serve_with(
 
 /// A send that is served, of which these parts are set.
 #[tactic(auto, unfolding(crate::specs::Plans::serve_of, crate::specs::Plans::serve_in))]
-pub(crate) fn served(alloc: Global, value: &Value<'_>) -> Result<Item, Unread>
+pub(crate) fn served(alloc: Global, value: &Json<'_, '_>) -> Result<Item, Unread>
     ensures { GivesPart result (serve_of (view value.now)) }
 {
     if !is_object_of(value, &[RESULTS, FAIL, WRITE_CONCERN_ERROR, PAGE]) {

@@ -1,11 +1,11 @@
 //! Readers of the script's schedule: its steps, and the calls of the link that fail.
-ghost use Rattle.std.specs.Prelude.{◌≡◌, is_some, true};
+ghost use Rattle.std.specs.Prelude.{◌≡◌, None};
 ghost use Rattle.std.specs.List.{list_all};
 ghost use Rattle.driver_link.specs.Exchange.{usual_item};
 ghost use Rattle.driver_script.specs.Json.{GivesPart};
 ghost use Rattle.driver_script.specs.ScheduleSteps.{built_reply, delivering_of, faults_of, interrupted_of, is_built_label, item_in, item_named, item_under, no_faults, refused_of, reply_of, schedule_with, step_of};
 ghost use Rattle.driver_script.specs.inside.Tree.{view};
-ghost use Rattle.serde_json.specs.Find.{as_object};
+ghost use Rattle.json.specs.Find.{as_str};
 
 use crate::from_json::{FromJson, Unread, is_object_of, read_needed, read_optional};
 use crate::keys::{
@@ -13,11 +13,10 @@ use crate::keys::{
     SELECT, SERVE,
 };
 use crate::plans::{is_built_code, served};
-use crate::tree::only_member;
+use crate::tree::Json;
 use bson_lite::{List, Text};
 use driver_error::{RETRYABLE_ERROR, SYSTEM_OVERLOADED_ERROR};
 use driver_link::{Item, Schedule, Scheduled};
-use json::Value;
 use std::alloc::Global;
 
 /// What an item answers: an error with these labels.
@@ -68,7 +67,7 @@ fn built_reply(reply: ErrorReply) -> Result<ErrorReply, Unread>
 
 /// The error reply whose parts stand under their keys.
 #[tactic(auto, unfolding(crate::specs::ScheduleSteps::reply_of))]
-fn read_reply(alloc: Global, value: &Value<'_>) -> Result<ErrorReply, Unread>
+fn read_reply(alloc: Global, value: &Json<'_, '_>) -> Result<ErrorReply, Unread>
     ensures { GivesPart result (reply_of (view value.now)) }
 {
     let code = read_needed(alloc, value, CODE)?;
@@ -77,7 +76,7 @@ fn read_reply(alloc: Global, value: &Value<'_>) -> Result<ErrorReply, Unread>
 }
 
 #[tactic(auto, unfolding(crate::specs::ScheduleSteps::interrupted_of))]
-fn interrupted(alloc: Global, value: &Value<'_>) -> Result<Item, Unread>
+fn interrupted(alloc: Global, value: &Json<'_, '_>) -> Result<Item, Unread>
     ensures { GivesPart result (interrupted_of (view value.now)) }
 {
     if !is_object_of(value, &[AFTER, CODE, LABELS]) {
@@ -93,7 +92,7 @@ fn interrupted(alloc: Global, value: &Value<'_>) -> Result<Item, Unread>
 }
 
 #[tactic(auto, unfolding(crate::specs::ScheduleSteps::refused_of))]
-fn refused(alloc: Global, value: &Value<'_>) -> Result<Item, Unread>
+fn refused(alloc: Global, value: &Json<'_, '_>) -> Result<Item, Unread>
     ensures { GivesPart result (refused_of (view value.now)) }
 {
     if !is_object_of(value, &[CODE, LABELS]) {
@@ -137,7 +136,7 @@ fn usual_item(alloc: Global) -> Item
 
 /// The item whose parts stand under its name.
 #[tactic(auto, unfolding(crate::specs::ScheduleSteps::item_under))]
-fn item_under(alloc: Global, name: &str, value: &Value<'_>) -> Result<Item, Unread>
+fn item_under(alloc: Global, name: &str, value: &Json<'_, '_>) -> Result<Item, Unread>
     ensures { GivesPart result (item_under name.now (view value.now)) }
 {
     if name == SERVE {
@@ -154,12 +153,12 @@ fn item_under(alloc: Global, name: &str, value: &Value<'_>) -> Result<Item, Unre
 
 /// The item of an object, whose one key names it.
 #[tactic(auto, using(crate::proofs::OneKey::item_one, crate::proofs::OneKey::item_none))]
-fn read_named_item(alloc: Global, value: &Value<'_>) -> Result<Item, Unread>
-    requires { is_some (as_object (view value.now)) ≡ true }
+fn read_named_item(alloc: Global, value: &Json<'_, '_>) -> Result<Item, Unread>
+    requires { as_str value.now ≡ None }
     ensures { GivesPart result (item_in (view value.now)) }
 {
-    match only_member(value) {
-        Some((name, inner)) => item_under(alloc, name, inner),
+    match value.only_member() {
+        Some((name, inner)) => item_under(alloc, name, &inner),
         None => Err(Unread::Wrong),
     }
 }
@@ -168,18 +167,17 @@ impl FromJson for Item {
     ghost spec = { item_in };
 
     #[tactic(auto, unfolding(crate::specs::ScheduleSteps::item_in))]
-    fn read(alloc: Global, value: &Value<'_>) -> Result<Item, Unread> {
-        match value {
-            Value::String(name) => item_named(alloc, name),
-            Value::Object(_) => read_named_item(alloc, value),
-            _ => Err(Unread::Wrong),
+    fn read(alloc: Global, value: &Json<'_, '_>) -> Result<Item, Unread> {
+        match value.as_str() {
+            Some(name) => item_named(alloc, name),
+            None => read_named_item(alloc, value),
         }
     }
 }
 
 /// A step with the waiting sends to serve before its item.
 #[tactic(auto, unfolding(crate::specs::ScheduleSteps::delivering_of))]
-fn delivering(alloc: Global, value: &Value<'_>) -> Result<Scheduled, Unread>
+fn delivering(alloc: Global, value: &Json<'_, '_>) -> Result<Scheduled, Unread>
     ensures { GivesPart result (delivering_of (view value.now)) }
 {
     let deliver = read_needed(alloc, value, DELIVER)?;
@@ -191,7 +189,7 @@ impl FromJson for Scheduled {
     ghost spec = { step_of };
 
     #[tactic(auto, unfolding(crate::specs::ScheduleSteps::step_of))]
-    fn read(alloc: Global, value: &Value<'_>) -> Result<Scheduled, Unread> {
+    fn read(alloc: Global, value: &Json<'_, '_>) -> Result<Scheduled, Unread> {
         if is_object_of(value, &[DELIVER, ITEM]) {
             return delivering(alloc, value);
         }
@@ -207,7 +205,7 @@ impl FromJson for Faults {
     ghost spec = { faults_of };
 
     #[tactic(auto, unfolding(crate::specs::ScheduleSteps::faults_of))]
-    fn read(alloc: Global, value: &Value<'_>) -> Result<Faults, Unread> {
+    fn read(alloc: Global, value: &Json<'_, '_>) -> Result<Faults, Unread> {
         if !is_object_of(value, &[SELECT, CHECK_OUT]) {
             return Err(Unread::Wrong);
         }

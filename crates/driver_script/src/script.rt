@@ -8,12 +8,13 @@ use crate::from_json::{FromJson, Unread, is_object_of, read_needed, read_optiona
 use crate::keys::{CALLS, FAULTS, LATE, LIMITS, OPTIONS, SCHEDULE};
 use crate::limits::{no_limits, setup_with};
 use crate::schedule::{no_faults, schedule_with};
-use crate::tree::read_tree;
+use crate::tape::read_tape;
+use crate::tree::Json;
 use bson_lite::{List, Text};
 use driver_inputs::Call;
 use driver_link::{Schedule, Setup};
 use driver_options::ClientOptions;
-use json::{Scratch, Value};
+use json::Scratch;
 use std::alloc::{AllocError, Global};
 
 /// The greatest number of calls of a script.
@@ -94,15 +95,15 @@ fn any_script(alloc: Global, bytes: &[u8]) -> Result<Script, Unread>
     ensures { GivesPart result (option_and_then script_of (value_read bytes.now)) }
 {
     let mut scratch = Scratch::new(alloc);
-    let value = read_tree(alloc, bytes, &mut scratch)?;
-    Script::read(alloc, &value)
+    let tape = read_tape(alloc, bytes, &mut scratch)?;
+    Script::read(alloc, &Json::root(&tape))
 }
 
 impl FromJson for Script {
     ghost spec = { script_of };
 
     #[tactic(auto, unfolding(crate::specs::Script::script_of, crate::specs::Script::script_around))]
-    fn read(alloc: Global, value: &Value<'_>) -> Result<Script, Unread> {
+    fn read(alloc: Global, value: &Json<'_, '_>) -> Result<Script, Unread> {
         if !is_object_of(value, &[OPTIONS, LIMITS, CALLS, SCHEDULE, FAULTS, LATE]) {
             return Err(Unread::Wrong);
         }

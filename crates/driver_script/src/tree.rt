@@ -1,184 +1,277 @@
-//! The tree of a script's JSON: how it is read, and looks into it.
-ghost use Rattle.std.specs.Prelude.{◌≡◌, MatchOption, None, is_some, option_and_then, option_map};
-ghost use Rattle.driver_script.specs.inside.Members.{all_are, only, only_in};
-ghost use Rattle.driver_script.specs.Script.{value_read};
-ghost use Rattle.driver_script.specs.inside.Tree.{GivesTree, has_numbers, items_have_numbers, members_have_numbers, members_view, view};
-ghost use Rattle.json.specs.Value.{items_view as items_in, members_view as members_in, value_view};
-ghost use Rattle.serde_json.specs.Data.{member, no_members, object};
+//! The values of a script's JSON, as places in the tape of its text: looks into them, and walks over them.
+ghost use Rattle.std.specs.Prelude.{◌≡◌, ◌<◌, IfSome, MatchOption, None, option_and_then, option_map};
+ghost use Rattle.json.specs.Json as tree;
+ghost use Rattle.json.specs.Find.{as_array, as_bool as flag_of, as_number as digits_of, as_object, as_str};
 ghost use Rattle.serde_json.specs.Find.{as_i64, as_number, as_u64, at, get};
-ghost use Rattle.serde_json.specs.Read.{read};
+ghost use Rattle.serde_json.specs.Data.{member, no_members, object};
+ghost use Rattle.driver_script.specs.inside.Codes.{tree_at};
+ghost use Rattle.driver_script.specs.inside.Members.{last_of, only, only_in};
+ghost use Rattle.driver_script.specs.inside.Sizes.{members_size, size};
+ghost use Rattle.driver_script.specs.inside.Tree.{members_view, value_is, view};
 
-use crate::from_json::Unread;
-use crate::numbers::{is_in_range, whole, whole_with_sign};
-use json::{Error, Reader, Scratch, Value};
-use std::alloc::Global;
+use crate::numbers::{whole, whole_with_sign};
+use json::{Element, Tape};
+use std::marker::Model;
 
-/// How deep arrays and objects may nest.
-const MAX_DEPTH: usize = 127;
-
-/// The tree of bytes in JSON. Texts with escapes stand in `scratch`, all others in the bytes.
-#[tactic(auto, using(crate::proofs::Bytes::value_read_none, crate::proofs::InRange::bytes_read))]
-pub(crate) fn read_tree<'a>(
-    alloc: Global,
-    bytes: &'a [u8],
-    scratch: &'a mut Scratch,
-) -> Result<Value<'a>, Unread>
-    ensures { GivesTree result (value_read bytes.now) }
-{
-    match str::from_utf8(bytes) {
-        Ok(text) => read_text(alloc, text, scratch),
-        Err(_) => Err(Unread::Wrong),
-    }
+/// A value of the JSON.
+#[derive(Drop)]
+pub(crate) struct Json<'t, 'a> {
+    element: Element<'t, 'a>,
 }
 
-/// The tree of a text in JSON.
-#[tactic(auto, using(crate::proofs::InRange::whole_read, crate::proofs::InRange::out_of_range))]
-fn read_text<'a>(
-    alloc: Global,
-    text: &'a str,
-    scratch: &'a mut Scratch,
-) -> Result<Value<'a>, Unread>
-    ensures { GivesTree result (read text.now) }
-{
-    let Ok(mut reader) = Reader::new(text, scratch) else {
-        return Err(Unread::Memory);
-    };
-    let value = match Value::read(alloc, &mut reader, MAX_DEPTH) {
-        Ok(value) => value,
-        Err(Error::Invalid) => return Err(Unread::Wrong),
-        Err(_) => return Err(Unread::Memory),
-    };
-    if reader.next().is_some() {
-        return Err(Unread::Wrong);
-    }
-    if !are_numbers(&value) {
-        return Err(Unread::Wrong);
-    }
-    Ok(value)
+impl<'t, 'a> Model for Json<'t, 'a> {
+    ghost use Rattle.json.specs.Json as tree;
+    ghost use Rattle.json.specs.Find.{HasValue};
+    ghost use Rattle.driver_script.specs.inside.Codes.{json_code, tree_at};
+
+    ghost Value = { tree.Json };
+
+    ghost coded = { json_code };
+
+    ghost view = { λ json. tree_at json.element };
+
+    ghost invariant = { λ json. HasValue json.element };
 }
 
-/// Whether each number in a value is in range.
-#[cycle(tree)]
-fn are_numbers(value: &Value<'_>) -> bool
-    ensures { result ≡ has_numbers (value_view value.now) }
-{
-    match value {
-        Value::Number(text) => is_in_range(text),
-        Value::Array(items) => are_numbers_in_items(items.as_slice()),
-        Value::Object(members) => are_numbers_in_members(members.as_slice()),
-        _ => true,
-    }
+/// The items of an array that are left.
+#[derive(Drop)]
+pub(crate) struct Items<'t, 'a> {
+    items: json::Items<'t, 'a>,
 }
 
-/// Whether each number in the items of an array is in range.
-#[cycle(tree)]
-fn are_numbers_in_items(items: &[Value<'_>]) -> bool
-    ensures { result ≡ items_have_numbers (items_in items.now) }
-{
-    for item in items {
-        if !are_numbers(item) {
-            return false;
+impl<'t, 'a> Model for Items<'t, 'a> {
+    ghost use Rattle.json.specs.Json as tree;
+    ghost use Rattle.driver_script.specs.inside.Codes.{HasItems, items_at, items_code};
+
+    ghost Value = { tree.Items };
+
+    ghost coded = { items_code };
+
+    ghost view = { λ left. items_at left.items };
+
+    ghost invariant = { λ left. HasItems left.items };
+}
+
+/// The members of an object that are left.
+#[derive(Drop)]
+pub(crate) struct Members<'t, 'a> {
+    members: json::Members<'t, 'a>,
+}
+
+impl<'t, 'a> Model for Members<'t, 'a> {
+    ghost use Rattle.json.specs.Json as tree;
+    ghost use Rattle.driver_script.specs.inside.Codes.{HasMembers, members_at, members_code};
+
+    ghost Value = { tree.Members };
+
+    ghost coded = { members_code };
+
+    ghost view = { λ left. members_at left.members };
+
+    ghost invariant = { λ left. HasMembers left.members };
+}
+
+/// What a value of the JSON is.
+#[derive(Drop)]
+pub(crate) enum Kind<'t, 'a> {
+    Null,
+    Bool(bool),
+    Number(&'a str),
+    String(&'a str),
+    Array(Items<'t, 'a>),
+    Object(Members<'t, 'a>),
+}
+
+impl<'t, 'a> Json<'t, 'a> {
+    /// The value of a whole text.
+    pub(crate) fn root(tape: &'t Tape<'a>) -> Json<'t, 'a>
+        ensures { result ≡ tree_at tape.now }
+    {
+        Json {
+            element: tape.root(),
         }
     }
-    true
-}
 
-/// Whether each number in the members of an object is in range.
-#[cycle(tree)]
-fn are_numbers_in_members(members: &[(&str, Value<'_>)]) -> bool
-    ensures { result ≡ members_have_numbers (members_in members.now) }
-{
-    for member in members {
-        if !are_numbers(&member.1) {
-            return false;
+    /// The text of a string.
+    #[inline(always)]
+    pub(crate) fn as_str(&self) -> Option<&'a str>
+        ensures { MatchOption result (as_str self.now ≡ None) (λ text. self.now ≡ tree.string text.now) }
+    {
+        self.element.as_str()
+    }
+
+    /// The text of a number.
+    #[inline(always)]
+    fn as_number(&self) -> Option<&'a str>
+        ensures { MatchOption result (digits_of self.now ≡ None) (λ text. self.now ≡ tree.number text.now) }
+    {
+        self.element.as_number()
+    }
+
+    /// Whether it is true or false.
+    #[inline(always)]
+    pub(crate) fn as_bool(&self) -> Option<bool>
+        ensures { MatchOption result (flag_of self.now ≡ None) (λ flag. self.now ≡ tree.boolean flag) }
+    {
+        self.element.as_bool()
+    }
+
+    /// The items of an array.
+    #[inline(always)]
+    pub(crate) fn items(&self) -> Option<Items<'t, 'a>>
+        ensures { MatchOption result (as_array self.now ≡ None) (λ items. self.now ≡ tree.array items) }
+    {
+        match self.element.items() {
+            Some(items) => Some(Items { items }),
+            None => None,
         }
     }
-    true
-}
 
-/// What stands under a key of an object.
-#[tactic(auto, using(crate::proofs::Trees::seen_get))]
-pub(crate) fn get<'v, 'a>(value: &'v Value<'a>, key: &str) -> Option<&'v Value<'a>>
-    ensures { option_map (λ v. view v.now) result ≡ get key.now (view value.now) }
-{
-    value.get(key)
-}
-
-/// The item at a place of an array.
-#[tactic(auto, using(crate::proofs::Trees::seen_at))]
-pub(crate) fn item_at<'v, 'a>(value: &'v Value<'a>, place: usize) -> Option<&'v Value<'a>>
-    ensures { option_map (λ v. view v.now) result ≡ at place (view value.now) }
-{
-    value.at(place)
-}
-
-/// A whole number of 64 bits with a sign.
-pub(crate) fn as_i64(value: &Value<'_>) -> Option<i64>
-    ensures { result ≡ option_and_then as_i64 (as_number (view value.now)) }
-{
-    match value {
-        Value::Number(text) => whole_with_sign(text),
-        _ => None,
-    }
-}
-
-/// A whole number of 64 bits without a sign.
-pub(crate) fn as_u64(value: &Value<'_>) -> Option<u64>
-    ensures { result ≡ option_and_then as_u64 (as_number (view value.now)) }
-{
-    match value {
-        Value::Number(text) => whole(text),
-        _ => None,
-    }
-}
-
-/// The one key of an object, and what stands under it; none where it has no key or more than one.
-pub(crate) fn only_member<'v, 'a>(value: &'v Value<'a>) -> Option<(&'a str, &'v Value<'a>)>
-    ensures { MatchOption result (only (view value.now) ≡ None)
-        (λ m. view value.now ≡ object (member m.0.now (view m.1.now) no_members)) }
-{
-    match value {
-        Value::Object(members) => only_of(members.as_slice()),
-        _ => None,
-    }
-}
-
-/// Whether each member has this key.
-#[tactic(auto, unfolding(crate::specs::inside::Members::all_are))]
-fn have_all(members: &[(&str, Value<'_>)], key: &str) -> bool
-    ensures { result ≡ all_are key.now members.now }
-{
-    for member in members {
-        if member.0 != key {
-            return false;
+    /// The members of an object.
+    #[inline(always)]
+    pub(crate) fn members(&self) -> Option<Members<'t, 'a>>
+        ensures { MatchOption result (as_object self.now ≡ None)
+            (λ members. self.now ≡ tree.object members) }
+    {
+        match self.element.members() {
+            Some(members) => Some(Members { members }),
+            None => None,
         }
     }
-    true
+
+    /// What the value is.
+    #[inline(always)]
+    #[tactic(auto, using(crate::proofs::Places::null_left))]
+    pub(crate) fn kind(&self) -> Kind<'t, 'a>
+        ensures { self.now ≡ value_is result }
+    {
+        if let Some(text) = self.as_str() {
+            return Kind::String(text);
+        }
+        if let Some(text) = self.as_number() {
+            return Kind::Number(text);
+        }
+        if let Some(members) = self.members() {
+            return Kind::Object(members);
+        }
+        if let Some(items) = self.items() {
+            return Kind::Array(items);
+        }
+        match self.as_bool() {
+            Some(flag) => Kind::Bool(flag),
+            None => Kind::Null,
+        }
+    }
+
+    /// What stands under a key of an object.
+    pub(crate) fn get(&self, key: &str) -> Option<Json<'t, 'a>>
+        ensures { option_map (λ value. view value) result ≡ get key.now (view self.now) }
+    {
+        match self.element.get(key) {
+            Some(element) => Some(Json { element }),
+            None => None,
+        }
+    }
+
+    /// The item at a place of an array.
+    pub(crate) fn at(&self, place: usize) -> Option<Json<'t, 'a>>
+        ensures { option_map (λ value. view value) result ≡ at place (view self.now) }
+    {
+        match self.element.at(place) {
+            Some(element) => Some(Json { element }),
+            None => None,
+        }
+    }
+
+    /// A whole number of 64 bits with a sign.
+    pub(crate) fn as_i64(&self) -> Option<i64>
+        ensures { result ≡ option_and_then as_i64 (as_number (view self.now)) }
+    {
+        match self.as_number() {
+            Some(text) => whole_with_sign(text),
+            None => None,
+        }
+    }
+
+    /// A whole number of 64 bits without a sign.
+    pub(crate) fn as_u64(&self) -> Option<u64>
+        ensures { result ≡ option_and_then as_u64 (as_number (view self.now)) }
+    {
+        match self.as_number() {
+            Some(text) => whole(text),
+            None => None,
+        }
+    }
+
+    /// The one key of an object, and what stands under it; none where it has no key or more than one.
+    pub(crate) fn only_member(&self) -> Option<(&'a str, Json<'t, 'a>)>
+        ensures { MatchOption result (only (view self.now) ≡ None)
+            (λ m. view self.now ≡ object (member m.0.now (view m.1) no_members)) }
+    {
+        match self.members() {
+            Some(members) => members.only(),
+            None => None,
+        }
+    }
 }
 
-/// Whether the members of an object have one key among them.
-#[tactic(auto, using(crate::proofs::Trees::key_is, crate::proofs::Trees::none_is))]
-pub(crate) fn have_one_key(members: &[(&str, Value<'_>)]) -> bool
-    ensures { result ≡ is_some (only_in (members_view members.now)) }
-{
-    match members.split_last() {
-        Some((last, _)) => have_all(members, last.0),
-        None => false,
+impl<'t, 'a> Items<'t, 'a> {
+    /// The next item.
+    #[inline(always)]
+    pub(crate) fn next(&mut self) -> Option<Json<'t, 'a>>
+        ensures { MatchOption result (self.old ≡ tree.no_items)
+            (λ value. self.old ≡ tree.item value self.new) }
+    {
+        let Some(element) = self.items.next() else {
+            return None;
+        };
+        Some(Json { element })
     }
 }
 
-/// The last member, where each has its key.
-#[tactic(auto, using(crate::proofs::Trees::none_only))]
-fn only_of<'v, 'a>(members: &'v [(&'a str, Value<'a>)]) -> Option<(&'a str, &'v Value<'a>)>
-    ensures { MatchOption result (only (object (members_view members.now)) ≡ None)
-        (λ m. object (members_view members.now)
-        ≡ object (member m.0.now (view m.1.now) no_members)) }
+impl<'t, 'a> Members<'t, 'a> {
+    /// The next key, and what stands under it.
+    #[inline(always)]
+    pub(crate) fn next(&mut self) -> Option<(&'a str, Json<'t, 'a>)>
+        ensures { MatchOption result (self.old ≡ tree.no_members)
+            (λ m. self.old ≡ tree.member m.0.now m.1 self.new) }
+    {
+        let Some((key, element)) = self.members.next() else {
+            return None;
+        };
+        Some((key, Json { element }))
+    }
+
+    /// The one key, and what stands under it last; none where there is no key or more than one.
+    #[tactic(auto, using(crate::proofs::Only::only_seen, crate::proofs::Only::none_seen))]
+    pub(crate) fn only(self) -> Option<(&'a str, Json<'t, 'a>)>
+        ensures is { MatchOption result (only_in (members_view self.entry) ≡ None)
+            (λ m. members_view self.entry ≡ member m.0.now (view m.1) no_members) }
+        ensures smaller { IfSome result (λ m. size m.1 < members_size self.entry) }
+    {
+        let mut rest = self;
+        let Some((key, first)) = rest.next() else {
+            return None;
+        };
+        match last_of(key, first, rest) {
+            Some(last) => Some((key, last)),
+            None => None,
+        }
+    }
+}
+
+/// What stands last under a key that each member has which is left: this value, where none is left.
+#[tactic(auto, unfolding(crate::specs::inside::Members::last_of))]
+fn last_of<'t, 'a>(key: &str, first: Json<'t, 'a>, members: Members<'t, 'a>) -> Option<Json<'t, 'a>>
+    ensures { result ≡ last_of key.now first.entry members.entry }
 {
-    if !have_one_key(members) {
-        return None;
+    let mut last = first;
+    let mut rest = members;
+    while let Some((other, value)) = rest.next() {
+        if other != key {
+            return None;
+        }
+        last = value;
     }
-    match members.split_last() {
-        Some((last, _)) => Some((last.0, &last.1)),
-        None => None,
-    }
+    Some(last)
 }

@@ -7,15 +7,15 @@ ghost use Rattle.serde_json.specs.Data.{object};
 use crate::from_json::{FromJson, Unread, room_for};
 use crate::keys::{ARRAY, DOC};
 use crate::leaves::{integer, read_leaf};
-use crate::tree::{as_i64, have_one_key};
+use crate::numbers::whole_with_sign;
+use crate::tree::{Items, Json, Kind, Members};
 use bson_lite::{Bson, Document, Key, List, Pair, Text};
-use json::Value;
 use std::alloc::Global;
 
 impl FromJson for Bson {
     ghost spec = { value_of };
 
-    fn read(alloc: Global, value: &Value<'_>) -> Result<Bson, Unread> {
+    fn read(alloc: Global, value: &Json<'_, '_>) -> Result<Bson, Unread> {
         read_value(alloc, value)
     }
 }
@@ -23,7 +23,7 @@ impl FromJson for Bson {
 impl FromJson for Pair<Bson> {
     ghost spec = { pair_of };
 
-    fn read(alloc: Global, value: &Value<'_>) -> Result<Pair<Bson>, Unread> {
+    fn read(alloc: Global, value: &Json<'_, '_>) -> Result<Pair<Bson>, Unread> {
         read_pair(alloc, value)
     }
 }
@@ -31,40 +31,37 @@ impl FromJson for Pair<Bson> {
 impl FromJson for Document {
     ghost spec = { document_of };
 
-    fn read(alloc: Global, value: &Value<'_>) -> Result<Document, Unread> {
+    fn read(alloc: Global, value: &Json<'_, '_>) -> Result<Document, Unread> {
         read_document(alloc, value)
     }
 }
 
 #[cycle(value)]
 #[tactic(auto, unfolding(crate::specs::Values::value_of))]
-fn read_value(alloc: Global, value: &Value<'_>) -> Result<Bson, Unread>
+fn read_value(alloc: Global, value: &Json<'_, '_>) -> Result<Bson, Unread>
     ensures { GivesPart result (value_of (view value.now)) }
 {
-    match value {
-        Value::Null => Ok(Bson::Null),
-        Value::Bool(flag) => Ok(Bson::Boolean(*flag)),
-        Value::Number(_) => match as_i64(value) {
+    match value.kind() {
+        Kind::Null => Ok(Bson::Null),
+        Kind::Bool(flag) => Ok(Bson::Boolean(flag)),
+        Kind::Number(text) => match whole_with_sign(text) {
             Some(number) => Ok(integer(number)),
             None => Err(Unread::Wrong),
         },
-        Value::String(text) => Ok(Bson::String(Text::from_str(alloc, text)?)),
-        Value::Array(_) => Err(Unread::Wrong),
-        Value::Object(members) => read_object(alloc, members.as_slice()),
+        Kind::String(text) => Ok(Bson::String(Text::from_str(alloc, text)?)),
+        Kind::Array(_) => Err(Unread::Wrong),
+        Kind::Object(members) => read_object(alloc, members),
     }
 }
 
 /// The value of an object, whose one key says what stands under it.
 #[cycle(value)]
-#[tactic(auto, using(crate::proofs::OneKey::value_last, crate::proofs::OneKey::value_none, crate::proofs::OneKey::value_empty))]
-fn read_object(alloc: Global, members: &[(&str, Value<'_>)]) -> Result<Bson, Unread>
-    ensures { GivesPart result (value_of (object (members_view members.now))) }
+#[tactic(auto, using(crate::proofs::OneKey::value_one, crate::proofs::OneKey::value_none))]
+fn read_object(alloc: Global, members: Members<'_, '_>) -> Result<Bson, Unread>
+    ensures { GivesPart result (value_of (object (members_view members.entry))) }
 {
-    if !have_one_key(members) {
-        return Err(Unread::Wrong);
-    }
-    match members.split_last() {
-        Some((last, _)) => read_tagged(alloc, last.0, &last.1),
+    match members.only() {
+        Some((key, value)) => read_tagged(alloc, key, &value),
         None => Err(Unread::Wrong),
     }
 }
@@ -72,7 +69,7 @@ fn read_object(alloc: Global, members: &[(&str, Value<'_>)]) -> Result<Bson, Unr
 /// The value that stands under a key which says what it is.
 #[cycle(value)]
 #[tactic(auto, unfolding(crate::specs::Values::tagged))]
-fn read_tagged(alloc: Global, key: &str, value: &Value<'_>) -> Result<Bson, Unread>
+fn read_tagged(alloc: Global, key: &str, value: &Json<'_, '_>) -> Result<Bson, Unread>
     ensures { GivesPart result
         (tagged key.now (view value.now) (document_of (view value.now)) (array_of (view value.now))) }
 {
@@ -86,24 +83,25 @@ fn read_tagged(alloc: Global, key: &str, value: &Value<'_>) -> Result<Bson, Unre
 }
 
 #[cycle(value)]
-#[tactic(auto, unfolding(crate::specs::Values::document_of))]
-fn read_document(alloc: Global, value: &Value<'_>) -> Result<Document, Unread>
+#[tactic(auto, unfolding(crate::specs::Values::document_of), using(crate::proofs::OtherForms::no_document))]
+fn read_document(alloc: Global, value: &Json<'_, '_>) -> Result<Document, Unread>
     ensures { GivesPart result (document_of (view value.now)) }
 {
-    match value {
-        Value::Array(items) => read_pairs(alloc, items.as_slice()),
-        _ => Err(Unread::Wrong),
+    match value.items() {
+        Some(items) => read_pairs(alloc, room_for(value), items),
+        None => Err(Unread::Wrong),
     }
 }
 
 #[cycle(value)]
 #[tactic(auto, unfolding(crate::specs::Values::pairs_of))]
-fn read_pairs(alloc: Global, items: &[Value<'_>]) -> Result<Document, Unread>
-    ensures { GivesPart result (pairs_of (items_view items.now)) }
+fn read_pairs(alloc: Global, room: usize, items: Items<'_, '_>) -> Result<Document, Unread>
+    ensures { GivesPart result (pairs_of (items_view items.entry)) }
 {
-    let mut document = Document::with_capacity(alloc, room_for(items))?;
-    for item in items {
-        document.push_pair(read_pair(alloc, item)?)?;
+    let mut document = Document::with_capacity(alloc, room)?;
+    let mut rest = items;
+    while let Some(item) = rest.next() {
+        document.push_pair(read_pair(alloc, &item)?)?;
     }
     Ok(document)
 }
@@ -111,47 +109,48 @@ fn read_pairs(alloc: Global, items: &[Value<'_>]) -> Result<Document, Unread>
 /// A key and a value, as a list of the two.
 #[cycle(value)]
 #[inline(always)]
-#[tactic(auto, unfolding(crate::specs::Values::pair_of))]
-fn read_pair(alloc: Global, value: &Value<'_>) -> Result<Pair<Bson>, Unread>
+#[tactic(auto, unfolding(crate::specs::Values::pair_of), using(crate::proofs::OtherForms::no_pair))]
+fn read_pair(alloc: Global, value: &Json<'_, '_>) -> Result<Pair<Bson>, Unread>
     ensures { GivesPart result (pair_of (view value.now)) }
 {
-    let Value::Array(items) = value else {
+    let Some(mut items) = value.items() else {
         return Err(Unread::Wrong);
     };
-    let Some((key, rest)) = items.as_slice().split_first() else {
+    let Some(key) = items.next() else {
         return Err(Unread::Wrong);
     };
-    let Some((inner, more)) = rest.split_first() else {
+    let Some(inner) = items.next() else {
         return Err(Unread::Wrong);
     };
-    match more.split_first() {
+    match items.next() {
         Some(_) => Err(Unread::Wrong),
         None => Ok(Pair {
-            key: Key::read(alloc, key)?,
-            value: read_value(alloc, inner)?,
+            key: Key::read(alloc, &key)?,
+            value: read_value(alloc, &inner)?,
         }),
     }
 }
 
 #[cycle(value)]
-#[tactic(auto, unfolding(crate::specs::Values::array_of))]
-fn read_array(alloc: Global, value: &Value<'_>) -> Result<List<Bson>, Unread>
+#[tactic(auto, unfolding(crate::specs::Values::array_of), using(crate::proofs::OtherForms::no_array))]
+fn read_array(alloc: Global, value: &Json<'_, '_>) -> Result<List<Bson>, Unread>
     ensures { GivesPart result (array_of (view value.now)) }
 {
-    match value {
-        Value::Array(items) => read_values(alloc, items.as_slice()),
-        _ => Err(Unread::Wrong),
+    match value.items() {
+        Some(items) => read_values(alloc, room_for(value), items),
+        None => Err(Unread::Wrong),
     }
 }
 
 #[cycle(value)]
 #[tactic(auto, unfolding(crate::specs::Values::values_of))]
-fn read_values(alloc: Global, items: &[Value<'_>]) -> Result<List<Bson>, Unread>
-    ensures { GivesPart result (values_of (items_view items.now)) }
+fn read_values(alloc: Global, room: usize, items: Items<'_, '_>) -> Result<List<Bson>, Unread>
+    ensures { GivesPart result (values_of (items_view items.entry)) }
 {
-    let mut values = List::with_capacity(alloc, room_for(items))?;
-    for item in items {
-        values.push(read_value(alloc, item)?)?;
+    let mut values = List::with_capacity(alloc, room)?;
+    let mut rest = items;
+    while let Some(item) = rest.next() {
+        values.push(read_value(alloc, &item)?)?;
     }
     Ok(values)
 }

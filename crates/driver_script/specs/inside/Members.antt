@@ -1,9 +1,7 @@
 -- The members of an object as they came, and objects of one key.
-use Rattle.std.specs.Prelude.{ℕ, Bool, true, ◌&&◌, List, [], ◌∷◌, Option, None, Some, bytes_eq}
-use Rattle.std.specs.Borrow.{Bor}
-use Rattle.std.specs.declared.alloc.Global.{Global}
+use Rattle.std.specs.Prelude.{ℕ, Bool, true, ◌&&◌, if◌then◌else◌, List, Option, None, Some, bytes_eq}
 use Rattle.driver_script.specs.Json.{among}
-use Rattle.json.specs.declared.value.Value.{Value}
+use Rattle.json.specs.Json as json
 use Rattle.serde_json.specs.Data.{Data, object, Members, no_members, member}
 
 -- the one member, where there is no other
@@ -17,11 +15,16 @@ only (object members) = only_in members
 only _ = None
 
 -- each member has this key
-unfoldable pub all_are : List ℕ → List (Bor (List ℕ) × Value Global) → Bool
-all_are key [] = true
-all_are key (m ∷ members) = bytes_eq m.0.now key && all_are key members
+unfoldable pub all_are : List ℕ → json.Members → Bool
+all_are key json.no_members = true
+all_are key (json.member other j members) = bytes_eq other key && all_are key members
+
+-- the last value, or this one where there is none, where each member has this key
+unfoldable pub last_of : List ℕ → json.Json → json.Members → Option json.Json
+last_of key last json.no_members = Some last
+last_of key last (json.member other j members) = if bytes_eq other key then last_of key j members else None
 
 -- each member's key is one of these
-unfoldable pub keys_in : List (List ℕ) → List (Bor (List ℕ) × Value Global) → Bool
-keys_in keys [] = true
-keys_in keys (m ∷ members) = among keys m.0.now && keys_in keys members
+unfoldable pub keys_in : List (List ℕ) → json.Members → Bool
+keys_in keys json.no_members = true
+keys_in keys (json.member key j members) = among keys key && keys_in keys members

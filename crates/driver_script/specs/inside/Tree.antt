@@ -1,13 +1,13 @@
--- The data that a tree of JSON stands for, as `serde_json` reads it.
+-- The data that a value of JSON stands for, as `serde_json` reads it.
 use Rattle.std.specs.Prelude.{◌≡◌, ℕ, List, Bool, true, ◌&&◌, is_some, unwrap_or, Option, None, Some, Result, Ok, Err}
-use Rattle.std.specs.Borrow.{Bor}
 use Rattle.std.specs.Float.Ieee.{nan}
-use Rattle.std.specs.declared.alloc.Global.{Global}
 use Rattle.driver_script.specs.declared.from_json.Unread.{Unread}
 use Rattle.driver_script.specs.declared.from_json.Unread.TheVariants.{Wrong, Memory}
+use Rattle.driver_script.specs.declared.tree.Kind.{Kind}
+use Rattle.driver_script.specs.declared.tree.Kind.TheVariants as kind
+use Rattle.driver_script.specs.inside.Codes.{tree_at}
 use Rattle.json.specs.Json as json
-use Rattle.json.specs.Value as tree
-use Rattle.json.specs.declared.value.Value.{Value}
+use Rattle.json.specs.Token.{Token}
 use Rattle.serde_json.specs.Data.{Num, float, Data, null, boolean, number, string, array, object, Items, no_items, item, Members, no_members, put}
 use Rattle.serde_json.specs.Read.{number_of}
 
@@ -53,24 +53,29 @@ abbrev mutual
   members_have_numbers json.no_members = true
   members_have_numbers (json.member key j members) = has_numbers j && members_have_numbers members
 
--- the data of a tree
-abbrev pub view : Value Global → Data
-view value = data_of (tree.value_view value)
+-- the data of a value
+abbrev pub view : json.Json → Data
+view value = data_of value
 
--- the items that values are
-abbrev pub items_view : List (Value Global) → Items
-items_view values = items_data (tree.items_view values)
+-- the items that those of JSON are
+abbrev pub items_view : json.Items → Items
+items_view items = items_data items
 
--- members that go in behind those that were found
-abbrev pub members_behind : List (Bor (List ℕ) × Value Global) → Members → Members
-members_behind members found = members_data (tree.members_view members) found
+-- the members that those of JSON are
+abbrev pub members_view : json.Members → Members
+members_view members = members_data members no_members
 
--- the members that keys with their values are
-abbrev pub members_view : List (Bor (List ℕ) × Value Global) → Members
-members_view members = members_behind members no_members
+-- the value of a kind
+abbrev pub value_is : Kind → json.Json
+value_is kind.Null = json.null
+value_is (kind.Bool flag) = json.boolean flag
+value_is (kind.Number text) = json.number text.now
+value_is (kind.String text) = json.string text.now
+value_is (kind.Array items) = json.array items
+value_is (kind.Object members) = json.object members
 
--- the tree is that of what is given, and wrong where nothing is; want of memory says nothing
-abbrev pub GivesTree : Result (Value Global) Unread → Option Data → Type 0
-GivesTree (Ok value) given = given ≡ Some (view value)
-GivesTree (Err Wrong) given = given ≡ None
-GivesTree (Err Memory) given = Unit {0}
+-- the tokens begin with the value of what is given, and they are wrong where nothing is; want of memory says nothing
+abbrev pub GivesTape : Result (List Token) Unread → Option Data → Type 0
+GivesTape (Ok tokens) given = given ≡ Some (view (tree_at tokens))
+GivesTape (Err Wrong) given = given ≡ None
+GivesTape (Err Memory) given = Unit {0}
