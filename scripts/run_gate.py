@@ -6,7 +6,7 @@ Here each crate's proof, tests and edits are a named run of their own (what it p
 takes it over), begun in the order of what stands behind them. Nothing else should run on the machine meanwhile.
 
 Usage: python3 scripts/run_gate.py REPOSITORY FOLDER [SLOTS]
-(the repository, whose last commit is taken; a folder for clones and logs; how many processors are filled, 5 where not said)
+(the repository, whose last commit is taken; a folder for clones and logs; how many processors are filled, 6 where not said: a proof with the longest chain behind it fills two)
 """
 
 import glob
@@ -146,7 +146,7 @@ def run_all(repository, folder, slots):
 
 def main():
     repository, folder = os.path.abspath(sys.argv[1]), os.path.abspath(sys.argv[2])
-    slots = int(sys.argv[3]) if len(sys.argv) > 3 else 5
+    slots = int(sys.argv[3]) if len(sys.argv) > 3 else 6
     os.makedirs(folder, exist_ok=True)
     with open("/proc/self/autogroup", "w", encoding="utf8") as group:
         group.write("-15")
