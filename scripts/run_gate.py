@@ -88,8 +88,8 @@ def chains(waits, edits):
     return behind
 
 
-def begin(task, repository, folder):
-    """Begins a task as a named run in a clone of its own, which has the edits of that crate alone."""
+def begin(task, slot, repository, folder):
+    """Begins a task as a named run in a clone of its own, which has the edits of that crate alone; in one lane, or in as many as memory allows."""
     kind, name = task
     clone = f"{folder}/{kind}-{name}"
     shutil.rmtree(clone, ignore_errors=True)
@@ -97,7 +97,7 @@ def begin(task, repository, folder):
     for other in glob.glob(f"{clone}/crates/*/must-fail"):
         if kind != "edits" or f"/{name}/" not in other:
             shutil.rmtree(other)
-    lanes = dict(os.environ) if kind == "proof" else {**os.environ, "RT_JOBS": "1"}
+    lanes = {**os.environ, "RT_JOBS": "1"} if slot == 1 else dict(os.environ)
     with open(f"{folder}/{kind}-{name}.log", "w", encoding="utf8") as log:
         run = subprocess.Popen(["rt", "ci", name], cwd=clone, env=lanes, stdout=log, stderr=log, start_new_session=True)
     with open(f"/proc/{run.pid}/autogroup", "w", encoding="utf8") as group:
@@ -130,7 +130,7 @@ def run_all(repository, folder, slots):
             slot = slots_of(task, running, ready, behind)
             if filled + slot <= slots and MEMORY[task[0]] <= room or not running:
                 left.remove(task)
-                running[task] = begin(task, repository, folder), slot, time.time()
+                running[task] = begin(task, slot, repository, folder), slot, time.time()
         time.sleep(1)
         for task, (run, _slot, begun) in list(running.items()):
             kind, name = task
