@@ -121,6 +121,14 @@ impl<T: Drop> List<T> {
         self.items.append(&mut items)
     }
 
+    /// Makes room for so many items more, so that they take no more memory than they need.
+    pub fn reserve(&mut self, more: usize) -> Result<(), AllocError>
+        ensures { self.new ≡ self.old }
+    {
+        self.items.reserve(more)?;
+        Ok(())
+    }
+
     /// Keeps the first `count` items.
     pub fn truncate(&mut self, count: usize)
         ensures { self.new ≡ take count self.old }

@@ -123,6 +123,16 @@ impl ModelServer {
         }
     }
 
+    /// Makes room for so many sends with one write each, so that they take no more memory than they need. All that
+    /// it has seen stays as it was.
+    pub fn make_room(&mut self, sends: usize) -> Result<(), AllocError>
+        ensures { self.new ≡ self.old }
+    {
+        self.server.trace.reserve(sends)?;
+        self.server.log.reserve(sends)?;
+        self.answered.reserve(sends)
+    }
+
     /// The state of the server.
     pub fn server(&self) -> &Server
         ensures { result.now ≡ self.now.server }

@@ -83,8 +83,10 @@ fn run_of(alloc: Global, asked: Script) -> Result<Run, AllocError>
     let options = asked.options.try_clone(alloc)?;
     let mut client = Client::new(options, PlainStore::new(alloc, CountingIds::new()));
     let schedule = asked.schedule.try_clone(alloc)?;
+    let mut server = fresh_server(alloc, asked.setup, schedule);
+    server.make_room(asked.calls.len())?;
     let mut outside = Outside {
-        link: fresh_server(alloc, asked.setup, schedule),
+        link: server,
         clock: MemClock::new(0, 0),
         words: Pcg32::seed_from_u64(SEED),
         call: 0,
