@@ -10,11 +10,20 @@ use model_server::new_server;
 use report_lines::{are_distinct, push_calls, push_entries, push_sends};
 use std::alloc::{AllocError, Global};
 
+/// How many bytes a line has, on the average of a run of 10,000 inserts.
+const LINE: usize = 52;
+
+/// For how many bytes room is made before the lines are written, by the calls of the run, of which most have a line, a
+/// send and an entry. What a report needs more it takes as it grows.
+fn room_for(run: &Run) -> usize {
+    calls_in(run).len().saturating_mul(3 * LINE)
+}
+
 /// The report of a run. A part that the run lacks has no lines and counts nothing.
 pub fn report_text(alloc: Global, run: &Run) -> Result<Bytes, AllocError>
     ensures { IfOk result (λ text. text ≡ report run.now) }
 {
-    let mut out = String::new(alloc);
+    let mut out = String::with_capacity(alloc, room_for(run))?;
     push_report(alloc, &mut out, run)?;
     Ok(Bytes::from_vec(out.into_bytes()))
 }
