@@ -82,6 +82,7 @@ fn listed(alloc: Global) -> Result<List<Timestamp>, AllocError> {
     let mut list = List::with_capacity(alloc, 1)?;
     list.push(stamp(1))?;
     let mut more = List::new(alloc);
+    more.reserve(1)?;
     more.push(stamp(2))?;
     list.append(more)?;
     copied(alloc, &list)
