@@ -13,7 +13,7 @@ returns c =
     run_made c.args.asked _ c.in_ok-outcomes.outcomes c.run_calls.new.client c.run_calls.new.outside.link _ _
     (record {
       store = ap store_tells (c.new-client.ensures.store ∙ c.new-2.ensures ∙ ap (λ ids. record { ids = ids; pool = empty_pool }) c.new.ensures);
-      link = ap model_tells (c.fresh_server.ensures ∙ ap (λ s. record (new_model c.args.asked) { schedule = s }) c.in_ok-schedule.ensures.same);
+      link = ap model_tells (c.make_room.ensures ∙ c.fresh_server-server.ensures ∙ ap (λ s. record (new_model c.args.asked) { schedule = s }) c.in_ok-schedule.ensures.same);
       clock = ap clock_tells c.new-3.ensures;
       client = ap (λ options. record { options = options }) (c.new-client.ensures.options ∙ c.in_ok-options.ensures.same);
     })
