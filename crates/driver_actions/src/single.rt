@@ -112,16 +112,9 @@ fn make_in<S: SessionStore, L: Link, K: Clock, R: Rng>(
             options,
         } => {
             let change = UpdateOrReplace::UpdateModifications(update.try_clone(alloc)?);
+            let options = options.get();
             update_found(
-                alloc,
-                client,
-                outside,
-                namespace,
-                filter,
-                change,
-                false,
-                options.get(),
-                place,
+                alloc, client, outside, namespace, filter, change, false, options, place,
             )
         }
         SingleWrite::UpdateMany {
@@ -131,16 +124,9 @@ fn make_in<S: SessionStore, L: Link, K: Clock, R: Rng>(
             options,
         } => {
             let change = UpdateOrReplace::UpdateModifications(update.try_clone(alloc)?);
+            let options = options.get();
             update_found(
-                alloc,
-                client,
-                outside,
-                namespace,
-                filter,
-                change,
-                true,
-                options.get(),
-                place,
+                alloc, client, outside, namespace, filter, change, true, options, place,
             )
         }
         SingleWrite::ReplaceOne {
@@ -150,88 +136,67 @@ fn make_in<S: SessionStore, L: Link, K: Clock, R: Rng>(
             options,
         } => {
             let change = UpdateOrReplace::Replacement(replacement.try_clone(alloc)?);
+            let options = options.get();
             update_found(
-                alloc,
-                client,
-                outside,
-                namespace,
-                filter,
-                change,
-                false,
-                options.get(),
-                place,
+                alloc, client, outside, namespace, filter, change, false, options, place,
             )
         }
         SingleWrite::DeleteOne {
             namespace,
             filter,
             options,
-        } => delete_found(
-            alloc,
-            client,
-            outside,
-            namespace,
-            filter,
-            false,
-            options.get(),
-            place,
-        ),
+        } => {
+            let options = options.get();
+            delete_found(
+                alloc, client, outside, namespace, filter, false, options, place,
+            )
+        }
         SingleWrite::DeleteMany {
             namespace,
             filter,
             options,
-        } => delete_found(
-            alloc,
-            client,
-            outside,
-            namespace,
-            filter,
-            true,
-            options.get(),
-            place,
-        ),
+        } => {
+            let options = options.get();
+            delete_found(
+                alloc, client, outside, namespace, filter, true, options, place,
+            )
+        }
         SingleWrite::FindOneAndDelete {
             namespace,
             filter,
             options,
-        } => find_one_and_delete(
-            alloc,
-            client,
-            outside,
-            namespace,
-            filter,
-            options.get(),
-            place,
-        ),
+        } => {
+            let options = options.get();
+            find_one_and_delete(alloc, client, outside, namespace, filter, options, place)
+        }
         SingleWrite::FindOneAndUpdate {
             namespace,
             filter,
             update,
             options,
-        } => find_one_and_update(
-            alloc,
-            client,
-            outside,
-            namespace,
-            filter,
-            update,
-            options.get(),
-            place,
-        ),
+        } => {
+            let options = options.get();
+            find_one_and_update(
+                alloc, client, outside, namespace, filter, update, options, place,
+            )
+        }
         SingleWrite::FindOneAndReplace {
             namespace,
             filter,
             replacement,
             options,
-        } => find_one_and_replace(
-            alloc,
-            client,
-            outside,
-            namespace,
-            filter,
-            replacement,
-            options.get(),
-            place,
-        ),
+        } => {
+            let options = options.get();
+            find_one_and_replace(
+                alloc,
+                client,
+                outside,
+                namespace,
+                filter,
+                replacement,
+                options,
+                place,
+            )
+        }
     }
 }
