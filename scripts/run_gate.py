@@ -125,12 +125,14 @@ def run_all(repository, folder, slots):
             say("left out:", *task)
         ready = sorted((it for it in left if all(needs in done for needs in waits[it])), key=lambda it: -behind[it])
         for task in ready:
-            filled = sum(slot for _run, slot, _begun in running.values())
+            free = slots - sum(slot for _run, slot, _begun in running.values())
             room = ROOM - sum(MEMORY[it[0]] for it in running)
-            slot = slots_of(task, running, ready, behind)
-            if filled + slot <= slots and MEMORY[task[0]] <= room or not running:
-                left.remove(task)
-                running[task] = begin(task, slot, repository, folder), slot, time.time()
+            slot = min(slots_of(task, running, ready, behind), free)
+            if running and (slot < 1 or MEMORY[task[0]] > room):
+                # nothing with less behind it goes first
+                break
+            left.remove(task)
+            running[task] = begin(task, max(slot, 1), repository, folder), max(slot, 1), time.time()
         time.sleep(1)
         for task, (run, _slot, begun) in list(running.items()):
             kind, name = task
