@@ -1,4 +1,5 @@
 //! The values that a document can hold, one variant for each type of the format.
+use crate::boxed::Boxed;
 use crate::document::Document;
 use crate::list::List;
 use crate::text::{Bytes, Text};
@@ -16,7 +17,7 @@ pub enum Bson {
     Boolean(bool),
     DateTime(i64),
     Null,
-    RegularExpression(Regex),
+    RegularExpression(Boxed<Regex>),
     JavaScriptCode(Text),
     Symbol(Text),
     Int32(i32),

@@ -179,7 +179,7 @@ fn put_value(out: &mut [u8], at: usize, value: &Bson) -> usize
         Bson::ObjectId(id) => put(out, at, &id.bytes),
         Bson::Boolean(flag) => put(out, at, &[u8::from(*flag)]),
         Bson::DateTime(number) | Bson::Int64(number) => put(out, at, &number.to_le_bytes()),
-        Bson::RegularExpression(regex) => put_regex(out, at, regex),
+        Bson::RegularExpression(regex) => put_regex(out, at, regex.get()),
         Bson::Int32(number) => put(out, at, &number.to_le_bytes()),
         Bson::Timestamp(stamp) => put_stamp(out, at, stamp),
         Bson::Decimal128(decimal) => put(out, at, decimal),

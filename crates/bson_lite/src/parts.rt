@@ -4,6 +4,7 @@ ghost use Rattle.std.specs.Int.{w32, w64};
 ghost use Rattle.bson_lite.specs.Parts.{some_at, byte_at, number_at, utf8_of, zero_ended, text_at, binary_at, regex_at, stamp_at, flag_at, leaf_at, more_at, type_at, place_at, frame_at};
 ghost use Rattle.bson_lite.specs.Reading.{Gives, or_at};
 
+use crate::boxed::Boxed;
 use crate::bson::{Binary, Bson, ObjectId, Regex, Timestamp};
 use crate::fault::DecodeFault;
 use crate::text::{Bytes, Text};
@@ -322,7 +323,7 @@ fn later_leaf_of(
     match kind {
         11 => {
             let (regex, rest) = regex_of(alloc, at, bytes)?;
-            Ok((Bson::RegularExpression(regex), rest))
+            Ok((Bson::RegularExpression(Boxed::new(alloc, regex)?), rest))
         }
         13 => {
             let (code, rest) = text_of(alloc, at, bytes)?;

@@ -109,7 +109,7 @@ fn same_value(a: &Bson, b: &Bson) -> bool
         (Bson::Boolean(x), Bson::Boolean(y)) => *x == *y,
         (Bson::DateTime(x), Bson::DateTime(y)) => *x == *y,
         (Bson::Null, Bson::Null) => true,
-        (Bson::RegularExpression(x), Bson::RegularExpression(y)) => same_regex(x, y),
+        (Bson::RegularExpression(x), Bson::RegularExpression(y)) => same_regex(x.get(), y.get()),
         (Bson::JavaScriptCode(x), Bson::JavaScriptCode(y)) => same_text(x, y),
         (Bson::Symbol(x), Bson::Symbol(y)) => same_text(x, y),
         (Bson::Int32(x), Bson::Int32(y)) => *x == *y,

@@ -107,6 +107,7 @@ fn survey_value(value: &Bson, met: &mut bool) -> u64
         Bson::Document(document) => survey_pairs(document.pairs(), met).saturating_add(5),
         Bson::Array(values) => survey_values(values.as_slice(), met).saturating_add(5),
         Bson::RegularExpression(regex) => {
+            let regex = regex.get();
             note_key(regex.pattern.as_str(), met);
             note_key(regex.options.as_str(), met);
             two_len(&regex.pattern, &regex.options)

@@ -1,6 +1,6 @@
 //! The examples of the public standard, for each type of value.
 use crate::documents::{b_text, copied, one, read, spelled};
-use bson_lite::{Binary, Bson, Bytes, List, ObjectId, Regex, Text, Timestamp};
+use bson_lite::{Binary, Boxed, Bson, Bytes, List, ObjectId, Regex, Text, Timestamp};
 use std::alloc::{AllocError, Global};
 use std::test::Fail;
 
@@ -68,10 +68,11 @@ fn plain_value(held: Plain) -> Bson {
 }
 
 fn regex(alloc: Global) -> Result<Bson, AllocError> {
-    Ok(Bson::RegularExpression(Regex {
+    let regex = Regex {
         pattern: Text::from_str(alloc, "abc")?,
         options: Text::from_str(alloc, "im")?,
-    }))
+    };
+    Ok(Bson::RegularExpression(Boxed::new(alloc, regex)?))
 }
 
 fn array(alloc: Global) -> Result<Bson, AllocError> {
