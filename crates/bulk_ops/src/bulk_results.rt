@@ -303,7 +303,8 @@ fn verdict(
     first: bool,
     page: &ResultsPage,
 ) -> std::result::Result<PageVerdict, AllocError>
-    ensures { IfOk result (λ found. JudgesPage batch.entry only_errors first seen.old seen.new page.now found) }
+    ensures { IfOk result
+        (λ found. JudgesPage batch.entry only_errors first seen.old seen.new page.now found) }
 {
     let placed = note_results(seen, page.results.as_slice(), batch.ops.len())?;
     if placed {
@@ -465,7 +466,8 @@ impl<R: BulkWriteResult> BulkProgress<R> {
         results: List<OpResult>,
     ) -> Result<()>
         requires { are_within (length batch.ops.now) results ≡ true }
-        ensures takes { OnOk result (TakesResults (batch_told R.tells batch.entry) self.old self.new results) }
+        ensures takes { OnOk result
+            (TakesResults (batch_told R.tells batch.entry) self.old self.new results) }
         ensures memory { IfErr result (λ error. kind_of error ≡ NoMemory) }
     {
         for told in results.into_vec() {
