@@ -372,7 +372,7 @@ fn all_served(alloc: Global) -> Schedule
 /// Whether the entry at a place of the log is of this kind, and of the write at the same place.
 fn has_entry(server: &Server, at: usize, kind: WriteKind) -> bool {
     match server.log.get(at) {
-        Some(entry) => entry.written.kind == kind && entry.place.index == at as u64,
+        Some(entry) => entry.written.get().kind == kind && entry.place.index == at as u64,
         None => false,
     }
 }

@@ -214,9 +214,9 @@ fn is_given(written: &Written, kind: Kind, given: &Document) -> bool {
 fn is_own(entry: &Entry, kind: Kind, given: &Document) -> bool {
     entry.place.call == 0
         && entry.place.index == 0
-        && entry.written.namespace.db.as_str() == "shop"
-        && entry.written.namespace.coll.as_str() == "items"
-        && is_given(&entry.written, kind, given)
+        && entry.written.get().namespace.db.as_str() == "shop"
+        && entry.written.get().namespace.coll.as_str() == "items"
+        && is_given(entry.written.get(), kind, given)
 }
 
 /// Whether each entry is the caller's own, and stands at its place alone.
@@ -260,7 +260,7 @@ fn tells_found(counted: &Counted, found: &Option<Document>) -> bool {
 fn tells(entry: &Entry, kind: Kind, answer: &SingleAnswer) -> bool {
     match answer {
         SingleAnswer::Inserted(done) => kind == Kind::InsertOne
-            && entry.written.document.get("_id") == Some(&done.inserted_id),
+            && entry.written.get().document.get("_id") == Some(&done.inserted_id),
         SingleAnswer::Updated(done) => is_update(kind) && tells_update(&entry.result, done),
         SingleAnswer::Deleted(done) => is_delete(kind) && tells_delete(&entry.result, done),
         SingleAnswer::Found(found) => is_find(kind) && tells_found(&entry.result, found),

@@ -170,14 +170,14 @@ fn is_insert(written: &Written) -> bool {
 
 /// Whether an entry is the insert that the caller gave as the call of its place.
 fn is_own(entry: &Entry, count: i32) -> bool {
-    let Some(number) = number_in(&entry.written.document) else {
+    let Some(number) = number_in(&entry.written.get().document) else {
         return false;
     };
     number >= 0
         && number < count
         && entry.place.call == number as u64
         && entry.place.index == 0
-        && is_insert(&entry.written)
+        && is_insert(entry.written.get())
 }
 
 /// Whether each entry is the caller's own, and stands at its place alone.
@@ -194,7 +194,7 @@ fn is_sound(log: &[Entry], count: i32) -> bool {
 fn stands(log: &[Entry], call: u64, id: &Bson) -> bool {
     for entry in log {
         if entry.place.call == call {
-            return entry.written.document.get("_id") == Some(id);
+            return entry.written.get().document.get("_id") == Some(id);
         }
     }
     false

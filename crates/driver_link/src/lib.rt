@@ -17,6 +17,7 @@ pub mod link;
 pub mod machine;
 pub mod mem_clock;
 pub mod mem_stream;
+pub mod shared;
 pub mod stream;
 
 pub use by_id::ById;
@@ -35,4 +36,5 @@ pub use machine::{
 };
 pub use mem_clock::MemClock;
 pub use mem_stream::{MemSink, MemSource};
+pub use shared::Shared;
 pub use stream::{Failed, Sink, Source};

@@ -1,6 +1,7 @@
 //! The model server's machine as plain data: what is sent, what the server keeps, and what a schedule
 //! lets happen. Its steps are the definitions of `specs/Exchange.antt`.
 use crate::by_id::ById;
+use crate::shared::Shared;
 use bson_lite::{Bson, ByIndex, Document, List, Namespace, Text, TryClone};
 use driver_options::Description;
 use std::alloc::{AllocError, Global};
@@ -40,11 +41,11 @@ impl TryClone for Written {
     }
 }
 
-/// A write with the place from which it came.
+/// A write with the place from which it came. Those who keep it share it.
 #[derive(Debug, Drop)]
 pub struct PlacedWrite {
     pub place: Place,
-    pub written: Written,
+    pub written: Shared<Written>,
 }
 
 /// Which command carries writes. It decides the form of the reply.
@@ -102,7 +103,7 @@ pub struct Counted {
 #[derive(Debug, Drop)]
 pub struct Entry {
     pub place: Place,
-    pub written: Written,
+    pub written: Shared<Written>,
     pub result: Counted,
     pub session: Option<[u8; 16]>,
     pub number: Option<i64>,

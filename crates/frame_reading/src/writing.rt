@@ -13,7 +13,9 @@ use driver_link::keys::{
     AUTOCOMMIT, CLUSTER_TIME, DATABASE, DOCUMENTS, ORDERED, READ_CONCERN, RECOVERY_TOKEN, SESSION,
     START_TRANSACTION, TRANSACTION_NUMBER, WRITE_CONCERN,
 };
-use driver_link::{Documents, Place, PlacedWrite, SendBody, SendCommand, WriteKind, Written};
+use driver_link::{
+    Documents, Place, PlacedWrite, SendBody, SendCommand, Shared, WriteKind, Written,
+};
 use std::alloc::{AllocError, Global};
 
 /// The namespace of a command whose first field names a collection.
@@ -66,9 +68,10 @@ fn placed(
         if at >= places.len() {
             return Ok(None);
         }
+        let shared = Shared::new(alloc, written)?;
         list.push(PlacedWrite {
             place: places[at],
-            written,
+            written: shared,
         })?;
         at += 1;
     }

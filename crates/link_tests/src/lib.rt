@@ -15,3 +15,5 @@ mod mem_clock;
 mod mem_stream;
 #[cfg(test)]
 mod server;
+#[cfg(test)]
+mod shared;

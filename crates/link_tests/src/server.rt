@@ -3,7 +3,7 @@ use bson_lite::{Bson, Bytes, Document, List, Namespace, Text};
 use driver_error::{NO_WRITES_PERFORMED, SYSTEM_OVERLOADED_ERROR, TRANSIENT_TRANSACTION_ERROR};
 use driver_link::{
     Failing, Item, Place, PlacedWrite, Planned, PlannedConcern, Send, SendBody, SendCommand,
-    Server, WriteKind, Written,
+    Server, Shared, WriteKind, Written,
 };
 use model_server::delivery::deliver;
 use model_server::meeting::take;
@@ -174,13 +174,14 @@ fn writes_of(
         let index = writes.len() as u64;
         let db = Text::from_str(alloc, "a")?;
         let coll = Text::from_str(alloc, "c")?;
+        let written = Written {
+            kind: *kind,
+            namespace: Namespace { db, coll },
+            document: Document::new(alloc),
+        };
         writes.push(PlacedWrite {
             place: Place { call: 0, index },
-            written: Written {
-                kind: *kind,
-                namespace: Namespace { db, coll },
-                document: Document::new(alloc),
-            },
+            written: Shared::new(alloc, written)?,
         })?;
     }
     Ok(SendBody::Write {

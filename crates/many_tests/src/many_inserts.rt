@@ -318,7 +318,7 @@ fn has_three_ids(end: Result<InsertManyResult>) -> bool {
 /// The last byte of the object id of an entry, or none where it has another id or there is no such entry.
 fn entry_id(server: &Server, at: usize) -> Option<u8> {
     match server.log.get(at) {
-        Some(entry) => match entry.written.document.get("_id") {
+        Some(entry) => match entry.written.get().document.get("_id") {
             Some(Bson::ObjectId(id)) => Some(id.bytes[11]),
             _ => None,
         },
@@ -329,7 +329,7 @@ fn entry_id(server: &Server, at: usize) -> Option<u8> {
 /// Whether the second entry has the id 7.
 fn second_is_seven(server: &Server) -> bool {
     match server.log.get(1) {
-        Some(entry) => is_seven(entry.written.document.get("_id")),
+        Some(entry) => is_seven(entry.written.get().document.get("_id")),
         None => false,
     }
 }

@@ -54,7 +54,7 @@ fn counted_of_kind<'a>(
         cons_option (option_copied result) rest ≡
         kept_where (same_kind does write.now.written.kind) (result_of statement.now) rest }
 {
-    if is_kind(does, write.written.kind) {
+    if is_kind(does, write.written.get().kind) {
         return counts_of(statement);
     }
     None

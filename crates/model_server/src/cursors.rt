@@ -94,7 +94,7 @@ pub fn rows(
         if at >= done.len() {
             return Ok(rows);
         }
-        rows.push(row(alloc, at, write.written.kind, &done[at])?)?;
+        rows.push(row(alloc, at, write.written.get().kind, &done[at])?)?;
     }
     Ok(rows)
 }

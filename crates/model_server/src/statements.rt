@@ -99,7 +99,7 @@ fn statement(
     if let Some(code) = code_at(fail, at) {
         return Ok(Statement::Failed(code));
     }
-    let count = count_at(alloc, results, at, write.written.kind)?;
+    let count = count_at(alloc, results, at, write.written.get().kind)?;
     Ok(Statement::Ran(count))
 }
 
@@ -163,7 +163,7 @@ pub fn first_statements(
                     return Ok(done);
                 }
                 left -= 1;
-                done.push(Statement::Ran(as_usual(write.written.kind)))?;
+                done.push(Statement::Ran(as_usual(write.written.get().kind)))?;
             }
         }
     }

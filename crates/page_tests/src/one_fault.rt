@@ -228,8 +228,8 @@ fn filter_has_mark(op: &Document, index: usize) -> bool {
 
 /// Whether an entry is the write at an index, by its kind and its number.
 fn is_write(entry: &Entry, index: usize) -> bool {
-    let document = &entry.written.document;
-    match (&entry.written.kind, work_of(index)) {
+    let document = &entry.written.get().document;
+    match (&entry.written.get().kind, work_of(index)) {
         (WriteKind::Insert, Does::Inserts) => has_mark(document, index),
         (WriteKind::Update, Does::Updates) => filter_has_mark(document, index),
         (WriteKind::Delete, Does::Deletes) => filter_has_mark(document, index),
@@ -251,7 +251,7 @@ fn is_entry(entry: &Entry, row: Row, index: usize) -> bool {
         && entry.place.index == index as u64
         && known(&entry.session) == session(row, index / 3)
         && entry.number == number(row, index / 3)
-        && entry.written.namespace.coll.as_str() == collection(index)
+        && entry.written.get().namespace.coll.as_str() == collection(index)
         && is_write(entry, index)
 }
 
@@ -310,7 +310,7 @@ fn are_sent(server: &Server, wanted: &[Sent]) -> bool {
 fn stands_with(log: &[Entry], index: usize, id: &Bson) -> bool {
     for entry in log {
         if entry.place.index == index as u64 {
-            return entry.written.document.get("_id") == Some(id);
+            return entry.written.get().document.get("_id") == Some(id);
         }
     }
     false

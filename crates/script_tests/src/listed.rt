@@ -85,7 +85,7 @@ const ROWS: [Row; 11] = [
 fn stands(log: &[Entry], index: usize, id: &Bson) -> bool {
     for entry in log {
         if entry.place.index == index as u64 {
-            return entry.written.document.get("_id") == Some(id);
+            return entry.written.get().document.get("_id") == Some(id);
         }
     }
     false

@@ -1,8 +1,9 @@
-use Rattle.std.proofs.Common.{◌<◌, ◌+◌, ◌++◌, Some, ap, sym, ◌∙◌, arith, drop, get_or, length}
+use Rattle.std.proofs.Common.{◌<◌, ◌+◌, ◌∷◌, ◌++◌, Some, ap, sym, ◌∙◌, arith, drop, get_or, length}
 use Rattle.std.proofs.lemmas.Option.{slice_get-get_or}
 use Rattle.std.specs.Option.{option_map}
 use Rattle.driver_link.specs.Writes.{placed}
 use Rattle.driver_link.specs.declared.machine.Place.{Place}
+use Rattle.driver_link.specs.declared.machine.Written.{Written}
 use Rattle.frame_reading.proofs.WriteLaws.{none_before, placed_next, placed_few, placed_many, placed_end}
 use Rattle.frame_reading.proofs.writing.placed.Goals as goal
 
@@ -20,8 +21,9 @@ pub loop-written-preserved : goal.loop-written-preserved
 loop-written-preserved c =
     let none : Place = record { call = 0; index = 0 } in
     let within : c.loop-written.at < length c.args.places.now = omega arith in
+    let there = c.in-Some.ensures.steps.0 ∙ ap (λ (written : Written). written ∷ c.next.new.self.rest.items) (sym c.in_ok-shared.ensures) in
     (λ i. option_map (λ more. c.in_ok-push.ensures.items i ++ more) (placed c.next.new.self.rest.items (drop (c.loop-written.at + 1) c.args.places.now)))
-    ∙ placed_next c.in-Some.written _ c.next.new.self.rest.items c.args.places.now c.loop-written.at (get_or c.args.places.now c.loop-written.at none) c.loop-written.list.items _ c.in-Some.ensures.steps.0 (slice_get-get_or c.args.places.now c.loop-written.at none within) c.loop-written.invariant
+    ∙ placed_next c.in_ok-shared.shared _ c.next.new.self.rest.items c.args.places.now c.loop-written.at (get_or c.args.places.now c.loop-written.at none) c.loop-written.list.items _ there (slice_get-get_or c.args.places.now c.loop-written.at none within) c.loop-written.invariant
 
 pub returns-then-at-places-2 : goal.returns-then-at-places-2
 returns-then-at-places-2 c =
