@@ -1,7 +1,6 @@
 pub mod EffectLaws
 pub mod ExchangeLaws
 pub mod InterruptLaws
-pub mod KeptReplies
 pub mod ServeLaws
 pub mod SessionStepLaws
 pub mod StillLaws

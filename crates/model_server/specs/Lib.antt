@@ -6,10 +6,7 @@ pub mod Meets
 pub mod ModelAddress
 pub mod ModelState
 pub mod Parts
-pub mod Ran
 pub mod Seen
-pub mod SomeField
 pub mod Transient
 pub mod Undoing
 pub mod Waiting
-pub mod inside

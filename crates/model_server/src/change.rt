@@ -11,10 +11,10 @@ ghost use Rattle.model_server.specs.Changes.{stepped, logged_by, ended, step_in,
 ghost use Rattle.model_server.specs.Displacing.{displaced_by, session_displaced, outdated};
 
 use crate::cases::begin_session;
-use crate::cursors::place_of;
 use crate::places::take_out;
 use bson_lite::{Document, List};
 use driver_link::{ById, Counted, Entry, KnownSession, Server, ServerTransaction};
+use model_replies::cursors::place_of;
 use std::alloc::{AllocError, Global};
 use std::mem;
 

@@ -11,11 +11,11 @@ ghost use Rattle.model_server.specs.Parts.{Makes, parts_of};
 
 use crate::cases::{Case, is_in_transaction, is_too_old, met_of, writes_of};
 use crate::change::{CursorChange, Effect};
-use crate::kept_reply::Reply;
 use crate::serving::{cursor_change, done_under, kept_reply_in, step_in};
-use crate::statements::entries;
 use bson_lite::List;
 use driver_link::{ById, Failing, Planned, PlannedConcern, Send, Server, Statement};
+use model_replies::kept_reply::Reply;
+use model_replies::statements::entries;
 use std::alloc::{AllocError, Global};
 
 /// A server that has seen nothing. It takes no memory.

@@ -21,13 +21,13 @@ use crate::cases::{Case, case_of, is_decided, is_in_transaction, kept_of, writes
 use crate::change::{CursorChange, Effect, SessionStep};
 use crate::exchange::{Prepared, prepare, unnumbered_effect};
 use crate::honesty::{Judgement, has_transient, honest, ran_before};
-use crate::kept_reply::Reply;
 use crate::refusing::can_be_transient;
-use crate::replying::error;
 use crate::serving::step_in;
-use crate::statements::{first_statements, has_run};
 use bson_lite::{ByIndex, List, Text};
 use driver_link::{Send, Server, ServerTransaction, Statement};
+use model_replies::kept_reply::Reply;
+use model_replies::replying::error;
+use model_replies::statements::{first_statements, has_run};
 use std::alloc::{AllocError, Global};
 
 /// The case as an interruption leaves it.

@@ -7,17 +7,17 @@ ghost use Rattle.driver_link.specs.declared.machine.Send.{Send as Sent};
 ghost use Rattle.model_server.specs.Meets.{met_by, reply_of, IsSpelled, note_of as noted};
 
 use crate::change::{CursorChange, Effect, put_changes};
-use crate::copying::copied_send;
 use crate::exchange::{Prepared, prepare};
 use crate::interrupting::interrupt;
-use crate::kept_reply::Reply;
 use crate::refusing::refuse;
-use crate::replying::{REAUTHENTICATION_REQUIRED, error};
 use bson_lite::{Bytes, List, Text, TryClone};
 use driver_error::IoKind;
 use driver_link::{
     Answered, Failing, Item, LinkCall, LinkFault, Planned, PlannedConcern, Send, Server,
 };
+use model_replies::copying::copied_send;
+use model_replies::kept_reply::Reply;
+use model_replies::replying::{REAUTHENTICATION_REQUIRED, error};
 use std::alloc::{AllocError, Global};
 
 /// What a send comes to by its item.

@@ -13,10 +13,10 @@ use crate::cases::{begin_session, is_in_transaction};
 use crate::change::{CursorChange, Effect, SessionStep};
 use crate::exchange::Prepared;
 use crate::honesty::{Judgement, has_transient, honest, ran_before};
-use crate::kept_reply::Reply;
-use crate::replying::error;
 use bson_lite::Text;
 use driver_link::{Send, Server, ServerTransaction};
+use model_replies::kept_reply::Reply;
+use model_replies::replying::error;
 use std::alloc::{AllocError, Global};
 
 /// Whether a transaction is committed.

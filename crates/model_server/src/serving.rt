@@ -19,24 +19,24 @@ ghost use Rattle.model_server.specs.Changes.{cursors_put};
 ghost use Rattle.model_server.specs.Does.{Does};
 ghost use Rattle.model_server.specs.Parts.{ran_of};
 ghost use Rattle.model_server.specs.Seen.{seen};
-ghost use Rattle.model_server.specs.inside.KeptReplies.{counted_reply};
+ghost use Rattle.model_replies.specs.KeptReplies.{counted_reply};
 
 use crate::cases::{Case, begin_session, is_in_transaction, is_ordered, kept_of, writes_of};
 use crate::change::{CursorChange, SessionStep};
-use crate::counts::sum_n;
-use crate::cursors::{pages_left, rows};
-use crate::fields::small;
-use crate::kept_reply::Reply;
-use crate::replying::{
-    TRANSACTION_TOO_OLD, cursor_reply, denied_reply, end_reply, error, write_reply,
-};
-use crate::statements::{
-    entries, has_failed, has_run, has_run_before_failing, ran_results, statements,
-};
 use bson_lite::{ByIndex, Document, List, TryClone};
 use driver_link::{
     Counted, Failing, PlacedWrite, Planned, PlannedConcern, Send, SendBody, SendCommand, Server,
     ServerTransaction, Statement,
+};
+use model_replies::counts::sum_n;
+use model_replies::cursors::{pages_left, rows};
+use model_replies::fields::small;
+use model_replies::kept_reply::Reply;
+use model_replies::replying::{
+    TRANSACTION_TOO_OLD, cursor_reply, denied_reply, end_reply, error, write_reply,
+};
+use model_replies::statements::{
+    entries, has_failed, has_run, has_run_before_failing, ran_results, statements,
 };
 use std::alloc::{AllocError, Global};
 
@@ -311,7 +311,7 @@ pub fn reply_in(
 }
 
 /// The number that the reply to statements has which insert or delete, where it has no write errors.
-#[tactic(auto, using(crate::proofs::KeptReplies::none_failed))]
+#[tactic(auto, using(model_replies::proofs::KeptReplies::none_failed))]
 fn counted(done: &[Statement]) -> Result<Option<i32>, AllocError>
     ensures number { IfOk result
         (λ found. IfSome found
@@ -327,7 +327,7 @@ fn counted(done: &[Statement]) -> Result<Option<i32>, AllocError>
 
 /// The number that the reply to what a command asked for has alone beside its first field, if it is such a
 /// reply.
-#[tactic(auto, using(crate::proofs::KeptReplies::inserts_counted, crate::proofs::KeptReplies::deletes_counted))]
+#[tactic(auto, using(model_replies::proofs::KeptReplies::inserts_counted, model_replies::proofs::KeptReplies::deletes_counted))]
 fn counted_body(
     body: &SendBody,
     concern: &Option<PlannedConcern>,

@@ -10,11 +10,11 @@ ghost use Rattle.model_server.specs.Displacing.{displaced_by, outdated, session_
 ghost use Rattle.model_server.specs.Undoing.{closed_place, cursors_before, known_before, lessened, rewritten, server_before, sessions_before, transaction_before};
 
 use crate::change::{CursorChange, Displaced, Effect, SessionStep, give_back, lend};
-use crate::copying::{copied_kept, copied_transaction};
-use crate::cursors::place_of;
 use crate::places::put_back;
 use bson_lite::{ByIndex, Document, List};
 use driver_link::{ById, Counted, Entry, KnownSession, Server, ServerTransaction};
+use model_replies::copying::{copied_kept, copied_transaction};
+use model_replies::cursors::place_of;
 use std::alloc::{AllocError, Global};
 
 /// What a transaction was before a step.

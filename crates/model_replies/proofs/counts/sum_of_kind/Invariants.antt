@@ -1,0 +1,8 @@
+-- What was counted, with the statements that are left.
+use Rattle.std.proofs.Common.{◌≡◌, ◌+ℤ◌, drop}
+use Rattle.driver_link.specs.Replies.{results_of_kind, sum_of}
+use Rattle.model_replies.proofs.counts.sum_of_kind.Given as goal
+
+abbrev pub invariant-loop-at : goal.invariant-loop-at
+invariant-loop-at l =
+    l.sum +ℤ sum_of (λ counts. counts.n) (results_of_kind l.does (drop l.at l.writes) (drop l.at l.done)) ≡ sum_of (λ counts. counts.n) (results_of_kind l.does l.writes l.done)

@@ -1,8 +1,0 @@
--- What was counted, with the statements that are left.
-use Rattle.std.proofs.Common.{◌≡◌, ◌+ℤ◌, drop}
-use Rattle.driver_link.specs.Replies.{results_in, sum_of}
-use Rattle.model_server.proofs.counts.sum_modified.Given as goal
-
-abbrev pub invariant-loop-statement : goal.invariant-loop-statement
-invariant-loop-statement l =
-    l.sum +ℤ sum_of (λ counts. counts.modified) (results_in (drop l.statement-index l.done)) ≡ sum_of (λ counts. counts.modified) (results_in l.done)
