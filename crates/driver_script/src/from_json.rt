@@ -1,5 +1,5 @@
 //! Readers of JSON values: each gives exactly what its definition says, or refuses the value.
-ghost use Rattle.std.specs.Prelude.{◌≡◌, Option};
+ghost use Rattle.std.specs.Prelude.{Option};
 ghost use Rattle.script_parts.specs.Json.{GivesPart, each, list_of, needed_part, optional_part};
 ghost use Rattle.serde_json.specs.Data.{Data};
 ghost use Rattle.script_parts.specs.inside.Tree.{view, items_view};

@@ -16,7 +16,7 @@ use Rattle.json.proofs.Unique.Spelling.{tokens-document, value-json_tokens_back}
 use Rattle.script_parts.specs.inside.Codes.{tree_again, tree_at}
 use Rattle.script_parts.specs.inside.Fit.{are_fit}
 use Rattle.script_parts.proofs.Bytes.{value_read_text}
-use Rattle.script_parts.specs.Json.{GivesPart, value_read}
+use Rattle.script_parts.specs.Json.{value_read}
 use Rattle.script_parts.specs.inside.Tree.{GivesTape, data_of, has_numbers, items_data, items_have_numbers, members_data, members_have_numbers, number_read, view}
 use Rattle.script_parts.specs.declared.forms.Unread.{Unread}
 use Rattle.serde_json.specs.Data.{Data, Num, float, number, array, object, Items, item, Members, no_members, put}
