@@ -2,7 +2,7 @@
 ghost use Rattle.std.specs.Prelude.{◌≡◌, ◌≤◌, length, IfSome, Ok};
 ghost use Rattle.driver_link.specs.WellFormed.{IsWellFormed};
 ghost use Rattle.driver_script.specs.Script.{script};
-ghost use Rattle.driver_script.specs.declared.script.TheConstants.{MOST_CALLS};
+ghost use Rattle.script_parts.specs.declared.keys.TheConstants.{MOST_CALLS};
 
 use driver_script::{Script, read_script};
 use std::alloc::Global;

@@ -1,13 +1,5 @@
-mod Bytes
-mod InRange
-mod MemberKeys
-mod Numbered
 mod OneKey
-mod Only
 mod OtherForms
-mod Pairs
-mod Places
 mod PlannedResults
 mod Readings
 mod Schedules
-mod Trees

@@ -1,19 +1,17 @@
 -- Objects whose one key names what they are.
 use Rattle.std.proofs.Common.{◌≡◌, ℕ, List, refl, sym, ap, ◌∙◌, subst}
 use Rattle.std.specs.Prelude.{None, Result}
-use Rattle.bson_lite.specs.declared.bson.Bson.{Bson}
 use Rattle.driver_inputs.specs.declared.call.Call.{Call}
 use Rattle.driver_link.specs.declared.machine.Item.{Item}
 use Rattle.driver_options.specs.declared.models.WriteModel.{WriteModel}
 use Rattle.driver_script.specs.Calls.{call_of, call_under}
-use Rattle.driver_script.specs.Json.{GivesPart}
 use Rattle.driver_script.specs.Models.{model_of, model_under}
 use Rattle.driver_script.specs.ScheduleSteps.{item_in, item_under}
-use Rattle.driver_script.specs.Values.{array_of, document_of, tagged, value_of}
-use Rattle.driver_script.specs.declared.from_json.Unread.{Unread}
-use Rattle.driver_script.specs.inside.Members.{only, only_in}
-use Rattle.driver_script.specs.inside.Tree.{view}
-use Rattle.serde_json.specs.Data.{Data, null, boolean, number, string, array, object, Members, no_members, member}
+use Rattle.script_parts.specs.Json.{GivesPart}
+use Rattle.script_parts.specs.declared.forms.Unread.{Unread}
+use Rattle.script_parts.specs.inside.Members.{only}
+use Rattle.script_parts.specs.inside.Tree.{view}
+use Rattle.serde_json.specs.Data.{Data, null, boolean, number, string, array, object, no_members, member}
 use Rattle.serde_json.specs.Find.{as_str as as_text}
 use Rattle.json.specs.Find.{as_str}
 use Rattle.json.specs.Json as json
@@ -90,19 +88,3 @@ no_string (json.object ms) is = refl
 -- what is neither a text nor an object of one key is no item
 pub item_none : (j : Json) → as_str j ≡ None → only (view j) ≡ None → item_in (view j) ≡ None
 item_none j other is = item_by (view j) (no_string j other) is
-
--- ---- values
-
-value_is : (key : List ℕ) (inner : Data) → value_of (object (member key inner no_members)) ≡ tagged key inner (document_of inner) (array_of inner)
-unfolding value_of
-value_is key inner = refl
-
-pub value_one : (read : Result Bson Unread) (left : Members) (inner : Data) (key : List ℕ) → left ≡ member key inner no_members
-    → GivesPart read (tagged key inner (document_of inner) (array_of inner)) → GivesPart read (value_of (object left))
-value_one read left inner key is gives = subst (GivesPart read) (sym (ap (λ them. value_of (object them)) is ∙ value_is key inner)) gives
-
-pub value_none : (left : Members) → only_in left ≡ None → value_of (object left) ≡ None
-unfolding value_of
-value_none no_members is = refl
-value_none (member key inner no_members) is = absurd (cc)
-value_none (member key inner (member two e more)) is = refl

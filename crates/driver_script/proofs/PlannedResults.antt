@@ -20,10 +20,10 @@ use Rattle.driver_link.specs.Exchange.{reauthentication_required}
 use Rattle.driver_link.specs.Numbers.{field}
 use Rattle.driver_link.specs.WellFormed.{IsCount, IsItem, IsPlan, IsShallow, IsShallowValue}
 use Rattle.driver_link.proofs.Lists.{none_is_some, none_told, some_is_some}
-use Rattle.driver_script.specs.declared.keys.TheConstants.{CODE, FAIL, MESSAGE, MODIFIED, N, PAGE, RESULTS, UPSERTED, VALUE, WRITE_CONCERN_ERROR}
-use Rattle.driver_script.specs.Json.{has_only, list_of, needed_part, optional_part}
+use Rattle.script_parts.specs.declared.keys.TheConstants.{CODE, FAIL, MESSAGE, MODIFIED, N, PAGE, RESULTS, UPSERTED, VALUE, WRITE_CONCERN_ERROR}
+use Rattle.script_parts.specs.Json.{has_only, list_of, needed_part, optional_part}
 use Rattle.driver_script.specs.Plans.{built_code, built_plan, concern_error_in, concern_error_of, concern_error_with, failing_in, failing_of, failing_with, is_built_code, is_spelled_within, may_be_found, may_be_upserted, plan_in, plan_with, planned_of, serve_in, serve_of, serve_with}
-use Rattle.driver_script.specs.Values.{code_of, count_of, document_of, item_of, small_of, text_of, value_of}
+use Rattle.script_parts.specs.Values.{code_of, count_of, document_of, item_of, small_of, text_of, value_of}
 use Rattle.driver_script.proofs.Readings.{chained, either, list_optional, mapped, optional_holds, where_so}
 use Rattle.serde_json.specs.Data.{Data, null, boolean, number, string, array, object}
 use Rattle.serde_json.specs.Find.{as_u64, at}

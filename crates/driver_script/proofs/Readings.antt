@@ -1,12 +1,18 @@
 -- What holds of what a script is read as.
-use Rattle.std.proofs.Common.{◌≡◌, ℕ, Bool, true, false, List, [], ◌∷◌, refl, subst}
+use Rattle.std.proofs.Common.{◌≡◌, ℕ, Bool, true, false, List, [], ◌∷◌, refl, subst, sym}
 use Rattle.std.proofs.lemmas.List.Elements.{All-cons, All-nil}
-use Rattle.std.specs.Prelude.{All, Option, None, Some, IfSome, unwrap_or, if◌then◌else◌}
+use Rattle.std.specs.Prelude.{All, Option, None, Some, IfSome, Result, unwrap_or, if◌then◌else◌}
 use Rattle.std.specs.Option.{option_and_then, option_map}
 use Rattle.driver_link.proofs.Lists.{none_is_some, some_is_some}
-use Rattle.driver_script.specs.Json.{each, list_of, needed_part, optional_part, where_there}
+use Rattle.script_parts.specs.Json.{GivesPart, each, list_of, needed_part, optional_part, where_there}
+use Rattle.script_parts.specs.declared.forms.Unread.{Unread}
 use Rattle.serde_json.specs.Data.{Data, null, boolean, number, string, array, object, Items, no_items, item}
 use Rattle.serde_json.specs.Find.{get}
+
+-- what a tree is read as is what its data is read as
+pub read_on : {A : Type 0} (asked : Result A Unread) (form : Data → Option A) (given : Option Data) (d : Data) → given ≡ Some d → GivesPart asked (form d)
+    → GivesPart asked (option_and_then form given)
+read_on asked form given d is gives = subst (λ found. GivesPart asked (option_and_then form found)) (sym is) gives
 
 -- what holds of all that a reading makes of what was found
 pub mapped : {A B : Type 0} (P : B → Type 0) (f : A → B) (found : Option A) → ((x : A) → found ≡ Some x → P (f x)) → (y : B)

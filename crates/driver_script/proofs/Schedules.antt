@@ -12,18 +12,18 @@ use Rattle.driver_link.specs.declared.machine.Scheduled.{Scheduled}
 use Rattle.driver_link.specs.Exchange.{usual_item}
 use Rattle.driver_link.specs.WellFormed.{IsItem, IsPlan, IsWellFormed}
 use Rattle.driver_link.proofs.Lists.{none_is_some, some_is_some}
-use Rattle.driver_script.specs.declared.keys.TheConstants.{AFTER, CALLS, CODE, DELIVER, FAULTS, INTERRUPTED, ITEM, LABELS, LATE, LIMITS, LOST, OPTIONS, REFUSED, REPLY_LOST, SCHEDULE, SERVE}
+use Rattle.script_parts.specs.declared.keys.TheConstants.{AFTER, CALLS, CODE, DELIVER, FAULTS, INTERRUPTED, ITEM, LABELS, LATE, LIMITS, LOST, OPTIONS, REFUSED, REPLY_LOST, SCHEDULE, SERVE}
 use Rattle.driver_script.specs.declared.limits.Limits.{Limits}
 use Rattle.driver_script.specs.declared.schedule.ErrorReply.{ErrorReply}
 use Rattle.driver_script.specs.declared.script.Script.{Script}
 use Rattle.driver_script.specs.Calls.{call_of}
-use Rattle.driver_script.specs.Json.{has_only, list_of, needed_part, optional_part}
+use Rattle.script_parts.specs.Json.{has_only, list_of, needed_part, optional_part}
 use Rattle.driver_script.specs.Limits.{limits_of}
 use Rattle.driver_script.specs.Options.{client_options_of}
 use Rattle.driver_script.specs.Plans.{is_built_code}
 use Rattle.driver_script.specs.ScheduleSteps.{built_reply, delivering_of, faults_of, interrupted_of, is_built_label, item_in, item_named, item_under, refused_of, reply_of, reply_with, step_of, step_with}
 use Rattle.driver_script.specs.Script.{script_around, script_of, script_with}
-use Rattle.driver_script.specs.Values.{code_of, count_of, text_of}
+use Rattle.script_parts.specs.Values.{code_of, count_of, text_of}
 use Rattle.driver_script.proofs.PlannedResults.{IsOther, other_code, serve_well}
 use Rattle.driver_script.proofs.Readings.{chained, either, list_optional, mapped, needed_holds, where_so}
 use Rattle.serde_json.specs.Data.{Data, null, boolean, number, string, array, object, no_members, member}

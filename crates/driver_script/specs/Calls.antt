@@ -16,12 +16,12 @@ use Rattle.driver_script.specs.declared.calls.SharedOptions.{SharedOptions}
 use Rattle.driver_script.specs.declared.calls.UpdateCall.{UpdateCall}
 use Rattle.driver_script.specs.declared.parts.DeleteParts.{DeleteParts}
 use Rattle.driver_script.specs.declared.parts.UpdateParts.{UpdateParts}
-use Rattle.driver_script.specs.declared.keys.TheConstants.{BULK_WRITE, COMMENT, DELETE_MANY, DELETE_ONE, DOC, DOCS, FILTER, FIND_ONE_AND_DELETE, FIND_ONE_AND_REPLACE, FIND_ONE_AND_UPDATE, INSERT_MANY, INSERT_ONE, MODELS, NS, ORDERED, REPLACE_ONE, UPDATE, UPDATE_MANY, UPDATE_ONE, UPSERT, VERBOSE, WRITE_CONCERN}
-use Rattle.driver_script.specs.Json.{has_only, list_of, needed_part, optional_part}
+use Rattle.script_parts.specs.declared.keys.TheConstants.{BULK_WRITE, COMMENT, DELETE_MANY, DELETE_ONE, DOC, DOCS, FILTER, FIND_ONE_AND_DELETE, FIND_ONE_AND_REPLACE, FIND_ONE_AND_UPDATE, INSERT_MANY, INSERT_ONE, MODELS, NS, ORDERED, REPLACE_ONE, UPDATE, UPDATE_MANY, UPDATE_ONE, UPSERT, VERBOSE, WRITE_CONCERN}
+use Rattle.script_parts.specs.Json.{has_only, list_of, needed_part, optional_part}
 use Rattle.driver_script.specs.Models.{model_of}
 use Rattle.driver_script.specs.Options.{flag_of, write_concern_of}
 use Rattle.driver_script.specs.Parts.{delete_parts_of, insert_parts_of, replace_parts_of, update_of, update_parts_of}
-use Rattle.driver_script.specs.Values.{document_of, namespace_of, value_of}
+use Rattle.script_parts.specs.Values.{document_of, namespace_of, value_of}
 use Rattle.driver_inputs.specs.declared.call.Call.{Call}
 use Rattle.driver_inputs.specs.declared.call.Call.TheVariants.{BulkWrite, InsertMany, Single}
 use Rattle.driver_inputs.specs.declared.call.SingleWrite.TheVariants.{DeleteMany, DeleteOne, FindOneAndDelete, FindOneAndReplace, FindOneAndUpdate, InsertOne, ReplaceOne, UpdateMany, UpdateOne}

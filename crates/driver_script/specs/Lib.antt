@@ -1,6 +1,4 @@
 pub mod Calls
-pub mod Json
-pub mod Keys
 pub mod Limits
 pub mod Models
 pub mod Options
@@ -8,5 +6,3 @@ pub mod Parts
 pub mod Plans
 pub mod ScheduleSteps
 pub mod Script
-pub mod Values
-pub mod inside

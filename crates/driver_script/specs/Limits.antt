@@ -2,10 +2,10 @@
 use Rattle.std.specs.Prelude.{ℤ, true, false, if◌then◌else◌, pos, [], ◌∷◌, Option, None, Some, unwrap_or}
 use Rattle.std.specs.Option.{option_and_then, option_map}
 use Rattle.driver_link.specs.declared.machine.Setup.{Setup}
-use Rattle.driver_script.specs.declared.keys.TheConstants.{BATCH, BSON, MESSAGE, WIRE}
+use Rattle.script_parts.specs.declared.keys.TheConstants.{BATCH, BSON, MESSAGE, WIRE}
 use Rattle.driver_script.specs.declared.limits.Limits.{Limits}
-use Rattle.driver_script.specs.Json.{has_only, optional_part}
-use Rattle.driver_script.specs.Values.{code_of, whole_of}
+use Rattle.script_parts.specs.Json.{has_only, optional_part}
+use Rattle.script_parts.specs.Values.{code_of, whole_of}
 use Rattle.serde_json.specs.Data.{Data}
 
 -- limits of which none is set

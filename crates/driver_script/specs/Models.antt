@@ -3,12 +3,12 @@ use Rattle.std.specs.Prelude.{ℕ, if◌then◌else◌, List, [], ◌∷◌, Opt
 use Rattle.std.specs.Option.{option_map}
 use Rattle.driver_options.specs.declared.models.WriteModel.{WriteModel}
 use Rattle.driver_options.specs.declared.models.WriteModel.TheVariants.{DeleteMany, DeleteOne, InsertOne, ReplaceOne, UpdateMany, UpdateOne}
-use Rattle.driver_script.specs.declared.keys.TheConstants.{DELETE_MANY, DELETE_ONE, DOC, FILTER, INSERT_ONE, NS, REPLACE_ONE, UPDATE, UPDATE_MANY, UPDATE_ONE, UPSERT}
+use Rattle.script_parts.specs.declared.keys.TheConstants.{DELETE_MANY, DELETE_ONE, DOC, FILTER, INSERT_ONE, NS, REPLACE_ONE, UPDATE, UPDATE_MANY, UPDATE_ONE, UPSERT}
 use Rattle.driver_script.specs.declared.parts.DeleteParts.{DeleteParts}
 use Rattle.driver_script.specs.declared.parts.InsertParts.{InsertParts}
 use Rattle.driver_script.specs.declared.parts.ReplaceParts.{ReplaceParts}
 use Rattle.driver_script.specs.declared.parts.UpdateParts.{UpdateParts}
-use Rattle.driver_script.specs.Json.{has_only}
+use Rattle.script_parts.specs.Json.{has_only}
 use Rattle.driver_script.specs.Parts.{delete_parts_of, insert_parts_of, replace_parts_of, update_parts_of}
 use Rattle.serde_json.specs.Data.{Data, object, no_members, member}
 

@@ -8,9 +8,9 @@ use Rattle.driver_options.specs.declared.concerns.ReadConcernLevel.{ReadConcernL
 use Rattle.driver_options.specs.declared.concerns.ReadConcernLevel.TheVariants as levels
 use Rattle.driver_options.specs.declared.concerns.WriteConcern.{WriteConcern}
 use Rattle.driver_options.specs.declared.options.ClientOptions.{ClientOptions}
-use Rattle.driver_script.specs.declared.keys.TheConstants.{AVAILABLE, JOURNAL, LINEARIZABLE, LOCAL, MAJORITY, READ_CONCERN, RETRY_WRITES, SNAPSHOT, W, W_TIMEOUT, WRITE_CONCERN}
-use Rattle.driver_script.specs.Json.{has_only, optional_part}
-use Rattle.driver_script.specs.Values.{small_of}
+use Rattle.script_parts.specs.declared.keys.TheConstants.{AVAILABLE, JOURNAL, LINEARIZABLE, LOCAL, MAJORITY, READ_CONCERN, RETRY_WRITES, SNAPSHOT, W, W_TIMEOUT, WRITE_CONCERN}
+use Rattle.script_parts.specs.Json.{has_only, optional_part}
+use Rattle.script_parts.specs.Values.{small_of}
 use Rattle.serde_json.specs.Data.{Data, boolean, number, string}
 
 -- true or false

@@ -6,14 +6,14 @@ use Rattle.bson_lite.specs.declared.document.Pair.{Pair}
 use Rattle.bson_lite.specs.declared.namespace.Namespace.{Namespace}
 use Rattle.driver_options.specs.declared.updates.UpdateModifications.{UpdateModifications}
 use Rattle.driver_options.specs.declared.updates.UpdateModifications.TheVariants as modifies
-use Rattle.driver_script.specs.declared.keys.TheConstants.{DOC, FILTER, NS, PIPELINE, UPDATE, UPSERT}
+use Rattle.script_parts.specs.declared.keys.TheConstants.{DOC, FILTER, NS, PIPELINE, UPDATE, UPSERT}
 use Rattle.driver_script.specs.declared.parts.DeleteParts.{DeleteParts}
 use Rattle.driver_script.specs.declared.parts.InsertParts.{InsertParts}
 use Rattle.driver_script.specs.declared.parts.ReplaceParts.{ReplaceParts}
 use Rattle.driver_script.specs.declared.parts.UpdateParts.{UpdateParts}
-use Rattle.driver_script.specs.Json.{has_only, list_of, needed_part, optional_part}
+use Rattle.script_parts.specs.Json.{has_only, list_of, needed_part, optional_part}
 use Rattle.driver_script.specs.Options.{flag_of}
-use Rattle.driver_script.specs.Values.{document_of, namespace_of}
+use Rattle.script_parts.specs.Values.{document_of, namespace_of}
 use Rattle.serde_json.specs.Data.{Data, array, object}
 
 -- a pipeline: an object with the list of its stages

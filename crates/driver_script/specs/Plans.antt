@@ -13,9 +13,9 @@ use Rattle.driver_link.specs.declared.machine.Planned.{Planned}
 use Rattle.driver_link.specs.declared.machine.PlannedConcern.{PlannedConcern}
 use Rattle.driver_link.specs.Exchange.{reauthentication_required}
 use Rattle.driver_link.specs.Numbers.{field}
-use Rattle.driver_script.specs.declared.keys.TheConstants.{CODE, FAIL, MESSAGE, MODIFIED, N, PAGE, RESULTS, UPSERTED, VALUE, WRITE_CONCERN_ERROR}
-use Rattle.driver_script.specs.Json.{has_only, list_of, needed_part, optional_part}
-use Rattle.driver_script.specs.Values.{code_of, count_of, document_of, item_of, small_of, text_of, value_of}
+use Rattle.script_parts.specs.declared.keys.TheConstants.{CODE, FAIL, MESSAGE, MODIFIED, N, PAGE, RESULTS, UPSERTED, VALUE, WRITE_CONCERN_ERROR}
+use Rattle.script_parts.specs.Json.{has_only, list_of, needed_part, optional_part}
+use Rattle.script_parts.specs.Values.{code_of, count_of, document_of, item_of, small_of, text_of, value_of}
 use Rattle.serde_json.specs.Data.{Data}
 use Rattle.serde_json.specs.Find.{at}
 

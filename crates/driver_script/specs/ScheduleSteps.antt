@@ -8,12 +8,12 @@ use Rattle.driver_link.specs.declared.machine.Schedule.{Schedule}
 use Rattle.driver_link.specs.declared.machine.Scheduled.{Scheduled}
 use Rattle.driver_link.specs.Exchange.{usual_item}
 use Rattle.driver_link.specs.Honesty.{is_overload}
-use Rattle.driver_script.specs.declared.keys.TheConstants.{AFTER, CHECK_OUT, CODE, DELIVER, INTERRUPTED, ITEM, LABELS, LATE, LOST, REFUSED, REPLY_LOST, SELECT, SERVE}
+use Rattle.script_parts.specs.declared.keys.TheConstants.{AFTER, CHECK_OUT, CODE, DELIVER, INTERRUPTED, ITEM, LABELS, LATE, LOST, REFUSED, REPLY_LOST, SELECT, SERVE}
 use Rattle.driver_script.specs.declared.schedule.ErrorReply.{ErrorReply}
 use Rattle.driver_script.specs.declared.schedule.Faults.{Faults}
-use Rattle.driver_script.specs.Json.{has_only, list_of, needed_part, optional_part}
+use Rattle.script_parts.specs.Json.{has_only, list_of, needed_part, optional_part}
 use Rattle.driver_script.specs.Plans.{is_built_code, serve_of}
-use Rattle.driver_script.specs.Values.{code_of, count_of, text_of}
+use Rattle.script_parts.specs.Values.{code_of, count_of, text_of}
 use Rattle.serde_json.specs.Data.{Data, string, object, no_members, member}
 
 -- a label that an item may answer: labels of overload are not built yet

@@ -1,25 +1,23 @@
 -- What a script is: one JSON object, with its defaults.
 use Rattle.std.specs.Prelude.{◌≡◌, ℕ, ◌<◌, ◌≤◌, if◌then◌else◌, List, [], ◌∷◌, length, codes, Option, None, Result, Ok, Err, unwrap_or}
 use Rattle.std.specs.Option.{option_and_then, option_map, ok_or}
-use Rattle.std.specs.Str.{is_utf8}
 use Rattle.driver_options.specs.declared.options.ClientOptions.{ClientOptions}
 use Rattle.driver_link.specs.declared.machine.Scheduled.{Scheduled}
-use Rattle.driver_script.specs.declared.keys.TheConstants.{CALLS, FAULTS, LATE, LIMITS, OPTIONS, SCHEDULE}
+use Rattle.script_parts.specs.declared.keys.TheConstants.{CALLS, FAULTS, LATE, LIMITS, OPTIONS, SCHEDULE}
 use Rattle.driver_script.specs.declared.limits.Limits.{Limits}
 use Rattle.driver_script.specs.declared.schedule.Faults.{Faults}
-use Rattle.driver_script.specs.declared.script.TheConstants.{MOST_CALLS}
+use Rattle.script_parts.specs.declared.keys.TheConstants.{MOST_CALLS}
 use Rattle.driver_script.specs.declared.script.Script.{Script}
 use Rattle.driver_script.specs.declared.script.ScriptFault.{ScriptFault}
 use Rattle.driver_script.specs.declared.script.ScriptFault.TheVariants.{Wrong, TooManyCalls, Memory}
 use Rattle.driver_script.specs.Calls.{call_of}
-use Rattle.driver_script.specs.Json.{list_of, needed_part, optional_part, has_only}
+use Rattle.script_parts.specs.Json.{has_only, list_of, needed_part, optional_part, value_read}
 use Rattle.driver_script.specs.Limits.{limits_of, no_limits, setup_with}
 use Rattle.driver_script.specs.Options.{client_options_of}
 use Rattle.driver_script.specs.ScheduleSteps.{faults_of, no_faults, schedule_with, step_of}
-use Rattle.driver_script.specs.Values.{count_of}
+use Rattle.script_parts.specs.Values.{count_of}
 use Rattle.driver_inputs.specs.declared.call.Call.{Call}
 use Rattle.serde_json.specs.Data.{Data}
-use Rattle.serde_json.specs.Read.{read}
 
 -- the options of a script's client where it sets none; the client is the first
 abbrev pub usual_options : ClientOptions
@@ -49,10 +47,6 @@ script_of d =
     then option_and_then (λ options. option_and_then (λ limits. option_and_then (λ calls. script_around options limits calls d)
     (needed_part (list_of call_of) CALLS.now d)) (optional_part limits_of LIMITS.now d)) (optional_part client_options_of OPTIONS.now d)
     else None
-
--- the value of a text in JSON
-abbrev pub value_read : List ℕ → Option Data
-value_read bytes = if is_utf8 bytes then read bytes else None
 
 -- the script that bytes are, or the path of what is wrong
 unfoldable pub script : List ℕ → Result Script (List ℕ)

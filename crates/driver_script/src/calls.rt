@@ -1,26 +1,27 @@
 //! Readers of a script's calls: each is an object whose one key names it.
 ghost use Rattle.std.specs.Prelude.{◌≡◌};
 ghost use Rattle.driver_script.specs.Calls.{bulk_manner_of, bulk_options, bulk_write_of, call_of, call_under, delete_call_of, delete_many_of, delete_one_of, delete_options, find_delete_options, find_one_and_delete_of, find_one_and_replace_of, find_one_and_update_of, find_replace_options, find_under, find_update_options, insert_many_of, insert_one_of, insert_options, insert_options_of, replace_one_of, shared_of, update_call_of, update_many_of, update_one_of, update_options, update_under, write_under};
-ghost use Rattle.driver_script.specs.Json.{GivesPart};
-ghost use Rattle.driver_script.specs.inside.Tree.{view};
+ghost use Rattle.script_parts.specs.Json.{GivesPart};
+ghost use Rattle.script_parts.specs.inside.Tree.{view};
 
-use crate::from_json::{FromJson, Unread, is_object_of, read_needed, read_optional};
-use crate::keys::{
-    BULK_WRITE, COMMENT, DELETE_MANY, DELETE_ONE, DOC, DOCS, FILTER, FIND_ONE_AND_DELETE,
-    FIND_ONE_AND_REPLACE, FIND_ONE_AND_UPDATE, INSERT_MANY, INSERT_ONE, MODELS, NS, ORDERED,
-    REPLACE_ONE, UPDATE, UPDATE_MANY, UPDATE_ONE, UPSERT, VERBOSE, WRITE_CONCERN,
-};
+use crate::from_json::{FromJson, read_needed, read_optional};
 use crate::parts::{
     DeleteParts, InsertParts, ReplaceParts, UpdateParts, delete_parts, insert_parts, replace_parts,
     update_parts,
 };
-use crate::tree::Json;
 use bson_lite::{Boxed, Bson};
 use driver_inputs::{Call, SingleWrite};
 use driver_options::{
     BulkWriteOptions, DeleteOptions, FindOneAndDeleteOptions, FindOneAndReplaceOptions,
     FindOneAndUpdateOptions, InsertManyOptions, UpdateOptions, WriteConcern,
 };
+use script_parts::forms::{Unread, is_object_of};
+use script_parts::keys::{
+    BULK_WRITE, COMMENT, DELETE_MANY, DELETE_ONE, DOC, DOCS, FILTER, FIND_ONE_AND_DELETE,
+    FIND_ONE_AND_REPLACE, FIND_ONE_AND_UPDATE, INSERT_MANY, INSERT_ONE, MODELS, NS, ORDERED,
+    REPLACE_ONE, UPDATE, UPDATE_MANY, UPDATE_ONE, UPSERT, VERBOSE, WRITE_CONCERN,
+};
+use script_parts::tree::Json;
 use std::alloc::Global;
 
 /// The options that every write has.

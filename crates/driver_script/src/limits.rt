@@ -2,11 +2,12 @@
 ghost use Rattle.std.specs.Prelude.{◌≡◌};
 ghost use Rattle.driver_script.specs.Limits.{limits_of, no_limits, setup_with};
 
-use crate::from_json::{FromJson, Unread, is_object_of, read_optional};
-use crate::keys::{BATCH, BSON, MESSAGE, WIRE};
-use crate::tree::Json;
+use crate::from_json::{FromJson, read_optional};
 use driver_link::Setup;
 use driver_options::Description;
+use script_parts::forms::{Unread, is_object_of};
+use script_parts::keys::{BATCH, BSON, MESSAGE, WIRE};
+use script_parts::tree::Json;
 use std::alloc::Global;
 
 /// The limits of a server that are set: the bytes of a document and of a message, the writes of a batch, and the wire

@@ -1,22 +1,23 @@
 //! Readers of the models of a bulk write: each is an object whose one key names what it does.
-ghost use Rattle.driver_script.specs.Json.{GivesPart};
+ghost use Rattle.script_parts.specs.Json.{GivesPart};
 ghost use Rattle.driver_script.specs.Models.{delete_many_model_of, delete_one_model_of, deleting_of, insert_one_model_of, model_of, model_under, replace_one_model_of, update_many_model_of, update_model_under, update_one_model_of, updating_of};
-ghost use Rattle.driver_script.specs.inside.Tree.{view};
+ghost use Rattle.script_parts.specs.inside.Tree.{view};
 
-use crate::from_json::{FromJson, Unread, is_object_of};
-use crate::keys::{
-    DELETE_MANY, DELETE_ONE, DOC, FILTER, INSERT_ONE, NS, REPLACE_ONE, UPDATE, UPDATE_MANY,
-    UPDATE_ONE, UPSERT,
-};
+use crate::from_json::FromJson;
 use crate::parts::{
     DeleteParts, InsertParts, ReplaceParts, UpdateParts, delete_parts, insert_parts, replace_parts,
     update_parts,
 };
-use crate::tree::Json;
 use driver_options::{
     DeleteManyModel, DeleteOneModel, InsertOneModel, ReplaceOneModel, UpdateManyModel,
     UpdateOneModel, WriteModel,
 };
+use script_parts::forms::{Unread, is_object_of};
+use script_parts::keys::{
+    DELETE_MANY, DELETE_ONE, DOC, FILTER, INSERT_ONE, NS, REPLACE_ONE, UPDATE, UPDATE_MANY,
+    UPDATE_ONE, UPSERT,
+};
+use script_parts::tree::Json;
 use std::alloc::Global;
 
 #[tactic(auto, unfolding(crate::specs::Models::insert_one_model_of))]

@@ -1,19 +1,20 @@
 //! Readers of the options of a script's client, and of concerns.
 ghost use Rattle.std.specs.Prelude.{◌≡◌, IfOk, option_map};
 ghost use Rattle.driver_options.specs.declared.concerns.Acknowledgment.TheVariants.{Nodes};
-ghost use Rattle.driver_script.specs.Json.{GivesPart};
+ghost use Rattle.script_parts.specs.Json.{GivesPart};
 ghost use Rattle.driver_script.specs.Options.{acknowledgment_named, acknowledgment_of, client_options_of, flag_of, level_named, read_concern_of, write_concern_of};
-ghost use Rattle.driver_script.specs.Values.{small_of};
-ghost use Rattle.driver_script.specs.inside.Tree.{view};
+ghost use Rattle.script_parts.specs.Values.{small_of};
+ghost use Rattle.script_parts.specs.inside.Tree.{view};
 
-use crate::from_json::{FromJson, Unread, is_object_of, read_optional};
-use crate::keys::{
+use crate::from_json::{FromJson, read_optional};
+use bson_lite::Text;
+use driver_options::{Acknowledgment, ClientOptions, ReadConcern, ReadConcernLevel, WriteConcern};
+use script_parts::forms::{Unread, is_object_of};
+use script_parts::keys::{
     AVAILABLE, JOURNAL, LINEARIZABLE, LOCAL, MAJORITY, READ_CONCERN, RETRY_WRITES, SNAPSHOT, W,
     W_TIMEOUT, WRITE_CONCERN,
 };
-use crate::tree::Json;
-use bson_lite::Text;
-use driver_options::{Acknowledgment, ClientOptions, ReadConcern, ReadConcernLevel, WriteConcern};
+use script_parts::tree::Json;
 use std::alloc::{AllocError, Global};
 
 impl FromJson for bool {

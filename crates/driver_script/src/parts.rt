@@ -1,14 +1,15 @@
 //! Readers of what writes are made of, as calls of their own and as models of a bulk write alike. Which other keys
 //! may stand beside these is for the reader of the whole to say.
-ghost use Rattle.driver_script.specs.Json.{GivesPart};
+ghost use Rattle.script_parts.specs.Json.{GivesPart};
 ghost use Rattle.driver_script.specs.Parts.{delete_parts_of, insert_parts_of, pipeline_of, replace_parts_of, update_of, update_parts_of};
-ghost use Rattle.driver_script.specs.inside.Tree.{view};
+ghost use Rattle.script_parts.specs.inside.Tree.{view};
 
-use crate::from_json::{FromJson, Unread, is_object_of, read_needed, read_optional};
-use crate::keys::{DOC, FILTER, NS, PIPELINE, UPDATE, UPSERT};
-use crate::tree::Json;
+use crate::from_json::{FromJson, read_needed, read_optional};
 use bson_lite::{Document, Namespace};
 use driver_options::UpdateModifications;
+use script_parts::forms::{Unread, is_object_of};
+use script_parts::keys::{DOC, FILTER, NS, PIPELINE, UPDATE, UPSERT};
+use script_parts::tree::Json;
 use std::alloc::Global;
 
 /// What the insert of one document is made of.

@@ -1,17 +1,18 @@
 //! Readers of what a schedule plans for a send that is served.
 ghost use Rattle.std.specs.Prelude.{◌≡◌, pos, IfOk};
 ghost use Rattle.std.specs.Option.{option_map};
-ghost use Rattle.driver_script.specs.Json.{GivesPart};
+ghost use Rattle.script_parts.specs.Json.{GivesPart};
 ghost use Rattle.driver_script.specs.Plans.{built_code, built_plan, concern_error_of, failing_of, is_built_code, is_spelled_within, may_be_found, may_be_upserted, planned_of, serve_of, serve_with};
-ghost use Rattle.driver_script.specs.inside.Tree.{view};
+ghost use Rattle.script_parts.specs.inside.Tree.{view};
 
-use crate::from_json::{FromJson, Unread, is_object_of, read_needed, read_optional};
-use crate::keys::{
-    CODE, FAIL, MESSAGE, MODIFIED, N, PAGE, RESULTS, UPSERTED, VALUE, WRITE_CONCERN_ERROR,
-};
-use crate::tree::Json;
+use crate::from_json::{FromJson, read_needed, read_optional};
 use bson_lite::{Bson, Document, List, TryClone, refusal_within};
 use driver_link::{Failing, Item, Planned, PlannedConcern};
+use script_parts::forms::{Unread, is_object_of};
+use script_parts::keys::{
+    CODE, FAIL, MESSAGE, MODIFIED, N, PAGE, RESULTS, UPSERTED, VALUE, WRITE_CONCERN_ERROR,
+};
+use script_parts::tree::Json;
 use std::alloc::{AllocError, Global};
 
 /// The levels that a document may nest which stands in a reply.
@@ -124,7 +125,7 @@ impl FromJson for Planned {
 impl FromJson for Failing {
     ghost spec = { failing_of };
 
-    #[tactic(auto, unfolding(crate::specs::Plans::failing_of, crate::specs::Plans::failing_in, crate::specs::Values::item_of))]
+    #[tactic(auto, unfolding(crate::specs::Plans::failing_of, crate::specs::Plans::failing_in, script_parts::specs::Values::item_of))]
     fn read(alloc: Global, value: &Json<'_, '_>) -> Result<Failing, Unread> {
         if value.at(2).is_some() {
             return Err(Unread::Wrong);

@@ -2,21 +2,22 @@
 ghost use Rattle.std.specs.Prelude.{◌≡◌, None};
 ghost use Rattle.std.specs.List.{list_all};
 ghost use Rattle.driver_link.specs.Exchange.{usual_item};
-ghost use Rattle.driver_script.specs.Json.{GivesPart};
+ghost use Rattle.script_parts.specs.Json.{GivesPart};
 ghost use Rattle.driver_script.specs.ScheduleSteps.{built_reply, delivering_of, faults_of, interrupted_of, is_built_label, item_in, item_named, item_under, no_faults, refused_of, reply_of, schedule_with, step_of};
-ghost use Rattle.driver_script.specs.inside.Tree.{view};
+ghost use Rattle.script_parts.specs.inside.Tree.{view};
 ghost use Rattle.json.specs.Find.{as_str};
 
-use crate::from_json::{FromJson, Unread, is_object_of, read_needed, read_optional};
-use crate::keys::{
-    AFTER, CHECK_OUT, CODE, DELIVER, INTERRUPTED, ITEM, LABELS, LATE, LOST, REFUSED, REPLY_LOST,
-    SELECT, SERVE,
-};
+use crate::from_json::{FromJson, read_needed, read_optional};
 use crate::plans::{is_built_code, served};
-use crate::tree::Json;
 use bson_lite::{List, Text};
 use driver_error::{RETRYABLE_ERROR, SYSTEM_OVERLOADED_ERROR};
 use driver_link::{Item, Schedule, Scheduled};
+use script_parts::forms::{Unread, is_object_of};
+use script_parts::keys::{
+    AFTER, CHECK_OUT, CODE, DELIVER, INTERRUPTED, ITEM, LABELS, LATE, LOST, REFUSED, REPLY_LOST,
+    SELECT, SERVE,
+};
+use script_parts::tree::Json;
 use std::alloc::Global;
 
 /// What an item answers: an error with these labels.

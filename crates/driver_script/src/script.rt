@@ -1,24 +1,22 @@
 //! The script: one JSON object with the calls to be made and the schedule of the model server.
 ghost use Rattle.std.specs.Prelude.{◌≡◌, codes, option_and_then, IfOk};
 ghost use Rattle.driver_link.specs.WellFormed.{IsWellFormed};
-ghost use Rattle.driver_script.specs.Json.{GivesPart};
-ghost use Rattle.driver_script.specs.Script.{script_of, script, value_read, usual_options, IsWrong, ReadsScript};
+ghost use Rattle.script_parts.specs.Json.{GivesPart, value_read};
+ghost use Rattle.driver_script.specs.Script.{script_of, script, usual_options, IsWrong, ReadsScript};
 
-use crate::from_json::{FromJson, Unread, is_object_of, read_needed, read_optional};
-use crate::keys::{CALLS, FAULTS, LATE, LIMITS, OPTIONS, SCHEDULE};
+use crate::from_json::{FromJson, read_needed, read_optional};
 use crate::limits::{no_limits, setup_with};
 use crate::schedule::{no_faults, schedule_with};
-use crate::tape::read_tape;
-use crate::tree::Json;
 use bson_lite::{List, Text};
 use driver_inputs::Call;
 use driver_link::{Schedule, Setup};
 use driver_options::ClientOptions;
 use json::Scratch;
+use script_parts::forms::{Unread, is_object_of};
+use script_parts::keys::{CALLS, FAULTS, LATE, LIMITS, MOST_CALLS, OPTIONS, SCHEDULE};
+use script_parts::tape::read_tape;
+use script_parts::tree::Json;
 use std::alloc::{AllocError, Global};
-
-/// The greatest number of calls of a script.
-pub const MOST_CALLS: usize = 10_000;
 
 /// What a script asks for.
 #[derive(Debug)]
@@ -90,7 +88,7 @@ fn wrong(alloc: Global) -> ScriptFault
 }
 
 /// The script that the bytes are.
-#[tactic(auto, using(crate::proofs::InRange::read_on))]
+#[tactic(auto, using(crate::proofs::Readings::read_on))]
 fn any_script(alloc: Global, bytes: &[u8]) -> Result<Script, Unread>
     ensures { GivesPart result (option_and_then script_of (value_read bytes.now)) }
 {

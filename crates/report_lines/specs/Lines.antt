@@ -20,8 +20,8 @@ use Rattle.driver_link.specs.declared.machine.SendCommand.{SendCommand}
 use Rattle.driver_link.specs.declared.machine.SendCommand.TheVariants as command
 use Rattle.driver_link.specs.Cases.{writes_of}
 use Rattle.driver_ops.specs.OptionFields.{document_in}
-use Rattle.driver_script.specs.declared.keys.TheConstants as script_key
-use Rattle.driver_script.specs.declared.keys.TheConstants.{DELETE_MANY, DELETE_ONE, FIND_ONE_AND_DELETE, FIND_ONE_AND_REPLACE, FIND_ONE_AND_UPDATE, INSERT_MANY, INSERT_ONE, REPLACE_ONE, UPDATE_MANY, UPDATE_ONE}
+use Rattle.script_parts.specs.declared.keys.TheConstants as script_key
+use Rattle.script_parts.specs.declared.keys.TheConstants.{DELETE_MANY, DELETE_ONE, FIND_ONE_AND_DELETE, FIND_ONE_AND_REPLACE, FIND_ONE_AND_UPDATE, INSERT_MANY, INSERT_ONE, REPLACE_ONE, UPDATE_MANY, UPDATE_ONE}
 use Rattle.report_lines.specs.Words.{session_text, number_text, listed, place_text, value_text, value_text_or_none, error_text}
 use Rattle.driver_inputs.specs.declared.call.Answer.{Answer}
 use Rattle.driver_inputs.specs.declared.call.Answer.TheVariants as answer

@@ -21,8 +21,8 @@ use driver_link::keys::{
     KILL_CURSORS, UPDATE,
 };
 use driver_link::{Entry, Send, SendBody, SendCommand};
-use driver_script::keys;
-use driver_script::keys::{
+use script_parts::keys;
+use script_parts::keys::{
     DELETE_MANY, DELETE_ONE, FIND_ONE_AND_DELETE, FIND_ONE_AND_REPLACE, FIND_ONE_AND_UPDATE,
     INSERT_MANY, INSERT_ONE, REPLACE_ONE, UPDATE_MANY, UPDATE_ONE,
 };

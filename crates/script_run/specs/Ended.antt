@@ -12,7 +12,7 @@ use Rattle.driver_attempt.specs.Client.{options_of, store_of}
 use Rattle.driver_attempt.specs.Moment.{Moment}
 use Rattle.driver_attempt.specs.declared.client.Client.{Client}
 use Rattle.call_runs.specs.MainTheorem.{HaveEnded, MainTheorem}
-use Rattle.driver_script.specs.declared.script.TheConstants.{MOST_CALLS}
+use Rattle.script_parts.specs.declared.keys.TheConstants.{MOST_CALLS}
 use Rattle.driver_script.specs.declared.script.Script.{Script}
 use Rattle.driver_script.specs.Script.{script}
 use Rattle.report_lines.specs.Lines.{newline}

@@ -1,9 +1,9 @@
 -- What was read, then what the definition makes of the rest.
 use Rattle.std.proofs.Common.{◌≡◌, ◌++◌}
 use Rattle.std.specs.Option.{option_map}
-use Rattle.driver_script.specs.Json.{each}
-use Rattle.driver_script.specs.inside.Sizes.{items_size}
-use Rattle.driver_script.specs.inside.Tree.{items_view}
+use Rattle.script_parts.specs.Json.{each}
+use Rattle.script_parts.specs.inside.Sizes.{items_size}
+use Rattle.script_parts.specs.inside.Tree.{items_view}
 use Rattle.driver_script.proofs.from_json.read_each.Given as goal
 
 abbrev pub invariant-loop-item : goal.invariant-loop-item

@@ -1,5 +1,5 @@
 -- The schedule of a script is one that a model server takes.
-use Rattle.driver_script.specs.Script.{value_read}
+use Rattle.script_parts.specs.Json.{value_read}
 use Rattle.driver_script.proofs.Schedules.{read_well}
 use Rattle.driver_script.proofs.script.read_script.Goals as goal
 

@@ -1,7 +1,0 @@
--- What stands last under the key is smaller than all members.
-use Rattle.driver_script.proofs.Only.{only_smaller}
-use Rattle.driver_script.proofs.tree.Members.only.Goals as goal
-
-pub returns-in-Some-last_of-clause-smaller : goal.returns-in-Some-last_of-clause-smaller
-returns-in-Some-last_of-clause-smaller c =
-    only_smaller c.args.self c.next.new.self c.in-Some.key.now c.in-Some.first c.in-Some-last_of.last c.in-Some.ensures c.in-Some-last_of.ensures

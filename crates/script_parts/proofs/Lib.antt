@@ -1,0 +1,10 @@
+mod Bytes
+mod InRange
+mod MemberKeys
+mod Numbered
+mod OneKey
+mod Only
+mod OtherForms
+mod Pairs
+mod Places
+mod Trees
