@@ -125,7 +125,8 @@ const ODD: &[Told] = &[
     Told::PutInNothing(1, 1),
 ];
 
-const ROWS: &[Row] = &[
+/// Pages that are refused or lost.
+const REFUSED_PAGES: &[Row] = &[
     // The page is refused, and its cursor is ended.
     Row(
         TWO,
@@ -139,7 +140,34 @@ const ROWS: &[Row] = &[
         REFUSED,
         &["bulkWrite", "getMore", "killCursors"],
     ),
-    // A label of the first reply makes a resend, where that tells of an error too; one of a page does not.
+    // A label of a page makes no resend.
+    Row(
+        TWO,
+        true,
+        false,
+        &[
+            Answer::First(HALF),
+            Answer::Refused(11600, AGAIN),
+            Answer::Plain,
+            Answer::First(WHOLE),
+        ],
+        REFUSED_AGAIN,
+        &["bulkWrite", "getMore", "killCursors"],
+    ),
+    // A lost page is no reason to end its cursor, nor to send anything again.
+    Row(
+        TWO,
+        true,
+        false,
+        &[Answer::First(HALF), Answer::Reset, Answer::First(WHOLE)],
+        LOST,
+        &["bulkWrite", "getMore"],
+    ),
+];
+
+/// Commands that are sent again.
+const RESENT: &[Row] = &[
+    // A label of the first reply makes a resend, where that tells of an error too.
     Row(
         TWO,
         true,
@@ -173,28 +201,19 @@ const ROWS: &[Row] = &[
         Ended::Done([2, 0, 0, 0, 0], 2),
         &["bulkWrite", "getMore", "killCursors", "bulkWrite"],
     ),
+    // An unordered one with an error for each op: nothing succeeded. Its label makes a resend.
     Row(
         TWO,
-        true,
         false,
-        &[
-            Answer::First(HALF),
-            Answer::Refused(11600, AGAIN),
-            Answer::Plain,
-            Answer::First(WHOLE),
-        ],
-        REFUSED_AGAIN,
-        &["bulkWrite", "getMore", "killCursors"],
-    ),
-    // A lost page is no reason to end its cursor, nor to send anything again.
-    Row(
-        TWO,
         true,
-        false,
-        &[Answer::First(HALF), Answer::Reset, Answer::First(WHOLE)],
-        LOST,
-        &["bulkWrite", "getMore"],
+        &[Answer::First(NONE_STANDS), Answer::First(NONE_STANDS)],
+        Ended::Bulk(Failed(2, Some((0, 2)), 1, None, Source::None, true, true)),
+        &["bulkWrite", "bulkWrite"],
     ),
+];
+
+/// Results on more than one page.
+const SEVERAL_PAGES: &[Row] = &[
     // Three pages, the first of which is empty.
     Row(
         THREE,
@@ -240,6 +259,10 @@ const ROWS: &[Row] = &[
         )),
         &["bulkWrite", "getMore"],
     ),
+];
+
+/// Ordered bulk writes of which an op failed.
+const ORDERED: &[Row] = &[
     // An ordered batch that stopped at its second op.
     Row(
         THREE,
@@ -339,15 +362,6 @@ const ROWS: &[Row] = &[
         )),
         &["bulkWrite", "getMore", "killCursors"],
     ),
-    // An unordered one with an error for each op: nothing succeeded. Its label makes a resend.
-    Row(
-        TWO,
-        false,
-        true,
-        &[Answer::First(NONE_STANDS), Answer::First(NONE_STANDS)],
-        Ended::Bulk(Failed(2, Some((0, 2)), 1, None, Source::None, true, true)),
-        &["bulkWrite", "bulkWrite"],
-    ),
     // In front of its error an ordered batch lacks a result.
     Row(
         THREE,
@@ -357,6 +371,10 @@ const ROWS: &[Row] = &[
         Ended::Invalid(Cause::Missing),
         &["bulkWrite"],
     ),
+];
+
+/// Two inserts that were told of on one page, with a concern error or odd counts.
+const ONE_PAGE: &[Row] = &[
     // A lone write concern error.
     Row(
         TWO,
@@ -507,12 +525,28 @@ fn ends(alloc: Global, row: Row) -> std::result::Result<bool, AllocError> {
     Ok(found == wanted && sent)
 }
 
+/// The place of the first of these rows that does not end as it says.
+fn first_wrong(alloc: Global, rows: &[Row]) -> std::result::Result<Option<usize>, AllocError> {
+    for (at, row) in rows.iter().enumerate() {
+        if !ends(alloc, *row)? {
+            return Ok(Some(at));
+        }
+    }
+    Ok(None)
+}
+
 #[test]
 fn an_answer_in_pages_is_read_to_its_end(rt: HostRuntime) -> std::result::Result<(), Fail> {
-    for (at, row) in ROWS.iter().enumerate() {
-        let same = ends(rt.alloc(), *row)?;
-        assert!(rt; same, "row {at}");
-    }
+    let wrong = first_wrong(rt.alloc(), REFUSED_PAGES)?;
+    assert_eq!(rt; wrong, None, "of pages that are refused or lost");
+    let wrong = first_wrong(rt.alloc(), RESENT)?;
+    assert_eq!(rt; wrong, None, "of commands that are sent again");
+    let wrong = first_wrong(rt.alloc(), SEVERAL_PAGES)?;
+    assert_eq!(rt; wrong, None, "of several pages");
+    let wrong = first_wrong(rt.alloc(), ORDERED)?;
+    assert_eq!(rt; wrong, None, "of ordered bulk writes");
+    let wrong = first_wrong(rt.alloc(), ONE_PAGE)?;
+    assert_eq!(rt; wrong, None, "of one page");
     Ok(())
 }
 
