@@ -3,6 +3,7 @@
 #![tactic(auto)]
 
 pub mod bulk_ends;
+pub mod bulk_models;
 pub mod bulk_runs;
 pub mod faking;
 mod finds;
