@@ -6,7 +6,7 @@ use bson_lite::{Bson, ByIndex};
 use driver_error::{Error, ErrorKind};
 use driver_inputs::{Answer, Outcome};
 use driver_link::Entry;
-use script_parts::runs::run_of;
+use script_rows::runs::run_of;
 use script_run::Run;
 use std::alloc::{AllocError, Global};
 use std::test::Fail;

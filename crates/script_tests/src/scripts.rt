@@ -3,7 +3,7 @@ use bson_lite::{Bytes, EncodeFault, List, Text, encode};
 use driver_inputs::{Call, SingleWrite};
 use driver_link::{MemSink, MemSource};
 use driver_script::{ScriptFault, read_script};
-use script_parts::runs::ran;
+use script_rows::runs::ran;
 use script_run::{Run, top};
 use serde_json::Value;
 use std::alloc::{AllocError, Global};

@@ -1,5 +1,5 @@
 //! Writes of one statement by their schedules and options: the outcome, the sends and the entries.
-use script_parts::rows::{Row, first_wrong};
+use script_rows::rows::{Row, first_wrong};
 use std::test::Fail;
 
 const UPDATE_ONE: &str =
