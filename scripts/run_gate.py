@@ -22,11 +22,12 @@ MINUTES = {
         "driver_batches": 1, "bson_lite": 10, "driver_error": 14, "driver_options": 6, "driver_link": 7, "driver_session": 2,
         "frame_reading": 6, "machine_laws": 1, "driver_ops": 6, "write_ops": 9, "bulk_ops": 13, "driver_inputs": 5, "driver_attempt": 9,
         "driver_exec": 3, "driver_actions": 12, "bulk_actions": 4, "call_runs": 3, "model_replies": 6, "model_server": 10, "script_parts": 6, "driver_script": 8,
-        "report_lines": 5, "script_run": 11, "test_parts": 10, "write_bench": 8, "driver_cli": 7, "callers": 3, "bson_bench": 2,
+        "report_lines": 5, "script_run": 11, "test_parts": 12, "script_rows": 3, "write_bench": 8, "driver_cli": 7, "callers": 3, "bson_bench": 2,
     },
     "tests": {
-        "bson_tests": 7, "error_tests": 14, "form_tests": 9, "link_tests": 10, "page_tests": 15, "bulk_tests": 13, "many_tests": 10,
-        "executor_tests": 9, "call_tests": 10, "script_tests": 17,
+        "bson_tests": 7, "error_tests": 14, "form_tests": 9, "link_tests": 10, "page_tests": 7, "page_server_tests": 11, "bulk_tests": 11,
+        "bulk_input_tests": 5, "many_tests": 10, "executor_tests": 7, "reply_tests": 5, "call_tests": 10, "script_tests": 10,
+        "list_tests": 11,
     },
 }
 

@@ -1,6 +1,5 @@
 //! Bulk writes as they are built: under limits of the connection how many ops go out, or why none does; the bytes of a
 //! command with all six models; and how a batch of these numbers its namespaces.
-use crate::bulk_models::{A_X, A_Z, B_Y, OPS, insert, is_op, let_go, named, number, ops_of, six};
 use bson_lite::{Bson, Document, List, ObjectId, Text, TryClone};
 use bulk_actions::bulk_ops;
 use bulk_ops::BulkWriteOp;
@@ -14,6 +13,8 @@ use driver_options::{BulkWriteOptions, ClientOptions, Description, WriteModel};
 use driver_session::PlainStore;
 use std::alloc::{AllocError, Global};
 use std::test::Fail;
+use test_parts::bulk_ends::let_go;
+use test_parts::bulk_models::{A_X, A_Z, B_Y, OPS, insert, is_op, named, number, ops_of, six};
 use test_parts::inserting::SERVER;
 
 /// `{bulkWrite: 1, ordered: true, errorsOnly: true}`

@@ -1,7 +1,6 @@
 //! Lists of models of random kinds, namespaces and lengths, cut batch by batch under limits that let few ops in: no
 //! other cut into runs that fit has fewer batches. What a run takes is counted from the layout of the op documents,
 //! by lengths written by hand.
-use crate::bulk_models::{around, insert, let_go, named, number, ops_of};
 use bson_lite::{Bson, Document, List, Namespace, Text};
 use bulk_ops::{BulkWriteOp, OwnOp};
 use driver_error::SummaryBulkWriteResult;
@@ -14,6 +13,8 @@ use rand_core::{Rng, SeedableRng};
 use rand_pcg::Pcg32;
 use std::alloc::{AllocError, Global};
 use std::test::Fail;
+use test_parts::bulk_ends::let_go;
+use test_parts::bulk_models::{around, insert, named, number, ops_of};
 use test_parts::inserting::SERVER;
 
 /// How many lists are cut.

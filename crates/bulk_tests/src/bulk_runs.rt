@@ -2,7 +2,6 @@
 //! byte; and which entries stand.
 ghost use Rattle.driver_link.specs.WellFormed.{IsWellFormed};
 
-use crate::bulk_models::{A_X, A_Z, B_Y, OPS, is_op, let_go, six};
 use bson_lite::List;
 use driver_error::{IoKind, Result, SummaryBulkWriteResult};
 use driver_link::{FakeLink, Frame, Schedule, Server, WriteKind};
@@ -10,6 +9,8 @@ use driver_options::Description;
 use model_server::{ModelServer, USUAL_SETUP};
 use std::alloc::{AllocError, Global};
 use std::test::Fail;
+use test_parts::bulk_ends::let_go;
+use test_parts::bulk_models::{A_X, A_Z, B_Y, OPS, is_op, six};
 use test_parts::bulk_runs::{Kind, executed_from, models_of};
 use test_parts::faking::{Given, Servers, fake_link};
 use test_parts::inserting::{Ended, SERVER, how_ended};

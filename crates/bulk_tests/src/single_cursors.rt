@@ -1,10 +1,11 @@
 //! The first document of the cursor in a reply, form by form.
-use crate::bulk_models::{let_go, number};
 use bson_lite::{Bson, Document, List};
 use driver_error::ErrorKind;
 use driver_ops::SingleCursorResult;
 use std::alloc::{AllocError, Global};
 use std::test::Fail;
+use test_parts::bulk_ends::let_go;
+use test_parts::bulk_models::number;
 
 /// What stands under `cursor`.
 #[derive(Clone, Copy)]

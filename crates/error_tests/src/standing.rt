@@ -224,7 +224,8 @@ const SUCCEEDED: &[Succeeded] = &[
     },
 ];
 
-const FAILING: &[Failing] = &[
+/// Failures and other errors that come first, or behind a success.
+const FIRST_OR_BEHIND_SUCCESS: &[Failing] = &[
     Failing {
         shows: "the first failure stands as it is",
         before: Stood::Nothing,
@@ -236,6 +237,12 @@ const FAILING: &[Failing] = &[
         before: Stood::Nothing,
         comes: Failure::Other(Cause::Command),
         after: After::Other(Cause::Command),
+    },
+    Failing {
+        shows: "want of memory stands where it is the first",
+        before: Stood::Nothing,
+        comes: Failure::Other(Cause::Memory),
+        after: After::Other(Cause::Memory),
     },
     Failing {
         shows: "failures behind a success take its counts",
@@ -255,6 +262,34 @@ const FAILING: &[Failing] = &[
         comes: Failure::Failed(LATER, Some(Cause::Command)),
         after: After::Failed(LATER_SUMS, Mark::Later, Some(Cause::Command)),
     },
+    Failing {
+        shows: "a lost connection is the source of what succeeded",
+        before: Stood::Success(A),
+        comes: Failure::Other(Cause::Io),
+        after: After::Failed(ONLY_A, Mark::Bare, Some(Cause::Io)),
+    },
+    Failing {
+        shows: "a command error is the source of what succeeded",
+        before: Stood::Success(A),
+        comes: Failure::Other(Cause::Command),
+        after: After::Failed(ONLY_A, Mark::Bare, Some(Cause::Command)),
+    },
+    Failing {
+        shows: "want of memory takes the place of a success",
+        before: Stood::Success(A),
+        comes: Failure::Other(Cause::Memory),
+        after: After::Other(Cause::Memory),
+    },
+    Failing {
+        shows: "a sum behind a success leaves 64 bits",
+        before: Stood::Success(MOST),
+        comes: Failure::Failed(ONE_MORE, Some(Cause::Io)),
+        after: After::Refused,
+    },
+];
+
+/// Failures of a later batch behind those of an earlier one.
+const FAILURES_BEHIND_FAILURES: &[Failing] = &[
     Failing {
         shows: "failures behind failures give their source, and the first mark stays",
         before: Stood::Failed(FIRST),
@@ -286,17 +321,15 @@ const FAILING: &[Failing] = &[
         after: After::Failed(JOINED_ALONE, Mark::First, Some(Cause::Command)),
     },
     Failing {
-        shows: "a lost connection is the source of what succeeded",
-        before: Stood::Success(A),
-        comes: Failure::Other(Cause::Io),
-        after: After::Failed(ONLY_A, Mark::Bare, Some(Cause::Io)),
+        shows: "a sum behind failures leaves 64 bits",
+        before: Stood::Failed(FULL),
+        comes: Failure::Failed(ONE_MORE, Some(Cause::Io)),
+        after: After::Refused,
     },
-    Failing {
-        shows: "a command error is the source of what succeeded",
-        before: Stood::Success(A),
-        comes: Failure::Other(Cause::Command),
-        after: After::Failed(ONLY_A, Mark::Bare, Some(Cause::Command)),
-    },
+];
+
+/// Other errors behind failures.
+const OTHERS_BEHIND_FAILURES: &[Failing] = &[
     Failing {
         shows: "a lost connection is the source of the failures before",
         before: Stood::Failed(FIRST),
@@ -310,34 +343,10 @@ const FAILING: &[Failing] = &[
         after: After::Failed(FIRST_ALONE, Mark::First, Some(Cause::Command)),
     },
     Failing {
-        shows: "want of memory stands where it is the first",
-        before: Stood::Nothing,
-        comes: Failure::Other(Cause::Memory),
-        after: After::Other(Cause::Memory),
-    },
-    Failing {
-        shows: "want of memory takes the place of a success",
-        before: Stood::Success(A),
-        comes: Failure::Other(Cause::Memory),
-        after: After::Other(Cause::Memory),
-    },
-    Failing {
         shows: "want of memory takes the place of failures",
         before: Stood::Failed(FIRST),
         comes: Failure::Other(Cause::Memory),
         after: After::Other(Cause::Memory),
-    },
-    Failing {
-        shows: "a sum behind a success leaves 64 bits",
-        before: Stood::Success(MOST),
-        comes: Failure::Failed(ONE_MORE, Some(Cause::Io)),
-        after: After::Refused,
-    },
-    Failing {
-        shows: "a sum behind failures leaves 64 bits",
-        before: Stood::Failed(FULL),
-        comes: Failure::Failed(ONE_MORE, Some(Cause::Io)),
-        after: After::Refused,
     },
 ];
 
@@ -464,9 +473,9 @@ fn a_success_is_merged_into_what_stands(rt: HostRuntime) {
     assert_eq!(rt; first_wrong_success(rt.alloc()), None);
 }
 
-/// What the first row shows that is not as it says.
-fn first_wrong_failure(alloc: Global) -> Option<&'static str> {
-    for row in FAILING {
+/// What the first of these rows shows that is not as it says.
+fn first_wrong_failure(alloc: Global, rows: &[Failing]) -> Option<&'static str> {
+    for row in rows {
         if !ends(alloc, fail(alloc, row), &row.after) {
             return Some(row.shows);
         }
@@ -476,7 +485,18 @@ fn first_wrong_failure(alloc: Global) -> Option<&'static str> {
 
 #[test]
 fn a_failure_is_merged_into_what_stands_or_is_its_source(rt: HostRuntime) {
-    assert_eq!(rt; first_wrong_failure(rt.alloc()), None);
+    assert_eq!(rt;
+        first_wrong_failure(rt.alloc(), FIRST_OR_BEHIND_SUCCESS),
+        None
+    );
+    assert_eq!(rt;
+        first_wrong_failure(rt.alloc(), FAILURES_BEHIND_FAILURES),
+        None
+    );
+    assert_eq!(rt;
+        first_wrong_failure(rt.alloc(), OTHERS_BEHIND_FAILURES),
+        None
+    );
 }
 
 const GOING: &[Going] = &[

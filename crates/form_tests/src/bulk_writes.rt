@@ -30,9 +30,8 @@ const MODELS: [&str; 15] = [
     "{\"insertOne\":{\"ns\":\"a.b\",\"doc\":[]}},{\"updateOne\":{\"ns\":\"a.c\",\"filter\":[],\"update\":[]}},{\"updateMany\":{\"ns\":\"a.b\",\"filter\":[],\"update\":[]}},{\"replaceOne\":{\"ns\":\"a.b\",\"filter\":[],\"doc\":[]}},{\"deleteOne\":{\"ns\":\"a.b\",\"filter\":[]}},{\"deleteMany\":{\"ns\":\"b.a\",\"filter\":[]}}",
 ];
 
-/// Lists of which one is no model: what has no key or two, names that no model has, a key that is missing or too
-/// many, what belongs to a whole call, and parts of a wrong form.
-const NO_MODELS: [&str; 88] = [
+/// Texts that are no models, by their names and forms, and lists of which one is none.
+const NO_MODELS: [&str; 22] = [
     "{}",
     "[]",
     "null",
@@ -52,6 +51,13 @@ const NO_MODELS: [&str; 88] = [
     "{\"insertOne\":null}",
     "{\"updateOne\":[]}",
     "{\"deleteMany\":\"a.b\"}",
+    "{\"deleteOne\":{\"ns\":\"a.b\",\"filter\":[]}},{}",
+    "{\"deleteOne\":{\"ns\":\"a.b\"}},{\"deleteOne\":{\"ns\":\"a.b\",\"filter\":[]}}",
+    "{\"insertOne\":{\"ns\":\"a.b\",\"doc\":[]}},{\"findOneAndDelete\":{\"ns\":\"a.b\",\"filter\":[]}}",
+];
+
+/// Models that lack a part.
+const LACKING_MODELS: [&str; 17] = [
     "{\"insertOne\":{\"ns\":\"a.b\"}}",
     "{\"insertOne\":{\"doc\":[]}}",
     "{\"insertOne\":{}}",
@@ -69,6 +75,10 @@ const NO_MODELS: [&str; 88] = [
     "{\"deleteOne\":{}}",
     "{\"deleteMany\":{\"filter\":[]}}",
     "{\"deleteMany\":{\"ns\":\"a.b\"}}",
+];
+
+/// Models with parts that they do not have, such as those of calls.
+const OTHER_MODELS: [&str; 33] = [
     "{\"insertOne\":{\"ns\":\"a.b\",\"doc\":[],\"upsert\":true}}",
     "{\"insertOne\":{\"ns\":\"a.b\",\"doc\":[],\"ordered\":true}}",
     "{\"insertOne\":{\"ns\":\"a.b\",\"doc\":[],\"docs\":[]}}",
@@ -102,6 +112,10 @@ const NO_MODELS: [&str; 88] = [
     "{\"deleteMany\":{\"ns\":\"a.b\",\"filter\":[],\"session\":1}}",
     "{\"deleteMany\":{\"ns\":\"a.b\",\"filter\":[],\"writeConcern\":{}}}",
     "{\"deleteMany\":{\"ns\":\"a.b\",\"filter\":[],\"comment\":1}}",
+];
+
+/// Models with a part of another form.
+const ODD_MODELS: [&str; 16] = [
     "{\"insertOne\":{\"ns\":\"ab\",\"doc\":[]}}",
     "{\"insertOne\":{\"ns\":[\"a\"],\"doc\":[]}}",
     "{\"insertOne\":{\"ns\":null,\"doc\":[]}}",
@@ -118,9 +132,6 @@ const NO_MODELS: [&str; 88] = [
     "{\"replaceOne\":{\"ns\":\"a.b\",\"filter\":[],\"doc\":[],\"upsert\":\"true\"}}",
     "{\"deleteOne\":{\"ns\":\"a.b\",\"filter\":null}}",
     "{\"deleteMany\":{\"ns\":1,\"filter\":[]}}",
-    "{\"deleteOne\":{\"ns\":\"a.b\",\"filter\":[]}},{}",
-    "{\"deleteOne\":{\"ns\":\"a.b\"}},{\"deleteOne\":{\"ns\":\"a.b\",\"filter\":[]}}",
-    "{\"insertOne\":{\"ns\":\"a.b\",\"doc\":[]}},{\"findOneAndDelete\":{\"ns\":\"a.b\",\"filter\":[]}}",
 ];
 
 /// Calls, of no model too.
@@ -366,6 +377,12 @@ fn models_are_read(rt: HostRuntime) -> Result<(), Fail> {
 #[test]
 fn other_models_are_refused(rt: HostRuntime) -> Result<(), Fail> {
     let wrong = first_wrong(rt.alloc(), &NO_MODELS, &AROUND_MODELS, false)?;
+    assert_eq!(rt; wrong, None);
+    let wrong = first_wrong(rt.alloc(), &LACKING_MODELS, &AROUND_MODELS, false)?;
+    assert_eq!(rt; wrong, None);
+    let wrong = first_wrong(rt.alloc(), &OTHER_MODELS, &AROUND_MODELS, false)?;
+    assert_eq!(rt; wrong, None);
+    let wrong = first_wrong(rt.alloc(), &ODD_MODELS, &AROUND_MODELS, false)?;
     assert_eq!(rt; wrong, None);
     Ok(())
 }

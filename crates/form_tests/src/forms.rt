@@ -38,7 +38,8 @@ const CALLS: [&str; 32] = [
     "{\"insertMany\":{\"ns\":\"a.b\",\"docs\":[[],[]],\"ordered\":false,\"writeConcern\":{\"w\":\"majority\"},\"comment\":null}}",
 ];
 
-const NO_CALLS: [&str; 96] = [
+/// Texts that are no calls, by their names, and writes that answer a document which are none.
+const NO_FINDS: [&str; 26] = [
     "{}",
     "[]",
     "\"deleteOne\"",
@@ -65,6 +66,10 @@ const NO_CALLS: [&str; 96] = [
     "{\"findOneAndReplace\":{\"ns\":\"a.b\",\"filter\":[],\"doc\":[],\"upsert\":false}}",
     "{\"findOneAndReplace\":{\"ns\":\"a.b\",\"filter\":[],\"doc\":{\"pipeline\":[]}}}",
     "{\"findOneAndReplace\":{\"ns\":\"ab\",\"filter\":[],\"doc\":[]}}",
+];
+
+/// Inserts of many documents that are none.
+const NO_INSERTS_OF_MANY: [&str; 21] = [
     "{\"insertMany\":[]}",
     "{\"insertMany\":{}}",
     "{\"insertMany\":{\"ns\":\"a.b\"}}",
@@ -86,6 +91,10 @@ const NO_CALLS: [&str; 96] = [
     "{\"insertMany\":{\"ns\":\"a.b\",\"docs\":[[]],\"writeConcern\":1}}",
     "{\"insertMany\":{\"ns\":\"a.b\",\"docs\":[[]],\"comment\":[]}}",
     "{\"InsertMany\":{\"ns\":\"a.b\",\"docs\":[[]]}}",
+];
+
+/// Deletes and single inserts that are none, by their parts, comments and write concerns, and two calls in one.
+const NO_DELETES: [&str; 30] = [
     "{\"deleteOne\":{\"ns\":\"a.b\",\"filter\":[]},\"deleteMany\":{\"ns\":\"a.b\",\"filter\":[]}}",
     "{\"deleteOne\":[]}",
     "{\"deleteOne\":{}}",
@@ -104,6 +113,22 @@ const NO_CALLS: [&str; 96] = [
     "{\"insertOne\":{\"ns\":\"a.b\",\"doc\":[],\"upsert\":true}}",
     "{\"insertOne\":{\"ns\":\"a.b\",\"doc\":[],\"filter\":[]}}",
     "{\"insertOne\":{\"ns\":\"a.b\",\"doc\":[],\"ordered\":true}}",
+    "{\"deleteOne\":{\"ns\":\"a.b\",\"filter\":[],\"comment\":[]}}",
+    "{\"deleteOne\":{\"ns\":\"a.b\",\"filter\":[],\"comment\":1.5}}",
+    "{\"deleteOne\":{\"ns\":\"a.b\",\"filter\":[],\"writeConcern\":null}}",
+    "{\"deleteOne\":{\"ns\":\"a.b\",\"filter\":[],\"writeConcern\":1}}",
+    "{\"deleteOne\":{\"ns\":\"a.b\",\"filter\":[],\"writeConcern\":{\"w\":-1}}}",
+    "{\"deleteOne\":{\"ns\":\"a.b\",\"filter\":[],\"writeConcern\":{\"w\":4294967296}}}",
+    "{\"deleteOne\":{\"ns\":\"a.b\",\"filter\":[],\"writeConcern\":{\"w\":1.0}}}",
+    "{\"deleteOne\":{\"ns\":\"a.b\",\"filter\":[],\"writeConcern\":{\"w\":null}}}",
+    "{\"deleteOne\":{\"ns\":\"a.b\",\"filter\":[],\"writeConcern\":{\"wtimeout\":4294967296}}}",
+    "{\"deleteOne\":{\"ns\":\"a.b\",\"filter\":[],\"writeConcern\":{\"wtimeout\":\"1\"}}}",
+    "{\"deleteOne\":{\"ns\":\"a.b\",\"filter\":[],\"writeConcern\":{\"j\":1}}}",
+    "{\"deleteOne\":{\"ns\":\"a.b\",\"filter\":[],\"writeConcern\":{\"journal\":true}}}",
+];
+
+/// Updates and replacements that are none.
+const NO_UPDATES: [&str; 19] = [
     "{\"updateOne\":{\"ns\":\"a.b\",\"filter\":[]}}",
     "{\"updateOne\":{\"ns\":\"a.b\",\"update\":[]}}",
     "{\"updateOne\":{\"filter\":[],\"update\":[]}}",
@@ -123,18 +148,6 @@ const NO_CALLS: [&str; 96] = [
     "{\"replaceOne\":{\"ns\":\"a.b\",\"filter\":[],\"update\":[]}}",
     "{\"replaceOne\":{\"ns\":\"a.b\",\"filter\":[],\"doc\":{\"pipeline\":[]}}}",
     "{\"replaceOne\":{\"ns\":\"a.b\",\"filter\":[],\"doc\":[],\"upsert\":\"true\"}}",
-    "{\"deleteOne\":{\"ns\":\"a.b\",\"filter\":[],\"comment\":[]}}",
-    "{\"deleteOne\":{\"ns\":\"a.b\",\"filter\":[],\"comment\":1.5}}",
-    "{\"deleteOne\":{\"ns\":\"a.b\",\"filter\":[],\"writeConcern\":null}}",
-    "{\"deleteOne\":{\"ns\":\"a.b\",\"filter\":[],\"writeConcern\":1}}",
-    "{\"deleteOne\":{\"ns\":\"a.b\",\"filter\":[],\"writeConcern\":{\"w\":-1}}}",
-    "{\"deleteOne\":{\"ns\":\"a.b\",\"filter\":[],\"writeConcern\":{\"w\":4294967296}}}",
-    "{\"deleteOne\":{\"ns\":\"a.b\",\"filter\":[],\"writeConcern\":{\"w\":1.0}}}",
-    "{\"deleteOne\":{\"ns\":\"a.b\",\"filter\":[],\"writeConcern\":{\"w\":null}}}",
-    "{\"deleteOne\":{\"ns\":\"a.b\",\"filter\":[],\"writeConcern\":{\"wtimeout\":4294967296}}}",
-    "{\"deleteOne\":{\"ns\":\"a.b\",\"filter\":[],\"writeConcern\":{\"wtimeout\":\"1\"}}}",
-    "{\"deleteOne\":{\"ns\":\"a.b\",\"filter\":[],\"writeConcern\":{\"j\":1}}}",
-    "{\"deleteOne\":{\"ns\":\"a.b\",\"filter\":[],\"writeConcern\":{\"journal\":true}}}",
 ];
 
 const OPTIONS: [&str; 9] = [
@@ -321,7 +334,13 @@ fn calls_are_read(rt: HostRuntime) -> Result<(), Fail> {
 
 #[test]
 fn other_calls_are_refused(rt: HostRuntime) -> Result<(), Fail> {
-    let wrong = first_wrong(rt.alloc(), &NO_CALLS, &AROUND_CALL, false)?;
+    let wrong = first_wrong(rt.alloc(), &NO_FINDS, &AROUND_CALL, false)?;
+    assert_eq!(rt; wrong, None);
+    let wrong = first_wrong(rt.alloc(), &NO_INSERTS_OF_MANY, &AROUND_CALL, false)?;
+    assert_eq!(rt; wrong, None);
+    let wrong = first_wrong(rt.alloc(), &NO_DELETES, &AROUND_CALL, false)?;
+    assert_eq!(rt; wrong, None);
+    let wrong = first_wrong(rt.alloc(), &NO_UPDATES, &AROUND_CALL, false)?;
     assert_eq!(rt; wrong, None);
     Ok(())
 }

@@ -8,7 +8,7 @@ use driver_link::{
 use model_server::delivery::deliver;
 use model_server::meeting::take;
 use model_server::new_server;
-use rows::{CASES, COUNTS, HONESTY, INTERRUPTIONS, ITEMS, LATE};
+use rows::{CASES, COUNTS, HONESTY, INTERRUPTED_TRANSACTIONS, INTERRUPTED_WRITES, ITEMS, LATE};
 use std::alloc::{AllocError, Global};
 use std::test::Fail;
 
@@ -397,16 +397,32 @@ fn holds(server: &mut Server, alloc: Global, row: &Row) -> Result<bool, AllocErr
     Ok(bytes.as_slice() == row.expected && server.log.len() == row.entries)
 }
 
-/// The name of the first row of a table that is not answered as it says, one after another by one server; no
-/// name where all are.
-fn wrong_row(alloc: Global, rows: &[Row]) -> Result<&'static str, AllocError> {
-    let mut server = new_server(alloc);
+/// The name of the first row of a table that is not answered as it says, one after another by a server; no name where
+/// all are.
+fn wrong_on(server: &mut Server, alloc: Global, rows: &[Row]) -> Result<&'static str, AllocError> {
     for row in rows {
-        if !holds(&mut server, alloc, row)? {
+        if !holds(server, alloc, row)? {
             return Ok(row.name);
         }
     }
     Ok("")
+}
+
+/// The same of a server that has seen nothing.
+fn wrong_row(alloc: Global, rows: &[Row]) -> Result<&'static str, AllocError> {
+    let mut server = new_server(alloc);
+    wrong_on(&mut server, alloc, rows)
+}
+
+/// The same of two tables, the second of which comes behind the first.
+fn wrong_in_two(alloc: Global, rows: &[Row], behind: &[Row]) -> Result<&'static str, AllocError> {
+    let mut server = new_server(alloc);
+    let wrong = wrong_on(&mut server, alloc, rows)?;
+    if wrong.is_empty() {
+        wrong_on(&mut server, alloc, behind)
+    } else {
+        Ok(wrong)
+    }
 }
 
 #[test]
@@ -439,7 +455,7 @@ fn each_count_is_told(rt: HostRuntime) -> Result<(), Fail> {
 
 #[test]
 fn an_interruption_runs_no_more_than_it_says(rt: HostRuntime) -> Result<(), Fail> {
-    let wrong = wrong_row(rt.alloc(), &INTERRUPTIONS)?;
+    let wrong = wrong_in_two(rt.alloc(), &INTERRUPTED_TRANSACTIONS, &INTERRUPTED_WRITES)?;
     assert!(rt; wrong.is_empty(), "{wrong}");
     Ok(())
 }

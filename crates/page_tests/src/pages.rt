@@ -2,64 +2,13 @@
 //! rules a page may break, and what the error tells then.
 use crate::replies::{Answer, First, Lack, Told, page_with, reply_bytes};
 use bson_lite::{Bson, Bytes, List};
-use driver_error::{
-    BulkWriteError, BulkWriteResult, Error, ErrorKind, IoKind, PartialBulkWriteResult, Result,
-    SummaryBulkWriteResult, VerboseBulkWriteResult,
-};
+use driver_error::{IoKind, SummaryBulkWriteResult, VerboseBulkWriteResult};
 use driver_link::{FakeLink, FakeStep, Frame, LinkFault};
 use std::alloc::{AllocError, Global};
 use std::test::Fail;
+use test_parts::bulk_ends::{Cause, Ended, Failed, Source, counts, failed_page, how_ended, let_go};
 use test_parts::bulk_runs::{Kind, executed_as, models_of};
 use test_parts::inserting::SERVER;
-
-/// Which rule a page breaks, by the message about it.
-#[derive(Clone, Copy, PartialEq, Eq)]
-pub(crate) enum Cause {
-    Reply,
-    Page,
-    Misplaced,
-    Disordered,
-    Empty,
-    Miscounted,
-    Missing,
-    NoDocument,
-    Other,
-}
-
-/// The error that caused another one.
-#[derive(Clone, Copy, PartialEq, Eq)]
-pub(crate) enum Source {
-    None,
-    Invalid(Cause),
-    Command(i32),
-    Reset,
-    Other,
-}
-
-/// What a bulk write's error tells: how many write errors there are, the first of them, how many concern errors, the
-/// counts of what succeeded, the source, and whether it has the label of a retryable write, and a reply.
-#[derive(Clone, Copy, PartialEq, Eq)]
-pub(crate) struct Failed(
-    pub(crate) usize,
-    pub(crate) Option<(usize, i32)>,
-    pub(crate) usize,
-    pub(crate) Option<[i64; 5]>,
-    pub(crate) Source,
-    pub(crate) bool,
-    pub(crate) bool,
-);
-
-/// How a bulk write ended: with these counts and so many results, with its own error, or with another one.
-#[derive(Clone, Copy, PartialEq, Eq)]
-pub(crate) enum Ended {
-    Done([i64; 5], usize),
-    Bulk(Failed),
-    Invalid(Cause),
-    Command(i32),
-    Reset,
-    NoModels,
-    Other,
-}
 
 /// A row: the models, whether results of ops are asked for, whether it is unordered, the answers, how it ends, and
 /// which commands went out.
@@ -102,12 +51,7 @@ const NONE_STANDS: First = First(
     Some(64),
 );
 
-/// The error of two inserts that were told of, whose page failed so.
-pub(crate) fn failed_page(source: Source) -> Ended {
-    Ended::Bulk(Failed(0, None, 0, Some([2, 0, 0, 0, 0]), source, false, true))
-}
-
-/// The same, as a row has it.
+/// The error of two inserts that were told of, whose page was refused.
 const REFUSED: Ended = Ended::Bulk(Failed(
     0,
     None,
@@ -181,7 +125,8 @@ const ODD: &[Told] = &[
     Told::PutInNothing(1, 1),
 ];
 
-const ROWS: &[Row] = &[
+/// Pages that are refused or lost.
+const REFUSED_PAGES: &[Row] = &[
     // The page is refused, and its cursor is ended.
     Row(
         TWO,
@@ -195,7 +140,34 @@ const ROWS: &[Row] = &[
         REFUSED,
         &["bulkWrite", "getMore", "killCursors"],
     ),
-    // A label of the first reply makes a resend, where that tells of an error too; one of a page does not.
+    // A label of a page makes no resend.
+    Row(
+        TWO,
+        true,
+        false,
+        &[
+            Answer::First(HALF),
+            Answer::Refused(11600, AGAIN),
+            Answer::Plain,
+            Answer::First(WHOLE),
+        ],
+        REFUSED_AGAIN,
+        &["bulkWrite", "getMore", "killCursors"],
+    ),
+    // A lost page is no reason to end its cursor, nor to send anything again.
+    Row(
+        TWO,
+        true,
+        false,
+        &[Answer::First(HALF), Answer::Reset, Answer::First(WHOLE)],
+        LOST,
+        &["bulkWrite", "getMore"],
+    ),
+];
+
+/// Commands that are sent again.
+const RESENT: &[Row] = &[
+    // A label of the first reply makes a resend, where that tells of an error too.
     Row(
         TWO,
         true,
@@ -229,28 +201,19 @@ const ROWS: &[Row] = &[
         Ended::Done([2, 0, 0, 0, 0], 2),
         &["bulkWrite", "getMore", "killCursors", "bulkWrite"],
     ),
+    // An unordered one with an error for each op: nothing succeeded. Its label makes a resend.
     Row(
         TWO,
-        true,
         false,
-        &[
-            Answer::First(HALF),
-            Answer::Refused(11600, AGAIN),
-            Answer::Plain,
-            Answer::First(WHOLE),
-        ],
-        REFUSED_AGAIN,
-        &["bulkWrite", "getMore", "killCursors"],
-    ),
-    // A lost page is no reason to end its cursor, nor to send anything again.
-    Row(
-        TWO,
         true,
-        false,
-        &[Answer::First(HALF), Answer::Reset, Answer::First(WHOLE)],
-        LOST,
-        &["bulkWrite", "getMore"],
+        &[Answer::First(NONE_STANDS), Answer::First(NONE_STANDS)],
+        Ended::Bulk(Failed(2, Some((0, 2)), 1, None, Source::None, true, true)),
+        &["bulkWrite", "bulkWrite"],
     ),
+];
+
+/// Results on more than one page.
+const SEVERAL_PAGES: &[Row] = &[
     // Three pages, the first of which is empty.
     Row(
         THREE,
@@ -296,6 +259,10 @@ const ROWS: &[Row] = &[
         )),
         &["bulkWrite", "getMore"],
     ),
+];
+
+/// Ordered bulk writes of which an op failed.
+const ORDERED: &[Row] = &[
     // An ordered batch that stopped at its second op.
     Row(
         THREE,
@@ -395,15 +362,6 @@ const ROWS: &[Row] = &[
         )),
         &["bulkWrite", "getMore", "killCursors"],
     ),
-    // An unordered one with an error for each op: nothing succeeded. Its label makes a resend.
-    Row(
-        TWO,
-        false,
-        true,
-        &[Answer::First(NONE_STANDS), Answer::First(NONE_STANDS)],
-        Ended::Bulk(Failed(2, Some((0, 2)), 1, None, Source::None, true, true)),
-        &["bulkWrite", "bulkWrite"],
-    ),
     // In front of its error an ordered batch lacks a result.
     Row(
         THREE,
@@ -413,6 +371,10 @@ const ROWS: &[Row] = &[
         Ended::Invalid(Cause::Missing),
         &["bulkWrite"],
     ),
+];
+
+/// Two inserts that were told of on one page, with a concern error or odd counts.
+const ONE_PAGE: &[Row] = &[
     // A lone write concern error.
     Row(
         TWO,
@@ -469,134 +431,6 @@ const FAILED_PAGES: &[(Answer, Cause)] = &[
         Cause::Misplaced,
     ),
 ];
-
-/// The rule that a message names.
-fn rule_named(message: &str) -> Cause {
-    match message {
-        "the reply does not tell of a bulk write" => Cause::Reply,
-        "the page does not tell of the results of a bulk write" => Cause::Page,
-        "a result is of no operation of the bulk write, or of one that has its result" => {
-            Cause::Misplaced
-        }
-        "an ordered bulk write has results behind its error" => Cause::Disordered,
-        "a page without results leaves its cursor open" => Cause::Empty,
-        "the bulk write has not as many errors as its reply counts" => Cause::Miscounted,
-        "a result of the bulk write is missing" => Cause::Missing,
-        "the reply is no document" => Cause::NoDocument,
-        _ => Cause::Other,
-    }
-}
-
-/// What an error's source is.
-fn source_of(error: &Error) -> Source {
-    match error.source() {
-        None => Source::None,
-        Some(source) => match source.kind() {
-            ErrorKind::InvalidResponse { message } => Source::Invalid(rule_named(message.as_str())),
-            ErrorKind::Command(found) => Source::Command(found.code),
-            ErrorKind::Io(IoKind::ConnectionReset) => Source::Reset,
-            _ => Source::Other,
-        },
-    }
-}
-
-/// The five counts.
-fn counts(found: &SummaryBulkWriteResult) -> [i64; 5] {
-    [
-        found.inserted_count,
-        found.matched_count,
-        found.modified_count,
-        found.upserted_count,
-        found.deleted_count,
-    ]
-}
-
-/// The counts of what succeeded.
-fn partial(found: &BulkWriteError) -> Option<[i64; 5]> {
-    match &found.partial_result {
-        Some(PartialBulkWriteResult::Summary(found)) => Some(counts(found)),
-        Some(PartialBulkWriteResult::Verbose(found)) => Some(counts(&found.summary)),
-        None => None,
-    }
-}
-
-/// What a bulk write's error tells.
-fn failure_told(error: &Error, found: &BulkWriteError) -> Failed {
-    let errors = found.write_errors.entries();
-    let first = match errors.first() {
-        Some((index, error)) => Some((*index, error.code)),
-        None => None,
-    };
-    Failed(
-        errors.len(),
-        first,
-        found.write_concern_errors.len(),
-        partial(found),
-        source_of(error),
-        error.has_own_label("RetryableWriteError"),
-        error.server_response().is_some(),
-    )
-}
-
-/// What is wrong with the input by the message about it.
-fn argument_named(message: &str) -> Ended {
-    if message == "bulk_write must be provided at least one write operation" {
-        Ended::NoModels
-    } else {
-        Ended::Other
-    }
-}
-
-/// How a bulk write ended by its error.
-fn ended_with(error: &Error) -> Ended {
-    match error.kind() {
-        ErrorKind::BulkWrite(found) => Ended::Bulk(failure_told(error, found.get())),
-        ErrorKind::InvalidResponse { message } => Ended::Invalid(rule_named(message.as_str())),
-        ErrorKind::Command(found) => Ended::Command(found.code),
-        ErrorKind::Io(IoKind::ConnectionReset) => Ended::Reset,
-        ErrorKind::InvalidArgument { message } => argument_named(message.as_str()),
-        _ => Ended::Other,
-    }
-}
-
-/// What results of a kind tell: the counts, and of how many ops there is a result.
-pub(crate) trait Looked: BulkWriteResult {
-    fn looked_at(&self) -> Ended;
-}
-
-impl Looked for SummaryBulkWriteResult {
-    fn looked_at(&self) -> Ended {
-        Ended::Done(counts(self), 0)
-    }
-}
-
-impl Looked for VerboseBulkWriteResult {
-    fn looked_at(&self) -> Ended {
-        let results = self
-            .insert_results
-            .len()
-            .saturating_add(self.update_results.len())
-            .saturating_add(self.delete_results.len());
-        Ended::Done(counts(&self.summary), results)
-    }
-}
-
-/// Lets an error go.
-fn let_go(error: Error) {
-    drop(error);
-}
-
-/// How a bulk write ended.
-pub(crate) fn how_ended<R: Looked>(end: Result<R>) -> Ended {
-    match end {
-        Ok(found) => found.looked_at(),
-        Err(error) => {
-            let ended = ended_with(&error);
-            let_go(error);
-            ended
-        }
-    }
-}
 
 /// A fake link whose exchanges answer so.
 fn link_of(alloc: Global, answers: &[Answer]) -> std::result::Result<FakeLink, AllocError> {
@@ -691,12 +525,28 @@ fn ends(alloc: Global, row: Row) -> std::result::Result<bool, AllocError> {
     Ok(found == wanted && sent)
 }
 
+/// The place of the first of these rows that does not end as it says.
+fn first_wrong(alloc: Global, rows: &[Row]) -> std::result::Result<Option<usize>, AllocError> {
+    for (at, row) in rows.iter().enumerate() {
+        if !ends(alloc, *row)? {
+            return Ok(Some(at));
+        }
+    }
+    Ok(None)
+}
+
 #[test]
 fn an_answer_in_pages_is_read_to_its_end(rt: HostRuntime) -> std::result::Result<(), Fail> {
-    for (at, row) in ROWS.iter().enumerate() {
-        let same = ends(rt.alloc(), *row)?;
-        assert!(rt; same, "row {at}");
-    }
+    let wrong = first_wrong(rt.alloc(), REFUSED_PAGES)?;
+    assert_eq!(rt; wrong, None, "of pages that are refused or lost");
+    let wrong = first_wrong(rt.alloc(), RESENT)?;
+    assert_eq!(rt; wrong, None, "of commands that are sent again");
+    let wrong = first_wrong(rt.alloc(), SEVERAL_PAGES)?;
+    assert_eq!(rt; wrong, None, "of several pages");
+    let wrong = first_wrong(rt.alloc(), ORDERED)?;
+    assert_eq!(rt; wrong, None, "of ordered bulk writes");
+    let wrong = first_wrong(rt.alloc(), ONE_PAGE)?;
+    assert_eq!(rt; wrong, None, "of one page");
     Ok(())
 }
 

@@ -1,6 +1,6 @@
 //! The examples: each script of the folder `examples` with the text that is printed on it.
 //! `scripts/check_examples.py` compares these constants with the files there.
-use crate::scripts::ran;
+use script_rows::runs::ran;
 use std::alloc::{AllocError, Global};
 use std::test::Fail;
 

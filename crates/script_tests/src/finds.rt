@@ -1,5 +1,5 @@
 //! The writes that answer a document, by their schedules and options: the outcome, the sends and the entries.
-use crate::writes::{Row, first_wrong};
+use script_rows::rows::{Row, first_wrong};
 use std::test::Fail;
 
 const DELETE: &str = "{\"findOneAndDelete\":{\"ns\":\"shop.items\",\"filter\":[[\"x\",1]]}}";

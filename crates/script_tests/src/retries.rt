@@ -1,5 +1,5 @@
 //! One insert by its schedule and its faults: the outcome, the sends and the entries.
-use crate::scripts::ran;
+use script_rows::runs::ran;
 use std::alloc::{AllocError, Global};
 use std::test::Fail;
 

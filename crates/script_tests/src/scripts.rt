@@ -3,7 +3,8 @@ use bson_lite::{Bytes, EncodeFault, List, Text, encode};
 use driver_inputs::{Call, SingleWrite};
 use driver_link::{MemSink, MemSource};
 use driver_script::{ScriptFault, read_script};
-use script_run::{Run, run_script, top};
+use script_rows::runs::ran;
+use script_run::{Run, top};
 use serde_json::Value;
 use std::alloc::{AllocError, Global};
 use std::sync::Wait;
@@ -65,37 +66,6 @@ ids: distinct
 waiting: 0
 totals: calls=1 ok=1 sends=1 entries=1
 ";
-
-/// A source of these bytes, which may fail at one call.
-fn source_of(alloc: Global, bytes: &[u8], fails: Option<u64>) -> Result<MemSource, AllocError> {
-    let mut listed = List::new(alloc);
-    if let Some(call) = fails {
-        listed.push(call)?;
-    }
-    Ok(MemSource::new(Bytes::from_slice(alloc, bytes)?, listed))
-}
-
-/// The status of a script, and what was written into so much room.
-pub(crate) fn ran(
-    alloc: Global,
-    script: &str,
-    fails: Option<u64>,
-    room: usize,
-) -> Result<(u8, Bytes), AllocError> {
-    let mut source = source_of(alloc, script.as_bytes(), fails)?;
-    let mut sink = MemSink::new(alloc, room, List::new(alloc))?;
-    let status = run_script(alloc, &mut source, &mut sink, &mut Run::new());
-    Ok((status, Bytes::from_slice(alloc, sink.contents())?))
-}
-
-/// What is left of the run of a script whose report has so much room.
-pub(crate) fn run_of(alloc: Global, script: &str, room: usize) -> Result<Run, AllocError> {
-    let mut source = source_of(alloc, script.as_bytes(), None)?;
-    let mut sink = MemSink::new(alloc, room, List::new(alloc))?;
-    let mut run = Run::new();
-    let _status = run_script(alloc, &mut source, &mut sink, &mut run);
-    Ok(run)
-}
 
 /// The words of a command.
 fn words_of(alloc: Global, texts: &[&str]) -> Result<Vec<Text>, AllocError> {

@@ -1,6 +1,6 @@
 //! One insert under limits of the server: its document of 29 bytes goes out where each limit lets it, else it is refused
 //! with the text of the limit that it breaks, and nothing is sent. A number that was drawn for it stays drawn.
-use crate::writes::{Row, first_wrong};
+use script_rows::rows::{Row, first_wrong};
 use std::test::Fail;
 
 /// The document is `{_id: ObjectId, x: Int32}`, and the body of its command has 33 bytes.

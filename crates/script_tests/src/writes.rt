@@ -1,14 +1,6 @@
 //! Writes of one statement by their schedules and options: the outcome, the sends and the entries.
-use crate::scripts::ran;
-use std::alloc::{AllocError, Global};
+use script_rows::rows::{Row, first_wrong};
 use std::test::Fail;
-
-/// A script's calls, what it says behind them, and its report.
-pub(crate) struct Row {
-    pub(crate) calls: &'static str,
-    pub(crate) behind: &'static str,
-    pub(crate) report: &'static str,
-}
 
 const UPDATE_ONE: &str =
     "{\"updateOne\":{\"ns\":\"shop.items\",\"filter\":[[\"x\",1]],\"update\":[[\"$set\",{\"doc\":[[\"y\",1]]}]]}}";
@@ -412,31 +404,6 @@ totals: calls=1 ok=1 sends=1 entries=1
 ",
     },
 ];
-
-/// Whether the script of a row is reported as the row says.
-pub(crate) fn is_reported(alloc: Global, row: &Row) -> Result<bool, AllocError> {
-    let mut script = String::new(alloc);
-    script.push_str("{\"calls\":[")?;
-    script.push_str(row.calls)?;
-    script.push_str("],")?;
-    script.push_str(row.behind)?;
-    script.push_str("}")?;
-    let (status, text) = ran(alloc, script.as_str(), None, 1000)?;
-    Ok(status == 0 && text.as_slice() == row.report.as_bytes())
-}
-
-/// The calls of the first row that is not reported as it says, and what its script says behind them.
-pub(crate) fn first_wrong(
-    alloc: Global,
-    rows: &[Row],
-) -> Result<Option<(&'static str, &'static str)>, AllocError> {
-    for row in rows {
-        if !is_reported(alloc, row)? {
-            return Ok(Some((row.calls, row.behind)));
-        }
-    }
-    Ok(None)
-}
 
 #[test]
 fn writes_are_answered_as_the_schedule_says(rt: HostRuntime) -> Result<(), Fail> {

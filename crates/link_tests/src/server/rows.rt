@@ -413,8 +413,8 @@ pub(super) const COUNTS: [Row; 5] = [
     },
 ];
 
-/// What an interruption and a refusal leave.
-pub(super) const INTERRUPTIONS: [Row; 20] = [
+/// What an interruption and a refusal leave of transactions.
+pub(super) const INTERRUPTED_TRANSACTIONS: [Row; 12] = [
     Row {
         name: "an unordered failure in a transaction",
         late: &[],
@@ -547,6 +547,10 @@ pub(super) const INTERRUPTIONS: [Row; 20] = [
         expected: TRANSIENT,
         entries: 2,
     },
+];
+
+/// What they leave of pages and of inserts, behind those on the same server.
+pub(super) const INTERRUPTED_WRITES: [Row; 8] = [
     Row {
         name: "a bulk write of two pages",
         late: &[],

@@ -1,10 +1,10 @@
 //! Inserts of many documents by their batches, schedules and limits: the outcome, the sends and the entries.
-use crate::scripts::ran;
-use crate::writes::{Row, first_wrong, is_reported};
 use bson_lite::{Boxed, ByIndex, Bytes, List, Text};
 use driver_error::{Error, ErrorKind, IndexedWriteError, InsertManyError};
 use driver_inputs::Outcome;
 use driver_script::read_script;
+use script_rows::rows::{Row, first_wrong, is_reported};
+use script_rows::runs::ran;
 use script_run::{Run, report_text};
 use std::alloc::{AllocError, Global};
 use std::test::Fail;

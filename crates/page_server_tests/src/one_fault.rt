@@ -6,7 +6,6 @@ use crate::by_rules::{
     telling, work_of,
 };
 use crate::meeting::{Meets, schedule};
-use crate::pages::{Looked, how_ended};
 use bson_lite::{Bson, Document, List, Namespace, Text};
 use bulk_actions::BulkWrite;
 use driver_attempt::{Client, Outside};
@@ -27,6 +26,7 @@ use rand_core::SeedableRng;
 use rand_pcg::Pcg32;
 use std::alloc::{AllocError, Global};
 use std::test::Fail;
+use test_parts::bulk_ends::{Looked, how_ended};
 
 /// Each fault, at a position or behind so many writes of a batch.
 const FAULTS: &[Fault] = &[

@@ -2,11 +2,11 @@
 //! failure of a document or of a write concern: these indexes, each with the id under which it stands in the log.
 use crate::faults::script_of;
 use crate::many::{FIVE, FIVE_UNORDERED};
-use crate::scripts::run_of;
 use bson_lite::{Bson, ByIndex};
 use driver_error::{Error, ErrorKind};
 use driver_inputs::{Answer, Outcome};
 use driver_link::Entry;
+use script_rows::runs::run_of;
 use script_run::Run;
 use std::alloc::{AllocError, Global};
 use std::test::Fail;

@@ -1,5 +1,5 @@
 //! Bulk writes whose results come in pages: the outcome, the sends and the entries.
-use crate::writes::{Row, first_wrong};
+use script_rows::rows::{Row, first_wrong};
 use std::test::Fail;
 
 const TWO: &str =

@@ -1,6 +1,6 @@
 //! Bulk writes by their models, schedules and limits: the outcome, the sends and the entries.
-use crate::scripts::ran;
-use crate::writes::{Row, first_wrong, is_reported};
+use script_rows::rows::{Row, first_wrong, is_reported};
+use script_rows::runs::ran;
 use std::alloc::{AllocError, Global};
 use std::test::Fail;
 

@@ -1,11 +1,11 @@
 //! Bulk writes in pages over a model server: what it saw, and which entries stand.
 use crate::meeting::{Meets, schedule};
-use crate::pages::{Cause, Ended, Source, failed_page, how_ended};
 use driver_error::VerboseBulkWriteResult;
 use driver_link::{Send, SendBody, SendCommand, Server};
 use model_server::{ModelServer, USUAL_SETUP};
 use std::alloc::{AllocError, Global};
 use std::test::Fail;
+use test_parts::bulk_ends::{Cause, Ended, Source, failed_page, how_ended};
 use test_parts::bulk_runs::{Kind, executed_as, models_of};
 
 /// Two inserts.

@@ -1,7 +1,7 @@
 -- Each step so far has an item that a model server takes.
 use Rattle.std.specs.List.{All}
 use Rattle.driver_link.specs.WellFormed.{IsItem}
-use Rattle.page_tests.proofs.meeting.items.Given as goal
+use Rattle.page_server_tests.proofs.meeting.items.Given as goal
 
 abbrev pub invariant-items : goal.invariant-items
 invariant-items l = All (λ step. IsItem step.item) l.steps

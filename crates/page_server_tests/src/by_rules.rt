@@ -1,8 +1,8 @@
 //! What one fault makes of a bulk write of ten writes in batches of three, by the rules of retries, of ordered and
 //! unordered writes and of pages: which commands go out, which writes stand, and what the call answers. The rules are
 //! written down here in plain numbers, without anything of the program but the forms in which a row tells its end.
-use crate::pages::{Ended, Failed, Source};
 use std::alloc::{AllocError, Global};
+use test_parts::bulk_ends::{Ended, Failed, Source};
 
 /// How many writes there are, in how many batches, and how many a batch has at most.
 pub(crate) const WRITES: usize = 10;

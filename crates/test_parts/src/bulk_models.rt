@@ -1,7 +1,7 @@
 //! Models of bulk writes and their ops, for the rows, and the bytes of the ops of six, by hand.
+use crate::bulk_ends::let_go;
 use bson_lite::{Bson, Document, List, Namespace, Text};
 use bulk_ops::{OwnOp, model_op};
-use driver_error::Error;
 use driver_options::{
     DeleteManyModel, DeleteOneModel, InsertOneModel, ReplaceOneModel, UpdateManyModel,
     UpdateModifications, UpdateOneModel, WriteModel,
@@ -9,14 +9,14 @@ use driver_options::{
 use std::alloc::{AllocError, Global};
 
 /// `{ns: "a.x"}`, `{ns: "b.y"}` and `{ns: "a.z"}`
-pub(crate) const A_X: &[u8] = b"\x11\0\0\0\x02ns\0\x04\0\0\0a.x\0\0";
+pub const A_X: &[u8] = b"\x11\0\0\0\x02ns\0\x04\0\0\0a.x\0\0";
 
-pub(crate) const B_Y: &[u8] = b"\x11\0\0\0\x02ns\0\x04\0\0\0b.y\0\0";
+pub const B_Y: &[u8] = b"\x11\0\0\0\x02ns\0\x04\0\0\0b.y\0\0";
 
-pub(crate) const A_Z: &[u8] = b"\x11\0\0\0\x02ns\0\x04\0\0\0a.z\0\0";
+pub const A_Z: &[u8] = b"\x11\0\0\0\x02ns\0\x04\0\0\0a.z\0\0";
 
 /// The ops of the six models, each on the number of its namespace among `a.x`, `b.y` and `a.z`.
-pub(crate) const OPS: &[&[u8]] = &[
+pub const OPS: &[&[u8]] = &[
     // `{insert: 0, document: {_id: 1}}`
     b")\0\0\0\x10insert\0\0\0\0\0\x03document\0\x0e\0\0\0\x10_id\0\x01\0\0\0\0\0",
     // `{update: 1, multi: false, filter: {n: 1}, updateMods: {$inc: {n: 1}}, arrayFilters: [7], collation: {}, hint: "h", ..}`
@@ -36,21 +36,21 @@ pub(crate) const OPS: &[&[u8]] = &[
 const NUMBER: usize = 12;
 
 /// `{key: number}`
-pub(crate) fn number(alloc: Global, key: &str, number: i32) -> Result<Document, AllocError> {
+pub fn number(alloc: Global, key: &str, number: i32) -> Result<Document, AllocError> {
     let mut document = Document::new(alloc);
     document.push(key, Bson::Int32(number))?;
     Ok(document)
 }
 
 /// `{key: inner}`
-pub(crate) fn around(alloc: Global, key: &str, inner: Document) -> Result<Document, AllocError> {
+pub fn around(alloc: Global, key: &str, inner: Document) -> Result<Document, AllocError> {
     let mut document = Document::new(alloc);
     document.push(key, Bson::Document(inner))?;
     Ok(document)
 }
 
 /// A namespace by its two names.
-pub(crate) fn named(alloc: Global, db: &str, coll: &str) -> Result<Namespace, AllocError> {
+pub fn named(alloc: Global, db: &str, coll: &str) -> Result<Namespace, AllocError> {
     Ok(Namespace {
         db: Text::from_str(alloc, db)?,
         coll: Text::from_str(alloc, coll)?,
@@ -63,7 +63,7 @@ fn text(alloc: Global, text: &str) -> Result<Bson, AllocError> {
 }
 
 /// The insert of a document.
-pub(crate) fn insert(alloc: Global, to: Namespace, document: Document) -> WriteModel {
+pub fn insert(alloc: Global, to: Namespace, document: Document) -> WriteModel {
     WriteModel::from(InsertOneModel::new(to, document))
 }
 
@@ -133,7 +133,7 @@ fn sixth(alloc: Global) -> Result<WriteModel, AllocError> {
 }
 
 /// All six models over `a.x`, `b.y` and `a.z`.
-pub(crate) fn six(alloc: Global) -> Result<List<WriteModel>, AllocError> {
+pub fn six(alloc: Global) -> Result<List<WriteModel>, AllocError> {
     let mut models = List::with_capacity(alloc, 6)?;
     models.push(first(alloc)?)?;
     models.push(second(alloc)?)?;
@@ -145,7 +145,7 @@ pub(crate) fn six(alloc: Global) -> Result<List<WriteModel>, AllocError> {
 }
 
 /// Whether an op has these bytes, but for the number of its namespace, which is this one.
-pub(crate) fn is_op(op: &[u8], spelled: &[u8], number: u8) -> bool {
+pub fn is_op(op: &[u8], spelled: &[u8], number: u8) -> bool {
     if op.len() != spelled.len() {
         return false;
     }
@@ -159,7 +159,7 @@ pub(crate) fn is_op(op: &[u8], spelled: &[u8], number: u8) -> bool {
 }
 
 /// The ops of models whose inserts have their ids, or none where there is no memory.
-pub(crate) fn ops_of(alloc: Global, models: &List<WriteModel>) -> Option<List<OwnOp>> {
+pub fn ops_of(alloc: Global, models: &List<WriteModel>) -> Option<List<OwnOp>> {
     let mut ops = List::new(alloc);
     for model in models.as_slice() {
         ops.push(op_of(alloc, model)?).ok()?;
@@ -176,9 +176,4 @@ fn op_of(alloc: Global, model: &WriteModel) -> Option<OwnOp> {
             None
         }
     }
-}
-
-/// Lets an error go.
-pub(crate) fn let_go(error: Error) {
-    drop(error);
 }

@@ -1,6 +1,5 @@
 //! Bulk writes as calls, in batches over a model server: how they end, which commands go out, and which entries stand.
 use crate::meeting::{Meets, schedule};
-use crate::pages::{Ended, Failed, Looked, Source, how_ended};
 use bulk_actions::{BulkWrite, BulkWrites};
 use driver_attempt::{Client, Outside};
 use driver_error::{SummaryBulkWriteResult, VerboseBulkWriteResult};
@@ -12,6 +11,7 @@ use rand_core::SeedableRng;
 use rand_pcg::Pcg32;
 use std::alloc::{AllocError, Global};
 use std::test::Fail;
+use test_parts::bulk_ends::{Ended, Failed, Looked, Source, how_ended};
 use test_parts::bulk_runs::{Kind, models_of};
 
 /// A command that went out: a bulk write of so many writes from an index on, under a number, or one of a cursor.

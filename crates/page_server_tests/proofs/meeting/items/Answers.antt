@@ -4,7 +4,7 @@ use Rattle.std.specs.List.{All}
 use Rattle.std.proofs.lemmas.List.Elements.{All-append, All-cons, All-nil}
 use Rattle.driver_link.specs.declared.machine.Scheduled.{Scheduled}
 use Rattle.driver_link.specs.WellFormed.{IsItem}
-use Rattle.page_tests.proofs.meeting.items.Goals as goal
+use Rattle.page_server_tests.proofs.meeting.items.Goals as goal
 
 -- a step has an item that a model server takes
 abbrev IsStep : Scheduled → Type 0

@@ -1,7 +1,7 @@
 //! An insert of five documents in batches of two, ordered and not, with one fault at each of its exchanges: the
 //! outcome, the sends and the entries. A send that is late arrives after the run.
 use crate::many::{FIVE, FIVE_UNORDERED};
-use crate::scripts::ran;
+use script_rows::runs::ran;
 use std::alloc::{AllocError, Global};
 use std::test::Fail;
 

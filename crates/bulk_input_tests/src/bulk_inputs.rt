@@ -1,6 +1,5 @@
 //! What bulk writes are refused for by their input, test by test over all models, and which ids are drawn; what models
 //! tell, and those that a collection makes.
-use crate::bulk_models::{around, insert, let_go, named, number, six};
 use bson_lite::{Bson, Document, List};
 use bulk_actions::{CollectionModels, bulk_ops};
 use bulk_ops::OwnOp;
@@ -16,6 +15,8 @@ use driver_options::{
 use driver_session::PlainStore;
 use std::alloc::{AllocError, Global};
 use std::test::Fail;
+use test_parts::bulk_ends::let_go;
+use test_parts::bulk_models::{around, insert, named, number, six};
 use test_parts::inserting::{Ended, how_ended};
 use test_parts::writes::{Flaw, flawed};
 
