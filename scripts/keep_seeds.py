@@ -47,8 +47,13 @@ def main():
         whole.update({room: crate for room, crate in making.items() if room not in busy})
         for room, crate in whole.items():
             if room not in kept and os.path.isdir(f"{room}/seed"):
-                keep(f"{room}/seed", os.path.join(folder, crate))
                 kept.add(room)
+                try:
+                    keep(f"{room}/seed", os.path.join(folder, crate))
+                except (OSError, shutil.Error):
+                    # (its run ended meanwhile)
+                    shutil.rmtree(os.path.join(folder, crate) + ".part", ignore_errors=True)
+                    continue
                 print(time.strftime("%H:%M:%S"), crate, flush=True)
         time.sleep(5)
 
