@@ -5,9 +5,9 @@ use Rattle.bson_lite.specs.declared.bson.ObjectId.{ObjectId}
 use Rattle.bson_lite.specs.declared.fault.EncodeFault.{EncodeFault}
 use Rattle.driver_error.specs.declared.error.Error.{Error}
 use Rattle.driver_error.specs.declared.kind.ErrorKind.TheVariants as kind
-use Rattle.driver_error.specs.declared.status.ExecutionStatus.{ExecutionStatus}
-use Rattle.driver_error.specs.declared.status.ExecutionStatus.TheVariants as status
-use Rattle.driver_error.specs.BulkResults.{ResultSpec}
+use Rattle.bulk_outcomes.specs.declared.status.ExecutionStatus.{ExecutionStatus}
+use Rattle.bulk_outcomes.specs.declared.status.ExecutionStatus.TheVariants as status
+use Rattle.bulk_outcomes.specs.BulkResults.{ResultSpec}
 use Rattle.driver_error.specs.Error.{ErrorKind, IsAlone, kind_of}
 use Rattle.driver_error.specs.LabelTexts.{no_labels}
 use Rattle.driver_options.specs.declared.models.WriteModel.{WriteModel}

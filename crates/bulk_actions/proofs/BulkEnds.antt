@@ -5,10 +5,10 @@ use Rattle.std.specs.Prelude.{Option, None, Some, IfSome, Result, Ok, Err}
 use Rattle.driver_error.specs.declared.error.Error.{Error}
 use Rattle.driver_error.specs.declared.kind.ErrorKind.TheVariants as kind
 use Rattle.driver_error.specs.BulkErrors.{failures_in}
-use Rattle.driver_error.specs.BulkResults.{ResultSpec}
+use Rattle.bulk_outcomes.specs.BulkResults.{ResultSpec}
 use Rattle.driver_error.specs.Error.{ErrorKind, kind_of, source_of}
 use Rattle.driver_error.specs.LabelTexts.{LabelSet}
-use Rattle.driver_error.specs.Status.{IsBulkOfKind, is_followed}
+use Rattle.bulk_outcomes.specs.Status.{IsBulkOfKind, is_followed}
 use Rattle.driver_options.specs.declared.write_options.BulkWriteOptions.{BulkWriteOptions}
 use Rattle.driver_link.specs.declared.fault.Answered.{Answered}
 use Rattle.driver_link.specs.declared.fault.Answered.TheVariants as answer

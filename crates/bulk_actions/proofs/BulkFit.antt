@@ -3,7 +3,7 @@ use Rattle.std.proofs.Common.{◌≡◌, ℕ, zero, suc, ◌<◌, ◌≤◌, Lis
 use Rattle.std.specs.Prelude.{true, Option, None, Some, IfSome}
 use Rattle.std.proofs.lemmas.List.{length-take-le, take_all}
 use Rattle.driver_error.specs.declared.error.Error.{Error}
-use Rattle.driver_error.specs.BulkResults.{ResultSpec}
+use Rattle.bulk_outcomes.specs.BulkResults.{ResultSpec}
 use Rattle.driver_options.specs.declared.models.WriteModel.{WriteModel}
 use Rattle.driver_options.specs.declared.options.Description.{Description}
 use Rattle.driver_options.specs.declared.write_options.BulkWriteOptions.{BulkWriteOptions}

@@ -4,11 +4,11 @@ use Rattle.std.proofs.lemmas.List.{length-drop}
 use Rattle.std.specs.Prelude.{◌⊎◌, min, Option, None, Some, IfSome, Result, Ok, Err, if◌then◌else◌}
 use Rattle.driver_error.specs.declared.error.Error.{Error}
 use Rattle.driver_error.specs.declared.kind.ErrorKind.TheVariants as kind
-use Rattle.driver_error.specs.declared.status.ExecutionStatus.{ExecutionStatus}
-use Rattle.driver_error.specs.BulkResults.{ResultSpec}
+use Rattle.bulk_outcomes.specs.declared.status.ExecutionStatus.{ExecutionStatus}
+use Rattle.bulk_outcomes.specs.BulkResults.{ResultSpec}
 use Rattle.driver_error.specs.Error.{kind_of}
 use Rattle.driver_error.specs.BulkErrors.{failures_in}
-use Rattle.driver_error.specs.Status.{FailsWith, HasKind, IsBulkOfKind, Stands, Succeeds, goes_on, is_memory}
+use Rattle.bulk_outcomes.specs.Status.{FailsWith, HasKind, IsBulkOfKind, Stands, Succeeds, goes_on, is_memory}
 use Rattle.driver_options.specs.declared.write_options.BulkWriteOptions.{BulkWriteOptions}
 use Rattle.driver_link.specs.declared.machine.Place.{Place}
 use Rattle.driver_ops.specs.declared.target.OperationTarget.{OperationTarget}

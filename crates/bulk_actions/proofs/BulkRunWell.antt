@@ -5,12 +5,13 @@ use Rattle.std.proofs.lemmas.Int.{ints}
 use Rattle.std.proofs.lemmas.List.{append-nil, drop-drop, length-take-le}
 use Rattle.driver_error.specs.declared.error.Error.{Error}
 use Rattle.driver_error.specs.declared.kind.ErrorKind.TheVariants as kind
-use Rattle.driver_error.specs.declared.status.ExecutionStatus.{ExecutionStatus}
-use Rattle.driver_error.specs.declared.status.ExecutionStatus.TheVariants as status
-use Rattle.driver_error.specs.BulkErrors.{MergesResults, failures_in}
-use Rattle.driver_error.specs.BulkResults.{AllFit, ResultSpec, added, no_counts}
+use Rattle.bulk_outcomes.specs.declared.status.ExecutionStatus.{ExecutionStatus}
+use Rattle.bulk_outcomes.specs.declared.status.ExecutionStatus.TheVariants as status
+use Rattle.driver_error.specs.BulkErrors.{failures_in}
+use Rattle.bulk_outcomes.specs.BulkResults.{MergesResults, ResultSpec, no_counts}
+use Rattle.driver_error.specs.Counts.{AllFit, added}
 use Rattle.driver_error.specs.Error.{ErrorKind, kind_of, source_of}
-use Rattle.driver_error.specs.Status.{FailsWith, Succeeds, is_followed, is_memory}
+use Rattle.bulk_outcomes.specs.Status.{FailsWith, Succeeds, is_followed, is_memory}
 use Rattle.driver_options.specs.declared.models.WriteModel.{WriteModel}
 use Rattle.driver_options.specs.declared.options.ClientOptions.{ClientOptions}
 use Rattle.driver_options.specs.declared.write_options.BulkWriteOptions.{BulkWriteOptions}

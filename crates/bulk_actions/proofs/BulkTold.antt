@@ -5,10 +5,10 @@ use Rattle.std.proofs.lemmas.List.{length-take-le}
 use Rattle.std.specs.Prelude.{ℤ, pos, ◌+ℤ◌, Option, None, Some, ◌⊎◌, Result, Ok, Err, if◌then◌else◌}
 use Rattle.bson_lite.specs.declared.bson.ObjectId.{ObjectId}
 use Rattle.driver_error.specs.declared.error.Error.{Error}
-use Rattle.driver_error.specs.declared.status.ExecutionStatus.{ExecutionStatus}
-use Rattle.driver_error.specs.declared.status.ExecutionStatus.TheVariants as status
-use Rattle.driver_error.specs.BulkErrors.{MergesResults}
-use Rattle.driver_error.specs.BulkResults.{Counts, ResultSpec, added, five, no_counts}
+use Rattle.bulk_outcomes.specs.declared.status.ExecutionStatus.{ExecutionStatus}
+use Rattle.bulk_outcomes.specs.declared.status.ExecutionStatus.TheVariants as status
+use Rattle.bulk_outcomes.specs.BulkResults.{MergesResults, ResultSpec, no_counts}
+use Rattle.driver_error.specs.Counts.{Counts, added, five}
 use Rattle.driver_options.specs.declared.models.WriteModel.{WriteModel}
 use Rattle.driver_options.specs.declared.write_options.BulkWriteOptions.{BulkWriteOptions}
 use Rattle.driver_link.specs.declared.machine.Entry.{Entry}

@@ -5,7 +5,7 @@ use Rattle.std.specs.List.{list_any}
 use Rattle.std.proofs.lemmas.Int.{ints}
 use Rattle.bson_lite.specs.declared.fault.EncodeFault.{EncodeFault}
 use Rattle.bson_lite.specs.Spelling.{refusal}
-use Rattle.driver_error.specs.BulkResults.{ResultSpec}
+use Rattle.bulk_outcomes.specs.BulkResults.{ResultSpec}
 use Rattle.driver_options.specs.declared.models.WriteModel.{WriteModel}
 use Rattle.driver_options.specs.declared.options.ClientOptions.{ClientOptions}
 use Rattle.driver_options.specs.declared.write_options.BulkWriteOptions.{BulkWriteOptions}

@@ -4,11 +4,11 @@ use Rattle.std.proofs.lemmas.List.{append-nil, length-take-le}
 use Rattle.std.specs.Prelude.{⊤, Option, None, Some, Result, Ok, Err, if◌then◌else◌}
 use Rattle.bson_lite.specs.declared.bson.ObjectId.{ObjectId}
 use Rattle.driver_error.specs.declared.error.Error.{Error}
-use Rattle.driver_error.specs.declared.status.ExecutionStatus.{ExecutionStatus}
-use Rattle.driver_error.specs.declared.status.ExecutionStatus.TheVariants as status
-use Rattle.driver_error.specs.BulkResults.{ResultSpec}
+use Rattle.bulk_outcomes.specs.declared.status.ExecutionStatus.{ExecutionStatus}
+use Rattle.bulk_outcomes.specs.declared.status.ExecutionStatus.TheVariants as status
+use Rattle.bulk_outcomes.specs.BulkResults.{ResultSpec}
 use Rattle.driver_error.specs.Error.{kind_of}
-use Rattle.driver_error.specs.Status.{FailsWith, is_memory}
+use Rattle.bulk_outcomes.specs.Status.{FailsWith, is_memory}
 use Rattle.driver_options.specs.declared.models.WriteModel.{WriteModel}
 use Rattle.driver_options.specs.declared.options.Description.{Description}
 use Rattle.driver_options.specs.declared.write_options.BulkWriteOptions.{BulkWriteOptions}

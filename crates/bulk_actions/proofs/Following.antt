@@ -8,14 +8,14 @@ use Rattle.bson_lite.specs.Unions.{union}
 use Rattle.bson_lite.proofs.Uniting.{empty_union, union_empty}
 use Rattle.driver_error.specs.declared.error.Error.{Error}
 use Rattle.driver_error.specs.declared.kind.ErrorKind.TheVariants as kind
-use Rattle.driver_error.specs.declared.status.ExecutionStatus.{ExecutionStatus}
-use Rattle.driver_error.specs.declared.status.ExecutionStatus.TheVariants as status
+use Rattle.bulk_outcomes.specs.declared.status.ExecutionStatus.{ExecutionStatus}
+use Rattle.bulk_outcomes.specs.declared.status.ExecutionStatus.TheVariants as status
 use Rattle.driver_error.specs.declared.write.BulkWriteError.{BulkWriteError}
 use Rattle.driver_error.specs.declared.write.WriteError.{WriteError}
 use Rattle.driver_error.specs.BulkErrors.{JoinsLater, failures_in, merged_errors}
-use Rattle.driver_error.specs.BulkResults.{ResultSpec}
+use Rattle.bulk_outcomes.specs.BulkResults.{ResultSpec}
 use Rattle.driver_error.specs.Error.{ErrorKind, kind_of, source_of}
-use Rattle.driver_error.specs.Status.{FailsAgain, FailsBehind, FailsWith, Succeeds, goes_on, is_followed, is_memory, succeeded_alone}
+use Rattle.bulk_outcomes.specs.Status.{FailsAgain, FailsBehind, FailsWith, Succeeds, goes_on, is_followed, is_memory, succeeded_alone}
 use Rattle.bulk_actions.specs.BulkBatches.{Takes, end_goes_on}
 use Rattle.bulk_actions.specs.inside.BulkBatches.{IsBegun}
 

@@ -10,9 +10,10 @@ use Rattle.bson_lite.proofs.Uniting.{get-union}
 use Rattle.driver_error.specs.declared.results.PartialBulkWriteResult.{PartialBulkWriteResult}
 use Rattle.driver_error.specs.declared.results.PartialBulkWriteResult.TheVariants as partly
 use Rattle.driver_error.specs.BulkErrors.{AreOfOneKind, merged_partial, merged_partials}
-use Rattle.driver_error.specs.BulkResults.{Counts, ResultSpec, added}
-use Rattle.driver_error.specs.Status.{IsOfKind}
-use Rattle.driver_error.proofs.Keeping.{both_keep}
+use Rattle.bulk_outcomes.specs.BulkResults.{ResultSpec}
+use Rattle.driver_error.specs.Counts.{Counts, added}
+use Rattle.bulk_outcomes.specs.Status.{IsOfKind}
+use Rattle.bulk_outcomes.proofs.Keeping.{both_keep}
 use Rattle.driver_options.specs.declared.models.WriteModel.{WriteModel}
 use Rattle.driver_link.specs.declared.machine.Entry.{Entry}
 use Rattle.driver_link.specs.declared.machine.WriteKind.{WriteKind}

@@ -4,13 +4,13 @@ use Rattle.std.specs.Prelude.{Option, None, Some, IfSome, Result, Ok, Err}
 use Rattle.driver_error.specs.declared.error.Error.{Error}
 use Rattle.driver_error.specs.declared.kind.ErrorKind.TheVariants as kind
 use Rattle.driver_error.specs.declared.results.PartialBulkWriteResult.{PartialBulkWriteResult}
-use Rattle.driver_error.specs.declared.status.ExecutionStatus.{ExecutionStatus}
-use Rattle.driver_error.specs.declared.status.ExecutionStatus.TheVariants as status
+use Rattle.bulk_outcomes.specs.declared.status.ExecutionStatus.{ExecutionStatus}
+use Rattle.bulk_outcomes.specs.declared.status.ExecutionStatus.TheVariants as status
 use Rattle.driver_error.specs.declared.write.BulkWriteError.{BulkWriteError}
-use Rattle.driver_error.specs.BulkErrors.{MergesResults, failures_in}
-use Rattle.driver_error.specs.BulkResults.{ResultSpec}
+use Rattle.driver_error.specs.BulkErrors.{failures_in}
+use Rattle.bulk_outcomes.specs.BulkResults.{MergesResults, ResultSpec}
 use Rattle.driver_error.specs.Error.{ErrorKind, kind_of}
-use Rattle.driver_error.specs.PartialResults.{MakesPartial}
+use Rattle.bulk_outcomes.specs.PartialResults.{MakesPartial}
 use Rattle.driver_options.specs.declared.models.WriteModel.{WriteModel}
 use Rattle.driver_options.specs.declared.write_options.BulkWriteOptions.{BulkWriteOptions}
 use Rattle.driver_link.specs.declared.machine.Entry.{Entry}

@@ -4,13 +4,14 @@ use Rattle.std.specs.Prelude.{Option, None, Some, ◌⊎◌, Result, Ok, Err}
 use Rattle.driver_error.specs.declared.error.Error.{Error}
 use Rattle.driver_error.specs.declared.kind.ErrorKind.TheVariants as kind
 use Rattle.driver_error.specs.declared.results.PartialBulkWriteResult.{PartialBulkWriteResult}
-use Rattle.driver_error.specs.declared.status.ExecutionStatus.{ExecutionStatus}
-use Rattle.driver_error.specs.declared.status.ExecutionStatus.TheVariants as status
+use Rattle.bulk_outcomes.specs.declared.status.ExecutionStatus.{ExecutionStatus}
+use Rattle.bulk_outcomes.specs.declared.status.ExecutionStatus.TheVariants as status
 use Rattle.driver_error.specs.declared.write.BulkWriteError.{BulkWriteError}
-use Rattle.driver_error.specs.BulkErrors.{JoinsLater, MergesResults, RefusesSums, failures_in, joint_sums, merged_partials}
-use Rattle.driver_error.specs.BulkResults.{Counts, RefusesMerge, ResultSpec, added}
+use Rattle.driver_error.specs.BulkErrors.{JoinsLater, RefusesSums, failures_in, joint_sums, merged_partials}
+use Rattle.bulk_outcomes.specs.BulkResults.{MergesResults, ResultSpec}
+use Rattle.driver_error.specs.Counts.{Counts, RefusesMerge, added}
 use Rattle.driver_error.specs.Error.{ErrorKind, kind_of}
-use Rattle.driver_error.specs.Status.{FailsAgain, FailsBehind, FailsWith, Succeeds, is_memory, succeeded_alone}
+use Rattle.bulk_outcomes.specs.Status.{FailsAgain, FailsBehind, FailsWith, Succeeds, is_memory, succeeded_alone}
 use Rattle.bulk_actions.specs.BulkBatches.{Takes}
 
 -- the partial result of failures, if there are some

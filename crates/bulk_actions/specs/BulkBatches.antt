@@ -1,11 +1,11 @@
 -- A bulk write as batches one after another: what each is, after which end the next is made, and what stands behind them.
 use Rattle.std.specs.Prelude.{◌≡◌, Bool, true, List, [], ◌∷◌, None, Result, Ok, Err}
 use Rattle.driver_error.specs.declared.error.Error.{Error}
-use Rattle.driver_error.specs.declared.status.ExecutionStatus.{ExecutionStatus}
+use Rattle.bulk_outcomes.specs.declared.status.ExecutionStatus.{ExecutionStatus}
 use Rattle.driver_error.specs.BulkErrors.{failures_in}
-use Rattle.driver_error.specs.BulkResults.{ResultSpec}
+use Rattle.bulk_outcomes.specs.BulkResults.{ResultSpec}
 use Rattle.driver_error.specs.Error.{kind_of, source_of}
-use Rattle.driver_error.specs.Status.{FailsWith, Succeeds, is_followed, is_memory}
+use Rattle.bulk_outcomes.specs.Status.{FailsWith, Succeeds, is_followed, is_memory}
 use Rattle.driver_options.specs.declared.write_options.BulkWriteOptions.{BulkWriteOptions}
 use Rattle.bulk_ops.specs.declared.own_op.OwnOp.{OwnOp}
 use Rattle.bulk_ops.specs.BulkSpec.{admin_target, bulk_spec}

@@ -3,7 +3,8 @@ use Rattle.std.specs.Prelude.{◌≡◌, ℕ, ◌+◌, ◌≤◌, pos, ◌≤ℤ
 use Rattle.std.specs.List.{list_any}
 use Rattle.bson_lite.specs.Spelling.{refusal}
 use Rattle.driver_error.specs.declared.error.Error.{Error}
-use Rattle.driver_error.specs.BulkResults.{AllFit, ResultSpec}
+use Rattle.bulk_outcomes.specs.BulkResults.{ResultSpec}
+use Rattle.driver_error.specs.Counts.{AllFit}
 use Rattle.driver_options.specs.declared.concerns.WriteConcern.{WriteConcern}
 use Rattle.driver_options.specs.declared.models.WriteModel.{WriteModel}
 use Rattle.driver_options.specs.declared.options.ClientOptions.{ClientOptions}

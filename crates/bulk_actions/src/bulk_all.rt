@@ -7,9 +7,10 @@ ghost use Rattle.bulk_actions.specs.inside.BulkBatches.{IsBegun};
 
 use crate::bulk_batches::make_batches;
 use crate::bulk_start::bulk_ops;
+use bulk_outcomes::{BulkWriteResult, ExecutionStatus};
 use driver_actions::places_from;
 use driver_attempt::{Client, Outside};
-use driver_error::{BulkWriteResult, ExecutionStatus, Result};
+use driver_error::Result;
 use driver_link::{Clock, Link};
 use driver_options::{BulkWriteOptions, WriteModel};
 use driver_session::SessionStore;

@@ -1,6 +1,6 @@
 //! The batches of a bulk write, one operation each, and what stands behind them.
 ghost use Rattle.std.specs.Prelude.{◌≡◌, ◌<◌, true, drop, length, IfOk, IfSome, OnErr, None as Unset, Some as Set, if◌then◌else◌};
-ghost use Rattle.driver_error.specs.Status.{Stands, goes_on};
+ghost use Rattle.bulk_outcomes.specs.Status.{Stands, goes_on};
 ghost use Rattle.bulk_ops.specs.BulkWrites.{bulk_is_ordered};
 ghost use Rattle.driver_attempt.specs.Client.{options_of};
 ghost use Rattle.driver_attempt.specs.Moment.{moment_of};
@@ -9,10 +9,11 @@ ghost use Rattle.bulk_actions.specs.BulkBatches.{Takes};
 ghost use Rattle.bulk_actions.specs.inside.BulkBatches.{AreBulkOps, BulkBatchMade, EndHasKind, MakesBatches, NextWithin, StepsTo};
 
 use bulk_ops::{BulkWriteOp, OwnOp};
+use bulk_outcomes::laws::{what_is_followed_stands, what_stands_keeps_its_kind};
+use bulk_outcomes::{BulkWriteResult, ExecutionStatus};
 use driver_actions::rest_from;
 use driver_attempt::{Client, Outside, Steps};
-use driver_error::laws::{what_is_followed_stands, what_stands_keeps_its_kind};
-use driver_error::{BulkWriteResult, Error, ErrorKind, ExecutionStatus, Result};
+use driver_error::{Error, ErrorKind, Result};
 use driver_exec::execute_operation;
 use driver_link::{Clock, Link, Place};
 use driver_ops::Operation;

@@ -14,8 +14,9 @@ ghost use Rattle.bulk_actions.specs.PartlyTold.{ErrIsLogged};
 
 use crate::bulk_all::bulk_all;
 use bson_lite::{Bson, Document};
+use bulk_outcomes::BulkWriteResult;
 use driver_attempt::{Client, Outside};
-use driver_error::{BulkWriteResult, Result, SummaryBulkWriteResult, VerboseBulkWriteResult};
+use driver_error::{Result, SummaryBulkWriteResult, VerboseBulkWriteResult};
 use driver_link::{Clock, Link};
 use driver_options::{BulkWriteOptions, WriteConcern, WriteModel};
 use driver_session::SessionStore;

@@ -1,8 +1,8 @@
 //! Laws of what stands between the batches of a bulk write, and of how many there are.
 ghost use Rattle.std.specs.Prelude.{◌≡◌, Bool, true, List, length, Result, Ok};
 ghost use Rattle.driver_error.specs.declared.error.Error.{Error};
-ghost use Rattle.driver_error.specs.declared.status.ExecutionStatus.{ExecutionStatus};
-ghost use Rattle.driver_error.specs.Status.{goes_on};
+ghost use Rattle.bulk_outcomes.specs.declared.status.ExecutionStatus.{ExecutionStatus};
+ghost use Rattle.bulk_outcomes.specs.Status.{goes_on};
 ghost use Rattle.driver_batches.specs.declared.sizes.Limits.{Limits};
 ghost use Rattle.driver_batches.specs.Batches.{IsFewest};
 ghost use Rattle.bulk_ops.specs.declared.own_op.SizedOp.{SizedOp};
@@ -10,7 +10,7 @@ ghost use Rattle.bulk_ops.specs.BulkFronts.{FitsOps};
 ghost use Rattle.bulk_actions.specs.BulkBatches.{Takes, end_goes_on};
 ghost use Rattle.bulk_actions.specs.BulkNumbers.{op_runs};
 
-use driver_error::BulkWriteResult;
+use bulk_outcomes::BulkWriteResult;
 
 /// Where a next batch is made, what stands behind it lets another one be made exactly where its own end does.
 pub fn the_last_end_decides<T: BulkWriteResult>()

@@ -6,10 +6,10 @@ use Rattle.bson_lite.specs.declared.document.Pair.{Pair}
 use Rattle.driver_error.specs.declared.error.Error.{Error}
 use Rattle.driver_error.specs.declared.kind.ErrorKind.TheVariants as kind
 use Rattle.driver_error.specs.BulkErrors.{AreOfOneKind, failures_in}
-use Rattle.driver_error.specs.BulkResults.{ResultSpec}
+use Rattle.bulk_outcomes.specs.BulkResults.{ResultSpec}
 use Rattle.driver_error.specs.Error.{ErrorKind, IsAlone, kind_of}
 use Rattle.driver_error.specs.LabelTexts.{LabelSet}
-use Rattle.driver_error.specs.Status.{IsBulkOfKind, IsOfKind}
+use Rattle.bulk_outcomes.specs.Status.{IsBulkOfKind, IsOfKind}
 use Rattle.driver_ops.specs.declared.operation.Reading.{Reading}
 use Rattle.driver_ops.specs.declared.operation.Reading.TheVariants.{Page as Further}
 use Rattle.driver_ops.specs.Operations.{Page}

@@ -1,7 +1,7 @@
 -- What a build takes of a found front, or where it stops.
 use Rattle.std.proofs.Common.{◌≡◌, ℕ, suc, ◌+◌, ◌<◌, ◌≤◌, Bool, true, false, List, [], ◌∷◌, length, length-take, length-take-le, min, take, take-take, take_all, refl, sym, ap, subst, ◌∙◌, arith, inl, inr, ◌⊎◌, true≢false}
 use Rattle.std.specs.Prelude.{◌↔◌, IsTrue, Option, None, Some}
-use Rattle.driver_error.specs.BulkResults.{ResultSpec}
+use Rattle.bulk_outcomes.specs.BulkResults.{ResultSpec}
 use Rattle.driver_error.specs.declared.error.Error.{Error}
 use Rattle.driver_error.specs.declared.kind.ErrorKind.TheVariants as kind
 use Rattle.driver_error.specs.Error.{ErrorKind, IsAlone, kind_of}

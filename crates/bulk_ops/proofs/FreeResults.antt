@@ -12,7 +12,7 @@ use Rattle.bson_lite.specs.declared.bson.Bson.{Bson}
 use Rattle.bson_lite.proofs.FinMaps.{insert_swapped}
 use Rattle.driver_error.specs.declared.error.Error.{Error}
 use Rattle.driver_error.specs.declared.write.WriteError.{WriteError}
-use Rattle.driver_error.specs.BulkResults.{KeepsApart, ResultSpec}
+use Rattle.bulk_outcomes.specs.BulkResults.{KeepsApart, ResultSpec}
 use Rattle.bulk_ops.specs.declared.bulk_reply.OpOutcome.{OpOutcome}
 use Rattle.bulk_ops.specs.declared.bulk_reply.OpOutcome.TheVariants as came
 use Rattle.bulk_ops.specs.declared.bulk_reply.OpResult.{OpResult}

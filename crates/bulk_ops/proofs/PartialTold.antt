@@ -8,8 +8,9 @@ use Rattle.std.proofs.Math.IntN.{+ℤ_idl}
 use Rattle.driver_error.specs.declared.results.PartialBulkWriteResult.{PartialBulkWriteResult}
 use Rattle.driver_error.specs.declared.results.PartialBulkWriteResult.TheVariants as partly
 use Rattle.driver_error.specs.declared.results.VerboseBulkWriteResult.{VerboseBulkWriteResult}
-use Rattle.driver_error.specs.BulkResults.{Counts, ResultSpec, added, five, no_counts}
-use Rattle.driver_error.specs.PartialResults.{IsOfNoWrite, MakesPartial, partial_counted, partial_delete, partial_insert, partial_update}
+use Rattle.bulk_outcomes.specs.BulkResults.{ResultSpec, no_counts}
+use Rattle.driver_error.specs.Counts.{Counts, added, five}
+use Rattle.bulk_outcomes.specs.PartialResults.{IsOfNoWrite, MakesPartial, partial_counted, partial_delete, partial_insert, partial_update}
 use Rattle.driver_link.specs.declared.machine.Counted.{Counted}
 use Rattle.driver_link.specs.declared.machine.Entry.{Entry}
 use Rattle.driver_link.specs.declared.machine.PlacedWrite.{PlacedWrite}

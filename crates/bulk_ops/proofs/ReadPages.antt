@@ -8,7 +8,8 @@ use Rattle.bson_lite.specs.declared.bson.Bson.{Bson}
 use Rattle.bson_lite.specs.declared.document.Pair.{Pair}
 use Rattle.bson_lite.specs.declared.namespace.Namespace.{Namespace}
 use Rattle.driver_error.specs.declared.write.WriteError.{WriteError}
-use Rattle.driver_error.specs.BulkResults.{Counts, ResultSpec}
+use Rattle.bulk_outcomes.specs.BulkResults.{ResultSpec}
+use Rattle.driver_error.specs.Counts.{Counts}
 use Rattle.driver_ops.specs.Operations.{Page}
 use Rattle.bulk_ops.specs.declared.bulk_reply.BulkReply.{BulkReply}
 use Rattle.bulk_ops.specs.declared.bulk_reply.OpResult.{OpResult}

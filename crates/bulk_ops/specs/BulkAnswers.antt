@@ -13,7 +13,7 @@ use Rattle.driver_error.specs.declared.results.PartialBulkWriteResult.{PartialBu
 use Rattle.driver_error.specs.declared.write.BulkWriteError.{BulkWriteError}
 use Rattle.driver_error.specs.declared.write.WriteConcernError.{WriteConcernError}
 use Rattle.driver_error.specs.declared.write.WriteError.{WriteError}
-use Rattle.driver_error.specs.BulkResults.{ResultSpec}
+use Rattle.bulk_outcomes.specs.BulkResults.{ResultSpec}
 use Rattle.driver_error.specs.Error.{HasResponse, HasSource, IsAlone, kind_of}
 use Rattle.driver_error.specs.LabelTexts.{label_set, no_labels}
 use Rattle.driver_ops.specs.declared.operation.Reading.{Reading}

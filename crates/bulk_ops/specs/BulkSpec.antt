@@ -1,7 +1,7 @@
 -- What a bulk write tells as an operation.
 use Rattle.std.specs.Prelude.{◌≡◌, ℕ, Bool, true, not, List, length, take}
 use Rattle.std.specs.List.{AllByRecursion}
-use Rattle.driver_error.specs.BulkResults.{ResultSpec}
+use Rattle.bulk_outcomes.specs.BulkResults.{ResultSpec}
 use Rattle.driver_options.specs.declared.models.WriteModel.{WriteModel}
 use Rattle.driver_options.specs.declared.write_options.BulkWriteOptions.{BulkWriteOptions}
 use Rattle.driver_link.specs.declared.command.CommandName.TheVariants as name

@@ -16,9 +16,10 @@ use crate::seen_flags::{is_set, set_flag};
 use bson_lite::{
     Boxed, Bson, ByIndex, Document, EncodeFault, List, Namespace, RawDocumentBuf, Text, TryClone,
 };
+use bulk_outcomes::BulkWriteResult;
 use driver_error::{
-    BulkWriteError, BulkWriteResult, DeleteResult, Error, ErrorKind, InsertOneResult, Result,
-    UpdateResult, WriteConcernError, WriteError,
+    BulkWriteError, DeleteResult, Error, ErrorKind, InsertOneResult, Result, UpdateResult,
+    WriteConcernError, WriteError,
 };
 use driver_ops::{Reading, odd_reply};
 use std::alloc::{AllocError, Global};

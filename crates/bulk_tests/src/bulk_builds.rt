@@ -3,10 +3,9 @@
 use bson_lite::{Bson, Document, List, ObjectId, Text, TryClone};
 use bulk_actions::bulk_ops;
 use bulk_ops::BulkWriteOp;
+use bulk_outcomes::BulkWriteResult;
 use driver_attempt::Client;
-use driver_error::{
-    BulkWriteResult, Error, ErrorKind, SummaryBulkWriteResult, VerboseBulkWriteResult,
-};
+use driver_error::{Error, ErrorKind, SummaryBulkWriteResult, VerboseBulkWriteResult};
 use driver_link::{CountingIds, Sequence};
 use driver_ops::{Command, Operation, encode_document};
 use driver_options::{BulkWriteOptions, ClientOptions, Description, WriteModel};

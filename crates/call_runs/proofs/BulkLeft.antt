@@ -4,11 +4,11 @@ use Rattle.std.specs.Prelude.{Bool, true, false, Option, None, Some, IfSome, Res
 use Rattle.driver_error.specs.declared.error.Error.{Error}
 use Rattle.driver_error.specs.declared.results.PartialBulkWriteResult.{PartialBulkWriteResult}
 use Rattle.driver_error.specs.declared.write.BulkWriteError.{BulkWriteError}
-use Rattle.driver_error.specs.BulkErrors.{MergesResults, failures_in}
-use Rattle.driver_error.specs.BulkResults.{ResultSpec, summary_spec, verbose_spec}
+use Rattle.driver_error.specs.BulkErrors.{failures_in}
+use Rattle.bulk_outcomes.specs.BulkResults.{MergesResults, ResultSpec, summary_spec, verbose_spec}
 use Rattle.driver_error.specs.Error.{kind_of}
-use Rattle.driver_error.specs.PartialResults.{MakesPartial}
-use Rattle.driver_error.specs.lawful.Merging.{summary_merges, verbose_merges}
+use Rattle.bulk_outcomes.specs.PartialResults.{MakesPartial}
+use Rattle.bulk_outcomes.specs.lawful.Merging.{summary_merges, verbose_merges}
 use Rattle.driver_options.specs.declared.models.WriteModel.{WriteModel}
 use Rattle.driver_options.specs.declared.write_options.BulkWriteOptions.{BulkWriteOptions}
 use Rattle.driver_link.specs.Clock.{ClockTells}

@@ -8,10 +8,9 @@ use Rattle.bson_lite.specs.declared.namespace.Namespace.{Namespace}
 use Rattle.driver_error.specs.declared.error.Error.{Error}
 use Rattle.driver_error.specs.declared.kind.ErrorKind.TheVariants as kind
 use Rattle.driver_error.specs.declared.results.InsertManyResult.{InsertManyResult}
-use Rattle.driver_error.specs.BulkErrors.{MergesResults}
-use Rattle.driver_error.specs.BulkResults.{ResultSpec, summary_spec, verbose_spec}
+use Rattle.bulk_outcomes.specs.BulkResults.{MergesResults, ResultSpec, summary_spec, verbose_spec}
 use Rattle.driver_error.specs.Error.{kind_of}
-use Rattle.driver_error.specs.lawful.Merging.{summary_merges, verbose_merges}
+use Rattle.bulk_outcomes.specs.lawful.Merging.{summary_merges, verbose_merges}
 use Rattle.driver_options.specs.declared.models.WriteModel.{WriteModel}
 use Rattle.driver_options.specs.declared.options.ClientOptions.{ClientOptions}
 use Rattle.driver_options.specs.declared.write_options.BulkWriteOptions.{BulkWriteOptions}

@@ -4,7 +4,7 @@ use Rattle.driver_error.specs.declared.error.Error.{Error}
 use Rattle.driver_error.specs.declared.results.InsertManyResult.{InsertManyResult}
 use Rattle.driver_error.specs.declared.results.SummaryBulkWriteResult.{SummaryBulkWriteResult}
 use Rattle.driver_error.specs.declared.results.VerboseBulkWriteResult.{VerboseBulkWriteResult}
-use Rattle.driver_error.specs.BulkResults.{summary_spec, verbose_spec}
+use Rattle.bulk_outcomes.specs.BulkResults.{summary_spec, verbose_spec}
 use Rattle.driver_options.specs.declared.models.WriteModel.{WriteModel}
 use Rattle.driver_options.specs.declared.write_options.BulkWriteOptions.{BulkWriteOptions}
 use Rattle.driver_ops.specs.Targets.{in_collection}

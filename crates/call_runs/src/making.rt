@@ -1,6 +1,6 @@
 //! One call of a list.
 ghost use Rattle.std.specs.Prelude.{◌≡◌};
-ghost use Rattle.driver_error.specs.BulkResults.{summary_spec, verbose_spec};
+ghost use Rattle.bulk_outcomes.specs.BulkResults.{summary_spec, verbose_spec};
 ghost use Rattle.driver_ops.specs.Targets.{in_collection};
 ghost use Rattle.driver_attempt.specs.Client.{options_of};
 ghost use Rattle.driver_attempt.specs.Moment.{moment_of};
@@ -14,12 +14,11 @@ ghost use Rattle.driver_inputs.specs.Forms.{form_of};
 
 use bson_lite::{Document, List, Namespace, TryClone};
 use bulk_actions::bulk_all::bulk_all;
+use bulk_outcomes::BulkWriteResult;
 use driver_actions::SingleWrites;
 use driver_actions::insert_all::insert_all;
 use driver_attempt::{Client, Outside};
-use driver_error::{
-    BulkWriteResult, InsertManyResult, Result, SummaryBulkWriteResult, VerboseBulkWriteResult,
-};
+use driver_error::{InsertManyResult, Result, SummaryBulkWriteResult, VerboseBulkWriteResult};
 use driver_inputs::{Answer, Call, Outcome, SingleWrite};
 use driver_link::{Clock, Link};
 use driver_ops::Collection;

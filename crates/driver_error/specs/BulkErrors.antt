@@ -1,15 +1,13 @@
 -- What the errors of two parts of a bulk write are together.
-use Rattle.std.specs.Prelude.{◌≡◌, ℕ, ⊤, ◌++◌, Option, None, Some, IfSome, Result, Ok, Err}
+use Rattle.std.specs.Prelude.{◌≡◌, ⊤, ◌++◌, Option, None, Some, IfSome, Result, Ok, Err}
 use Rattle.bson_lite.specs.Unions.{union}
 use Rattle.driver_error.specs.declared.error.Error.{Error}
 use Rattle.driver_error.specs.declared.kind.ErrorKind.TheVariants as kind
-use Rattle.driver_error.specs.declared.results.DeleteResult.{DeleteResult}
-use Rattle.driver_error.specs.declared.results.InsertOneResult.{InsertOneResult}
 use Rattle.driver_error.specs.declared.results.PartialBulkWriteResult.{PartialBulkWriteResult}
 use Rattle.driver_error.specs.declared.results.PartialBulkWriteResult.TheVariants as partly
-use Rattle.driver_error.specs.declared.results.UpdateResult.{UpdateResult}
+use Rattle.driver_error.specs.declared.results.VerboseBulkWriteResult.{VerboseBulkWriteResult}
 use Rattle.driver_error.specs.declared.write.BulkWriteError.{BulkWriteError}
-use Rattle.driver_error.specs.BulkResults.{AllFit, Counts, RefusesMerge, ResultSpec, added, merged_verbose, no_counts}
+use Rattle.driver_error.specs.Counts.{AllFit, Counts, RefusesMerge, added}
 use Rattle.driver_error.specs.Error.{ErrorKind, IsAlone, kind_of, labels_of, response_of, source_of, wire_version_of}
 use Rattle.driver_error.specs.LabelTexts.{no_labels}
 
@@ -28,6 +26,15 @@ AreAlike _ _ = ⊤
 abbrev pub partial_counts : PartialBulkWriteResult → Counts
 partial_counts (partly.Summary counts) = counts
 partial_counts (partly.Verbose results) = results.summary
+
+-- the sums of the counts, and the results of both by index; at an index that both have, the later one
+abbrev pub merged_verbose : VerboseBulkWriteResult → VerboseBulkWriteResult → VerboseBulkWriteResult
+merged_verbose earlier later = record {
+  summary = added earlier.summary later.summary;
+  insert_results = union earlier.insert_results later.insert_results;
+  update_results = union earlier.update_results later.update_results;
+  delete_results = union earlier.delete_results later.delete_results;
+}
 
 -- two results of one kind together; those of two kinds are never merged
 abbrev pub merged_partial : PartialBulkWriteResult → PartialBulkWriteResult → PartialBulkWriteResult
@@ -59,27 +66,6 @@ joint_sums _ _ = None
 abbrev pub RefusesSums : Option Counts → Error → Type 0
 RefusesSums (Some sums) error = RefusesMerge sums error
 RefusesSums None error = IsAlone kind.Memory no_labels error
-
--- what merging keeps of results of one kind: the counts of what is merged are the sums; their grouping does not matter; the
--- result of no write adds nothing on either side; results of bulk writes that failed are merged in the same way; what joins the
--- later result joins both; and counts are added in any grouping, before or behind the result of a write
-pub record MergesResults {R : Type 0} (tells : ResultSpec R) : Type 0 where
-  pub counts : (a b : R) → tells.counts (tells.merged a b) ≡ added (tells.counts a) (tells.counts b)
-  pub groups : (a b c : R) → tells.merged (tells.merged a b) c ≡ tells.merged a (tells.merged b c)
-  pub before : (a : R) → tells.merged tells.nothing a ≡ a
-  pub after : (a : R) → tells.merged a tells.nothing ≡ a
-  pub one_kind : (a b : R) → AreOfOneKind (tells.partial a) (tells.partial b)
-  pub partials : (a b : R) → merged_partial (tells.partial a) (tells.partial b) ≡ tells.partial (tells.merged a b)
-  pub same_counts : (a : R) → partial_counts (tells.partial a) ≡ tells.counts a
-  pub counted_later : (a b : R) (more : Counts) → tells.merged a (tells.counted b more) ≡ tells.counted (tells.merged a b) more
-  pub inserted_later : (a b : R) (index : ℕ) (value : InsertOneResult) → tells.merged a (tells.with_insert b index value) ≡ tells.with_insert (tells.merged a b) index value
-  pub updated_later : (a b : R) (index : ℕ) (value : UpdateResult) → tells.merged a (tells.with_update b index value) ≡ tells.with_update (tells.merged a b) index value
-  pub deleted_later : (a b : R) (index : ℕ) (value : DeleteResult) → tells.merged a (tells.with_delete b index value) ≡ tells.with_delete (tells.merged a b) index value
-  pub counted_none : (a : R) → tells.counted a no_counts ≡ a
-  pub counted_twice : (a : R) (one more : Counts) → tells.counted (tells.counted a one) more ≡ tells.counted a (added one more)
-  pub counted_inserted : (a : R) (index : ℕ) (value : InsertOneResult) (more : Counts) → tells.counted (tells.with_insert a index value) more ≡ tells.with_insert (tells.counted a more) index value
-  pub counted_updated : (a : R) (index : ℕ) (value : UpdateResult) (more : Counts) → tells.counted (tells.with_update a index value) more ≡ tells.with_update (tells.counted a more) index value
-  pub counted_deleted : (a : R) (index : ℕ) (value : DeleteResult) (more : Counts) → tells.counted (tells.with_delete a index value) more ≡ tells.with_delete (tells.counted a more) index value
 
 -- the same error as one of a bulk write that tells of these failures
 pub record TellsFailures (failures : BulkWriteError) (old now : Error) : Type 0 where

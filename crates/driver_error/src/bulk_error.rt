@@ -3,10 +3,10 @@ ghost use Rattle.std.specs.Prelude.{◌≡◌, IfSome, IfErr, IfOk, OnErr, OnOk}
 ghost use Rattle.driver_error.specs.declared.kind.ErrorKind.TheVariants.{BulkWrite};
 ghost use Rattle.bson_lite.specs.Unions.{union};
 ghost use Rattle.driver_error.specs.Error.{kind_of};
-ghost use Rattle.driver_error.specs.BulkErrors.{IsAlikeBefore, IsAlikeIn, JoinsEarlier, JoinsLater, TakesApart, AreAlike, AreOfOneKind, RefusesSums, failures_in, joint_sums, merged_errors, merged_partial, merged_partials, partial_counts};
-ghost use Rattle.driver_error.specs.BulkResults.{AllFit, RefusesMerge, added, merged_verbose};
+ghost use Rattle.driver_error.specs.BulkErrors.{AreAlike, AreOfOneKind, IsAlikeBefore, IsAlikeIn, JoinsEarlier, JoinsLater, RefusesSums, TakesApart, failures_in, joint_sums, merged_errors, merged_partial, merged_partials, merged_verbose, partial_counts};
+ghost use Rattle.driver_error.specs.Counts.{AllFit, RefusesMerge, added};
 
-use crate::bulk_result::added_counts;
+use crate::counts::added_counts;
 use crate::error::{Error, Parts, Result};
 use crate::kind::ErrorKind;
 use crate::results::{PartialBulkWriteResult, SummaryBulkWriteResult, VerboseBulkWriteResult};

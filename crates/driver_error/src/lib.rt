@@ -5,11 +5,11 @@
 #![tactic(auto)]
 
 mod bulk_error;
-pub mod bulk_result;
 mod codes;
 pub mod command;
 pub mod conversions;
 mod copy;
+pub mod counts;
 mod display;
 pub mod error;
 pub mod gridfs;
@@ -21,10 +21,8 @@ pub mod redact;
 pub mod redaction;
 pub mod results;
 pub mod specifications;
-pub mod status;
 mod write;
 
-pub use bulk_result::BulkWriteResult;
 pub use command::{CommandError, CommandErrorBody};
 pub use conversions::convert_insert_many_error;
 pub use error::{Error, Result};
@@ -43,7 +41,6 @@ pub use results::{
 pub use specifications::{
     CollectionSpecification, CollectionSpecificationInfo, CollectionType, DatabaseSpecification,
 };
-pub use status::ExecutionStatus;
 pub use write::{
     BulkWriteError, IndexedWriteError, InsertManyError, WriteConcernError, WriteError, WriteFailure,
 };

@@ -8,7 +8,7 @@ use Rattle.bson_lite.specs.declared.bson.ObjectId.{ObjectId}
 use Rattle.bson_lite.specs.declared.document.Pair.{Pair}
 use Rattle.bson_lite.specs.declared.namespace.Namespace.{Namespace}
 use Rattle.bson_lite.specs.Fields.{value_of, id_key, with_id}
-use Rattle.driver_error.specs.BulkResults.{ResultSpec, summary_spec, verbose_spec}
+use Rattle.bulk_outcomes.specs.BulkResults.{ResultSpec, summary_spec, verbose_spec}
 use Rattle.driver_options.specs.declared.models.WriteModel.{WriteModel}
 use Rattle.driver_link.specs.declared.machine.Entry.{Entry}
 use Rattle.driver_link.specs.declared.machine.Place.{Place}

@@ -3,7 +3,7 @@ ghost use Rattle.std.specs.Prelude.{◌≡◌, None, Some, IfOk};
 ghost use Rattle.driver_error.specs.declared.kind.ErrorKind.TheVariants.{BulkWrite};
 ghost use Rattle.driver_error.specs.declared.results.PartialBulkWriteResult.TheVariants.{Summary, Verbose};
 ghost use Rattle.driver_error.specs.BulkErrors.{AreAlike, failures_in};
-ghost use Rattle.driver_error.specs.BulkResults.{no_counts, no_writes};
+ghost use Rattle.bulk_outcomes.specs.BulkResults.{no_counts, no_writes};
 ghost use Rattle.driver_error.specs.Error.{kind_of, source_of};
 
 use crate::errors::command;

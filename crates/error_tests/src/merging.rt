@@ -9,7 +9,8 @@ use crate::failures::{
     are_counts, are_failures, are_results, are_verbose_failures, bulk, failures, is_bulk, is_other,
     is_refusal, is_source, other, sourced, summary, verbose, verbose_failures,
 };
-use driver_error::{BulkWriteError, BulkWriteResult, Error, Result};
+use bulk_outcomes::BulkWriteResult;
+use driver_error::{BulkWriteError, Error, Result};
 use std::alloc::{AllocError, Global};
 
 /// Counts of two parts, and their sums, or none where one leaves 64 bits.

@@ -2,18 +2,17 @@
 //! is made.
 ghost use Rattle.std.specs.Prelude.{IfOk};
 ghost use Rattle.driver_error.specs.BulkErrors.{failures_in};
-ghost use Rattle.driver_error.specs.BulkResults.{summary_spec, verbose_spec};
+ghost use Rattle.bulk_outcomes.specs.BulkResults.{summary_spec, verbose_spec};
 ghost use Rattle.driver_error.specs.Error.{kind_of, source_of};
-ghost use Rattle.driver_error.specs.Status.{IsBulkOfKind, IsOpen, Stands};
+ghost use Rattle.bulk_outcomes.specs.Status.{IsBulkOfKind, IsOpen, Stands};
 
 use crate::failures::{
     A, B, Cause, Counts, EARLIER, Failed, LATER as LATER_RESULTS, MERGED, MOST, Mark, ONE, Results,
     SUMS, are_counts, are_results, are_verbose_failures, bulk, failures, failures_of, is_bulk,
     is_other, is_refusal, other, sourced, summary, verbose, verbose_failures,
 };
-use driver_error::{
-    Error, ExecutionStatus, Result, SummaryBulkWriteResult, VerboseBulkWriteResult,
-};
+use bulk_outcomes::ExecutionStatus;
+use driver_error::{Error, Result, SummaryBulkWriteResult, VerboseBulkWriteResult};
 use std::alloc::{AllocError, Global};
 
 /// What stood before a batch: the failures have the first mark, and no source.

@@ -1,6 +1,7 @@
 //! How a bulk write ends, as rows tell it: its counts, or what its error tells and which rule a page broke.
+use bulk_outcomes::BulkWriteResult;
 use driver_error::{
-    BulkWriteError, BulkWriteResult, Error, ErrorKind, IoKind, PartialBulkWriteResult, Result,
+    BulkWriteError, Error, ErrorKind, IoKind, PartialBulkWriteResult, Result,
     SummaryBulkWriteResult, VerboseBulkWriteResult,
 };
 

@@ -5,8 +5,9 @@ use crate::writes::number;
 use bson_lite::{Bson, Document, List, Namespace, Text};
 use bulk_actions::bulk_ops;
 use bulk_ops::{BulkWriteOp, OwnOp};
+use bulk_outcomes::BulkWriteResult;
 use driver_attempt::{Client, Outside, Steps};
-use driver_error::{BulkWriteResult, Result, SummaryBulkWriteResult};
+use driver_error::{Result, SummaryBulkWriteResult};
 use driver_exec::execute_operation;
 use driver_link::{CountingIds, Link, MemClock, Place};
 use driver_options::{

@@ -3,12 +3,12 @@ use Rattle.std.specs.Prelude.{◌≡◌, ⊤, ℕ, ◌+◌, ◌<◌, ◌≤◌, 
 use Rattle.std.specs.List.{AllByRecursion}
 use Rattle.driver_error.specs.declared.error.Error.{Error}
 use Rattle.driver_error.specs.declared.kind.ErrorKind.TheVariants as kind
-use Rattle.driver_error.specs.declared.status.ExecutionStatus.{ExecutionStatus}
-use Rattle.driver_error.specs.declared.status.ExecutionStatus.TheVariants as status
+use Rattle.bulk_outcomes.specs.declared.status.ExecutionStatus.{ExecutionStatus}
+use Rattle.bulk_outcomes.specs.declared.status.ExecutionStatus.TheVariants as status
 use Rattle.driver_error.specs.BulkErrors.{failures_in}
-use Rattle.driver_error.specs.BulkResults.{ResultSpec}
+use Rattle.bulk_outcomes.specs.BulkResults.{ResultSpec}
 use Rattle.driver_error.specs.Error.{kind_of}
-use Rattle.driver_error.specs.Status.{IsBulkOfKind}
+use Rattle.bulk_outcomes.specs.Status.{IsBulkOfKind}
 use Rattle.driver_options.specs.declared.models.WriteModel.{WriteModel}
 use Rattle.driver_options.specs.declared.write_options.BulkWriteOptions.{BulkWriteOptions}
 use Rattle.bulk_ops.specs.declared.own_op.OwnOp.{OwnOp}

@@ -5,7 +5,7 @@ use Rattle.std.specs.Ordering.{int_eq}
 use Rattle.std.specs.FinMap as finite
 use Rattle.driver_error.specs.declared.error.Error.{Error}
 use Rattle.driver_error.specs.declared.kind.ErrorKind.TheVariants as kind
-use Rattle.driver_error.specs.BulkResults.{ResultSpec}
+use Rattle.bulk_outcomes.specs.BulkResults.{ResultSpec}
 use Rattle.driver_error.specs.Error.{kind_of}
 use Rattle.driver_options.specs.declared.write_options.BulkWriteOptions.{BulkWriteOptions}
 use Rattle.driver_ops.specs.declared.operation.Reading.{Reading}

@@ -1,7 +1,7 @@
 -- The next batch is made of the ops that are left, and taken into what stands, or the call ends with an error.
 use Rattle.std.proofs.Common.{drop, refl, ap, ◌∙◌}
 use Rattle.std.proofs.lemmas.Result.{err_from_is_err_and}
-use Rattle.driver_error.specs.Status.{goes_on}
+use Rattle.bulk_outcomes.specs.Status.{goes_on}
 use Rattle.bulk_ops.specs.BulkWrites.{bulk_is_ordered}
 use Rattle.driver_attempt.specs.Moment.{moment_of}
 use Rattle.driver_actions.proofs.BatchPlaces.{places_left}

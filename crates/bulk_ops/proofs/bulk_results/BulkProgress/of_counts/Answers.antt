@@ -2,7 +2,8 @@
 use Rattle.std.proofs.Common.{rules, ◌≡◌, ℤ, ◌+ℤ◌, FitsSigned, pos, to_z, of_z, w64, refl, sym, subst, ap, ◌∙◌}
 use Rattle.std.proofs.lemmas.Int.{to_z-of_z}
 use lib.IntN.{+ℤ_idl}
-use Rattle.driver_error.specs.BulkResults.{Counts, added, five, no_counts}
+use Rattle.bulk_outcomes.specs.BulkResults.{no_counts}
+use Rattle.driver_error.specs.Counts.{Counts, added, five}
 use Rattle.bulk_ops.proofs.ReadPages.{begins}
 use Rattle.bulk_ops.proofs.bulk_results.BulkProgress.of_counts.Goals as goal
 

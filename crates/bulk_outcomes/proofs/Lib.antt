@@ -1,0 +1,4 @@
+mod Failing
+pub mod Keeping
+pub mod Merging
+mod Standing

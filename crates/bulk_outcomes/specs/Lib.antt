@@ -1,0 +1,4 @@
+pub mod BulkResults
+pub mod PartialResults
+pub mod Status
+pub mod lawful

@@ -1,4 +1,0 @@
-use Rattle.driver_error.proofs.laws.merging_is_associative.Goals as goal
-
-pub returns : goal.returns
-returns g c = g.met.R.BulkWriteResult.merges.groups

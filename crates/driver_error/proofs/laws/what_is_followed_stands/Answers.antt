@@ -1,6 +1,0 @@
--- The law is a lemma.
-use Rattle.driver_error.proofs.Standing.{followed_stands}
-use Rattle.driver_error.proofs.laws.what_is_followed_stands.Goals as goal
-
-pub returns : goal.returns
-returns g c = followed_stands g.R.BulkWriteResult.tells
