@@ -7,10 +7,11 @@ use driver_attempt::Client;
 use driver_error::{
     BulkWriteResult, Error, ErrorKind, SummaryBulkWriteResult, VerboseBulkWriteResult,
 };
-use driver_link::{CountingIds, Sequence};
+use driver_link::Sequence;
 use driver_ops::{Command, Operation, encode_document};
 use driver_options::{BulkWriteOptions, ClientOptions, Description, WriteModel};
 use driver_session::PlainStore;
+use memory_links::CountingIds;
 use std::alloc::{AllocError, Global};
 use std::test::Fail;
 use test_parts::bulk_ends::let_go;
