@@ -5,7 +5,6 @@ use bulk_actions::{CollectionModels, bulk_ops};
 use bulk_ops::OwnOp;
 use driver_attempt::Client;
 use driver_error::{Error, ErrorKind};
-use driver_link::CountingIds;
 use driver_ops::Collection;
 use driver_options::{
     BulkWriteOptions, ClientOptions, DeleteManyModel, DeleteOneModel, InsertOneModel,
@@ -13,6 +12,7 @@ use driver_options::{
     WriteModel,
 };
 use driver_session::PlainStore;
+use memory_links::CountingIds;
 use std::alloc::{AllocError, Global};
 use std::test::Fail;
 use test_parts::bulk_ends::let_go;

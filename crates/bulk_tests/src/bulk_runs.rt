@@ -4,8 +4,9 @@ ghost use Rattle.driver_link.specs.WellFormed.{IsWellFormed};
 
 use bson_lite::List;
 use driver_error::{IoKind, Result, SummaryBulkWriteResult};
-use driver_link::{FakeLink, Frame, Schedule, Server, WriteKind};
+use driver_link::{Frame, Schedule, Server, WriteKind};
 use driver_options::Description;
+use memory_links::FakeLink;
 use model_server::{ModelServer, USUAL_SETUP};
 use std::alloc::{AllocError, Global};
 use std::test::Fail;

@@ -13,11 +13,10 @@ use call_runs::run_calls;
 use driver_attempt::{Client, Outside};
 use driver_error::{DeleteResult, Error, ErrorKind, IoKind, RETRYABLE_WRITE_ERROR, UpdateResult};
 use driver_inputs::{Answer, Call, Outcome, SingleAnswer};
-use driver_link::{
-    Counted, CountingIds, Entry, MemClock, Schedule, Send, Server, WriteKind, Written,
-};
+use driver_link::{Counted, Entry, Schedule, Send, Server, WriteKind, Written};
 use driver_options::ClientOptions;
 use driver_session::PlainStore;
+use memory_links::{CountingIds, MemClock};
 use model_server::{ModelServer, USUAL_SETUP};
 use rand_core::SeedableRng;
 use rand_pcg::Pcg32;

@@ -8,11 +8,10 @@ use call_runs::run_calls;
 use driver_attempt::{Client, Outside};
 use driver_error::{Error, ErrorKind, IoKind, RETRYABLE_WRITE_ERROR};
 use driver_inputs::{Answer, Call, Outcome, SingleAnswer, SingleWrite};
-use driver_link::{
-    CountingIds, Entry, Item, MemClock, Schedule, Scheduled, Server, WriteKind, Written,
-};
+use driver_link::{Entry, Item, Schedule, Scheduled, Server, WriteKind, Written};
 use driver_options::{ClientOptions, InsertManyOptions};
 use driver_session::PlainStore;
+use memory_links::{CountingIds, MemClock};
 use model_server::{ModelServer, USUAL_SETUP};
 use rand_core::SeedableRng;
 use rand_pcg::Pcg32;

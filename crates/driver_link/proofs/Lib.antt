@@ -1,5 +1,4 @@
 pub mod ConnectionsOut
-pub mod CountedIds
 pub mod CursorSends
 pub mod Forms
 pub mod FrameReads
@@ -11,7 +10,6 @@ pub mod OneWriteReplies
 pub mod OrderlyTraces
 pub mod Placing
 pub mod Plain
-pub mod Readings
 pub mod Replays
 pub mod RetriedSends
 pub mod ServedSends

@@ -1,7 +1,6 @@
 -- The texts of keys, names of commands and messages on the wire.
 use Rattle.std.specs.Prelude.{◌≡◌, codes}
 use Rattle.bson_lite.specs.declared.fields.TheConstants.{ID_KEY}
-use Rattle.driver_link.specs.declared.fake_link.TheConstants.{HOST, PORT}
 use Rattle.driver_link.specs.declared.keys.TheConstants.{ABORT_TRANSACTION, ADMIN, AUTOCOMMIT, BULK_NAMESPACE, BULK_WRITE, CLUSTER_TIME, CODE, COLLECTION, COMMIT_TRANSACTION, CURSOR, CURSORS, CURSOR_ID, CURSOR_NAMESPACE, DATABASE, DELETE, DELETES, DOCUMENT, DOCUMENTS, ERROR_LABELS, ERROR_MESSAGE, FIND_AND_MODIFY, FIRST_BATCH, GET_MORE, INDEX, INSERT, KILL_CURSORS, N, N_DELETED, N_ERRORS, N_INSERTED, N_MATCHED, N_MODIFIED, N_UPSERTED, NAMESPACE, NAMESPACES, NEXT_BATCH, OK, OPS, ORDERED, READ_CONCERN, RECOVERY_TOKEN, RESULT_INDEX, SESSION, SESSION_ID, START_TRANSACTION, TRANSACTION_NUMBER, UPDATE, UPDATES, UPSERTED, VALUE, WRITE_CONCERN, WRITE_CONCERN_ERROR, WRITE_ERRORS, SCHEDULED, SELECTION_FAILURE, REAUTHENTICATION_FAILURE, UUID_SUBTYPE}
 
 -- each is its text, and the subtype of a session's id is its number
@@ -64,8 +63,3 @@ pub record HaveTexts : Type 0 where
   pub selection_failure : SELECTION_FAILURE.now ≡ codes "scheduled selection failure"
   pub reauthentication_failure : REAUTHENTICATION_FAILURE.now ≡ codes "scheduled reauthentication failure"
   pub uuid_subtype : UUID_SUBTYPE ≡ 4
-
--- where the server of a fake link stands that was asked for no other
-pub record IsFakeAddress : Type 0 where
-  pub host : HOST.now ≡ codes "fake"
-  pub port : PORT ≡ 27017

@@ -5,11 +5,9 @@ pub mod Clock
 pub mod CommandNames
 pub mod Commands
 pub mod Counting
-pub mod CountingIds
 pub mod Cursors
 pub mod Exchange
 pub mod Failures
-pub mod FakeLink
 pub mod Faults
 pub mod Framed
 pub mod Gathered
@@ -19,8 +17,6 @@ pub mod Interrupting
 pub mod Keys
 pub mod LinkCalls
 pub mod LinkState
-pub mod MemClock
-pub mod MemStreams
 pub mod Numbers
 pub mod Once
 pub mod Reads

@@ -7,12 +7,13 @@ use bson_lite::{Document, TryClone};
 use driver_attempt::{Client, Outside, Steps};
 use driver_error::Result;
 use driver_exec::execute_operation;
-use driver_link::{CountingIds, FakeLink, MemClock, Place};
+use driver_link::Place;
 use driver_ops::Collection;
 use driver_options::{
     ClientOptions, FindAndModifyOptions, Modification, UpdateOrReplace, WriteConcern,
 };
 use driver_session::PlainStore;
+use memory_links::{CountingIds, FakeLink, MemClock};
 use rand_core::SeedableRng;
 use rand_pcg::Pcg32;
 use std::alloc::{AllocError, Global};

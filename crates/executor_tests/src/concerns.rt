@@ -1,8 +1,8 @@
 //! Inserts of clients that have a write concern: what goes out with it, and which are refused before anything is sent.
 use bson_lite::{Text, encode};
-use driver_link::FakeLink;
 use driver_ops::concern_document;
 use driver_options::{Acknowledgment, WriteConcern};
+use memory_links::FakeLink;
 use std::alloc::{AllocError, Global};
 use std::test::Fail;
 use test_parts::faking::{ALIKE, DONE, Given, fake_link};

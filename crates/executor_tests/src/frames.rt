@@ -1,6 +1,7 @@
 //! One insert over a fake link: what it sends, and the replies that it does not take.
 use driver_error::IoKind;
-use driver_link::{FakeLink, Frame};
+use driver_link::Frame;
+use memory_links::FakeLink;
 use std::alloc::Global;
 use test_parts::faking::{
     ALIKE, DONE, Given, LATER, NO_REPEATS, NO_SESSIONS, Servers, ends_at_once, inserted, seen,

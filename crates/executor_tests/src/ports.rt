@@ -2,8 +2,9 @@
 //! asked for the server that its selection answered.
 use bson_lite::{Bytes, List, Text};
 use driver_error::Error;
-use driver_link::{FakeLink, Frame, Link, LinkError, Place};
+use driver_link::{Frame, Link, LinkError, Place};
 use driver_options::{Address, Conn, SelectionCriteria};
+use memory_links::FakeLink;
 use std::alloc::Global;
 use test_parts::faking::{ALIKE, DONE, Given, fake_link};
 use test_parts::inserting::{Ended, insert};

@@ -1,6 +1,6 @@
 //! One insert over a fake link: which servers its selections are asked to avoid.
-use driver_link::FakeLink;
 use driver_options::{Address, Asked};
+use memory_links::FakeLink;
 use std::alloc::Global;
 use test_parts::faking::{ALIKE, DONE, Given, ROUTER, Servers, inserted};
 use test_parts::inserting::Ended;

@@ -1,7 +1,7 @@
 //! What no clause shows of a store: that it lends, takes back and counts with ample memory.
 use driver_error::Result;
-use driver_link::CountingIds;
 use driver_session::{PlainStore, ServerSession, SessionStore};
+use memory_links::CountingIds;
 use std::alloc::Global;
 
 /// Lends a session and takes it back, dirty or not. It answers the last byte of the id.

@@ -1,5 +1,6 @@
 //! Tests of ids that count.
-use driver_link::{CountingIds, IdSource};
+use driver_link::IdSource;
+use memory_links::CountingIds;
 
 /// The greatest number in twelve bytes.
 const GREATEST_OBJECT: u128 = 0xffff_ffff_ffff_ffff_ffff_ffff;

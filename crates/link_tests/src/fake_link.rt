@@ -6,13 +6,12 @@ ghost use Rattle.link_tests.specs.AbortFrame.{abort_body as body_of_abort, abort
 use bson_lite::{Bson, Bytes, Document, List, Text, TryClone, encode};
 use driver_error::IoKind;
 use driver_link::keys::{ABORT_TRANSACTION, ADMIN, DATABASE};
-use driver_link::{
-    Answered, FakeLink, FakeStep, Frame, Link, LinkCall, LinkError, LinkFault, NotedConn,
-};
+use driver_link::{Answered, Frame, Link, LinkCall, LinkError, LinkFault};
 use driver_options::{
     Acknowledgment, Address, Asked, Conn, Description, ReadConcern, ReadConcernLevel,
     SelectionCriteria, WriteConcern,
 };
+use memory_links::{FakeLink, FakeStep, NotedConn};
 use std::alloc::{AllocError, Global};
 
 /// `{ abortTransaction: 1, $db: "admin" }`.

@@ -1,5 +1,6 @@
 //! Tests of a clock in memory.
-use driver_link::{Clock, MemClock};
+use driver_link::Clock;
+use memory_links::MemClock;
 
 #[test]
 fn readings_and_sleeps(rt: HostRuntime) {

@@ -1,6 +1,7 @@
 //! Tests of a source and a sink in memory.
 use bson_lite::{Bytes, List};
-use driver_link::{Failed, MemSink, MemSource, Sink, Source};
+use driver_link::{Failed, Sink, Source};
+use memory_links::{MemSink, MemSource};
 use std::alloc::AllocError;
 
 #[test]

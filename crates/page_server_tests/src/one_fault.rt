@@ -13,14 +13,13 @@ use driver_error::{
     BulkWriteError, DeleteResult, Error, ErrorKind, InsertOneResult, PartialBulkWriteResult,
     Result, SummaryBulkWriteResult, UpdateResult, VerboseBulkWriteResult,
 };
-use driver_link::{
-    CountingIds, Entry, MemClock, Send, SendBody, SendCommand, Server, Setup, WriteKind,
-};
+use driver_link::{Entry, Send, SendBody, SendCommand, Server, Setup, WriteKind};
 use driver_options::{
     ClientOptions, DeleteOneModel, Description, InsertOneModel, UpdateManyModel,
     UpdateModifications, UpdateOneModel, WriteModel,
 };
 use driver_session::PlainStore;
+use memory_links::{CountingIds, MemClock};
 use model_server::ModelServer;
 use rand_core::SeedableRng;
 use rand_pcg::Pcg32;

@@ -3,7 +3,8 @@
 use crate::replies::{Answer, First, Lack, Told, page_with, reply_bytes};
 use bson_lite::{Bson, Bytes, List};
 use driver_error::{IoKind, SummaryBulkWriteResult, VerboseBulkWriteResult};
-use driver_link::{FakeLink, FakeStep, Frame, LinkFault};
+use driver_link::{Frame, LinkFault};
+use memory_links::{FakeLink, FakeStep};
 use std::alloc::{AllocError, Global};
 use std::test::Fail;
 use test_parts::bulk_ends::{Cause, Ended, Failed, Source, counts, failed_page, how_ended, let_go};

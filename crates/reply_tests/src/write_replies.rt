@@ -3,8 +3,8 @@
 use bson_lite::{Bson, Document};
 use driver_error::{Error, Result, UpdateResult};
 use driver_inputs::{SingleAnswer, SingleWrite};
-use driver_link::FakeLink;
 use driver_options::InsertManyOptions;
+use memory_links::FakeLink;
 use std::alloc::{AllocError, Global};
 use std::test::Fail;
 use test_parts::faking::{ALIKE, CHANGED, DONE, Given, fake_link};

@@ -1,6 +1,6 @@
 //! One run of a script, from a source to a sink in memory.
 use bson_lite::{Bytes, List};
-use driver_link::{MemSink, MemSource};
+use memory_links::{MemSink, MemSource};
 use script_run::{Run, run_script};
 use std::alloc::{AllocError, Global};
 

@@ -1,8 +1,8 @@
 -- What running the calls of a script on a new client over a new server makes.
 use Rattle.std.proofs.Common.{◌≡◌, ℕ, zero, suc, ◌+◌, ◌<◌, ◌^◌, List, length, refl, ap, ◌∙◌, arith, subst, sym}
 use Rattle.std.specs.Prelude.{Some}
-use Rattle.driver_link.proofs.CountedIds.{session_ids_first, sessions_apart}
-use Rattle.driver_link.specs.CountingIds.{IdsDrawn, counted_ids, none_drawn, session_at}
+use Rattle.memory_links.proofs.CountedIds.{session_ids_first, sessions_apart}
+use Rattle.memory_links.specs.CountingIds.{IdsDrawn, counted_ids, none_drawn, session_at}
 use Rattle.driver_link.specs.Exchange.{after_picks, replayed, empty_server}
 use Rattle.driver_link.specs.Ids.{times}
 use Rattle.driver_link.specs.LinkState.{server_run}

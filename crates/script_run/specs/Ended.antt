@@ -1,9 +1,9 @@
 -- How a run of the program ends: for each status what was read, what was written and what was made.
 use Rattle.std.specs.Prelude.{◌≡◌, ℕ, ◌<◌, ◌≤◌, List, [], ◌∷◌, ◌++◌, length, ◌⊎◌, codes, Option, None, Some, Ok, Err, bytes_eq, if◌then◌else◌}
-use Rattle.driver_link.specs.CountingIds.{IdsDrawn, counted_ids, none_drawn}
+use Rattle.memory_links.specs.CountingIds.{IdsDrawn, counted_ids, none_drawn}
 use Rattle.driver_link.specs.Exchange.{after_picks, replayed, empty_server}
 use Rattle.driver_link.specs.Faults.{Rose}
-use Rattle.driver_link.specs.MemClock.{readings_from}
+use Rattle.memory_links.specs.MemClock.{readings_from}
 use Rattle.driver_link.specs.Streams.{Appends}
 use Rattle.driver_session.specs.Pool.{StorePool, empty_pool}
 use Rattle.driver_session.specs.StoreTells.{StoreTells}

@@ -2,7 +2,7 @@
 use Rattle.std.specs.Prelude.{ℕ, List, [], ◌++◌, length, codes, decimal, Option, None, Some, is_some, is_ok, count_by, if◌then◌else◌}
 use Rattle.driver_link.specs.declared.machine.Send.{Send}
 use Rattle.driver_link.specs.declared.machine.Server.{Server}
-use Rattle.driver_link.specs.CountingIds.{IdsDrawn}
+use Rattle.memory_links.specs.CountingIds.{IdsDrawn}
 use Rattle.driver_link.specs.Exchange.{empty_server}
 use Rattle.driver_session.specs.Pool.{StorePool}
 use Rattle.model_server.specs.ModelState.{ModelState}

@@ -4,9 +4,9 @@ ghost use Rattle.std.specs.Prelude.{◌≡◌, None};
 use bson_lite::List;
 use driver_attempt::Client;
 use driver_inputs::Outcome;
-use driver_link::CountingIds;
 use driver_script::Script;
 use driver_session::PlainStore;
+use memory_links::CountingIds;
 use model_server::ModelServer;
 
 /// The script of a run, the outcomes of its calls, its client and its server, where it has come so far.

@@ -9,12 +9,13 @@ use bulk_outcomes::BulkWriteResult;
 use driver_attempt::{Client, Outside, Steps};
 use driver_error::{Result, SummaryBulkWriteResult};
 use driver_exec::execute_operation;
-use driver_link::{CountingIds, Link, MemClock, Place};
+use driver_link::{Link, Place};
 use driver_options::{
     BulkWriteOptions, ClientOptions, DeleteOneModel, InsertOneModel, UpdateManyModel,
     UpdateModifications, UpdateOneModel, WriteModel,
 };
 use driver_session::PlainStore;
+use memory_links::{CountingIds, MemClock};
 use rand_core::SeedableRng;
 use rand_pcg::Pcg32;
 use std::alloc::{AllocError, Global};

@@ -1,7 +1,8 @@
 //! Parts of the bodies that rows spell, byte by byte, and whether a link was given one frame of such parts.
 use bson_lite::{Bson, Bytes, Document, List, Text};
-use driver_link::{FakeLink, Frame};
+use driver_link::Frame;
 use driver_options::{Acknowledgment, WriteConcern};
+use memory_links::FakeLink;
 use std::alloc::{AllocError, Global};
 
 /// `lsid: {id: UUID(..01)}`

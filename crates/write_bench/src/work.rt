@@ -11,7 +11,7 @@ use driver_actions::SingleWrites;
 use driver_attempt::Outside;
 use driver_error::Result;
 use driver_inputs::{Call, Outcome};
-use driver_link::MemClock;
+use memory_links::MemClock;
 use model_server::{ModelServer, USUAL_SETUP};
 use rand_pcg::Pcg32;
 use std::alloc::Global;

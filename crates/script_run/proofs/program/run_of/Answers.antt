@@ -1,6 +1,6 @@
 -- The run of a script.
 use Rattle.std.proofs.Common.{refl, ap, ◌∙◌}
-use Rattle.driver_link.specs.MemClock.{clock_tells}
+use Rattle.memory_links.specs.MemClock.{clock_tells}
 use Rattle.driver_session.specs.Pool.{empty_pool}
 use Rattle.model_server.specs.ModelState.{model_tells}
 use Rattle.script_run.specs.Ended.{new_model, store_tells}

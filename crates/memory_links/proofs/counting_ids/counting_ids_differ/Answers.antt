@@ -1,5 +1,5 @@
-use Rattle.driver_link.proofs.CountedIds.{objects_apart, sessions_apart}
-use Rattle.driver_link.proofs.counting_ids.counting_ids_differ.Goals as goal
+use Rattle.memory_links.proofs.CountedIds.{objects_apart, sessions_apart}
+use Rattle.memory_links.proofs.counting_ids.counting_ids_differ.Goals as goal
 
 pub returns-clause-sessions : goal.returns-clause-sessions
 returns-clause-sessions c = sessions_apart

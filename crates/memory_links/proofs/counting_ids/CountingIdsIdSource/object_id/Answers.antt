@@ -1,8 +1,8 @@
 use Rattle.std.proofs.Common.{ap, ◌∙◌, ◌∷◌}
-use Rattle.driver_link.proofs.CountedIds.{object_now, object_rest}
-use Rattle.driver_link.specs.CountingIds.{IdsDrawn, counted_ids, object_at}
+use Rattle.memory_links.proofs.CountedIds.{object_now, object_rest}
+use Rattle.memory_links.specs.CountingIds.{IdsDrawn, counted_ids, object_at}
 use Rattle.driver_link.specs.declared.ids.IdKind.TheVariants.{Object}
-use Rattle.driver_link.proofs.counting_ids.CountingIdsIdSource.object_id.Goals as goal
+use Rattle.memory_links.proofs.counting_ids.CountingIdsIdSource.object_id.Goals as goal
 
 pub returns-clause-next : goal.returns-clause-next
 returns-clause-next c =

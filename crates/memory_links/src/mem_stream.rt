@@ -2,11 +2,11 @@
 ghost use Rattle.std.specs.Prelude.{◌≡◌, ◌≤◌, ◌<◌, ◌+◌, ◌-◌, ◌^◌, ◌++◌, [], min, drop, take, length, is_err, IfOk, OnErr, Some};
 ghost use Rattle.driver_link.specs.Counting.{is_listed};
 ghost use Rattle.driver_link.specs.Faults.{FailsByCount};
-ghost use Rattle.driver_link.specs.MemStreams.{SourceState, SinkState, write_fails};
+ghost use Rattle.memory_links.specs.MemStreams.{SourceState, SinkState, write_fails};
 ghost use Rattle.driver_link.specs.Streams.{Consumes, IsAtEnd, Appends};
 
-use crate::stream::{Failed, Sink, Source};
 use bson_lite::{Bytes, List};
+use driver_link::{Failed, Sink, Source};
 use std::alloc::{AllocError, Global};
 use std::io::{Cursor, Read};
 use std::marker::Model;
@@ -35,7 +35,7 @@ impl Drop for MemSource {
 impl Model for MemSource {
     ghost use Rattle.std.specs.Prelude.{drop};
     ghost use Rattle.std.specs.Io.Cursor.{cursor_position, cursor_inner};
-    ghost use Rattle.driver_link.specs.MemStreams.{SourceState};
+    ghost use Rattle.memory_links.specs.MemStreams.{SourceState};
 
     ghost Value = { SourceState };
 
@@ -115,7 +115,7 @@ impl Drop for MemSink {
 
 impl Model for MemSink {
     ghost use Rattle.std.specs.Prelude.{◌≤◌, length, vec_capacity};
-    ghost use Rattle.driver_link.specs.MemStreams.{SinkState};
+    ghost use Rattle.memory_links.specs.MemStreams.{SinkState};
 
     ghost Value = { SinkState };
 

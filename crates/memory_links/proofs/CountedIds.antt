@@ -4,7 +4,7 @@ use Rattle.std.proofs.Math.Arith.{mod-mul}
 use Rattle.std.proofs.Math.Nat.{div-one, mod-add-mod, mod-eq_of_lt, mod-one, pow-suc, pow-succ'}
 use Rattle.std.specs.Int.{byte_at, bytes_high_first}
 use Rattle.driver_link.specs.Apart.{AllApart, NotAmong, first_ids}
-use Rattle.driver_link.specs.CountingIds.{IdsDrawn, counted_ids, none_drawn, number_at, object_at, session_at}
+use Rattle.memory_links.specs.CountingIds.{IdsDrawn, counted_ids, none_drawn, number_at, object_at, session_at}
 use Rattle.driver_link.specs.Ids.{IdsToCome, after_draw, session_ids, times}
 use Rattle.driver_link.specs.declared.ids.IdKind.{IdKind}
 use Rattle.driver_link.specs.declared.ids.IdKind.TheVariants.{Session, Object}

@@ -2,7 +2,7 @@
 ghost use Rattle.std.specs.Prelude.{◌≡◌, ◌≤◌};
 ghost use Rattle.driver_link.specs.Clock.{capped_sum};
 
-use crate::clock::Clock;
+use driver_link::Clock;
 use std::marker::Model;
 
 /// A clock that goes on by a step at each reading, and by each sleep.
@@ -16,7 +16,7 @@ pub struct MemClock {
 
 impl Model for MemClock {
     ghost use Rattle.std.specs.Prelude.{◌≤◌};
-    ghost use Rattle.driver_link.specs.MemClock.{ClockState};
+    ghost use Rattle.memory_links.specs.MemClock.{ClockState};
 
     ghost Value = { ClockState };
 
@@ -42,7 +42,7 @@ impl MemClock {
 
 impl Clock for MemClock {
     ghost use Rattle.driver_link.specs.Clock.{ReadsClock, SleepsFor, capped_sum};
-    ghost use Rattle.driver_link.specs.MemClock.{clock_tells};
+    ghost use Rattle.memory_links.specs.MemClock.{clock_tells};
 
     ghost tells = { clock_tells };
 

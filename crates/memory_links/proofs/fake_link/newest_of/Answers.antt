@@ -1,8 +1,9 @@
 -- The connection that was reached is the newest of its number.
 use Rattle.std.proofs.Common.{◌+◌, ◌-◌, arith, sym, subst, ◌∙◌, false, ◌≡◌, drop}
 use Rattle.driver_link.specs.LinkState.{has_number}
-use Rattle.driver_link.proofs.ConnectionsOut.{newest_at, same_number}
-use Rattle.driver_link.proofs.fake_link.newest_of.Goals as goal
+use Rattle.driver_link.proofs.ConnectionsOut.{same_number}
+use Rattle.memory_links.proofs.NewestOut.{newest_at}
+use Rattle.memory_links.proofs.fake_link.newest_of.Goals as goal
 
 pub returns-then-number : goal.returns-then-number
 returns-then-number c =

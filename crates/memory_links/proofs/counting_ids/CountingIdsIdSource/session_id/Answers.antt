@@ -1,8 +1,8 @@
 use Rattle.std.proofs.Common.{ap, ◌∙◌, ◌∷◌}
-use Rattle.driver_link.proofs.CountedIds.{session_now, session_rest}
-use Rattle.driver_link.specs.CountingIds.{IdsDrawn, counted_ids, session_at}
+use Rattle.memory_links.proofs.CountedIds.{session_now, session_rest}
+use Rattle.memory_links.specs.CountingIds.{IdsDrawn, counted_ids, session_at}
 use Rattle.driver_link.specs.declared.ids.IdKind.TheVariants.{Session}
-use Rattle.driver_link.proofs.counting_ids.CountingIdsIdSource.session_id.Goals as goal
+use Rattle.memory_links.proofs.counting_ids.CountingIdsIdSource.session_id.Goals as goal
 
 pub returns-clause-next : goal.returns-clause-next
 returns-clause-next c =

@@ -1,15 +1,12 @@
 //! A link whose answers are chosen beforehand, for tests of what stands above a link.
 ghost use Rattle.std.specs.Prelude.{◌≡◌, ◌<◌, ◌++◌, ◌∷◌, [], length, slice_get, Some, IfOk, OnOk, OnErr};
 ghost use Rattle.std.specs.Option.{option_copied};
-ghost use Rattle.driver_link.specs.FakeLink.{FindsNewest, address_for as selected_address, description_at as given_description, step_at as taken_step, note_of as taken_note, fresh_link};
+ghost use Rattle.memory_links.specs.FakeLink.{FindsNewest, address_for as selected_address, description_at as given_description, step_at as taken_step, note_of as taken_note, fresh_link};
 ghost use Rattle.driver_link.specs.LinkState.{without_newest};
 
-use crate::fault::{Answered, LinkCall, LinkError, LinkFault};
-use crate::frame::Frame;
-use crate::link::Link;
-use crate::machine::Place;
 use bson_lite::{Bytes, List, Text, TryClone};
 use driver_error::{Error, IoKind};
+use driver_link::{Answered, Frame, Link, LinkCall, LinkError, LinkFault, Place};
 use driver_options::{Address, Asked, Conn, Description, SelectionCriteria};
 use std::alloc::{AllocError, Global};
 use std::marker::Model;
@@ -147,7 +144,7 @@ impl Drop for FakeLink {
 
 impl Model for FakeLink {
     ghost use Rattle.std.specs.Prelude.{◌<◌, length};
-    ghost use Rattle.driver_link.specs.FakeLink.{Fake};
+    ghost use Rattle.memory_links.specs.FakeLink.{Fake};
 
     ghost Value = { Fake };
 
@@ -251,7 +248,7 @@ impl FakeLink {
 impl Link for FakeLink {
     ghost use Rattle.std.specs.Prelude.{◌≡◌, Ok, None, Some, true, IfSome, slice_get};
     ghost use Rattle.std.specs.Option.{option_copied, option_map};
-    ghost use Rattle.driver_link.specs.FakeLink.{FakeChecksIn, FakeChecksOut, FakeExchanges, FakeSelects, fake_tells};
+    ghost use Rattle.memory_links.specs.FakeLink.{FakeChecksIn, FakeChecksOut, FakeExchanges, FakeSelects, fake_tells};
     ghost use Rattle.driver_link.specs.LinkCalls.{AsksSupport, ChecksInConnection, ChecksOutConnection, ExchangesFrame, Reauthenticates, SelectsServer};
     ghost use Rattle.driver_link.specs.LinkState.{setup_of};
     ghost use Rattle.driver_link.specs.Reads.{Reads};
@@ -468,7 +465,7 @@ fn note_conn(
 }
 
 /// Takes the newest connection of a number from those that are out, where one is.
-#[tactic(auto, using(crate::proofs::ConnectionsOut::none_newest))]
+#[tactic(auto, using(crate::proofs::NewestOut::none_newest))]
 fn hand_back(out: &mut Vec<NotedConn>, number: u64)
     ensures { out.new.items ≡ without_newest number out.old.items }
 {

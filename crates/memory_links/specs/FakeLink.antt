@@ -7,9 +7,9 @@ use Rattle.driver_options.specs.declared.options.Conn.{Conn}
 use Rattle.driver_options.specs.declared.options.Description.{Description}
 use Rattle.driver_options.specs.declared.options.SelectionCriteria.{SelectionCriteria}
 use Rattle.driver_options.specs.declared.options.SelectionCriteria.TheVariants as criteria
-use Rattle.driver_link.specs.declared.fake_link.FakeStep.{FakeStep}
-use Rattle.driver_link.specs.declared.fake_link.FakeStep.TheVariants as step
-use Rattle.driver_link.specs.declared.fake_link.TheConstants.{HOST, PORT}
+use Rattle.memory_links.specs.declared.fake_link.FakeStep.{FakeStep}
+use Rattle.memory_links.specs.declared.fake_link.FakeStep.TheVariants as step
+use Rattle.memory_links.specs.declared.fake_link.TheConstants.{HOST, PORT}
 use Rattle.driver_link.specs.declared.fault.Answered.{Answered}
 use Rattle.driver_link.specs.declared.fault.Answered.TheVariants as answer
 use Rattle.driver_link.specs.declared.fault.LinkCall.TheVariants.{Exchange}

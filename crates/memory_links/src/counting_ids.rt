@@ -2,9 +2,9 @@
 ghost use Rattle.std.specs.Prelude.{◌≡◌, ◌<◌, ◌+◌, ◌-◌, ◌%◌, ◌^◌, ℕ};
 ghost use Rattle.std.specs.Int.{bytes_high_first};
 ghost use Rattle.driver_link.specs.Apart.{AllApart, first_ids};
-ghost use Rattle.driver_link.specs.CountingIds.{none_drawn, session_at, object_at};
+ghost use Rattle.memory_links.specs.CountingIds.{none_drawn, session_at, object_at};
 
-use crate::ids::IdSource;
+use driver_link::IdSource;
 use std::marker::Model;
 
 /// The greatest number in twelve bytes.
@@ -20,7 +20,7 @@ pub struct CountingIds {
 
 impl Model for CountingIds {
     ghost use Rattle.std.specs.Prelude.{◌<◌, ◌-◌, ◌^◌};
-    ghost use Rattle.driver_link.specs.CountingIds.{IdsDrawn};
+    ghost use Rattle.memory_links.specs.CountingIds.{IdsDrawn};
 
     ghost Value = { IdsDrawn };
 
@@ -52,7 +52,7 @@ impl CountingIds {
 }
 
 impl IdSource for CountingIds {
-    ghost use Rattle.driver_link.specs.CountingIds.{counted_ids};
+    ghost use Rattle.memory_links.specs.CountingIds.{counted_ids};
 
     ghost to_come = { counted_ids };
 

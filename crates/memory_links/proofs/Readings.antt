@@ -2,7 +2,7 @@
 use Rattle.std.proofs.Common.{◌≡◌, ℕ, ◌+◌, ◌-◌, ◌*◌, ◌^◌, ◌≤◌, refl, sym, ap, subst, arith}
 use Rattle.std.specs.Prelude.{Some}
 use Rattle.driver_link.specs.Clock.{ReadsClock, after_reading, capped_sum}
-use Rattle.driver_link.specs.MemClock.{ClockState, clock_tells, readings_from}
+use Rattle.memory_links.specs.MemClock.{ClockState, clock_tells, readings_from}
 
 -- one reading on, the clock has gone on by a step
 goes_on : (present step : ℕ) → readings_from (capped_sum present step) step ≡ after_reading (readings_from present step)

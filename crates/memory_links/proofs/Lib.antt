@@ -1,0 +1,3 @@
+pub mod CountedIds
+pub mod NewestOut
+pub mod Readings
