@@ -20,7 +20,7 @@ import time
 MINUTES = {
     "proof": {
         "driver_batches": 1, "bson_lite": 10, "driver_error": 12, "bulk_outcomes": 2, "driver_options": 6, "driver_link": 5, "memory_links": 3, "driver_session": 2,
-        "frame_reading": 6, "machine_laws": 1, "driver_ops": 6, "write_ops": 9, "bulk_ops": 13, "driver_inputs": 5, "driver_attempt": 9,
+        "frame_reading": 6, "machine_laws": 1, "driver_ops": 6, "write_ops": 9, "bulk_fronts": 6, "bulk_ops": 9, "driver_inputs": 5, "driver_attempt": 9,
         "driver_exec": 3, "driver_actions": 12, "bulk_actions": 4, "call_runs": 3, "model_replies": 6, "model_server": 10, "script_parts": 6, "driver_script": 8,
         "report_lines": 5, "script_run": 11, "test_parts": 12, "script_rows": 3, "write_bench": 8, "driver_cli": 7, "callers": 3, "bson_bench": 2,
     },

@@ -14,8 +14,8 @@ use Rattle.driver_options.specs.declared.models.WriteModel.{WriteModel}
 use Rattle.driver_options.specs.declared.write_options.BulkWriteOptions.{BulkWriteOptions}
 use Rattle.driver_session.specs.StoreTells.{StoreTells}
 use Rattle.driver_link.proofs.Lists.{none_is_some}
-use Rattle.bulk_ops.specs.declared.own_op.OwnOp.{OwnOp}
-use Rattle.bulk_ops.specs.BulkOps.{AreOps}
+use Rattle.bulk_fronts.specs.declared.own_op.OwnOp.{OwnOp}
+use Rattle.bulk_fronts.specs.BulkOps.{AreOps}
 use Rattle.driver_attempt.specs.Causes.{ErrorOutline, end_of, outline_of}
 use Rattle.driver_attempt.specs.Moment.{Moment}
 use Rattle.driver_inputs.specs.BulkInputs.{BulkInputRefused, IsBulkAccepted, RefusesBulkValues, no_models_text, with_model_ids}

@@ -19,9 +19,9 @@ use Rattle.driver_link.proofs.ToldSetups.{served_setup}
 use Rattle.driver_session.specs.Pool.{Pool}
 use Rattle.driver_session.specs.Session.{last_number}
 use Rattle.driver_session.specs.StoreTells.{DrawnApartIn}
-use Rattle.bulk_ops.specs.declared.own_op.OwnOp.{OwnOp}
-use Rattle.bulk_ops.specs.BulkFronts.{sized_ops}
-use Rattle.bulk_ops.specs.BulkOps.{AreOps, has_multi}
+use Rattle.bulk_fronts.specs.declared.own_op.OwnOp.{OwnOp}
+use Rattle.bulk_fronts.specs.BulkFronts.{sized_ops}
+use Rattle.bulk_fronts.specs.BulkOps.{AreOps, has_multi}
 use Rattle.bulk_ops.specs.BulkSpec.{is_verbose}
 use Rattle.driver_attempt.specs.Moment.{Moment}
 use Rattle.driver_exec.proofs.Moments.{before_refl}

@@ -16,10 +16,10 @@ use Rattle.driver_ops.specs.declared.target.OperationTarget.{OperationTarget}
 use Rattle.driver_ops.specs.Operations.{MayRefuse, Page, ReadsPages}
 use Rattle.driver_ops.specs.Responses.{Said, SpellsError, TellsResponse, breaks, done, fails, said}
 use Rattle.driver_ops.specs.SendKinds.{first}
-use Rattle.bulk_ops.specs.declared.own_op.OwnOp.{OwnOp}
+use Rattle.bulk_fronts.specs.declared.own_op.OwnOp.{OwnOp}
 use Rattle.bulk_ops.specs.BulkSpec.{bulk_spec, is_verbose}
 use Rattle.bulk_ops.proofs.BulkErrorKinds.{IsOne, KindHas, reads_has, told_by}
-use Rattle.bulk_ops.specs.BulkWrites.{IsBulkCommand}
+use Rattle.bulk_fronts.specs.BulkWrites.{IsBulkCommand}
 use Rattle.driver_attempt.specs.Causes.{ErrorOutline, HasReply, end_of, outline_of}
 use Rattle.driver_attempt.specs.Moment.{Moment}
 use Rattle.driver_attempt.specs.OldDeployment.{reworded_kind}

@@ -11,12 +11,12 @@ use Rattle.driver_batches.specs.declared.sizes.Limits.{Limits}
 use Rattle.driver_batches.specs.Fronts.{IsLongestFront}
 use Rattle.driver_link.specs.declared.machine.Setup.{Setup}
 use Rattle.driver_ops.specs.Operations.{OperationSpec, Refuses}
-use Rattle.bulk_ops.specs.declared.own_op.OwnOp.{OwnOp}
-use Rattle.bulk_ops.specs.declared.own_op.SizedOp.{SizedOp}
-use Rattle.bulk_ops.specs.BulkFronts.{AreNumbered, FitsOps, IsOpFront, RefusesBulk, RefusesFor, RefusesOps, bulk_limits, sized_namespaces, sized_ops}
+use Rattle.bulk_fronts.specs.declared.own_op.OwnOp.{OwnOp}
+use Rattle.bulk_fronts.specs.declared.own_op.SizedOp.{SizedOp}
+use Rattle.bulk_fronts.specs.BulkFronts.{AreNumbered, FitsOps, IsOpFront, RefusesBulk, RefusesFor, RefusesOps, bulk_limits, sized_namespaces, sized_ops}
 use Rattle.bulk_ops.specs.BulkSpec.{admin_target, bulk_spec, is_verbose}
 use Rattle.bulk_ops.specs.lawful.ToldResults.{drop_head}
-use Rattle.bulk_ops.proofs.BulkFronts.{length_sized, same_namespaces}
+use Rattle.bulk_fronts.proofs.BulkFronts.{length_sized, same_namespaces}
 use Rattle.driver_exec.specs.OperationCauses.{TakesFirst}
 use Rattle.driver_exec.proofs.FixedNumbers.{MayBeFixed}
 use Rattle.driver_exec.proofs.HeldSessions.{IsOf}

@@ -15,9 +15,9 @@ use Rattle.driver_options.specs.Models.{namespace_of}
 use Rattle.driver_link.proofs.Lists.{none_is_some, some_is_some}
 use Rattle.driver_session.specs.StoreTells.{StoreTells}
 use Rattle.driver_ops.specs.OptionFields.{document_in}
-use Rattle.bulk_ops.specs.declared.own_op.OwnOp.{OwnOp}
-use Rattle.bulk_ops.specs.BulkOps.{namespace_document, op_document}
-use Rattle.bulk_ops.specs.BulkWrites.{bulk_command}
+use Rattle.bulk_fronts.specs.declared.own_op.OwnOp.{OwnOp}
+use Rattle.bulk_fronts.specs.BulkOps.{namespace_document, op_document}
+use Rattle.bulk_fronts.specs.BulkWrites.{bulk_command}
 use Rattle.bulk_actions.specs.BulkIds.{DrawsForModels, OwnsOps, PreparesOps}
 use Rattle.bulk_actions.specs.inside.OwnOps.{TellsOneModel}
 use Rattle.bulk_actions.proofs.OpsSpelled.{op_has_spelling}

@@ -15,7 +15,7 @@ use Rattle.driver_link.proofs.Lists.{none_is_some, some_is_some}
 use Rattle.driver_session.specs.Pool.{Pool}
 use Rattle.driver_session.specs.StoreTells.{DrawnApart, DrawnApartIn, Draws, StoreTells}
 use Rattle.driver_session.proofs.IdDraws.{draws_staying, draws_twice}
-use Rattle.bulk_ops.specs.BulkOps.{model_written}
+use Rattle.bulk_fronts.specs.BulkOps.{model_written}
 use Rattle.driver_attempt.specs.Moment.{Moment}
 use Rattle.driver_inputs.specs.BulkInputs.{with_model_id, with_model_ids}
 use Rattle.driver_inputs.specs.Calls.{IsOwn}

@@ -11,11 +11,11 @@ use Rattle.driver_options.specs.declared.models.WriteModel.TheVariants.{DeleteMa
 use Rattle.driver_options.specs.declared.write_options.BulkWriteOptions.{BulkWriteOptions}
 use Rattle.driver_link.specs.declared.machine.Setup.{Setup}
 use Rattle.driver_link.specs.LinkState.{server_run}
-use Rattle.bulk_ops.specs.declared.own_op.OwnOp.{OwnOp}
-use Rattle.bulk_ops.specs.BulkFronts.{sized_ops}
+use Rattle.bulk_fronts.specs.declared.own_op.OwnOp.{OwnOp}
+use Rattle.bulk_fronts.specs.BulkFronts.{sized_ops}
 use Rattle.bulk_ops.specs.BulkSpec.{is_verbose}
-use Rattle.bulk_ops.proofs.BulkFronts.{length_sized}
-use Rattle.bulk_ops.proofs.BulkSizes.{insert_length}
+use Rattle.bulk_fronts.proofs.BulkFronts.{length_sized}
+use Rattle.bulk_fronts.proofs.BulkSizes.{insert_length}
 use Rattle.driver_attempt.specs.Moment.{Moment}
 use Rattle.driver_inputs.specs.BulkInputs.{with_model_id, with_model_ids}
 use Rattle.driver_inputs.specs.ManyFaults.{zero_id}

@@ -33,7 +33,7 @@ use Rattle.driver_ops.specs.GetMores.{at_namespace, more_command, more_spec}
 use Rattle.driver_ops.specs.Operations.{IsUnframed, LeavesCursor, OperationSpec, Page}
 use Rattle.driver_ops.specs.lawful.InsertRead.{differ, spells_one}
 use Rattle.driver_ops.proofs.PlainReading.{only_memory}
-use Rattle.bulk_ops.specs.declared.own_op.OwnOp.{OwnOp}
+use Rattle.bulk_fronts.specs.declared.own_op.OwnOp.{OwnOp}
 use Rattle.bulk_ops.specs.BulkAnswers.{AnswersBulk, BulkBatch}
 use Rattle.bulk_ops.specs.BulkPages.{bulk_namespace}
 use Rattle.bulk_ops.specs.BulkSpec.{admin_target, batch_read, bulk_spec}

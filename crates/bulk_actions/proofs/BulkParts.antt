@@ -14,10 +14,10 @@ use Rattle.driver_link.specs.declared.machine.Place.{Place}
 use Rattle.driver_ops.specs.declared.target.OperationTarget.{OperationTarget}
 use Rattle.driver_ops.specs.Operations.{IsFixed, batch_of}
 use Rattle.driver_ops.specs.SendKinds.{first}
-use Rattle.bulk_ops.specs.declared.own_op.OwnOp.{OwnOp}
+use Rattle.bulk_fronts.specs.declared.own_op.OwnOp.{OwnOp}
 use Rattle.bulk_ops.specs.BulkSpec.{admin_target, bulk_spec}
 use Rattle.bulk_ops.proofs.BulkErrorKinds.{IsOne}
-use Rattle.bulk_ops.specs.BulkWrites.{bulk_is_ordered}
+use Rattle.bulk_fronts.specs.BulkWrites.{bulk_is_ordered}
 use Rattle.driver_attempt.specs.Causes.{end_of}
 use Rattle.driver_attempt.specs.Executing.{Executes}
 use Rattle.driver_attempt.specs.Moment.{Moment}

@@ -14,11 +14,11 @@ use Rattle.driver_link.specs.declared.machine.SendCommand.TheVariants as command
 use Rattle.driver_link.specs.Cases.{body_writes}
 use Rattle.driver_link.proofs.Lists.{none_is_some, some_is_some}
 use Rattle.driver_ops.specs.Operations.{AsksFor}
-use Rattle.bulk_ops.specs.declared.own_op.OwnOp.{OwnOp}
+use Rattle.bulk_fronts.specs.declared.own_op.OwnOp.{OwnOp}
 use Rattle.bulk_ops.specs.BulkLawful.{bulk_lawful}
-use Rattle.bulk_ops.specs.BulkOps.{AreOps, IsUndotted, model_writes, model_written}
+use Rattle.bulk_fronts.specs.BulkOps.{AreOps, IsUndotted, model_writes, model_written}
 use Rattle.bulk_ops.specs.BulkSpec.{admin_target, bulk_spec}
-use Rattle.bulk_ops.specs.BulkWrites.{bulk_is_ordered}
+use Rattle.bulk_fronts.specs.BulkWrites.{bulk_is_ordered}
 use Rattle.driver_actions.specs.BatchPlans.{places_from, rest_of}
 use Rattle.driver_actions.specs.CallParts.{HasWriteOf}
 use Rattle.driver_actions.proofs.BatchWrites.{in_front, in_rest, place_at}

@@ -27,11 +27,11 @@ use Rattle.driver_session.specs.Session.{last_number}
 use Rattle.driver_session.specs.StoreTells.{DrawnApart, DrawnApartIn}
 use Rattle.driver_session.proofs.PoolTells.{same_told}
 use Rattle.driver_ops.specs.SendKinds.{first}
-use Rattle.bulk_ops.specs.declared.own_op.OwnOp.{OwnOp}
+use Rattle.bulk_fronts.specs.declared.own_op.OwnOp.{OwnOp}
 use Rattle.bulk_ops.specs.BulkEntries.{entries_told, kept_told}
-use Rattle.bulk_ops.specs.BulkFronts.{sized_ops}
+use Rattle.bulk_fronts.specs.BulkFronts.{sized_ops}
 use Rattle.bulk_ops.specs.BulkSpec.{admin_target, bulk_spec, is_verbose}
-use Rattle.bulk_ops.specs.BulkWrites.{bulk_is_ordered}
+use Rattle.bulk_fronts.specs.BulkWrites.{bulk_is_ordered}
 use Rattle.driver_attempt.specs.Moment.{Moment}
 use Rattle.driver_exec.specs.BetweenCalls.{Between, NumbersWithin, Sound}
 use Rattle.driver_exec.specs.Gentle.{EndsWell}
@@ -55,7 +55,7 @@ use Rattle.bulk_actions.proofs.BulkTold.{AreSent, IsSuccess, batch_entries, late
 use Rattle.bulk_actions.proofs.BulkWell.{KnownBulk, Repeats, batch_before, well_within}
 use Rattle.bulk_actions.proofs.FewestBulk.{as_many}
 use Rattle.bulk_actions.proofs.OpRuns.{some_number}
-use Rattle.bulk_ops.proofs.BulkFronts.{length_sized}
+use Rattle.bulk_fronts.proofs.BulkFronts.{length_sized}
 
 -- numbers for the batches that are left leave one more
 one_left : (most left : ℕ) → 1 ≤ left → pos (most + left) ≤ℤ last_number → pos most <ℤ last_number

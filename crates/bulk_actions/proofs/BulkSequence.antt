@@ -9,7 +9,7 @@ use Rattle.bulk_outcomes.specs.declared.status.ExecutionStatus.TheVariants as st
 use Rattle.bulk_outcomes.specs.BulkResults.{ResultSpec}
 use Rattle.driver_error.specs.Error.{kind_of}
 use Rattle.driver_options.specs.declared.write_options.BulkWriteOptions.{BulkWriteOptions}
-use Rattle.bulk_ops.specs.declared.own_op.OwnOp.{OwnOp}
+use Rattle.bulk_fronts.specs.declared.own_op.OwnOp.{OwnOp}
 use Rattle.driver_attempt.specs.Moment.{Moment}
 use Rattle.driver_actions.specs.BatchPlans.{PlannedEnd}
 use Rattle.driver_actions.proofs.PlannedSequence as planned

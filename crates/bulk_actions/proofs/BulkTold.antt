@@ -24,10 +24,10 @@ use Rattle.driver_link.proofs.Lists.{has_either, has_left}
 use Rattle.driver_session.specs.Pool.{Pool}
 use Rattle.driver_session.specs.StoreTells.{DrawnApart, DrawnApartIn}
 use Rattle.driver_ops.specs.Served.{AreEntries}
-use Rattle.bulk_ops.specs.declared.own_op.OwnOp.{OwnOp}
+use Rattle.bulk_fronts.specs.declared.own_op.OwnOp.{OwnOp}
 use Rattle.bulk_ops.specs.BulkEntries.{counts_by, entries_told, kept_told, kind_told, matched_by, sum_of_kind, upserted_by}
 use Rattle.bulk_ops.specs.BulkLawful.{bulk_lawful}
-use Rattle.bulk_ops.specs.BulkOps.{AreOps, model_writes, model_written}
+use Rattle.bulk_fronts.specs.BulkOps.{AreOps, model_writes, model_written}
 use Rattle.bulk_ops.specs.BulkSpec.{admin_target, bulk_spec}
 use Rattle.driver_attempt.specs.Moment.{Moment}
 use Rattle.driver_exec.specs.BetweenCalls.{Between, Sound}

@@ -32,11 +32,11 @@ use Rattle.driver_ops.specs.Defaults.{own_of_statement}
 use Rattle.driver_ops.specs.Fields.{IsSixteen, SendContext, executor_fields, under}
 use Rattle.driver_ops.specs.Operations.{HasNoSpelling, OperationSpec, send_of}
 use Rattle.driver_ops.specs.SendKinds.{first}
-use Rattle.bulk_ops.specs.declared.own_op.OwnOp.{OwnOp}
-use Rattle.bulk_ops.specs.BulkFronts.{sized_ops}
-use Rattle.bulk_ops.specs.BulkOps.{has_multi, model_writes}
+use Rattle.bulk_fronts.specs.declared.own_op.OwnOp.{OwnOp}
+use Rattle.bulk_fronts.specs.BulkFronts.{sized_ops}
+use Rattle.bulk_fronts.specs.BulkOps.{has_multi, model_writes}
 use Rattle.bulk_ops.specs.BulkSpec.{admin_target, bulk_spec, is_verbose}
-use Rattle.bulk_ops.specs.BulkWrites.{bulk_command, bulk_is_ordered}
+use Rattle.bulk_fronts.specs.BulkWrites.{bulk_command, bulk_is_ordered}
 use Rattle.driver_attempt.specs.Attempting.{besides_out}
 use Rattle.driver_attempt.specs.Concerns.{concern_refusal}
 use Rattle.driver_attempt.specs.Moment.{Moment}

@@ -26,7 +26,7 @@ use Rattle.driver_ops.specs.Inserts.{int_at, is_one}
 use Rattle.driver_ops.specs.OperationLaw.{FurtherPages, as_pages}
 use Rattle.driver_ops.specs.Operations.{LeavesCursor, OperationSpec, Page, send_of}
 use Rattle.driver_ops.specs.lawful.InsertRead.{ok_is_one, spells_one}
-use Rattle.bulk_ops.specs.declared.own_op.OwnOp.{OwnOp}
+use Rattle.bulk_fronts.specs.declared.own_op.OwnOp.{OwnOp}
 use Rattle.bulk_ops.specs.BulkAnswers.{AnswersBulk, BulkBatch}
 use Rattle.bulk_ops.specs.BulkLawful.{bulk_lawful, no_third}
 use Rattle.bulk_ops.specs.BulkSpec.{admin_target, batch_read, bulk_spec}

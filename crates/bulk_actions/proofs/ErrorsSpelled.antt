@@ -30,8 +30,8 @@ use Rattle.driver_session.specs.Pool.{Pool}
 use Rattle.driver_session.specs.StoreTells.{DrawnApart, DrawnApartIn}
 use Rattle.driver_ops.specs.Operations.{send_of}
 use Rattle.driver_ops.specs.Served.{statements_in}
-use Rattle.bulk_ops.specs.declared.own_op.OwnOp.{OwnOp}
-use Rattle.bulk_ops.specs.BulkOps.{model_writes}
+use Rattle.bulk_fronts.specs.declared.own_op.OwnOp.{OwnOp}
+use Rattle.bulk_fronts.specs.BulkOps.{model_writes}
 use Rattle.bulk_ops.specs.BulkSpec.{admin_target, batch_read, bulk_spec}
 use Rattle.bulk_ops.specs.lawful.ToldResults.{models_written}
 use Rattle.bulk_ops.proofs.FailedErrors.{error_told}

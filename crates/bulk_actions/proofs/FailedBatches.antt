@@ -36,12 +36,12 @@ use Rattle.driver_ops.specs.OperationLaw.{FurtherPages, as_pages}
 use Rattle.driver_ops.specs.Operations.{OperationSpec, Page, ReadsPagesError, send_of}
 use Rattle.driver_ops.specs.Served.{AreEntries, entries_counted, entry_counted}
 use Rattle.driver_ops.specs.lawful.InsertRead.{ok_is_one, spells_one}
-use Rattle.bulk_ops.specs.declared.own_op.OwnOp.{OwnOp}
+use Rattle.bulk_fronts.specs.declared.own_op.OwnOp.{OwnOp}
 use Rattle.bulk_ops.specs.BulkAnswers.{AnswersBulk, BulkBatch, ReadsBulk}
 use Rattle.bulk_ops.specs.BulkLawful.{IsServed, bulk_lawful, is_served}
-use Rattle.bulk_ops.specs.BulkOps.{model_writes}
+use Rattle.bulk_fronts.specs.BulkOps.{model_writes}
 use Rattle.bulk_ops.specs.BulkSpec.{admin_target, batch_read, bulk_spec}
-use Rattle.bulk_ops.specs.BulkWrites.{bulk_is_ordered}
+use Rattle.bulk_fronts.specs.BulkWrites.{bulk_is_ordered}
 use Rattle.bulk_ops.specs.PartialEntries.{IndexedEntry}
 use Rattle.bulk_ops.specs.lawful.ToldResults.{models_written}
 use Rattle.bulk_ops.proofs.FailedReads.{TellsRead, alone_tells, failed_tells, pages_tell, part_of_kind, part_told}

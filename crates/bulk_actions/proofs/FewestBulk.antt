@@ -27,12 +27,12 @@ use Rattle.driver_link.specs.ServerRun.{ServerRun, run_after}
 use Rattle.driver_link.specs.Settled.{IsOfCursor}
 use Rattle.driver_link.proofs.Replays.{exchanged_trace}
 use Rattle.driver_session.specs.StoreTells.{StoreTells}
-use Rattle.bulk_ops.specs.declared.own_op.OwnOp.{OwnOp}
-use Rattle.bulk_ops.specs.declared.own_op.SizedOp.{SizedOp}
-use Rattle.bulk_ops.specs.BulkFronts.{FitsOps, TakesBulk, bulk_limits, sized_ops}
-use Rattle.bulk_ops.specs.BulkOps.{AreOps, model_writes}
+use Rattle.bulk_fronts.specs.declared.own_op.OwnOp.{OwnOp}
+use Rattle.bulk_fronts.specs.declared.own_op.SizedOp.{SizedOp}
+use Rattle.bulk_fronts.specs.BulkFronts.{FitsOps, TakesBulk, bulk_limits, sized_ops}
+use Rattle.bulk_fronts.specs.BulkOps.{AreOps, model_writes}
 use Rattle.bulk_ops.specs.BulkSpec.{is_verbose}
-use Rattle.bulk_ops.proofs.BulkFronts.{length_sized}
+use Rattle.bulk_fronts.proofs.BulkFronts.{length_sized}
 use Rattle.bulk_ops.proofs.DistinctSums.{ops_keep_fit}
 use Rattle.driver_attempt.specs.Moment.{Moment}
 use Rattle.driver_exec.specs.Resending.{PassesAside, SendsWhereTold}

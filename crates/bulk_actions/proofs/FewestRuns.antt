@@ -7,9 +7,9 @@ use Rattle.std.specs.Prelude.{if◌then◌else◌}
 use Rattle.driver_batches.specs.declared.sizes.Limits.{Limits}
 use Rattle.driver_batches.specs.Batches.{CutsFront, IsFewest, IsGreedyCut}
 use Rattle.driver_batches.proofs.Greedy.{greedy_law}
-use Rattle.bulk_ops.specs.declared.own_op.SizedOp.{SizedOp}
-use Rattle.bulk_ops.specs.BulkFronts.{FitsOps}
-use Rattle.bulk_ops.proofs.BulkFronts.{fits_none}
+use Rattle.bulk_fronts.specs.declared.own_op.SizedOp.{SizedOp}
+use Rattle.bulk_fronts.specs.BulkFronts.{FitsOps}
+use Rattle.bulk_fronts.proofs.BulkFronts.{fits_none}
 use Rattle.bulk_ops.proofs.DistinctSums.{ops_keep_fit}
 use Rattle.bulk_actions.specs.BulkNumbers.{keeps_within, op_runs, runs_beside}
 use Rattle.bulk_actions.proofs.OpRuns.{front_within, pushed_fits}

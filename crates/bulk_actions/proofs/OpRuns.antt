@@ -9,9 +9,9 @@ use Rattle.driver_options.specs.declared.write_options.BulkWriteOptions.{BulkWri
 use Rattle.driver_batches.specs.declared.sizes.Limits.{Limits}
 use Rattle.driver_batches.specs.Fronts.{IsLongestFront}
 use Rattle.driver_link.specs.declared.machine.Setup.{Setup}
-use Rattle.bulk_ops.specs.declared.own_op.SizedOp.{SizedOp}
-use Rattle.bulk_ops.specs.BulkFronts.{FitsOps, bulk_limits, bytes_of}
-use Rattle.bulk_ops.proofs.BulkFronts.{bytes_front}
+use Rattle.bulk_fronts.specs.declared.own_op.SizedOp.{SizedOp}
+use Rattle.bulk_fronts.specs.BulkFronts.{FitsOps, bulk_limits, bytes_of}
+use Rattle.bulk_fronts.proofs.BulkFronts.{bytes_front}
 use Rattle.bulk_actions.specs.BulkNumbers.{keeps_within, numbers_for, op_runs, runs_beside}
 
 -- what comes behind a front of a list is its next

@@ -9,8 +9,8 @@ use Rattle.driver_link.specs.declared.machine.Place.{Place}
 use Rattle.driver_session.specs.StoreTells.{StoreTells}
 use Rattle.driver_ops.specs.declared.target.OperationTarget.{OperationTarget}
 use Rattle.driver_ops.specs.Operations.{HasBodies}
-use Rattle.bulk_ops.specs.declared.own_op.OwnOp.{OwnOp}
-use Rattle.bulk_ops.specs.BulkOps.{AreOps, IsUndotted}
+use Rattle.bulk_fronts.specs.declared.own_op.OwnOp.{OwnOp}
+use Rattle.bulk_fronts.specs.BulkOps.{AreOps, IsUndotted}
 use Rattle.bulk_ops.specs.BulkSpec.{bulk_spec}
 use Rattle.bulk_ops.proofs.BulkCommand.{bulk_bodies_of}
 use Rattle.driver_actions.specs.BatchPlans.{places_from}

@@ -19,7 +19,7 @@ use Rattle.driver_link.specs.declared.keys.TheConstants.{DOCUMENT}
 use Rattle.driver_link.specs.Numbers.{field}
 use Rattle.driver_ops.specs.declared.keys.TheConstants.{ARRAY_FILTERS, COLLATION, FILTER, HINT, MULTI, SORT, UPDATE_MODIFICATIONS, UPSERT}
 use Rattle.driver_ops.specs.OptionFields.{document_in, flag_of, option_field}
-use Rattle.bulk_ops.specs.BulkOps.{delete_fields, modifications_value, op_document, op_fields, op_key, replace_one_fields, update_many_fields, update_one_fields, values_of}
+use Rattle.bulk_fronts.specs.BulkOps.{delete_fields, modifications_value, op_document, op_fields, op_key, replace_one_fields, update_many_fields, update_one_fields, values_of}
 use Rattle.driver_inputs.specs.BulkInputs.{model_values, set_values}
 use Rattle.driver_inputs.specs.Inputs.{change_values, document_values, is_deep, is_long, value_list, values_refusal}
 

@@ -9,8 +9,8 @@ use Rattle.driver_error.specs.declared.kind.ErrorKind.TheVariants.{Memory}
 use Rattle.driver_error.specs.Error.{kind_of}
 use Rattle.driver_options.specs.declared.models.WriteModel.{WriteModel}
 use Rattle.driver_session.specs.StoreTells.{StoreTells}
-use Rattle.bulk_ops.specs.declared.own_op.OwnOp.{OwnOp}
-use Rattle.bulk_ops.specs.BulkOps.{AreOps, IsOpOf}
+use Rattle.bulk_fronts.specs.declared.own_op.OwnOp.{OwnOp}
+use Rattle.bulk_fronts.specs.BulkOps.{AreOps, IsOpOf}
 use Rattle.bulk_actions.specs.BulkIds.{DrawsForModels, DrawsModelId, DrawsModelIds, OwnsOps}
 use Rattle.bulk_actions.specs.inside.OwnOps.{IsModelError, IsSentOp, MayDrawForModel, TellsOneModel}
 use Rattle.driver_inputs.specs.BulkInputs.{with_model_id, with_model_ids}

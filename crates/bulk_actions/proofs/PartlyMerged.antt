@@ -20,7 +20,7 @@ use Rattle.driver_link.specs.declared.machine.WriteKind.{WriteKind}
 use Rattle.driver_link.specs.Settled.{Has}
 use Rattle.driver_link.proofs.Lists.{has_either, has_left, has_right}
 use Rattle.bulk_ops.specs.BulkEntries.{counts_by}
-use Rattle.bulk_ops.specs.BulkOps.{model_written}
+use Rattle.bulk_fronts.specs.BulkOps.{model_written}
 use Rattle.bulk_ops.specs.PartialEntries.{AllTold, IndexedEntry, IndexesRise, TellsSome, entries_in}
 use Rattle.driver_actions.proofs.PlannedBatches.{place_in}
 use Rattle.bulk_actions.proofs.BulkTold.{counts_append}

@@ -21,8 +21,8 @@ use Rattle.driver_session.specs.Pool.{Pool}
 use Rattle.driver_session.specs.StoreTells.{DrawnApart, DrawnApartIn}
 use Rattle.driver_inputs.specs.BulkInputs.{BulkInputRefused}
 use Rattle.driver_inputs.specs.Calls.{IsOwn}
-use Rattle.bulk_ops.specs.declared.own_op.OwnOp.{OwnOp}
-use Rattle.bulk_ops.specs.BulkOps.{model_written}
+use Rattle.bulk_fronts.specs.declared.own_op.OwnOp.{OwnOp}
+use Rattle.bulk_fronts.specs.BulkOps.{model_written}
 use Rattle.bulk_ops.specs.PartialEntries.{IndexedEntry}
 use Rattle.driver_attempt.specs.Moment.{Moment}
 use Rattle.driver_exec.specs.BetweenCalls.{Between, Sound}

@@ -17,8 +17,8 @@ use Rattle.driver_options.specs.declared.models.WriteModel.{WriteModel}
 use Rattle.driver_options.specs.declared.models.WriteModel.TheVariants.{InsertOne, UpdateOne, UpdateMany, ReplaceOne, DeleteOne, DeleteMany}
 use Rattle.driver_session.specs.StoreTells.{DrawsObjectId, StoreTells}
 use Rattle.driver_ops.specs.Encoding.{IsUnspelled}
-use Rattle.bulk_ops.specs.declared.own_op.OwnOp.{OwnOp}
-use Rattle.bulk_ops.specs.BulkOps.{IsOpOf, SpellsOp, op_document}
+use Rattle.bulk_fronts.specs.declared.own_op.OwnOp.{OwnOp}
+use Rattle.bulk_fronts.specs.BulkOps.{IsOpOf, SpellsOp, op_document}
 use Rattle.driver_actions.specs.OwnIds.{DrawsOwnId}
 use Rattle.bulk_actions.specs.BulkIds.{DrawsModelId}
 use Rattle.bulk_actions.specs.inside.OwnOps.{DrawsForModel, SendsOp}

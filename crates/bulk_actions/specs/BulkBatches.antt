@@ -7,9 +7,9 @@ use Rattle.bulk_outcomes.specs.BulkResults.{ResultSpec}
 use Rattle.driver_error.specs.Error.{kind_of, source_of}
 use Rattle.bulk_outcomes.specs.Status.{FailsWith, Succeeds, is_followed, is_memory}
 use Rattle.driver_options.specs.declared.write_options.BulkWriteOptions.{BulkWriteOptions}
-use Rattle.bulk_ops.specs.declared.own_op.OwnOp.{OwnOp}
+use Rattle.bulk_fronts.specs.declared.own_op.OwnOp.{OwnOp}
 use Rattle.bulk_ops.specs.BulkSpec.{admin_target, bulk_spec}
-use Rattle.bulk_ops.specs.BulkWrites.{bulk_is_ordered}
+use Rattle.bulk_fronts.specs.BulkWrites.{bulk_is_ordered}
 use Rattle.driver_actions.specs.BatchPlans.{BatchPlan, PlannedEnd}
 
 -- an end behind which the next batch is made: Ok, or failures of the bulk write without a source, and without a write error where it is

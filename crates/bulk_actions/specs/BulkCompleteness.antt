@@ -34,11 +34,11 @@ use Rattle.driver_session.specs.Session.{last_number}
 use Rattle.driver_ops.specs.Defaults.{own_of_statement}
 use Rattle.driver_ops.specs.Features.{feature_of}
 use Rattle.driver_ops.specs.Fields.{IsSixteen, SendContext, executor_fields}
-use Rattle.bulk_ops.specs.declared.own_op.SizedOp.{SizedOp}
+use Rattle.bulk_fronts.specs.declared.own_op.SizedOp.{SizedOp}
 use Rattle.bulk_ops.specs.BulkEntries.{TellsBulk}
-use Rattle.bulk_ops.specs.BulkFronts.{FitsOps, bulk_limits, serves_bulk, sized_namespaces}
+use Rattle.bulk_fronts.specs.BulkFronts.{FitsOps, bulk_limits, serves_bulk, sized_namespaces}
 use Rattle.bulk_ops.specs.BulkSpec.{admin_target, is_verbose}
-use Rattle.bulk_ops.specs.BulkWrites.{bulk_command}
+use Rattle.bulk_fronts.specs.BulkWrites.{bulk_command}
 use Rattle.bulk_ops.specs.NaturalCounts.{IsNatural}
 use Rattle.driver_attempt.specs.Concerns.{concern_refusal, effective_concern}
 use Rattle.driver_attempt.specs.Moment.{Moment}

@@ -9,8 +9,8 @@ use Rattle.driver_options.specs.declared.models.WriteModel.{WriteModel}
 use Rattle.driver_options.specs.declared.models.WriteModel.TheVariants.{InsertOne}
 use Rattle.driver_options.specs.declared.write_options.BulkWriteOptions.{BulkWriteOptions}
 use Rattle.driver_session.specs.StoreTells.{StoreTells}
-use Rattle.bulk_ops.specs.declared.own_op.OwnOp.{OwnOp}
-use Rattle.bulk_ops.specs.BulkOps.{AreOps}
+use Rattle.bulk_fronts.specs.declared.own_op.OwnOp.{OwnOp}
+use Rattle.bulk_fronts.specs.BulkOps.{AreOps}
 use Rattle.driver_actions.specs.OwnIds.{DrawsOwnId}
 use Rattle.driver_inputs.specs.BulkInputs.{IsBulkAccepted, TellsBulkInput, with_model_ids}
 use Rattle.driver_inputs.specs.ManyInputs.{AreTwelve}

@@ -5,8 +5,8 @@ use Rattle.driver_options.specs.declared.write_options.BulkWriteOptions.{BulkWri
 use Rattle.driver_batches.specs.declared.sizes.Limits.{Limits}
 use Rattle.driver_link.specs.declared.machine.Setup.{Setup}
 use Rattle.driver_link.specs.LinkState.{server_run}
-use Rattle.bulk_ops.specs.declared.own_op.SizedOp.{SizedOp}
-use Rattle.bulk_ops.specs.BulkFronts.{bulk_limits, bytes_of}
+use Rattle.bulk_fronts.specs.declared.own_op.SizedOp.{SizedOp}
+use Rattle.bulk_fronts.specs.BulkFronts.{bulk_limits, bytes_of}
 use Rattle.driver_attempt.specs.Moment.{Moment}
 use Rattle.driver_inputs.specs.BulkInputs.{with_model_id}
 use Rattle.driver_inputs.specs.ManyFaults.{zero_id}

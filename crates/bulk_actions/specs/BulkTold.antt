@@ -10,7 +10,7 @@ use Rattle.driver_link.specs.ServerRun.{ServerRun}
 use Rattle.driver_link.specs.Settled.{Has}
 use Rattle.driver_session.specs.Pool.{Pool}
 use Rattle.bulk_ops.specs.BulkEntries.{TellsBulk}
-use Rattle.bulk_ops.specs.BulkOps.{model_written}
+use Rattle.bulk_fronts.specs.BulkOps.{model_written}
 use Rattle.driver_attempt.specs.Moment.{Moment}
 use Rattle.driver_inputs.specs.Calls.{IsOwn}
 use Rattle.driver_actions.specs.ManyEntries.{MayWriteCall}

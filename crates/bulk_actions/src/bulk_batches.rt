@@ -1,14 +1,15 @@
 //! The batches of a bulk write, one operation each, and what stands behind them.
 ghost use Rattle.std.specs.Prelude.{◌≡◌, ◌<◌, true, drop, length, IfOk, IfSome, OnErr, None as Unset, Some as Set, if◌then◌else◌};
 ghost use Rattle.bulk_outcomes.specs.Status.{Stands, goes_on};
-ghost use Rattle.bulk_ops.specs.BulkWrites.{bulk_is_ordered};
+ghost use Rattle.bulk_fronts.specs.BulkWrites.{bulk_is_ordered};
 ghost use Rattle.driver_attempt.specs.Client.{options_of};
 ghost use Rattle.driver_attempt.specs.Moment.{moment_of};
 ghost use Rattle.driver_actions.specs.BatchPlans.{places_from};
 ghost use Rattle.bulk_actions.specs.BulkBatches.{Takes};
 ghost use Rattle.bulk_actions.specs.inside.BulkBatches.{AreBulkOps, BulkBatchMade, EndHasKind, MakesBatches, NextWithin, StepsTo};
 
-use bulk_ops::{BulkWriteOp, OwnOp};
+use bulk_fronts::OwnOp;
+use bulk_ops::BulkWriteOp;
 use bulk_outcomes::laws::{what_is_followed_stands, what_stands_keeps_its_kind};
 use bulk_outcomes::{BulkWriteResult, ExecutionStatus};
 use driver_actions::rest_from;

@@ -5,7 +5,7 @@ ghost use Rattle.bulk_actions.specs.BulkIds.{PreparesOps};
 
 use crate::own_ops::own_ops;
 use bson_lite::List;
-use bulk_ops::OwnOp;
+use bulk_fronts::OwnOp;
 use driver_attempt::Client;
 use driver_error::Result;
 use driver_inputs::bulk_refusal::bulk_refusal;

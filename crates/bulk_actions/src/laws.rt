@@ -5,8 +5,8 @@ ghost use Rattle.bulk_outcomes.specs.declared.status.ExecutionStatus.{ExecutionS
 ghost use Rattle.bulk_outcomes.specs.Status.{goes_on};
 ghost use Rattle.driver_batches.specs.declared.sizes.Limits.{Limits};
 ghost use Rattle.driver_batches.specs.Batches.{IsFewest};
-ghost use Rattle.bulk_ops.specs.declared.own_op.SizedOp.{SizedOp};
-ghost use Rattle.bulk_ops.specs.BulkFronts.{FitsOps};
+ghost use Rattle.bulk_fronts.specs.declared.own_op.SizedOp.{SizedOp};
+ghost use Rattle.bulk_fronts.specs.BulkFronts.{FitsOps};
 ghost use Rattle.bulk_actions.specs.BulkBatches.{Takes, end_goes_on};
 ghost use Rattle.bulk_actions.specs.BulkNumbers.{op_runs};
 

@@ -7,7 +7,7 @@ ghost use Rattle.bulk_actions.specs.BulkIds.{DrawsForModels, OwnsOps};
 ghost use Rattle.bulk_actions.specs.inside.OwnOps.{DrawsForModel, MayDrawForModel, SendsOp, TellsOneModel};
 
 use bson_lite::{ID_KEY, List};
-use bulk_ops::{OwnOp, insert_op, insert_op_with_id, model_op};
+use bulk_fronts::{OwnOp, insert_op, insert_op_with_id, model_op};
 use driver_attempt::Client;
 use driver_error::Result;
 use driver_options::{InsertOneModel, WriteModel};

@@ -2,7 +2,7 @@
 //! tell, and those that a collection makes.
 use bson_lite::{Bson, Document, List};
 use bulk_actions::{CollectionModels, bulk_ops};
-use bulk_ops::OwnOp;
+use bulk_fronts::OwnOp;
 use driver_attempt::Client;
 use driver_error::{Error, ErrorKind};
 use driver_ops::Collection;

@@ -43,15 +43,15 @@ use Rattle.driver_ops.specs.OptionFields.{document_in, flag_of, option_field}
 use Rattle.driver_ops.specs.Operations.{CommandAsks, HasBodies, IsBuilt}
 use Rattle.driver_ops.specs.SendKinds.{SendKind}
 use Rattle.driver_ops.proofs.PlainOptions.{lacks_join, plain_bypass, plain_comment, plain_let}
-use Rattle.bulk_ops.specs.declared.own_op.OwnOp.{OwnOp}
-use Rattle.bulk_ops.specs.BulkFronts.{AreNumbered}
-use Rattle.bulk_ops.specs.BulkOps.{AreOps, IsUndotted, delete_fields, model_writes, model_written, namespace_document, numbered, op_document, op_fields, replace_one_fields, update_many_fields, update_one_fields}
+use Rattle.bulk_fronts.specs.declared.own_op.OwnOp.{OwnOp}
+use Rattle.bulk_fronts.specs.BulkFronts.{AreNumbered}
+use Rattle.bulk_fronts.specs.BulkOps.{AreOps, IsUndotted, delete_fields, model_writes, model_written, namespace_document, numbered, op_document, op_fields, replace_one_fields, update_many_fields, update_one_fields}
 use Rattle.bulk_ops.specs.BulkSpec.{AsksBulk, bulk_spec, is_verbose}
-use Rattle.bulk_ops.specs.BulkWrites.{AreDescribed, IsBulkCommand, bulk_command, bulk_is_ordered, described, numbered_ops, op_namespaces}
-use Rattle.bulk_ops.specs.Distinct.{distinct_with, number_in, number_of, with_text, with_text_by}
-use Rattle.bulk_ops.proofs.BulkNumbers.{numbered_spells}
-use Rattle.bulk_ops.proofs.BulkSpelled.{AreKnown, all_known}
-use Rattle.bulk_ops.proofs.Distinct.{number_below}
+use Rattle.bulk_fronts.specs.BulkWrites.{AreDescribed, IsBulkCommand, bulk_command, bulk_is_ordered, described, numbered_ops, op_namespaces}
+use Rattle.bulk_fronts.specs.Distinct.{distinct_with, number_in, number_of, with_text, with_text_by}
+use Rattle.bulk_fronts.proofs.BulkNumbers.{numbered_spells}
+use Rattle.bulk_fronts.proofs.BulkSpelled.{AreKnown, all_known}
+use Rattle.bulk_fronts.proofs.Distinct.{number_below}
 
 -- the place of the dot between the two names
 dot_place : (db coll : List ℕ) → list_any is_dot db ≡ false → position_or_len is_dot (db ++ codes "." ++ coll) ≡ length db

@@ -5,11 +5,11 @@ use Rattle.std.specs.Cmp.Lexicographic.{bytes_decides}
 use Rattle.std.proofs.lemmas.List.Sums.{sum_by-cons, sum_by_push}
 use Rattle.driver_batches.specs.Fronts.{KeepsFitting}
 use Rattle.driver_batches.specs.declared.sizes.Limits.{Limits}
-use Rattle.bulk_ops.specs.declared.own_op.SizedOp.{SizedOp}
-use Rattle.bulk_ops.specs.BulkFronts.{FitsOps, bytes_of, described_size}
-use Rattle.bulk_ops.specs.Distinct.{distinct_with, number_in, with_text, with_text_by}
-use Rattle.bulk_ops.proofs.BulkFronts.{ops_keep}
-use Rattle.bulk_ops.proofs.Distinct.{at_end, in_longer}
+use Rattle.bulk_fronts.specs.declared.own_op.SizedOp.{SizedOp}
+use Rattle.bulk_fronts.specs.BulkFronts.{FitsOps, bytes_of, described_size}
+use Rattle.bulk_fronts.specs.Distinct.{distinct_with, number_in, with_text, with_text_by}
+use Rattle.bulk_fronts.proofs.BulkFronts.{ops_keep}
+use Rattle.bulk_fronts.proofs.Distinct.{at_end, in_longer}
 
 -- a text has a number among others
 abbrev knows : List (List ℕ) → List ℕ → Bool

@@ -37,13 +37,13 @@ use Rattle.bulk_ops.specs.declared.bulk_reply.BulkReply.{BulkReply}
 use Rattle.bulk_ops.specs.declared.bulk_reply.ResultsPage.{ResultsPage}
 use Rattle.bulk_ops.specs.declared.bulk_results.PageVerdict.{PageVerdict}
 use Rattle.bulk_ops.specs.declared.bulk_results.PageVerdict.TheVariants.{Breaks, Last, LeavesOpen}
-use Rattle.bulk_ops.specs.declared.own_op.OwnOp.{OwnOp}
+use Rattle.bulk_fronts.specs.declared.own_op.OwnOp.{OwnOp}
 use Rattle.bulk_ops.specs.BulkAnswers.{AnswersBulk, BulkBatch, BulkRead, ComesBehind, GoesOnBulk, GoesOnBy, IsPageError, IsReadError, OpensBulk, OpensBy, StopsAtPage, failures_read, first_read, first_verdict, further_read, further_verdict, read_open, result_read, rules_of, stands_partial, where_open}
 use Rattle.bulk_ops.specs.BulkEntries.{counts_by}
 use Rattle.bulk_ops.specs.BulkLawful.{fields_are, left_open, no_third, open_is_open, opens_further, page_told}
 use Rattle.bulk_ops.specs.BulkPages.{bulk_reply, next_page}
 use Rattle.bulk_ops.specs.BulkSpec.{batch_read, bulk_spec}
-use Rattle.bulk_ops.specs.BulkWrites.{bulk_is_ordered}
+use Rattle.bulk_fronts.specs.BulkWrites.{bulk_is_ordered}
 use Rattle.bulk_ops.specs.PartialEntries.{TellsSome}
 use Rattle.bulk_ops.specs.lawful.BulkReplies.{counts_read}
 use Rattle.bulk_ops.specs.lawful.CursorPages.{last_page, picks_left, reply_of_more}

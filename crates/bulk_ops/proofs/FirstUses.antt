@@ -4,8 +4,8 @@ use Rattle.std.specs.Prelude.{Option, None, Some}
 use Rattle.std.specs.Cmp.Lexicographic.{bytes_decides, nat_list_eq_equiv}
 use Rattle.std.proofs.lemmas.Bool.{and_from, and_parts, or_from, or_parts}
 use Rattle.driver_link.proofs.Lists.{none_is_some}
-use Rattle.bulk_ops.specs.Distinct.{KeepsFirstUses, all_differ, distinct, distinct_with, number_in, stands_among, with_text, with_text_by}
-use Rattle.bulk_ops.proofs.Distinct.{distinct_join, none_behind, number_by}
+use Rattle.bulk_fronts.specs.Distinct.{KeepsFirstUses, all_differ, distinct, distinct_with, number_in, stands_among, with_text, with_text_by}
+use Rattle.bulk_fronts.proofs.Distinct.{distinct_join, none_behind, number_by}
 
 -- truth values
 or_false : (a : Bool) → (a || false) ≡ a

@@ -17,9 +17,9 @@ use Rattle.bulk_ops.specs.declared.bulk_reply.OpOutcome.{OpOutcome}
 use Rattle.bulk_ops.specs.declared.bulk_reply.OpOutcome.TheVariants as came
 use Rattle.bulk_ops.specs.declared.bulk_reply.OpResult.{OpResult}
 use Rattle.bulk_ops.specs.declared.bulk_results.BulkProgress.{BulkProgress}
-use Rattle.bulk_ops.specs.declared.own_op.OpWork.{OpWork}
-use Rattle.bulk_ops.specs.declared.own_op.OpWork.TheVariants as work
-use Rattle.bulk_ops.specs.declared.own_op.OwnOp.{OwnOp}
+use Rattle.bulk_fronts.specs.declared.own_op.OpWork.{OpWork}
+use Rattle.bulk_fronts.specs.declared.own_op.OpWork.TheVariants as work
+use Rattle.bulk_fronts.specs.declared.own_op.OwnOp.{OwnOp}
 use Rattle.bulk_ops.specs.BulkAnswers.{BulkBatch, with_error, with_errors, with_op, with_outcome, with_results, with_work}
 use Rattle.bulk_ops.specs.BulkRules.{are_apart, are_within, is_seen}
 use Rattle.bulk_ops.specs.inside.BulkResults.{TakesResults}

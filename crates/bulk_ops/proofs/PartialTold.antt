@@ -24,7 +24,7 @@ use Rattle.driver_link.specs.Statements.{entry_of}
 use Rattle.driver_link.proofs.Lists.{none_is_some, some_is_some}
 use Rattle.driver_ops.specs.Served.{entries_counted, entry_counted}
 use Rattle.bulk_ops.specs.declared.bulk_reply.OpResult.{OpResult}
-use Rattle.bulk_ops.specs.declared.own_op.OwnOp.{OwnOp}
+use Rattle.bulk_fronts.specs.declared.own_op.OwnOp.{OwnOp}
 use Rattle.bulk_ops.specs.BulkAnswers.{BulkBatch, with_outcome, with_results}
 use Rattle.bulk_ops.specs.BulkEntries.{counts_by, delete_told, entries_told, insert_told, kept_told, kind_told, update_told}
 use Rattle.bulk_ops.specs.PartialEntries.{AllTold, IndexedEntry, IsToldAt, TellsSome, at_entry, entries_in}

@@ -12,7 +12,7 @@ use Rattle.driver_ops.specs.declared.reply_fields.Unread.TheVariants.{Wrong}
 use Rattle.driver_ops.specs.Readings.{Gives}
 use Rattle.driver_ops.specs.Operations.{OnPage, Page}
 use Rattle.bulk_ops.specs.declared.bulk_results.BulkProgress.{BulkProgress}
-use Rattle.bulk_ops.specs.declared.own_op.OwnOp.{OwnOp}
+use Rattle.bulk_fronts.specs.declared.own_op.OwnOp.{OwnOp}
 use Rattle.bulk_ops.specs.BulkAnswers.{BulkBatch, ReadsBulk}
 use Rattle.bulk_ops.specs.BulkRules.{unseen}
 use Rattle.bulk_ops.specs.BulkSpec.{batch_read}

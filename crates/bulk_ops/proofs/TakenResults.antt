@@ -15,7 +15,7 @@ use Rattle.bulk_ops.specs.declared.bulk_reply.OpOutcome.{OpOutcome}
 use Rattle.bulk_ops.specs.declared.bulk_reply.OpOutcome.TheVariants as came
 use Rattle.bulk_ops.specs.declared.bulk_reply.OpResult.{OpResult}
 use Rattle.bulk_ops.specs.declared.bulk_results.BulkProgress.{BulkProgress}
-use Rattle.bulk_ops.specs.declared.own_op.OwnOp.{OwnOp}
+use Rattle.bulk_fronts.specs.declared.own_op.OwnOp.{OwnOp}
 use Rattle.bulk_ops.specs.BulkAnswers.{BulkBatch, BulkRead, EndsBulk, IsReadError, are_none, is_clean, is_first, stands_partial, with_error, with_errors, with_op, with_outcome, with_results, with_work}
 use Rattle.bulk_ops.specs.BulkRules.{are_within, failed_indexes, has_failed_outcome, is_failure, with_failed}
 use Rattle.bulk_ops.specs.inside.BulkResults.{IsTaken, TakesResults}

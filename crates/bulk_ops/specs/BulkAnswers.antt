@@ -26,9 +26,9 @@ use Rattle.bulk_ops.specs.declared.bulk_reply.OpResult.{OpResult}
 use Rattle.bulk_ops.specs.declared.bulk_reply.ResultsPage.{ResultsPage}
 use Rattle.bulk_ops.specs.declared.bulk_results.PageVerdict.{PageVerdict}
 use Rattle.bulk_ops.specs.declared.bulk_results.PageVerdict.TheVariants.{Breaks, Last, LeavesOpen}
-use Rattle.bulk_ops.specs.declared.own_op.OpWork.{OpWork}
-use Rattle.bulk_ops.specs.declared.own_op.OpWork.TheVariants as work
-use Rattle.bulk_ops.specs.declared.own_op.OwnOp.{OwnOp}
+use Rattle.bulk_fronts.specs.declared.own_op.OpWork.{OpWork}
+use Rattle.bulk_fronts.specs.declared.own_op.OpWork.TheVariants as work
+use Rattle.bulk_fronts.specs.declared.own_op.OwnOp.{OwnOp}
 use Rattle.bulk_ops.specs.BulkPages.{bulk_reply, next_page, odd_bulk_text, odd_page_text}
 use Rattle.bulk_ops.specs.BulkRules.{ResultRules, failed_indexes, fault_text, verdict}
 

@@ -12,7 +12,7 @@ use Rattle.driver_link.specs.declared.machine.Entry.{Entry}
 use Rattle.driver_link.specs.declared.machine.WriteKind.{WriteKind}
 use Rattle.driver_link.specs.declared.machine.WriteKind.TheVariants as does
 use Rattle.driver_link.specs.Replies.{is_kind}
-use Rattle.bulk_ops.specs.BulkOps.{id_told}
+use Rattle.bulk_fronts.specs.BulkOps.{id_told}
 
 -- the sum of a number over the entries of writes of one kind
 abbrev pub sum_of_kind : WriteKind → (Entry → ℤ) → List Entry → ℤ

@@ -42,14 +42,14 @@ use Rattle.bulk_ops.specs.declared.bulk_reply.ResultsPage.{ResultsPage}
 use Rattle.bulk_ops.specs.declared.bulk_results.PageFault.TheVariants as fault
 use Rattle.bulk_ops.specs.declared.bulk_results.PageVerdict.{PageVerdict}
 use Rattle.bulk_ops.specs.declared.bulk_results.PageVerdict.TheVariants.{Breaks, Last, LeavesOpen}
-use Rattle.bulk_ops.specs.declared.own_op.OwnOp.{OwnOp}
+use Rattle.bulk_fronts.specs.declared.own_op.OwnOp.{OwnOp}
 use Rattle.bulk_ops.specs.BulkAnswers.{AnswersBulk, BulkBatch, BulkRead, ComesBehind, GoesOnBulk, GoesOnBy, OpensBulk, OpensBy, StopsAtPage, are_none, first_read, first_verdict, further_read, further_verdict, is_clean, read_open, result_read, rules_of, where_open, with_results}
 use Rattle.bulk_ops.specs.BulkEntries.{TellsBulk, counts_by}
-use Rattle.bulk_ops.specs.BulkOps.{model_writes}
+use Rattle.bulk_fronts.specs.BulkOps.{model_writes}
 use Rattle.bulk_ops.specs.BulkPages.{bulk_reply, next_page, op_results}
 use Rattle.bulk_ops.specs.BulkRules.{ResultRules, are_complete, are_placed, closing_verdict, failed_indexes, is_empty, keep_order, open_verdict, verdict}
 use Rattle.bulk_ops.specs.BulkSpec.{batch_read, bulk_spec}
-use Rattle.bulk_ops.specs.BulkWrites.{bulk_is_ordered}
+use Rattle.bulk_fronts.specs.BulkWrites.{bulk_is_ordered}
 use Rattle.bulk_ops.specs.lawful.BulkReplies.{HasFields, IsPageTold, counts_read, errors_read, has_fields, page_read, unfailed_by}
 use Rattle.bulk_ops.specs.lawful.CursorPages.{last_page, opened_left, picks_left, reply_of_more}
 use Rattle.bulk_ops.specs.lawful.ResultRows.{as_values, both_read, both_values, rows_read}

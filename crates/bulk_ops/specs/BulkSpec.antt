@@ -16,12 +16,12 @@ use Rattle.driver_ops.specs.declared.target.OperationTarget.TheVariants.{Databas
 use Rattle.driver_ops.specs.Features.{feature_of}
 use Rattle.driver_ops.specs.Operations.{OperationSpec}
 use Rattle.driver_ops.specs.Defaults.{own_of_statement, under_backpressure}
-use Rattle.bulk_ops.specs.declared.own_op.OwnOp.{OwnOp}
+use Rattle.bulk_fronts.specs.declared.own_op.OwnOp.{OwnOp}
 use Rattle.bulk_ops.specs.BulkAnswers.{BulkBatch, ReadsBulk}
 use Rattle.bulk_ops.specs.BulkEntries.{TellsBulk}
-use Rattle.bulk_ops.specs.BulkFronts.{RefusesBulk, TakesBulk}
-use Rattle.bulk_ops.specs.BulkOps.{AreOps, IsUndotted, has_multi, model_writes}
-use Rattle.bulk_ops.specs.BulkWrites.{IsBulkCommand, bulk_is_ordered}
+use Rattle.bulk_fronts.specs.BulkFronts.{RefusesBulk, TakesBulk}
+use Rattle.bulk_fronts.specs.BulkOps.{AreOps, IsUndotted, has_multi, model_writes}
+use Rattle.bulk_fronts.specs.BulkWrites.{IsBulkCommand, bulk_is_ordered}
 
 -- the database of commands that name none of their own
 abbrev pub admin_target : OperationTarget

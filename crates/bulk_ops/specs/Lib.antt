@@ -1,13 +1,9 @@
 pub mod BulkAnswers
 pub mod BulkEntries
-pub mod BulkFronts
 pub mod BulkLawful
-pub mod BulkOps
 pub mod BulkPages
 pub mod BulkRules
 pub mod BulkSpec
-pub mod BulkWrites
-pub mod Distinct
 pub mod NaturalCounts
 pub mod PartialEntries
 pub mod inside

@@ -11,11 +11,11 @@ ghost use Rattle.bulk_ops.specs.inside.BulkResults.{EndsOrLacks, IsProgress, IsS
 
 use crate::bulk_reply::{BulkReply, OpOutcome, OpResult, ResultsPage};
 use crate::op_batch::OpBatch;
-use crate::own_op::OpWork;
 use crate::seen_flags::{is_set, set_flag};
 use bson_lite::{
     Boxed, Bson, ByIndex, Document, EncodeFault, List, Namespace, RawDocumentBuf, Text, TryClone,
 };
+use bulk_fronts::OpWork;
 use bulk_outcomes::BulkWriteResult;
 use driver_error::{
     BulkWriteError, DeleteResult, Error, ErrorKind, InsertOneResult, Result, UpdateResult,

@@ -12,19 +12,18 @@ ghost use Rattle.bulk_ops.specs.declared.bulk_reply.ResultsPage.{ResultsPage as 
 ghost use Rattle.bulk_ops.specs.BulkLawful.{bulk_lawful};
 ghost use Rattle.bulk_ops.specs.BulkPages.{bulk_reply, next_page};
 ghost use Rattle.bulk_ops.specs.BulkSpec.{admin_target, batch_read, bulk_spec, is_verbose};
-ghost use Rattle.bulk_ops.specs.BulkWrites.{bulk_command, bulk_is_ordered};
-ghost use Rattle.bulk_ops.specs.inside.BulkFronts.{HasFront};
+ghost use Rattle.bulk_fronts.specs.BulkWrites.{bulk_command, bulk_is_ordered};
+ghost use Rattle.bulk_fronts.specs.inside.BulkFronts.{HasFront};
 ghost use Rattle.bulk_ops.specs.inside.BulkResults.{AnswersPages, FewerUnseen, HasReadBulk, HasReadPages, ReadsBehind, ReadsPage, batch_told, begun, left_unseen, ops_in};
 
-use crate::bulk_front::{
-    OpFront, Taken, fixed_count, has_multi, is_numbered, old_server, oversized_op, past_numbers,
-    serves_bulk, take_ops,
-};
 use crate::bulk_reply::{BulkReply, ResultsPage, bulk_reply, next_page};
 use crate::bulk_results::{BulkProgress, Paged, odd_page};
 use crate::op_batch::OpBatch;
-use crate::own_op::OwnOp;
 use bson_lite::{Bson, Bytes, Document, List, Text};
+use bulk_fronts::{
+    OpFront, OwnOp, Taken, fixed_count, has_multi, is_numbered, old_server, oversized_op,
+    past_numbers, serves_bulk, take_ops,
+};
 use bulk_outcomes::BulkWriteResult;
 use driver_error::{Error, ErrorKind, Result};
 use driver_link::{CommandName, Sequence, keys};
@@ -248,7 +247,7 @@ fn statements_of(fixed: Option<usize>) -> usize
 }
 
 /// The body of a bulk write's command, without the executor's fields.
-#[tactic(auto, unfolding(crate::specs::BulkWrites::bulk_command))]
+#[tactic(auto, unfolding(bulk_fronts::specs::BulkWrites::bulk_command))]
 pub fn bulk_body(
     alloc: Global,
     options: &BulkWriteOptions,

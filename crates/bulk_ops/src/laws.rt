@@ -9,11 +9,11 @@ ghost use Rattle.driver_batches.specs.declared.sizes.Limits.{Limits};
 ghost use Rattle.driver_ops.specs.declared.operation.Reading.TheVariants.{Page as Further};
 ghost use Rattle.driver_ops.specs.Operations.{Page};
 ghost use Rattle.bulk_ops.specs.BulkAnswers.{AnswersBulk, BulkBatch};
-ghost use Rattle.bulk_ops.specs.BulkFronts.{FitsOps};
-ghost use Rattle.bulk_ops.specs.BulkOps.{numbered, op_document};
-ghost use Rattle.bulk_ops.specs.Distinct.{KeepsFirstUses};
+ghost use Rattle.bulk_fronts.specs.BulkFronts.{FitsOps};
+ghost use Rattle.bulk_fronts.specs.BulkOps.{numbered, op_document};
+ghost use Rattle.bulk_fronts.specs.Distinct.{KeepsFirstUses};
 
-use crate::own_op::SizedOp;
+use bulk_fronts::SizedOp;
 use driver_batches::laws::longest_fronts_are_fewest;
 use driver_batches::{Limits, Rule};
 

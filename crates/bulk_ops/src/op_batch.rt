@@ -1,7 +1,7 @@
 //! A batch of a caller's ops.
 ghost use Rattle.std.specs.Prelude.{◌+◌, ◌≤◌, length};
 
-use crate::own_op::OwnOp;
+use bulk_fronts::OwnOp;
 
 /// The ops of a batch, the index of the first of them in the caller's list, and whether the batch stops at the first
 /// that fails.

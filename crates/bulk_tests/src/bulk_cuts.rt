@@ -2,7 +2,8 @@
 //! other cut into runs that fit has fewer batches. What a run takes is counted from the layout of the op documents,
 //! by lengths written by hand.
 use bson_lite::{Bson, Document, List, Namespace, Text};
-use bulk_ops::{BulkWriteOp, OwnOp};
+use bulk_fronts::OwnOp;
+use bulk_ops::BulkWriteOp;
 use driver_error::SummaryBulkWriteResult;
 use driver_ops::Operation;
 use driver_options::{

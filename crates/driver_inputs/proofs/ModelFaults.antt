@@ -18,9 +18,9 @@ use Rattle.driver_options.specs.declared.models.WriteModel.TheVariants.{InsertOn
 use Rattle.driver_options.specs.declared.write_options.BulkWriteOptions.{BulkWriteOptions}
 use Rattle.driver_options.specs.Models.{namespace_of}
 use Rattle.driver_ops.specs.OptionFields.{document_in}
-use Rattle.bulk_ops.specs.BulkOps.{namespace_document, op_document}
-use Rattle.bulk_ops.specs.BulkWrites.{bulk_command}
-use Rattle.bulk_ops.proofs.BulkSizes.{insert_length}
+use Rattle.bulk_fronts.specs.BulkOps.{namespace_document, op_document}
+use Rattle.bulk_fronts.specs.BulkWrites.{bulk_command}
+use Rattle.bulk_fronts.proofs.BulkSizes.{insert_length}
 use Rattle.driver_inputs.specs.BulkInputs.{RefusesBulkValues, is_long_model, model_values, with_model_id, with_model_ids}
 use Rattle.driver_inputs.specs.Inputs.{is_deep, is_long, value_list, values_refusal}
 use Rattle.driver_inputs.specs.ManyInputs.{AreTwelve}

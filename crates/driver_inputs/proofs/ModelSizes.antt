@@ -10,8 +10,8 @@ use Rattle.bson_lite.specs.Fields.{id_key, value_of, with_id}
 use Rattle.bson_lite.specs.Namespace.{dotted}
 use Rattle.bson_lite.specs.Spelling.{spelling}
 use Rattle.bson_lite.proofs.Named.{by_tests}
-use Rattle.bulk_ops.specs.BulkFronts.{described_size}
-use Rattle.bulk_ops.proofs.BulkSizes.{described_length, insert_length}
+use Rattle.bulk_fronts.specs.BulkFronts.{described_size}
+use Rattle.bulk_fronts.proofs.BulkSizes.{described_length, insert_length}
 use Rattle.driver_inputs.specs.ManyFaults.{zero_id}
 use Rattle.driver_inputs.specs.inside.ModelFaults.{insert_length_fault, insert_op, longest_inserted, text_fault}
 use Rattle.driver_inputs.proofs.Refusals.{length_drawn, length_own}

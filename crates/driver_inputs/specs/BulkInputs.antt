@@ -17,8 +17,8 @@ use Rattle.driver_options.specs.declared.updates.UpdateOrReplace.TheVariants.{Re
 use Rattle.driver_options.specs.declared.write_options.BulkWriteOptions.{BulkWriteOptions}
 use Rattle.driver_options.specs.Models.{namespace_of}
 use Rattle.driver_ops.specs.OptionFields.{document_in}
-use Rattle.bulk_ops.specs.BulkOps.{namespace_document, op_document}
-use Rattle.bulk_ops.specs.BulkWrites.{bulk_command}
+use Rattle.bulk_fronts.specs.BulkOps.{namespace_document, op_document}
+use Rattle.bulk_fronts.specs.BulkWrites.{bulk_command}
 use Rattle.driver_inputs.specs.Inputs.{change_refusal, change_values, else_text, is_long, name_refusal, value_list, values_refusal}
 use Rattle.driver_inputs.specs.ManyInputs.{AreTwelve}
 

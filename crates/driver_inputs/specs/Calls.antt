@@ -18,7 +18,7 @@ use Rattle.driver_link.specs.declared.machine.Written.{Written}
 use Rattle.write_ops.specs.CountAnswers.{deleted_by, updated_by}
 use Rattle.write_ops.specs.FoundAnswers.{found_by}
 use Rattle.bulk_ops.specs.BulkEntries.{counts_by, kept_told}
-use Rattle.bulk_ops.specs.BulkOps.{model_written}
+use Rattle.bulk_fronts.specs.BulkOps.{model_written}
 use Rattle.driver_inputs.specs.declared.call.Answer.{Answer}
 use Rattle.driver_inputs.specs.declared.call.Answer.TheVariants as answer
 use Rattle.driver_inputs.specs.declared.call.Call.{Call}

@@ -3,7 +3,7 @@ ghost use Rattle.std.specs.Prelude.{◌≡◌, IfOk};
 ghost use Rattle.bson_lite.specs.Namespace.{dotted};
 ghost use Rattle.driver_options.specs.declared.models.WriteModel.TheVariants.{ReplaceOne as Replaces, UpdateMany as UpdatesAll, UpdateOne as Updates};
 ghost use Rattle.driver_options.specs.declared.updates.UpdateOrReplace.TheVariants.{UpdateModifications as Modifies};
-ghost use Rattle.bulk_ops.specs.BulkOps.{op_document};
+ghost use Rattle.bulk_fronts.specs.BulkOps.{op_document};
 ghost use Rattle.driver_inputs.specs.BulkInputs.{model_values, set_values};
 ghost use Rattle.driver_inputs.specs.Inputs.{change_values, value_list};
 ghost use Rattle.driver_inputs.specs.Faults.{first_of, length_fault, values_fault};
@@ -17,7 +17,7 @@ use crate::faults::{
 use crate::many_refusal::own_fault;
 use crate::refusal::ID_LENGTH;
 use bson_lite::{Bson, Document, EncodeFault, ID_KEY, List, Namespace, encoded_len};
-use bulk_ops::op_document;
+use bulk_fronts::op_document;
 use driver_options::{
     ReplaceOneModel, UpdateManyModel, UpdateModifications, UpdateOneModel, WriteModel,
 };

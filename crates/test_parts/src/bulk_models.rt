@@ -1,7 +1,7 @@
 //! Models of bulk writes and their ops, for the rows, and the bytes of the ops of six, by hand.
 use crate::bulk_ends::let_go;
 use bson_lite::{Bson, Document, List, Namespace, Text};
-use bulk_ops::{OwnOp, model_op};
+use bulk_fronts::{OwnOp, model_op};
 use driver_options::{
     DeleteManyModel, DeleteOneModel, InsertOneModel, ReplaceOneModel, UpdateManyModel,
     UpdateModifications, UpdateOneModel, WriteModel,

@@ -11,9 +11,9 @@ use Rattle.driver_error.specs.Error.{kind_of}
 use Rattle.bulk_outcomes.specs.Status.{IsBulkOfKind}
 use Rattle.driver_options.specs.declared.models.WriteModel.{WriteModel}
 use Rattle.driver_options.specs.declared.write_options.BulkWriteOptions.{BulkWriteOptions}
-use Rattle.bulk_ops.specs.declared.own_op.OwnOp.{OwnOp}
-use Rattle.bulk_ops.specs.BulkOps.{AreOps, IsUndotted}
-use Rattle.bulk_ops.specs.BulkWrites.{bulk_is_ordered}
+use Rattle.bulk_fronts.specs.declared.own_op.OwnOp.{OwnOp}
+use Rattle.bulk_fronts.specs.BulkOps.{AreOps, IsUndotted}
+use Rattle.bulk_fronts.specs.BulkWrites.{bulk_is_ordered}
 use Rattle.driver_attempt.specs.Moment.{Moment}
 use Rattle.driver_actions.specs.BatchPlans.{IsCount, MakesAllPlanned, MakesPlanned, PlannedEnd}
 use Rattle.bulk_actions.specs.declared.bulk_batches.Behind.{Behind}

@@ -7,8 +7,8 @@ use Rattle.driver_error.specs.Error.{kind_of}
 use Rattle.driver_options.specs.declared.models.WriteModel.{WriteModel}
 use Rattle.driver_session.specs.StoreTells.{StoreTells}
 use Rattle.driver_ops.specs.Encoding.{IsUnspelled}
-use Rattle.bulk_ops.specs.declared.own_op.OwnOp.{OwnOp}
-use Rattle.bulk_ops.specs.BulkOps.{IsOpOf, op_document}
+use Rattle.bulk_fronts.specs.declared.own_op.OwnOp.{OwnOp}
+use Rattle.bulk_fronts.specs.BulkOps.{IsOpOf, op_document}
 use Rattle.bulk_actions.specs.BulkIds.{DrawsModelId}
 use Rattle.driver_inputs.specs.BulkInputs.{with_model_id}
 

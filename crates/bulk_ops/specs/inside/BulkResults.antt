@@ -26,7 +26,7 @@ use Rattle.bulk_ops.specs.declared.bulk_results.PageFault.TheVariants as fault
 use Rattle.bulk_ops.specs.declared.bulk_results.PageVerdict.{PageVerdict}
 use Rattle.bulk_ops.specs.declared.bulk_results.PageVerdict.TheVariants.{Breaks, Last, LeavesOpen}
 use Rattle.bulk_ops.specs.declared.bulk_results.SeenResults.{SeenResults}
-use Rattle.bulk_ops.specs.declared.own_op.OwnOp.{OwnOp}
+use Rattle.bulk_fronts.specs.declared.own_op.OwnOp.{OwnOp}
 use Rattle.bulk_ops.specs.BulkAnswers.{BulkBatch, BulkRead, EndsBulk, ReadsBulk, further_read, read_open, result_read, rules_of, with_errors, with_results}
 use Rattle.bulk_ops.specs.BulkRules.{ResultRules, are_all_seen, are_placed, are_within, failed_indexes, is_seen, open_verdict, unseen, verdict}
 use Rattle.bulk_ops.specs.BulkSpec.{batch_read}

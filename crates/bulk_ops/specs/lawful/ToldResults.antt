@@ -20,12 +20,12 @@ use Rattle.driver_ops.specs.lawful.InsertRead.{differ}
 use Rattle.bulk_ops.specs.declared.bulk_reply.OpOutcome.{OpOutcome}
 use Rattle.bulk_ops.specs.declared.bulk_reply.OpOutcome.TheVariants as came
 use Rattle.bulk_ops.specs.declared.bulk_reply.OpResult.{OpResult}
-use Rattle.bulk_ops.specs.declared.own_op.OpWork.{OpWork}
-use Rattle.bulk_ops.specs.declared.own_op.OpWork.TheVariants as work
-use Rattle.bulk_ops.specs.declared.own_op.OwnOp.{OwnOp}
+use Rattle.bulk_fronts.specs.declared.own_op.OpWork.{OpWork}
+use Rattle.bulk_fronts.specs.declared.own_op.OpWork.TheVariants as work
+use Rattle.bulk_fronts.specs.declared.own_op.OwnOp.{OwnOp}
 use Rattle.bulk_ops.specs.BulkAnswers.{BulkBatch, with_op, with_outcome, with_results, with_work}
 use Rattle.bulk_ops.specs.BulkEntries.{entries_told, kept_told, kind_told}
-use Rattle.bulk_ops.specs.BulkOps.{AreOps, id_told, model_writes, model_written, work_of}
+use Rattle.bulk_fronts.specs.BulkOps.{AreOps, id_told, model_writes, model_written, work_of}
 use Rattle.bulk_ops.specs.lawful.ResultRows.{AreRowsRead, IsCountedRead}
 
 -- what an op does is what its write does

@@ -12,7 +12,7 @@ use Rattle.driver_options.specs.Models.{namespace_of}
 use Rattle.driver_link.specs.declared.keys.TheConstants.{DOCUMENT, INSERT}
 use Rattle.driver_link.specs.Numbers.{field}
 use Rattle.driver_ops.specs.OptionFields.{document_in}
-use Rattle.bulk_ops.specs.BulkOps.{namespace_document, op_document}
+use Rattle.bulk_fronts.specs.BulkOps.{namespace_document, op_document}
 use Rattle.driver_inputs.specs.declared.bulk_refusal.ModelTest.{ModelTest}
 use Rattle.driver_inputs.specs.declared.bulk_refusal.ModelTest.TheVariants.{Databases, Updates, Replacements}
 use Rattle.driver_inputs.specs.BulkInputs.{database_refusal, model_values, replacement_refusal, update_refusal}

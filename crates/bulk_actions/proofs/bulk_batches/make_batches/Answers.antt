@@ -3,7 +3,7 @@ use Rattle.std.proofs.Common.{◌≡◌, true, length, refl, sym, ap, subst, ◌
 use Rattle.std.specs.Prelude.{IfSome, None, Some}
 use Rattle.std.proofs.lemmas.Result.{err_from_is_err_and}
 use Rattle.bulk_outcomes.specs.Status.{Stands, goes_on}
-use Rattle.bulk_ops.specs.BulkWrites.{bulk_is_ordered}
+use Rattle.bulk_fronts.specs.BulkWrites.{bulk_is_ordered}
 use Rattle.driver_attempt.specs.Moment.{moment_of}
 use Rattle.driver_actions.specs.BatchPlans.{places_from}
 use Rattle.bulk_actions.specs.inside.BulkBatches.{ComesBehind, NextWithin}

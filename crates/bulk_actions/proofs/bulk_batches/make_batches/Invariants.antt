@@ -1,7 +1,7 @@
 -- The batches so far, each of which lets the next one be made.
 use Rattle.std.proofs.Common.{◌≡◌, ◌-◌, ◌≤◌, length, true}
 use Rattle.bulk_outcomes.specs.Status.{Stands, goes_on}
-use Rattle.bulk_ops.specs.BulkWrites.{bulk_is_ordered}
+use Rattle.bulk_fronts.specs.BulkWrites.{bulk_is_ordered}
 use Rattle.driver_attempt.specs.Client.{options_of}
 use Rattle.driver_attempt.specs.Moment.{moment_of}
 use Rattle.driver_actions.specs.BatchPlans.{places_from}

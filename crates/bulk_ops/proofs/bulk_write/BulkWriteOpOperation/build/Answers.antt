@@ -3,9 +3,9 @@ use Rattle.std.proofs.Common.{◌≡◌, ap, length, refl, sym, ◌∙◌}
 use Rattle.bson_lite.specs.Spelling.{spelling}
 use Rattle.driver_ops.specs.Limits.{built_count, limits_for}
 use Rattle.driver_ops.specs.SendKinds.{first}
-use Rattle.bulk_ops.specs.BulkFronts.{bulk_limits}
+use Rattle.bulk_fronts.specs.BulkFronts.{bulk_limits}
 use Rattle.bulk_ops.specs.BulkSpec.{is_verbose}
-use Rattle.bulk_ops.specs.BulkWrites.{bulk_command}
+use Rattle.bulk_fronts.specs.BulkWrites.{bulk_command}
 use Rattle.bulk_ops.proofs.BulkTaken.{builds_taken, refuses_none, refuses_old, refuses_past}
 use Rattle.bulk_ops.proofs.bulk_write.BulkWriteOpOperation.build.Goals as goal
 

@@ -1,0 +1,9 @@
+pub mod BulkFronts
+pub mod BulkNumbers
+pub mod BulkSizes
+pub mod BulkSpelled
+pub mod BulkSteps
+pub mod Distinct
+pub mod InsertSpelled
+pub mod OpsMade
+pub mod TakenFronts
