@@ -20,7 +20,7 @@ use Rattle.driver_attempt.specs.Moment.{Moment}
 use Rattle.driver_inputs.specs.BulkInputs.{with_model_id, with_model_ids}
 use Rattle.driver_inputs.specs.ManyFaults.{zero_id}
 use Rattle.driver_inputs.specs.ManyInputs.{AreTwelve}
-use Rattle.driver_actions.specs.ManyCompleteness.{RaisesBy, RaisesByWhereTold}
+use Rattle.driver_actions.specs.Raises.{RaisesBy, RaisesByWhereTold}
 use Rattle.driver_actions.specs.Numbers.{server_setup}
 use Rattle.driver_actions.proofs.BatchSizes.{with_id_size}
 use Rattle.driver_actions.proofs.MovesBeside.{CallMoves, moves_drew, moves_more, moves_raising, raises_more}

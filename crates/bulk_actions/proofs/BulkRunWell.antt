@@ -39,7 +39,8 @@ use Rattle.driver_exec.proofs.Moments.{IsBefore, before_refl, before_twice}
 use Rattle.driver_exec.proofs.OperationMoments.{executes_before}
 use Rattle.driver_exec.proofs.WholeOperation.{executes_client}
 use Rattle.driver_actions.specs.BatchPlans.{MakesAllPlanned, MakesPlanned, PlannedEnd, rest_of}
-use Rattle.driver_actions.specs.ManyCompleteness.{IsGentleCallPart, RaisesByWhereTold}
+use Rattle.driver_actions.specs.ManyCompleteness.{IsGentleCallPart}
+use Rattle.driver_actions.specs.Raises.{RaisesByWhereTold}
 use Rattle.driver_actions.specs.Numbers.{server_setup}
 use Rattle.driver_actions.proofs.MovesBeside.{GainsOwn}
 use Rattle.driver_actions.proofs.PlannedBatches as planned

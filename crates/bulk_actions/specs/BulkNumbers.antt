@@ -10,7 +10,7 @@ use Rattle.bulk_fronts.specs.BulkFronts.{bulk_limits, bytes_of}
 use Rattle.driver_attempt.specs.Moment.{Moment}
 use Rattle.driver_inputs.specs.BulkInputs.{with_model_id}
 use Rattle.driver_inputs.specs.ManyFaults.{zero_id}
-use Rattle.driver_actions.specs.ManyCompleteness.{RaisesBy}
+use Rattle.driver_actions.specs.Raises.{RaisesBy}
 use Rattle.driver_actions.specs.Numbers.{server_setup}
 use Rattle.bulk_actions.specs.FewestBulk.{sized_model}
 

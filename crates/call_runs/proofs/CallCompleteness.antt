@@ -32,9 +32,9 @@ use Rattle.driver_attempt.specs.Moment.{Moment}
 use Rattle.driver_exec.specs.BetweenCalls.{NumbersWithin}
 use Rattle.driver_exec.specs.Gentle.{EndsWell, IsGentlePart}
 use Rattle.driver_exec.specs.OperationCauses.{DrawsNumbers}
-use Rattle.driver_actions.specs.CallParts.{IsValidWrite, SendsOwn}
+use Rattle.driver_actions.specs.CallParts.{CarrySame, IsValidWrite, SendsOwn}
 use Rattle.driver_actions.specs.ManyCalls.{MakesMany}
-use Rattle.driver_actions.specs.ManyCompleteness.{CarrySame, InsertsHaveNumbers, IsGentleCallPart, IsGentleCallWhereTold, IsValidMany, MayCompleteCallWhereTold, ServesInserts}
+use Rattle.driver_actions.specs.ManyCompleteness.{InsertsHaveNumbers, IsGentleCallPart, IsGentleCallWhereTold, IsValidMany, MayCompleteCallWhereTold, ServesInserts}
 use Rattle.driver_actions.specs.ManyEntries.{AnswerStands, AnswerStandsWhereTold}
 use Rattle.driver_actions.specs.ManyTold.{IsToldTruly, IsToldWhereTold}
 use Rattle.driver_actions.specs.Below.{AllBelow}

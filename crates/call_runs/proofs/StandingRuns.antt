@@ -17,7 +17,7 @@ use Rattle.driver_session.proofs.PoolTells.{same_told}
 use Rattle.driver_attempt.specs.Moment.{Moment}
 use Rattle.driver_exec.specs.BetweenCalls.{NumbersWithin}
 use Rattle.driver_actions.specs.CallParts.{IsReplayedWhereTold, KeepsMakingWhereTold}
-use Rattle.driver_actions.specs.ManyCompleteness.{RaisesBy, RaisesByWhereTold}
+use Rattle.driver_actions.specs.Raises.{RaisesBy, RaisesByWhereTold}
 use Rattle.driver_actions.specs.Numbers.{server_setup}
 use Rattle.bulk_actions.specs.BulkCompleteness.{NoneAhead}
 use Rattle.bulk_actions.proofs.CursorsKept.{empty_ahead}

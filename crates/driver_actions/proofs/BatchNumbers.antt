@@ -14,7 +14,7 @@ use Rattle.write_ops.specs.InsertFronts.{sizes_of}
 use Rattle.write_ops.specs.InsertSpec.{AreOwn}
 use Rattle.driver_attempt.specs.Moment.{Moment}
 use Rattle.driver_actions.specs.Batches.{BatchEnd, MakesBatch, MakesBatches, goes_on, insert_plan}
-use Rattle.driver_actions.specs.ManyCompleteness.{RaisesBy}
+use Rattle.driver_actions.specs.Raises.{RaisesBy}
 use Rattle.driver_actions.specs.Numbers.{numbers_for, server_setup}
 use Rattle.driver_actions.proofs.BatchSizes.{rest_sizes, sizes_length, takes_told}
 use Rattle.driver_actions.proofs.BatchWrites.{EachIs, IsOfCall}

@@ -52,7 +52,9 @@ use Rattle.driver_exec.proofs.SessionNumbers.{lent_within}
 use Rattle.driver_exec.proofs.TraceSessions.{lends_holds}
 use Rattle.driver_exec.proofs.WholeOperation.{executes_client}
 use Rattle.driver_actions.specs.Batches.{BatchEnd, MakesBatch, MakesBatches, rest_of}
-use Rattle.driver_actions.specs.ManyCompleteness.{CarrySame, InsertsHaveNumbers, IsGentleCallPart, RaisesByWhereTold, ServesInserts, many_concern}
+use Rattle.driver_actions.specs.CallParts.{CarrySame}
+use Rattle.driver_actions.specs.ManyCompleteness.{InsertsHaveNumbers, IsGentleCallPart, ServesInserts, many_concern}
+use Rattle.driver_actions.specs.Raises.{RaisesByWhereTold}
 use Rattle.driver_actions.specs.Numbers.{server_setup}
 use Rattle.driver_actions.proofs.BatchFit.{FitsOne, batch_unrefused}
 use Rattle.driver_actions.proofs.BatchNumbers.{batch_fewer, batch_setup, number_left, numbers_left}

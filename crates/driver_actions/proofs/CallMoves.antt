@@ -15,7 +15,7 @@ use Rattle.driver_link.proofs.Replays.{exchanged_trace}
 use Rattle.driver_attempt.specs.Moment.{Moment}
 use Rattle.driver_exec.specs.Resending.{SendsWhereTold, SentTimes}
 use Rattle.driver_actions.specs.CallParts.{IsSendOf, SendsOwn}
-use Rattle.driver_actions.specs.ManyCompleteness.{RaisesBy}
+use Rattle.driver_actions.specs.Raises.{RaisesBy}
 use Rattle.driver_actions.proofs.MovesBeside as beside
 use Rattle.driver_actions.proofs.CallWrites.WritesMade.{LeftBy}
 pub use Rattle.driver_actions.proofs.MovesBeside.{DrewIds, raises_more, raises_same, raises_twice}

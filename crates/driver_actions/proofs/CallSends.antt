@@ -17,8 +17,7 @@ use Rattle.driver_attempt.specs.Moment.{Moment}
 use Rattle.driver_exec.specs.Resending.{SentTimes}
 use Rattle.driver_exec.proofs.Moves.{new_is}
 use Rattle.driver_exec.proofs.SessionNumbers.{borrows_within, within_staying}
-use Rattle.driver_actions.specs.CallParts.{IsSendOf}
-use Rattle.driver_actions.specs.ManyCompleteness.{CarrySame}
+use Rattle.driver_actions.specs.CallParts.{CarrySame, IsSendOf}
 use Rattle.driver_actions.specs.SingleCalls.{Made, Makes, first_place}
 use Rattle.driver_actions.specs.SingleCompleteness.{RaisesNumbers, RaisesWhereTold}
 use Rattle.driver_actions.proofs.CallMoves.{CallMoves, DrewIds, gains_sent, left_moves, moves_drew, moves_more, moves_twice}

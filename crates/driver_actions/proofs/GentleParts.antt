@@ -10,7 +10,8 @@ use Rattle.driver_exec.specs.Gentle.{IsGentlePart, IsLossy, IsOfPart, NoneListed
 use Rattle.driver_exec.specs.Resending.{SendsWhereTold}
 use Rattle.driver_exec.proofs.Moments.{IsBefore}
 use Rattle.driver_exec.proofs.Moves.{new_is}
-use Rattle.driver_actions.specs.ManyCompleteness.{CarrySame, IsGentleCallPart}
+use Rattle.driver_actions.specs.CallParts.{CarrySame}
+use Rattle.driver_actions.specs.ManyCompleteness.{IsGentleCallPart}
 
 -- a count that is reached from a part was reached from the whole
 reached_from : (most whole part at : ℕ) → min whole most ≤ part → min part most ≤ at → min whole most ≤ at

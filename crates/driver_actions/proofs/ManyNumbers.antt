@@ -13,7 +13,8 @@ use Rattle.driver_ops.specs.Targets.{namespace_of}
 use Rattle.write_ops.specs.InsertFronts.{sizes_of}
 use Rattle.driver_attempt.specs.Moment.{Moment}
 use Rattle.driver_actions.specs.ManyCalls.{MadeMany, MakesMany, RanShort}
-use Rattle.driver_actions.specs.ManyCompleteness.{RaisesBy, RaisesByBatches, RaisesByWhereTold}
+use Rattle.driver_actions.specs.Raises.{RaisesBy, RaisesByWhereTold}
+use Rattle.driver_actions.specs.ManyCompleteness.{RaisesByBatches}
 use Rattle.driver_actions.specs.Numbers.{many_numbers, numbers_for, server_setup, sizes_with_ids}
 use Rattle.driver_actions.proofs.BatchNumbers.{batches_raise}
 use Rattle.driver_actions.proofs.BatchSizes.{ids_each, sizes_are, with_ids_sizes}

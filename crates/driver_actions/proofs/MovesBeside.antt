@@ -31,7 +31,7 @@ use Rattle.driver_exec.proofs.ClockReadings.{read_same, read_twice}
 use Rattle.driver_exec.proofs.Moves.{IsFold}
 use Rattle.driver_exec.proofs.SessionNumbers.{borrows_within}
 use Rattle.driver_actions.specs.CallParts.{IsReplayed, IsReplayedWhereTold, IsSendOf, KeepsMaking, KeepsMakingWhereTold, MaySend}
-use Rattle.driver_actions.specs.ManyCompleteness.{RaisesBy, RaisesByWhereTold}
+use Rattle.driver_actions.specs.Raises.{RaisesBy, RaisesByWhereTold}
 use Rattle.driver_actions.proofs.ServerMaking.{keeps_making_twice, told_refl}
 
 -- a told server went on by sends, each of which is such: its making stays, its trace gained them, and it stays the fold of its trace

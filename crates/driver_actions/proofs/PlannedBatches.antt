@@ -41,7 +41,7 @@ use Rattle.driver_exec.proofs.InvariantSteps.Standing.{one_command_keeps}
 use Rattle.driver_exec.proofs.WholeOperation.{executes_draws, executes_lends, executes_read, executes_words}
 use Rattle.driver_actions.specs.BatchPlans.{BatchPlan, MakesAllPlanned, MakesPlanned, PlannedEnd, rest_of}
 use Rattle.driver_actions.specs.CallParts.{HasWriteOf, IsSendOf, KeepsMakingWhereTold}
-use Rattle.driver_actions.specs.ManyCompleteness.{RaisesBy}
+use Rattle.driver_actions.specs.Raises.{RaisesBy}
 use Rattle.driver_actions.specs.Numbers.{server_setup}
 use Rattle.driver_actions.proofs.MovesBeside.{CallMoves, GainsOwn, LeftBy, gains_counted, gains_sent, left_moves, moves_more, moves_refl, moves_twice, raises_more, raises_same, raises_twice}
 

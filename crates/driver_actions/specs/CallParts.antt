@@ -78,3 +78,8 @@ KeepsMakingWhereTold (Some run) (Some now) = (now.setup ≡ run.setup) × (now.s
 -- setup and schedule of a told server stay
 abbrev pub KeepsMaking : Moment → Moment → Type 0
 KeepsMaking before now = KeepsMakingWhereTold (server_run before.link) (server_run now.link)
+
+-- the exchanges of a part with these numbers are of sends that carry the same
+abbrev pub CarrySame : ServerRun → ℕ → ℕ → Type 0
+CarrySame now a b =
+    (one other : Send) → slice_get now.server.trace a ≡ Some one → slice_get now.server.trace b ≡ Some other → one.body ≡ other.body

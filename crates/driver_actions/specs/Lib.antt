@@ -13,6 +13,7 @@ pub mod ManyIds
 pub mod ManyTold
 pub mod Numbers
 pub mod OwnIds
+pub mod Raises
 pub mod SingleCalls
 pub mod SingleCompleteness
 pub mod SingleEntries

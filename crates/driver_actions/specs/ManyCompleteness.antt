@@ -36,14 +36,11 @@ use Rattle.driver_attempt.specs.Moment.{Moment}
 use Rattle.driver_exec.specs.BetweenCalls.{NumbersWithin}
 use Rattle.driver_exec.specs.Gentle.{EndsWell, IsLossy, IsOfPart, NoneListed}
 use Rattle.driver_exec.specs.OperationCauses.{DrawsNumbers}
+use Rattle.driver_actions.specs.CallParts.{CarrySame}
 use Rattle.driver_actions.specs.ManyEntries.{MayWriteCall}
 use Rattle.driver_actions.specs.Numbers.{many_numbers, server_setup}
+use Rattle.driver_actions.specs.Raises.{RaisesBy}
 use Rattle.driver_inputs.specs.ManyInputs.{IsManyAccepted}
-
--- the exchanges of a part with these numbers are of sends that carry the same
-abbrev pub CarrySame : ServerRun → ℕ → ℕ → Type 0
-CarrySame now a b =
-    (one other : Send) → slice_get now.server.trace a ≡ Some one → slice_get now.server.trace b ≡ Some other → one.body ≡ other.body
 
 -- each statement that a plan speaks of counts one document
 abbrev pub CountOneEach : List Planned → Type 0
@@ -97,15 +94,6 @@ pub record IsValidMany (most : ℕ) (client : ClientOptions) (setup : Option Set
 -- whether the sends of an insert have numbers, under a client's options and a setup
 abbrev pub InsertsHaveNumbers : ClientOptions → Option Setup → Type 0
 InsertsHaveNumbers client setup = DrawsNumbers true (own_of_insert client) setup
-
--- the numbers of idle sessions rise by so many at most, where the pool is told
-abbrev pub RaisesByWhereTold : ℕ → Option Pool → Option Pool → Type 0
-RaisesByWhereTold count (Some pool) (Some pool_now) = (most : ℕ) → NumbersWithin (pos most) pool.idle → NumbersWithin (pos (most + count)) pool_now.idle
-RaisesByWhereTold count pool pool_now = Unit {0}
-
--- the same of two moments
-abbrev pub RaisesBy : ℕ → Moment → Moment → Type 0
-RaisesBy count before now = RaisesByWhereTold count before.store.pool now.store.pool
 
 -- over an insert of these documents they rise by one at most for each of its batches, where the server is told, and else for each document
 abbrev pub RaisesByBatches : Moment → Moment → Namespace → List (List (Pair Bson)) → InsertManyOptions → Type 0
