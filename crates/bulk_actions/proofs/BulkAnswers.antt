@@ -19,8 +19,8 @@ use Rattle.bulk_fronts.specs.BulkOps.{AreOps}
 use Rattle.driver_attempt.specs.Causes.{ErrorOutline, end_of, outline_of}
 use Rattle.driver_attempt.specs.Moment.{Moment}
 use Rattle.driver_inputs.specs.BulkInputs.{BulkInputRefused, IsBulkAccepted, RefusesBulkValues, no_models_text, with_model_ids}
-use Rattle.driver_actions.specs.BatchPlans.{PlannedEnd}
-use Rattle.driver_actions.proofs.PlannedSequence as planned
+use Rattle.many_actions.specs.BatchPlans.{PlannedEnd}
+use Rattle.many_actions.proofs.PlannedSequence as planned
 use Rattle.bulk_actions.specs.BulkBatches.{ComesTo, bulk_plan}
 use Rattle.bulk_actions.specs.BulkCalls.{AnswersBulkCall, AnswersStanding, BulkCaused, EndsShort, MadeBulk, MakesBulk, RefusesBulkFirst}
 use Rattle.bulk_actions.specs.BulkIds.{DrawsModelIds, OwnsOps, PreparesOps}

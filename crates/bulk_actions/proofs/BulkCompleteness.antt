@@ -27,7 +27,7 @@ use Rattle.driver_attempt.specs.Moment.{Moment}
 use Rattle.driver_exec.proofs.Moments.{before_refl}
 use Rattle.driver_inputs.specs.BulkInputs.{BulkInputRefused, IsBulkAccepted, TellsBulkInput, with_model_id, with_model_ids}
 use Rattle.driver_inputs.specs.ManyInputs.{AreTwelve}
-use Rattle.driver_actions.specs.ManyCompleteness.{IsGentleCallPart}
+use Rattle.many_actions.specs.ManyCompleteness.{IsGentleCallPart}
 use Rattle.bulk_actions.specs.BulkCalls.{EndsShort, MadeBulk, MakesBulk}
 use Rattle.bulk_actions.specs.BulkCompleteness.{BulkRepeats, CompletesBulk, IsGentleBulkPart, IsGentleBulkWhereTold, IsValidBulk, MayCompleteBulk, MayCompleteBulkWhereTold, ServesBulk, TakesModels}
 use Rattle.bulk_actions.specs.BulkIds.{PreparesOps}

@@ -26,7 +26,7 @@ use Rattle.driver_attempt.specs.OldDeployment.{reworded_kind}
 use Rattle.driver_exec.specs.OperationCauses.{Caused, Grounds, KindNeeds, SpellsEnd, grounds}
 use Rattle.driver_exec.specs.Reporting.{HasBuilt, HasRun}
 use Rattle.driver_exec.specs.Resending.{IsReadFailure}
-use Rattle.driver_actions.specs.BatchPlans.{IsCount}
+use Rattle.many_actions.specs.BatchPlans.{IsCount}
 use Rattle.bulk_actions.specs.BulkBatches.{end_goes_on}
 use Rattle.bulk_actions.specs.inside.BulkBatches.{EndHasKind}
 

@@ -20,11 +20,11 @@ use Rattle.driver_attempt.specs.Moment.{Moment}
 use Rattle.driver_inputs.specs.BulkInputs.{with_model_id, with_model_ids}
 use Rattle.driver_inputs.specs.Calls.{IsOwn}
 use Rattle.driver_inputs.specs.ManyInputs.{AreTwelve}
-use Rattle.driver_actions.specs.ManyEntries.{MayWriteCall}
+use Rattle.many_actions.specs.ManyEntries.{MayWriteCall}
 use Rattle.driver_actions.proofs.CallSends.{may_draws, pool_kept}
 use Rattle.driver_actions.proofs.MovesBeside.{CallMoves, DrewIds, moves_drew, moves_twice}
 use Rattle.driver_actions.proofs.OwnIds.{own_drawn}
-use Rattle.driver_actions.proofs.PlannedBatches.{Advances, IsNewFrom, batches_advance, batches_move}
+use Rattle.many_actions.proofs.PlannedBatches.{Advances, IsNewFrom, batches_advance, batches_move}
 use Rattle.bulk_actions.specs.BulkBatches.{bulk_plan}
 use Rattle.bulk_actions.specs.BulkCalls.{EndsShort, MadeBulk, MakesBulk}
 use Rattle.bulk_actions.specs.BulkIds.{DrawsModelId, DrawsModelIds, PreparesOps}

@@ -21,10 +21,10 @@ use Rattle.driver_inputs.specs.BulkInputs.{with_model_id, with_model_ids}
 use Rattle.driver_inputs.specs.ManyFaults.{zero_id}
 use Rattle.driver_inputs.specs.ManyInputs.{AreTwelve}
 use Rattle.driver_actions.specs.Raises.{RaisesBy, RaisesByWhereTold}
-use Rattle.driver_actions.specs.Numbers.{server_setup}
-use Rattle.driver_actions.proofs.BatchSizes.{with_id_size}
+use Rattle.many_actions.specs.Numbers.{server_setup}
+use Rattle.many_actions.proofs.BatchSizes.{with_id_size}
 use Rattle.driver_actions.proofs.MovesBeside.{CallMoves, moves_drew, moves_more, moves_raising, raises_more}
-use Rattle.driver_actions.proofs.PlannedBatches.{PlanNumbers, batches_raise}
+use Rattle.many_actions.proofs.PlannedBatches.{PlanNumbers, batches_raise}
 use Rattle.bulk_actions.specs.BulkBatches.{bulk_plan}
 use Rattle.bulk_actions.specs.BulkCalls.{EndsShort, MadeBulk, MakesBulk}
 use Rattle.bulk_actions.specs.BulkNumbers.{RaisesByBulk, bulk_numbers, numbers_for, sized_with_ids}

@@ -24,8 +24,8 @@ use Rattle.driver_attempt.specs.Moment.{Moment}
 use Rattle.driver_exec.specs.OperationCauses.{Caused}
 use Rattle.driver_exec.specs.Reporting.{HasRun}
 use Rattle.driver_exec.specs.Resending.{SendsOneCommand}
-use Rattle.driver_actions.specs.BatchPlans.{IsCount, MakesAllPlanned, places_from}
-use Rattle.driver_actions.proofs.PlannedParts.{planned_made}
+use Rattle.many_actions.specs.BatchPlans.{IsCount, MakesAllPlanned, places_from}
+use Rattle.many_actions.proofs.PlannedParts.{planned_made}
 use Rattle.bulk_actions.specs.BulkBatches.{ComesTo, Takes, bulk_plan, end_goes_on}
 use Rattle.bulk_actions.specs.inside.BulkBatches.{BulkBatchMade, ComesBehind, EndHasKind, NextWithin, StopsBulk, TakesBatch}
 use Rattle.bulk_actions.proofs.BulkEnds.{counts_ops, end_has}

@@ -19,11 +19,11 @@ use Rattle.bulk_ops.specs.BulkLawful.{bulk_lawful}
 use Rattle.bulk_fronts.specs.BulkOps.{AreOps, IsUndotted, model_writes, model_written}
 use Rattle.bulk_ops.specs.BulkSpec.{admin_target, bulk_spec}
 use Rattle.bulk_fronts.specs.BulkWrites.{bulk_is_ordered}
-use Rattle.driver_actions.specs.BatchPlans.{places_from, rest_of}
+use Rattle.many_actions.specs.BatchPlans.{places_from, rest_of}
 use Rattle.driver_actions.specs.CallParts.{HasWriteOf}
-use Rattle.driver_actions.proofs.BatchWrites.{in_front, in_rest, place_at}
-use Rattle.driver_actions.proofs.BatchPlaces.{places_length}
-use Rattle.driver_actions.proofs.PlannedBatches.{PlanWrites, StandsAt, place_in}
+use Rattle.many_actions.proofs.BatchWrites.{in_front, in_rest, place_at}
+use Rattle.many_actions.proofs.BatchPlaces.{places_length}
+use Rattle.many_actions.proofs.PlannedBatches.{PlanWrites, StandsAt, place_in}
 use Rattle.bulk_actions.specs.BulkBatches.{bulk_plan}
 use Rattle.bulk_actions.proofs.BulkEnds.{followed_read}
 use Rattle.bulk_actions.proofs.OpsLeft.{ops_left, undotted_left}

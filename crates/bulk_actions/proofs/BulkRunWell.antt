@@ -38,13 +38,13 @@ use Rattle.driver_exec.specs.Gentle.{EndsWell}
 use Rattle.driver_exec.proofs.Moments.{IsBefore, before_refl, before_twice}
 use Rattle.driver_exec.proofs.OperationMoments.{executes_before}
 use Rattle.driver_exec.proofs.WholeOperation.{executes_client}
-use Rattle.driver_actions.specs.BatchPlans.{MakesAllPlanned, MakesPlanned, PlannedEnd, rest_of}
-use Rattle.driver_actions.specs.ManyCompleteness.{IsGentleCallPart}
+use Rattle.many_actions.specs.BatchPlans.{MakesAllPlanned, MakesPlanned, PlannedEnd, rest_of}
+use Rattle.many_actions.specs.ManyCompleteness.{IsGentleCallPart}
 use Rattle.driver_actions.specs.Raises.{RaisesByWhereTold}
-use Rattle.driver_actions.specs.Numbers.{server_setup}
+use Rattle.many_actions.specs.Numbers.{server_setup}
 use Rattle.driver_actions.proofs.MovesBeside.{GainsOwn}
-use Rattle.driver_actions.proofs.PlannedBatches as planned
-use Rattle.driver_actions.proofs.PlannedBatches.{IsNewFrom, fixed_or_one, is_fixed_or_one, mid_told, next_new, run_told}
+use Rattle.many_actions.proofs.PlannedBatches as planned
+use Rattle.many_actions.proofs.PlannedBatches.{IsNewFrom, fixed_or_one, is_fixed_or_one, mid_told, next_new, run_told}
 use Rattle.bulk_actions.specs.BulkBatches.{ComesTo, StandsBehind, Takes, bulk_plan, end_goes_on}
 use Rattle.bulk_actions.specs.BulkCalls.{AnswersStanding}
 use Rattle.bulk_actions.specs.BulkCompleteness.{NoneAhead, ServesBulk}

@@ -23,7 +23,7 @@ use Rattle.driver_link.proofs.Replays.{exchanged_trace}
 use Rattle.driver_exec.specs.Gentle.{IsGentlePart, IsLossy, IsOfPart}
 use Rattle.driver_exec.specs.Resending.{PassesAside, SendsWhereTold}
 use Rattle.driver_actions.specs.CallParts.{CarrySame}
-use Rattle.driver_actions.proofs.GentleParts.{before_more}
+use Rattle.many_actions.proofs.GentleParts.{before_more}
 use Rattle.bulk_actions.specs.BulkCompleteness.{BulkRepeats, NoneAhead, RepeatsFrom, ServesBulk}
 use Rattle.bulk_actions.proofs.CursorsAhead.{exchanged_ahead}
 

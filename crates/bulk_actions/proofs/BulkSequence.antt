@@ -11,8 +11,8 @@ use Rattle.driver_error.specs.Error.{kind_of}
 use Rattle.driver_options.specs.declared.write_options.BulkWriteOptions.{BulkWriteOptions}
 use Rattle.bulk_fronts.specs.declared.own_op.OwnOp.{OwnOp}
 use Rattle.driver_attempt.specs.Moment.{Moment}
-use Rattle.driver_actions.specs.BatchPlans.{PlannedEnd}
-use Rattle.driver_actions.proofs.PlannedSequence as planned
+use Rattle.many_actions.specs.BatchPlans.{PlannedEnd}
+use Rattle.many_actions.proofs.PlannedSequence as planned
 use Rattle.bulk_actions.specs.BulkBatches.{ComesTo, StandsBehind, bulk_plan}
 use Rattle.bulk_actions.specs.inside.BulkBatches.{IsBegun, StandsBehindAll, StopsBulk, TakesBatch, TakesCounted}
 use Rattle.bulk_actions.proofs.Following.{begun_behind}

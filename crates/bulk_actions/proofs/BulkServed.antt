@@ -34,7 +34,7 @@ use Rattle.driver_link.proofs.Unnumbered.{case_free, results_free}
 use Rattle.bulk_ops.specs.NaturalCounts.{IsNatural}
 use Rattle.bulk_ops.proofs.WholePages.{AllNatural, CountsNatural}
 use Rattle.driver_exec.specs.Gentle.{IsLossy}
-use Rattle.driver_actions.proofs.KeptCounts.{MayGoUnder, MeetsKept, PlansEach, RunsEach, again_under, meets_kept, taken_each}
+use Rattle.many_actions.proofs.KeptCounts.{MayGoUnder, MeetsKept, PlansEach, RunsEach, again_under, meets_kept, taken_each}
 use Rattle.bulk_actions.specs.BulkCompleteness.{PlansNatural, PlansWhere, ServesBulk}
 
 at_least : (n : ℕ) → pos 0 ≤ℤ pos n

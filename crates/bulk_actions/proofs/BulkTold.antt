@@ -37,10 +37,10 @@ use Rattle.driver_exec.proofs.InvariantSteps.Standing.{one_command_entries}
 use Rattle.driver_inputs.specs.BulkInputs.{with_model_ids}
 use Rattle.driver_inputs.specs.Calls.{IsOwn}
 use Rattle.driver_inputs.specs.ManyInputs.{AreTwelve}
-use Rattle.driver_actions.specs.BatchPlans.{AllDone, MakesAllPlanned, MakesPlanned, PlannedEnd, places_from, rest_of}
-use Rattle.driver_actions.specs.ManyEntries.{MayWriteCall}
-use Rattle.driver_actions.proofs.PlannedBatches as planned
-use Rattle.driver_actions.proofs.PlannedBatches.{IsNewFrom, fixed_or_one, mid_told, next_new, place_in, told_as}
+use Rattle.many_actions.specs.BatchPlans.{AllDone, MakesAllPlanned, MakesPlanned, PlannedEnd, places_from, rest_of}
+use Rattle.many_actions.specs.ManyEntries.{MayWriteCall}
+use Rattle.many_actions.proofs.PlannedBatches as planned
+use Rattle.many_actions.proofs.PlannedBatches.{IsNewFrom, fixed_or_one, mid_told, next_new, place_in, told_as}
 use Rattle.bulk_actions.specs.BulkBatches.{ComesTo, StandsBehind, Takes, bulk_plan}
 use Rattle.bulk_actions.specs.BulkCalls.{AnswersStanding, EndsShort, MadeBulk, MakesBulk}
 use Rattle.bulk_actions.specs.BulkTold.{AreEntriesOf, HasToldAll, OkIsLogged, ToldWhereTold}

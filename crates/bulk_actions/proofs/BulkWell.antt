@@ -51,12 +51,12 @@ use Rattle.driver_exec.proofs.Moments.{IsBefore}
 use Rattle.driver_exec.proofs.OperationMoments.{executes_before}
 use Rattle.driver_exec.proofs.SessionNumbers.{lent_within}
 use Rattle.driver_exec.proofs.TraceSessions.{lends_holds}
-use Rattle.driver_actions.specs.BatchPlans.{MakesPlanned, PlannedEnd, places_from, rest_of}
-use Rattle.driver_actions.specs.ManyCompleteness.{IsGentleCallPart}
-use Rattle.driver_actions.proofs.BatchPlaces.{places_length}
-use Rattle.driver_actions.proofs.GentleParts.{part_gentle}
-use Rattle.driver_actions.proofs.PlannedBatches as planned
-use Rattle.driver_actions.proofs.PlannedBatches.{IsNewFrom, fixed_or_one, is_fixed_or_one, standing_may_send}
+use Rattle.many_actions.specs.BatchPlans.{MakesPlanned, PlannedEnd, places_from, rest_of}
+use Rattle.many_actions.specs.ManyCompleteness.{IsGentleCallPart}
+use Rattle.many_actions.proofs.BatchPlaces.{places_length}
+use Rattle.many_actions.proofs.GentleParts.{part_gentle}
+use Rattle.many_actions.proofs.PlannedBatches as planned
+use Rattle.many_actions.proofs.PlannedBatches.{IsNewFrom, fixed_or_one, is_fixed_or_one, standing_may_send}
 use Rattle.bulk_actions.specs.BulkBatches.{bulk_plan}
 use Rattle.bulk_actions.specs.BulkCompleteness.{BulkRepeats, HaveFewNamespaces, NoneAhead, RepeatsFrom, ServesBulk, TakesModels, bulk_concern, own_of_models}
 use Rattle.bulk_actions.specs.BulkNumbers.{sized_with_ids}
@@ -69,7 +69,7 @@ use Rattle.bulk_actions.proofs.BulkServed.{MayGoBulk, bulk_again, usual_natural}
 use Rattle.bulk_actions.proofs.CursorsAhead.{exchanged_ahead}
 use Rattle.bulk_actions.proofs.FewestBulk.{as_many, sizes_left}
 use Rattle.bulk_ops.specs.NaturalCounts.{IsNatural}
-use Rattle.driver_actions.proofs.KeptCounts.{first_under}
+use Rattle.many_actions.proofs.KeptCounts.{first_under}
 
 -- what is known of a valid bulk write whose ops as they are sent are these, under a client's options, over a link of this setup
 pub record KnownBulk {R : Type 0} (tells : ResultSpec R) (options : BulkWriteOptions) (models : List WriteModel) (all : List OwnOp) (client : ClientOptions) (setup : Setup) : Type 0 where

@@ -41,8 +41,8 @@ use Rattle.driver_attempt.specs.Holding.{ExecutionSession, held_id}
 use Rattle.driver_attempt.specs.Moment.{Moment}
 use Rattle.driver_attempt.specs.Retry.{RetryState}
 use Rattle.driver_exec.proofs.Moments.{LeadsCalling, calling_twice, checks_lead, connects_lead, one_moment, selects_lead}
-use Rattle.driver_actions.specs.BatchPlans.{MakesAllPlanned, PlannedEnd, places_from, rest_of}
-use Rattle.driver_actions.proofs.PlannedBatches.{fixed_or_one, is_fixed_or_one}
+use Rattle.many_actions.specs.BatchPlans.{MakesAllPlanned, PlannedEnd, places_from, rest_of}
+use Rattle.many_actions.proofs.PlannedBatches.{fixed_or_one, is_fixed_or_one}
 use Rattle.bulk_actions.specs.BulkBatches.{bulk_plan}
 use Rattle.bulk_actions.specs.BulkCompleteness.{NoneAhead}
 use Rattle.bulk_actions.proofs.BulkPlanned.{GoodModels, bulk_asks, bulk_planned}

@@ -40,12 +40,12 @@ use Rattle.driver_exec.specs.BetweenCalls.{Between, Sound}
 use Rattle.driver_exec.specs.Reporting.{IsToldBy}
 use Rattle.driver_exec.specs.Resending.{IsReadFailure}
 use Rattle.driver_exec.proofs.PassesBy.{gives_leave}
-use Rattle.driver_actions.specs.BatchPlans.{MakesAllPlanned, MakesPlanned, PlannedEnd, places_from}
+use Rattle.many_actions.specs.BatchPlans.{MakesAllPlanned, MakesPlanned, PlannedEnd, places_from}
 use Rattle.driver_actions.specs.CallParts.{IsReplayedWhereTold, KeepsMakingWhereTold}
-use Rattle.driver_actions.specs.ManyEntries.{MayWriteCall}
+use Rattle.many_actions.specs.ManyEntries.{MayWriteCall}
 use Rattle.driver_actions.proofs.MovesBeside.{AnySend, GainsOwn, any_went, went_aside, went_twice}
-use Rattle.driver_actions.proofs.PlannedBatches as planned
-use Rattle.driver_actions.proofs.PlannedBatches.{IsNewFrom, fixed_or_one, mid_told, next_new, place_in}
+use Rattle.many_actions.proofs.PlannedBatches as planned
+use Rattle.many_actions.proofs.PlannedBatches.{IsNewFrom, fixed_or_one, mid_told, next_new, place_in}
 use Rattle.bulk_actions.specs.BulkBatches.{ComesTo, StandsBehind, Takes, bulk_plan}
 use Rattle.bulk_actions.specs.BulkCalls.{AnswersStanding, EndsShort, MadeBulk}
 use Rattle.bulk_actions.specs.ErrorsTold.{ErrTellsTruly, IsErrorSpelled, TellsErrors, TellsErrorsWhereTold, write_errors_in, write_errors_of}

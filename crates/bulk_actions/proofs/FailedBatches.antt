@@ -54,9 +54,9 @@ use Rattle.driver_exec.specs.Resending.{GivesPages, IsReadFailure, SendsOneComma
 use Rattle.driver_exec.proofs.InvariantSteps.CamePages.{behind_failed, newest_came}
 use Rattle.driver_exec.proofs.InvariantSteps.Standing.{one_command_entries, one_command_failures}
 use Rattle.driver_exec.proofs.ReadFailures.{read_when_done}
-use Rattle.driver_actions.specs.BatchPlans.{MakesPlanned, PlannedEnd, places_from, rest_of}
-use Rattle.driver_actions.proofs.PlannedBatches as planned
-use Rattle.driver_actions.proofs.PlannedBatches.{IsNewFrom, fixed_or_one, place_in, told_as}
+use Rattle.many_actions.specs.BatchPlans.{MakesPlanned, PlannedEnd, places_from, rest_of}
+use Rattle.many_actions.proofs.PlannedBatches as planned
+use Rattle.many_actions.proofs.PlannedBatches.{IsNewFrom, fixed_or_one, place_in, told_as}
 use Rattle.bulk_actions.specs.BulkBatches.{bulk_plan}
 use Rattle.bulk_actions.proofs.BulkPlanned.{GoodModels, IsOfModel, bulk_asks, bulk_body, bulk_planned, bulk_stands}
 use Rattle.bulk_actions.proofs.PartlyMerged.{RiseWithin, StandsFor, TellsPart, rise_higher, rise_lower, tells_none}

@@ -37,13 +37,13 @@ use Rattle.bulk_ops.proofs.DistinctSums.{ops_keep_fit}
 use Rattle.driver_attempt.specs.Moment.{Moment}
 use Rattle.driver_exec.specs.Resending.{PassesAside, SendsWhereTold}
 use Rattle.driver_inputs.specs.BulkInputs.{with_model_ids}
-use Rattle.driver_actions.specs.BatchPlans.{AllDone, PlannedEnd, places_from}
+use Rattle.many_actions.specs.BatchPlans.{AllDone, PlannedEnd, places_from}
 use Rattle.driver_actions.specs.CallParts.{KeepsMakingWhereTold}
-use Rattle.driver_actions.specs.FewestBatches.{AreSendsOf, GoesOut, places_of}
-use Rattle.driver_actions.proofs.BatchPlaces.{places_length}
+use Rattle.many_actions.specs.FewestBatches.{AreSendsOf, GoesOut, places_of}
+use Rattle.many_actions.proofs.BatchPlaces.{places_length}
 use Rattle.driver_actions.proofs.CallMoves.{copies}
-use Rattle.driver_actions.proofs.FewestCuts.{once_or_twice, places_front}
-use Rattle.driver_actions.proofs.PlannedCuts.{PlanCuts, RunsWent, batches_cut}
+use Rattle.many_actions.proofs.FewestCuts.{once_or_twice, places_front}
+use Rattle.many_actions.proofs.PlannedCuts.{PlanCuts, RunsWent, batches_cut}
 use Rattle.bulk_actions.specs.BulkBatches.{ComesTo, StandsBehind, Takes, bulk_plan}
 use Rattle.bulk_actions.specs.BulkCalls.{AnswersStanding, EndsShort, MadeBulk, MakesBulk}
 use Rattle.bulk_actions.specs.BulkIds.{DrawsModelIds}

@@ -13,8 +13,8 @@ use Rattle.bulk_fronts.specs.declared.own_op.OwnOp.{OwnOp}
 use Rattle.bulk_fronts.specs.BulkOps.{AreOps, IsUndotted}
 use Rattle.bulk_ops.specs.BulkSpec.{bulk_spec}
 use Rattle.bulk_ops.proofs.BulkCommand.{bulk_bodies_of}
-use Rattle.driver_actions.specs.BatchPlans.{places_from}
-use Rattle.driver_actions.proofs.BatchPlaces.{places_length}
+use Rattle.many_actions.specs.BatchPlans.{places_from}
+use Rattle.many_actions.proofs.BatchPlaces.{places_length}
 use Rattle.bulk_actions.specs.BulkIds.{OwnsOps, PreparesOps}
 use Rattle.bulk_actions.specs.inside.BulkBatches.{AreBulkOps}
 use Rattle.bulk_actions.proofs.BulkBodies.{accepted_undotted}

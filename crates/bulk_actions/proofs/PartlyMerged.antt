@@ -22,7 +22,7 @@ use Rattle.driver_link.proofs.Lists.{has_either, has_left, has_right}
 use Rattle.bulk_ops.specs.BulkEntries.{counts_by}
 use Rattle.bulk_fronts.specs.BulkOps.{model_written}
 use Rattle.bulk_ops.specs.PartialEntries.{AllTold, IndexedEntry, IndexesRise, TellsSome, entries_in}
-use Rattle.driver_actions.proofs.PlannedBatches.{place_in}
+use Rattle.many_actions.proofs.PlannedBatches.{place_in}
 use Rattle.bulk_actions.proofs.BulkTold.{counts_append}
 
 -- ---- indexes that rise

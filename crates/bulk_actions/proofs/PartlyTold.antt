@@ -26,10 +26,10 @@ use Rattle.bulk_fronts.specs.BulkOps.{model_written}
 use Rattle.bulk_ops.specs.PartialEntries.{IndexedEntry}
 use Rattle.driver_attempt.specs.Moment.{Moment}
 use Rattle.driver_exec.specs.BetweenCalls.{Between, Sound}
-use Rattle.driver_actions.specs.BatchPlans.{MakesAllPlanned, PlannedEnd}
-use Rattle.driver_actions.specs.ManyEntries.{MayWriteCall}
-use Rattle.driver_actions.proofs.PlannedBatches as planned
-use Rattle.driver_actions.proofs.PlannedBatches.{IsNewFrom, fixed_or_one, mid_told, next_new}
+use Rattle.many_actions.specs.BatchPlans.{MakesAllPlanned, PlannedEnd}
+use Rattle.many_actions.specs.ManyEntries.{MayWriteCall}
+use Rattle.many_actions.proofs.PlannedBatches as planned
+use Rattle.many_actions.proofs.PlannedBatches.{IsNewFrom, fixed_or_one, mid_told, next_new}
 use Rattle.bulk_actions.specs.BulkBatches.{ComesTo, StandsBehind, Takes, bulk_plan}
 use Rattle.bulk_actions.specs.BulkCalls.{AnswersStanding, EndsShort, MadeBulk, MakesBulk, UnmadeBulk}
 use Rattle.bulk_actions.specs.PartlyTold.{ErrIsLogged, FailuresAreLogged, HasToldSome, IsInLog, PartialWhereTold}

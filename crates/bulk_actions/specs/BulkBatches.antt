@@ -10,7 +10,7 @@ use Rattle.driver_options.specs.declared.write_options.BulkWriteOptions.{BulkWri
 use Rattle.bulk_fronts.specs.declared.own_op.OwnOp.{OwnOp}
 use Rattle.bulk_ops.specs.BulkSpec.{admin_target, bulk_spec}
 use Rattle.bulk_fronts.specs.BulkWrites.{bulk_is_ordered}
-use Rattle.driver_actions.specs.BatchPlans.{BatchPlan, PlannedEnd}
+use Rattle.many_actions.specs.BatchPlans.{BatchPlan, PlannedEnd}
 
 -- an end behind which the next batch is made: Ok, or failures of the bulk write without a source, and without a write error where it is
 -- ordered

@@ -12,7 +12,7 @@ use Rattle.bulk_fronts.specs.declared.own_op.OwnOp.{OwnOp}
 use Rattle.driver_attempt.specs.Causes.{ErrorOutline, end_of}
 use Rattle.driver_attempt.specs.Moment.{Moment}
 use Rattle.driver_inputs.specs.BulkInputs.{BulkInputRefused, IsBulkAccepted}
-use Rattle.driver_actions.specs.BatchPlans.{MakesAllPlanned, PlannedEnd}
+use Rattle.many_actions.specs.BatchPlans.{MakesAllPlanned, PlannedEnd}
 use Rattle.driver_actions.specs.Causes.{TellsKind}
 use Rattle.bulk_actions.specs.BulkBatches.{ComesTo, bulk_plan}
 use Rattle.bulk_actions.specs.BulkIds.{OwnsOps, PreparesOps}

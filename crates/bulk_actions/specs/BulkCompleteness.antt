@@ -45,7 +45,7 @@ use Rattle.driver_attempt.specs.Moment.{Moment}
 use Rattle.driver_exec.specs.Gentle.{EndsWell}
 use Rattle.driver_exec.specs.OperationCauses.{DrawsNumbers}
 use Rattle.driver_inputs.specs.BulkInputs.{IsBulkAccepted}
-use Rattle.driver_actions.specs.ManyCompleteness.{IsGentleCallPart, MayCompleteCall}
+use Rattle.many_actions.specs.ManyCompleteness.{IsGentleCallPart, MayCompleteCall}
 use Rattle.bulk_actions.specs.BulkNumbers.{bulk_numbers, sized_with_ids}
 use Rattle.bulk_actions.specs.BulkTold.{AreEntriesOf}
 

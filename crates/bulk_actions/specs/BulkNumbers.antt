@@ -11,7 +11,7 @@ use Rattle.driver_attempt.specs.Moment.{Moment}
 use Rattle.driver_inputs.specs.BulkInputs.{with_model_id}
 use Rattle.driver_inputs.specs.ManyFaults.{zero_id}
 use Rattle.driver_actions.specs.Raises.{RaisesBy}
-use Rattle.driver_actions.specs.Numbers.{server_setup}
+use Rattle.many_actions.specs.Numbers.{server_setup}
 use Rattle.bulk_actions.specs.FewestBulk.{sized_model}
 
 -- a run of ops keeps to limits

@@ -13,7 +13,7 @@ use Rattle.bulk_ops.specs.BulkEntries.{TellsBulk}
 use Rattle.bulk_fronts.specs.BulkOps.{model_written}
 use Rattle.driver_attempt.specs.Moment.{Moment}
 use Rattle.driver_inputs.specs.Calls.{IsOwn}
-use Rattle.driver_actions.specs.ManyEntries.{MayWriteCall}
+use Rattle.many_actions.specs.ManyEntries.{MayWriteCall}
 
 -- an entry is that of the caller's model at an index of a call
 pub record IsEntryOf (model : WriteModel) (call index : ℕ) (entry : Entry) : Type 0 where

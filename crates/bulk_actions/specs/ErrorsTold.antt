@@ -26,8 +26,8 @@ use Rattle.driver_link.specs.Settled.{Has}
 use Rattle.driver_session.specs.Pool.{Pool}
 use Rattle.driver_ops.specs.Served.{statements_in}
 use Rattle.driver_attempt.specs.Moment.{Moment}
-use Rattle.driver_actions.specs.BatchPlans.{PlannedEnd}
-use Rattle.driver_actions.specs.ManyEntries.{MayWriteCall}
+use Rattle.many_actions.specs.BatchPlans.{PlannedEnd}
+use Rattle.many_actions.specs.ManyEntries.{MayWriteCall}
 use Rattle.bulk_actions.specs.BulkCalls.{MadeBulk}
 
 -- a write error at an index is what a reply of a told server spells: the reply to a send of this call, by the step of the schedule that

@@ -20,7 +20,7 @@ use Rattle.bulk_fronts.specs.BulkOps.{op_document}
 use Rattle.driver_attempt.specs.Moment.{Moment}
 use Rattle.driver_inputs.specs.BulkInputs.{with_model_ids}
 use Rattle.driver_inputs.specs.ManyInputs.{AreTwelve}
-use Rattle.driver_actions.specs.FewestBatches.{AreSendsOf}
+use Rattle.many_actions.specs.FewestBatches.{AreSendsOf}
 
 -- what a model counts for in a batch: the text of its namespace, and the size of its op in bytes
 abbrev pub sized_model : WriteModel → SizedOp

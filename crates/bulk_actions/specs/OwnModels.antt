@@ -12,7 +12,7 @@ use Rattle.bulk_fronts.specs.BulkOps.{model_written}
 use Rattle.driver_attempt.specs.Moment.{Moment}
 use Rattle.driver_exec.specs.BetweenCalls.{Between, Sound}
 use Rattle.driver_inputs.specs.Calls.{IsOwn}
-use Rattle.driver_actions.specs.ManyEntries.{MayWriteCall}
+use Rattle.many_actions.specs.ManyEntries.{MayWriteCall}
 use Rattle.bulk_actions.specs.BulkCompleteness.{NoneAhead}
 
 -- a write is that of the caller's model at its index in this call, to the last field; an inserted document gets an id where it has none

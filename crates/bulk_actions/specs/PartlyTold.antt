@@ -14,7 +14,7 @@ use Rattle.driver_link.specs.Settled.{Has}
 use Rattle.driver_session.specs.Pool.{Pool}
 use Rattle.bulk_ops.specs.PartialEntries.{IndexedEntry, IndexesRise, TellsSome}
 use Rattle.driver_attempt.specs.Moment.{Moment}
-use Rattle.driver_actions.specs.ManyEntries.{MayWriteCall}
+use Rattle.many_actions.specs.ManyEntries.{MayWriteCall}
 use Rattle.bulk_actions.specs.BulkTold.{IsEntryOf}
 
 -- a log has an entry, which is that of the caller's model at its index of a call

@@ -4,7 +4,7 @@ ghost use Rattle.bulk_outcomes.specs.Status.{Stands, goes_on};
 ghost use Rattle.bulk_fronts.specs.BulkWrites.{bulk_is_ordered};
 ghost use Rattle.driver_attempt.specs.Client.{options_of};
 ghost use Rattle.driver_attempt.specs.Moment.{moment_of};
-ghost use Rattle.driver_actions.specs.BatchPlans.{places_from};
+ghost use Rattle.many_actions.specs.BatchPlans.{places_from};
 ghost use Rattle.bulk_actions.specs.BulkBatches.{Takes};
 ghost use Rattle.bulk_actions.specs.inside.BulkBatches.{AreBulkOps, BulkBatchMade, EndHasKind, MakesBatches, NextWithin, StepsTo};
 
@@ -12,7 +12,7 @@ use bulk_fronts::OwnOp;
 use bulk_ops::BulkWriteOp;
 use bulk_outcomes::laws::{what_is_followed_stands, what_stands_keeps_its_kind};
 use bulk_outcomes::{BulkWriteResult, ExecutionStatus};
-use driver_actions::rest_from;
+use many_actions::rest_from;
 use driver_attempt::{Client, Outside, Steps};
 use driver_error::{Error, ErrorKind, Result};
 use driver_exec::execute_operation;
@@ -107,7 +107,7 @@ fn count_behind(on: bool, count: usize) -> Option<usize>
 }
 
 /// Makes the next batch of a call's ops, from an index on, and says what stands behind it.
-#[tactic(auto, using(driver_actions::proofs::BatchPlaces::covers))]
+#[tactic(auto, using(many_actions::proofs::BatchPlaces::covers))]
 fn next_batch<S: SessionStore, L: Link, K: Clock, R: Rng, T: BulkWriteResult>(
     alloc: Global,
     client: &mut Client<S>,

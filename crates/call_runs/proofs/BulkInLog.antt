@@ -11,7 +11,7 @@ use Rattle.driver_link.specs.Once.{Once}
 use Rattle.driver_link.specs.Settled.{Has}
 use Rattle.driver_link.proofs.Lists.{none_is_some}
 use Rattle.bulk_fronts.specs.BulkOps.{model_written}
-use Rattle.driver_actions.proofs.BatchWrites.{place_in}
+use Rattle.many_actions.proofs.BatchWrites.{place_in}
 use Rattle.bulk_actions.specs.BulkTold.{AreEntriesOf, HasToldAll}
 use Rattle.bulk_actions.specs.OwnModels.{IsOwnModel}
 use Rattle.call_runs.proofs.LogEntries.{entry_found, stands_has}

@@ -14,7 +14,7 @@ use Rattle.driver_options.specs.declared.write_options.BulkWriteOptions.{BulkWri
 use Rattle.driver_link.specs.Clock.{ClockTells}
 use Rattle.driver_link.specs.LinkState.{server_run}
 use Rattle.driver_attempt.specs.Moment.{Moment}
-use Rattle.driver_actions.specs.ManyCompleteness.{MayCompleteCallWhereTold}
+use Rattle.many_actions.specs.ManyCompleteness.{MayCompleteCallWhereTold}
 use Rattle.bulk_actions.specs.BulkCalls.{MakesBulk}
 use Rattle.bulk_actions.specs.ErrorsTold.{TellsErrors, TellsErrorsWhereTold}
 use Rattle.bulk_actions.specs.PartlyTold.{FailuresAreLogged, HasToldSome, PartialWhereTold}

@@ -33,17 +33,17 @@ use Rattle.driver_exec.specs.BetweenCalls.{NumbersWithin}
 use Rattle.driver_exec.specs.Gentle.{EndsWell, IsGentlePart}
 use Rattle.driver_exec.specs.OperationCauses.{DrawsNumbers}
 use Rattle.driver_actions.specs.CallParts.{CarrySame, IsValidWrite, SendsOwn}
-use Rattle.driver_actions.specs.ManyCalls.{MakesMany}
-use Rattle.driver_actions.specs.ManyCompleteness.{InsertsHaveNumbers, IsGentleCallPart, IsGentleCallWhereTold, IsValidMany, MayCompleteCallWhereTold, ServesInserts}
-use Rattle.driver_actions.specs.ManyEntries.{AnswerStands, AnswerStandsWhereTold}
-use Rattle.driver_actions.specs.ManyTold.{IsToldTruly, IsToldWhereTold}
+use Rattle.many_actions.specs.ManyCalls.{MakesMany}
+use Rattle.many_actions.specs.ManyCompleteness.{InsertsHaveNumbers, IsGentleCallPart, IsGentleCallWhereTold, IsValidMany, MayCompleteCallWhereTold, ServesInserts}
+use Rattle.many_actions.specs.ManyEntries.{AnswerStands, AnswerStandsWhereTold}
+use Rattle.many_actions.specs.ManyTold.{IsToldTruly, IsToldWhereTold}
 use Rattle.driver_actions.specs.Below.{AllBelow}
 use Rattle.driver_actions.specs.SingleCalls.{Makes, first_place}
 use Rattle.driver_actions.proofs.CallSends.{makes_alike}
-use Rattle.driver_actions.proofs.FewestCuts.{many_fewest}
-use Rattle.driver_actions.proofs.ManyCompleteness.{many_complete}
-use Rattle.driver_actions.proofs.ManyMade.{many_listed, many_moves}
-use Rattle.driver_actions.proofs.ManySpelled.{many_truly}
+use Rattle.many_actions.proofs.FewestCuts.{many_fewest}
+use Rattle.many_actions.proofs.ManyCompleteness.{many_complete}
+use Rattle.many_actions.proofs.ManyMade.{many_listed, many_moves}
+use Rattle.many_actions.proofs.ManySpelled.{many_truly}
 use Rattle.driver_actions.proofs.CallWrites.Entries.{new_place}
 use Rattle.driver_actions.proofs.Completeness.{Ready, single_well}
 use Rattle.bulk_actions.specs.BulkCalls.{MakesBulk}

@@ -14,7 +14,7 @@ use Rattle.driver_link.specs.ServerRun.{ServerRun}
 use Rattle.driver_link.specs.Settled.{IsWrite}
 use Rattle.driver_attempt.specs.Moment.{Moment}
 use Rattle.driver_actions.specs.CallParts.{HasWriteOf, IsReplayedWhereTold, KeepsMakingWhereTold}
-use Rattle.driver_actions.specs.Numbers.{server_setup}
+use Rattle.many_actions.specs.Numbers.{server_setup}
 use Rattle.driver_actions.proofs.MovesBeside.{CallMoves, GainsOwn, GainsSends}
 use Rattle.bulk_actions.specs.BulkCompleteness.{NoneAhead}
 use Rattle.bulk_actions.proofs.BulkKept.{bulk_behind}

@@ -10,10 +10,10 @@ use Rattle.driver_session.specs.StoreTells.{Draws, LendsAsBefore}
 use Rattle.driver_ops.specs.Targets.{in_collection}
 use Rattle.driver_attempt.specs.Moment.{Moment}
 use Rattle.driver_actions.specs.CallParts.{IsReplayed, KeepsMaking, SendsOwn}
-use Rattle.driver_actions.specs.Numbers.{server_setup}
+use Rattle.many_actions.specs.Numbers.{server_setup}
 use Rattle.driver_actions.proofs.CallMoves.{gains_sends_own}
 use Rattle.driver_actions.proofs.CallSends.{makes_moves}
-use Rattle.driver_actions.proofs.ManyNumbers.{many_leaves}
+use Rattle.many_actions.proofs.ManyNumbers.{many_leaves}
 use Rattle.driver_actions.proofs.MovesBeside.{CallMoves}
 use Rattle.bulk_actions.specs.BulkNumbers.{bulk_numbers}
 use Rattle.bulk_actions.proofs.BulkNumbers.{bulk_moves}

@@ -16,10 +16,10 @@ use Rattle.driver_link.specs.declared.machine.PlacedWrite.{PlacedWrite}
 use Rattle.driver_link.specs.Once.{Once}
 use Rattle.driver_link.proofs.Lists.{none_is_some}
 use Rattle.write_ops.specs.InsertSpec.{id_beside}
-use Rattle.driver_actions.specs.ManyEntries.{HasListed, ListsAll}
-use Rattle.driver_actions.proofs.BatchWrites.{IsOfCall, place_in}
-use Rattle.driver_actions.proofs.ListedIds.{Ids, get_here, get_other}
-use Rattle.driver_actions.proofs.ManyMade.{IsGiven}
+use Rattle.many_actions.specs.ManyEntries.{HasListed, ListsAll}
+use Rattle.many_actions.proofs.BatchWrites.{IsOfCall, place_in}
+use Rattle.many_actions.proofs.ListedIds.{Ids, get_here, get_other}
+use Rattle.many_actions.proofs.ManyMade.{IsGiven}
 use Rattle.call_runs.proofs.LogEntries.{entry_found, stands_has}
 use Rattle.driver_inputs.specs.declared.call.Answer.TheVariants as answer
 use Rattle.driver_inputs.specs.declared.call.Call.{Call}

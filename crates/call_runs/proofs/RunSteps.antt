@@ -35,18 +35,18 @@ use Rattle.bulk_ops.specs.BulkEntries.{TellsBulk}
 use Rattle.driver_attempt.specs.Moment.{Moment}
 use Rattle.driver_exec.specs.BetweenCalls.{Between, Sound}
 use Rattle.driver_exec.proofs.InvariantSteps.Leaving.{Left, left_of}
-use Rattle.driver_actions.specs.ManyCalls.{MadeMany, MakesMany}
-use Rattle.driver_actions.specs.ManyEntries.{MayWriteCall}
+use Rattle.many_actions.specs.ManyCalls.{MadeMany, MakesMany}
+use Rattle.many_actions.specs.ManyEntries.{MayWriteCall}
 use Rattle.driver_actions.specs.SingleEntries.{HasOwnEntry, MayWrite}
 use Rattle.driver_actions.specs.Below.{AllBelow}
 use Rattle.driver_actions.specs.SingleCalls.{Made, Makes, first_place}
-use Rattle.driver_actions.proofs.BatchesMade.{Advances}
-use Rattle.driver_actions.proofs.BatchWrites.{IsOfCall}
+use Rattle.many_actions.proofs.BatchesMade.{Advances}
+use Rattle.many_actions.proofs.BatchWrites.{IsOfCall}
 use Rattle.driver_actions.proofs.CallWrites.Entries.{entry_told, makes_entry, may_stand, new_place, placed_at}
 use Rattle.driver_actions.proofs.CallWrites.WritesMade.{LeftBy, made_drew, made_left, made_own, unmade_drew_by}
 use Rattle.driver_actions.proofs.CallMoves.{DrewIds}
 use Rattle.driver_actions.proofs.CallSends.{mid_pool, mid_run, only_write}
-use Rattle.driver_actions.proofs.ManyMade.{IsGiven, made_advances, made_stands, unmade_drew}
+use Rattle.many_actions.proofs.ManyMade.{IsGiven, made_advances, made_stands, unmade_drew}
 use Rattle.bulk_actions.specs.BulkCalls.{MadeBulk, MakesBulk}
 use Rattle.bulk_actions.proofs.BulkKept as bulk
 use Rattle.bulk_actions.proofs.BulkKept.{IsGivenModel, own_model}

@@ -14,8 +14,8 @@ use Rattle.driver_link.specs.declared.machine.Written.{Written}
 use Rattle.driver_link.specs.Once.{Once}
 use Rattle.driver_link.specs.Settled.{Has}
 use Rattle.driver_actions.specs.SingleCalls.{first_place}
-use Rattle.driver_actions.proofs.BatchWrites.{place_in}
-use Rattle.driver_actions.proofs.ListedIds.{Ids}
+use Rattle.many_actions.proofs.BatchWrites.{place_in}
+use Rattle.many_actions.proofs.ListedIds.{Ids}
 use Rattle.call_runs.specs.MainTheorem.{answer_at}
 use Rattle.call_runs.proofs.LogEntries.{done_left, entry_found, entry_left, stands_has}
 use Rattle.driver_inputs.specs.declared.call.Answer.{Answer}

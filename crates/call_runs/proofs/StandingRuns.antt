@@ -18,7 +18,7 @@ use Rattle.driver_attempt.specs.Moment.{Moment}
 use Rattle.driver_exec.specs.BetweenCalls.{NumbersWithin}
 use Rattle.driver_actions.specs.CallParts.{IsReplayedWhereTold, KeepsMakingWhereTold}
 use Rattle.driver_actions.specs.Raises.{RaisesBy, RaisesByWhereTold}
-use Rattle.driver_actions.specs.Numbers.{server_setup}
+use Rattle.many_actions.specs.Numbers.{server_setup}
 use Rattle.bulk_actions.specs.BulkCompleteness.{NoneAhead}
 use Rattle.bulk_actions.proofs.CursorsKept.{empty_ahead}
 use Rattle.call_runs.specs.CallByCall.{CallCaused, with_clock}

@@ -3,8 +3,8 @@ use Rattle.std.proofs.Common.{ℕ}
 use Rattle.std.specs.Prelude.{Option, None, Some, IfSome}
 use Rattle.driver_link.specs.ServerRun.{ServerRun}
 use Rattle.driver_session.specs.Pool.{Pool}
-use Rattle.driver_actions.specs.ManyCompleteness.{MayCompleteCallWhereTold}
-use Rattle.driver_actions.specs.ManyEntries.{MayWriteCall}
+use Rattle.many_actions.specs.ManyCompleteness.{MayCompleteCallWhereTold}
+use Rattle.many_actions.specs.ManyEntries.{MayWriteCall}
 
 -- by what holds where pool and server are told and the call may be made
 pub by_told : (most number : ℕ) (P : ServerRun → ServerRun → Type 0) (Q : Option Pool → Option Pool → Option ServerRun → Option ServerRun → Type 0)

@@ -10,7 +10,7 @@ use Rattle.driver_options.specs.declared.write_options.BulkWriteOptions.{BulkWri
 use Rattle.driver_ops.specs.Targets.{in_collection}
 use Rattle.driver_attempt.specs.Moment.{Moment}
 use Rattle.driver_actions.specs.Causes.{WriteCaused}
-use Rattle.driver_actions.specs.ManyCalls.{MakesMany, ManyCaused}
+use Rattle.many_actions.specs.ManyCalls.{MakesMany, ManyCaused}
 use Rattle.driver_actions.specs.SingleCalls.{Makes, first_place}
 use Rattle.bulk_actions.specs.BulkCalls.{BulkCaused, MakesBulk}
 use Rattle.driver_inputs.specs.declared.call.Answer.{Answer}

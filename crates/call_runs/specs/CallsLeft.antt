@@ -19,10 +19,10 @@ use Rattle.driver_link.specs.LinkState.{server_run}
 use Rattle.driver_ops.specs.Targets.{in_collection}
 use Rattle.bulk_ops.specs.BulkSpec.{is_verbose}
 use Rattle.driver_attempt.specs.Moment.{Moment}
-use Rattle.driver_actions.specs.FewestBatches.{OkIsFewestCut}
-use Rattle.driver_actions.specs.ManyCalls.{MadeMany}
-use Rattle.driver_actions.specs.ManyEntries.{AnswerStands}
-use Rattle.driver_actions.specs.ManyTold.{IsToldTruly}
+use Rattle.many_actions.specs.FewestBatches.{OkIsFewestCut}
+use Rattle.many_actions.specs.ManyCalls.{MadeMany}
+use Rattle.many_actions.specs.ManyEntries.{AnswerStands}
+use Rattle.many_actions.specs.ManyTold.{IsToldTruly}
 use Rattle.bulk_actions.specs.BulkCalls.{MadeBulk}
 use Rattle.bulk_actions.specs.ErrorsTold.{TellsErrors}
 use Rattle.bulk_actions.specs.FewestBulk.{OkIsFewestBulk}

@@ -20,8 +20,8 @@ use Rattle.driver_ops.specs.Targets.{in_collection}
 use Rattle.driver_attempt.specs.Moment.{Moment}
 use Rattle.driver_exec.specs.Gentle.{EndsWell}
 use Rattle.driver_exec.specs.OperationCauses.{DrawsNumbers}
-use Rattle.driver_actions.specs.ManyCompleteness.{InsertsHaveNumbers, IsGentleCallWhereTold, IsValidMany, ServesInserts}
-use Rattle.driver_actions.specs.Numbers.{many_numbers}
+use Rattle.many_actions.specs.ManyCompleteness.{InsertsHaveNumbers, IsGentleCallWhereTold, IsValidMany, ServesInserts}
+use Rattle.many_actions.specs.Numbers.{many_numbers}
 use Rattle.driver_actions.specs.CallParts.{IsValidWrite, SendsOwn, IsReplayed}
 use Rattle.bulk_actions.specs.BulkCompleteness.{BulkRepeats, CountsWithin, IsValidBulk, ServesBulk}
 use Rattle.bulk_actions.specs.BulkNumbers.{bulk_numbers}

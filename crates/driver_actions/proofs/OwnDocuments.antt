@@ -17,7 +17,7 @@ use Rattle.driver_attempt.specs.Moment.{Moment}
 use Rattle.driver_actions.specs.Causes.{TellsOwnRefusal}
 use Rattle.driver_actions.specs.ManyIds.{DrawsForFront, DrawsOwnIds, OwnsAll}
 use Rattle.driver_actions.specs.OwnIds.{DrawsOwnId}
-use Rattle.driver_actions.specs.inside.OwnDocuments.{DrawsFront, DrawsTwelve, IsSent, MayDrawTwelve, TellsOneRefusal}
+use Rattle.driver_actions.specs.OwnDocuments.{DrawsFront, DrawsTwelve, IsSent, MayDrawTwelve, TellsOneRefusal}
 use Rattle.driver_inputs.specs.ManyInputs.{AreTwelve, with_ids}
 
 -- one id more of twelve bytes

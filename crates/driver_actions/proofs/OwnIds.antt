@@ -18,7 +18,7 @@ use Rattle.write_ops.specs.declared.own_document.OwnDocument.{OwnDocument}
 use Rattle.driver_attempt.specs.Moment.{Moment}
 use Rattle.driver_actions.specs.Causes.{TellsOwnRefusal}
 use Rattle.driver_actions.specs.OwnIds.{DrawsOwn, DrawsOwnId, MayDrawBy, Owns}
-use Rattle.driver_actions.specs.inside.OwnDocuments.{IsSent}
+use Rattle.driver_actions.specs.OwnDocuments.{IsSent}
 
 -- an id of twelve bytes
 abbrev some_id : ObjectId

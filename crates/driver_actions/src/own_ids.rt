@@ -7,7 +7,7 @@ ghost use Rattle.driver_attempt.specs.Client.{options_of, store_of};
 ghost use Rattle.driver_actions.specs.Causes.{TellsOwnRefusal};
 ghost use Rattle.driver_actions.specs.ManyIds.{OwnsAll};
 ghost use Rattle.driver_actions.specs.OwnIds.{Owns};
-ghost use Rattle.driver_actions.specs.inside.OwnDocuments.{DrawsFront, DrawsTwelve, IsSent, MayDrawTwelve, TellsOneRefusal};
+ghost use Rattle.driver_actions.specs.OwnDocuments.{DrawsFront, DrawsTwelve, IsSent, MayDrawTwelve, TellsOneRefusal};
 
 use bson_lite::{Bson, Document, ID_KEY, List, TryClone};
 use driver_attempt::Client;
@@ -25,7 +25,7 @@ pub(crate) struct AnsweredDocument {
 }
 
 /// The caller's documents as they are sent, each with its id. Ids are drawn in order for those that have none.
-pub(crate) fn own_documents<S: SessionStore>(
+pub fn own_documents<S: SessionStore>(
     alloc: Global,
     client: &mut Client<S>,
     documents: &[Document],

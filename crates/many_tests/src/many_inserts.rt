@@ -4,7 +4,7 @@ ghost use Rattle.driver_link.specs.WellFormed.{IsWellFormed};
 
 use crate::many_failures::id_at;
 use bson_lite::{Bson, ByIndex, Document, List};
-use driver_actions::{InsertMany, ManyInserts};
+use many_actions::{InsertMany, ManyInserts};
 use driver_attempt::{Client, Outside};
 use driver_error::{InsertManyResult, Result};
 use driver_inputs::ToDocument;

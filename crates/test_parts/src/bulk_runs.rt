@@ -93,7 +93,7 @@ fn places_of(alloc: Global, ops: &[OwnOp]) -> std::result::Result<List<Place>, A
 }
 
 /// The ops from an index on, or none where there are no more.
-#[tactic(auto, using(driver_actions::proofs::BatchPlaces::left_whole))]
+#[tactic(auto, using(many_actions::proofs::BatchPlaces::left_whole))]
 fn later_ops(ops: &[OwnOp], first: usize) -> &[OwnOp]
     ensures { result.now ≡ drop first ops.now }
 {

@@ -3,7 +3,7 @@ use crate::batches::bench;
 use crate::inserts::{new_client, outside_with, small};
 use crate::one_reply::OneReply;
 use bson_lite::{Document, List};
-use driver_actions::{InsertMany, ManyInserts};
+use many_actions::{InsertMany, ManyInserts};
 use driver_error::Result;
 use std::alloc::{AllocError, Global};
 

@@ -15,7 +15,7 @@ use Rattle.bulk_fronts.specs.declared.own_op.OwnOp.{OwnOp}
 use Rattle.bulk_fronts.specs.BulkOps.{AreOps, IsUndotted}
 use Rattle.bulk_fronts.specs.BulkWrites.{bulk_is_ordered}
 use Rattle.driver_attempt.specs.Moment.{Moment}
-use Rattle.driver_actions.specs.BatchPlans.{IsCount, MakesAllPlanned, MakesPlanned, PlannedEnd}
+use Rattle.many_actions.specs.BatchPlans.{IsCount, MakesAllPlanned, MakesPlanned, PlannedEnd}
 use Rattle.bulk_actions.specs.declared.bulk_batches.Behind.{Behind}
 use Rattle.bulk_actions.specs.BulkBatches.{ComesTo, Takes, bulk_plan, end_goes_on}
 

@@ -2,8 +2,8 @@
 use Rattle.std.proofs.Common.{drop, ap, ◌∙◌}
 use Rattle.driver_ops.specs.Limits.{built_count}
 use Rattle.driver_attempt.specs.Moment.{moment_of}
-use Rattle.driver_actions.proofs.BatchParts.{kept_client}
-use Rattle.driver_actions.proofs.BatchPlaces.{some_left}
+use Rattle.many_actions.proofs.BatchParts.{kept_client}
+use Rattle.many_actions.proofs.BatchPlaces.{some_left}
 use Rattle.bulk_actions.proofs.BulkParts.{bulk_made, first_within}
 use Rattle.bulk_actions.proofs.OpsLeft.{left_bodies}
 use Rattle.bulk_actions.proofs.bulk_batches.make_batch.Goals as goal

@@ -5,7 +5,7 @@ use Rattle.std.proofs.lemmas.Result.{err_from_is_err_and}
 use Rattle.bulk_outcomes.specs.Status.{Stands, goes_on}
 use Rattle.bulk_fronts.specs.BulkWrites.{bulk_is_ordered}
 use Rattle.driver_attempt.specs.Moment.{moment_of}
-use Rattle.driver_actions.specs.BatchPlans.{places_from}
+use Rattle.many_actions.specs.BatchPlans.{places_from}
 use Rattle.bulk_actions.specs.inside.BulkBatches.{ComesBehind, NextWithin}
 use Rattle.bulk_actions.proofs.BulkSequence.{all_done, begins, goes_further, goes_no_further, stops_at}
 use Rattle.bulk_actions.proofs.bulk_batches.make_batches.Goals as goal

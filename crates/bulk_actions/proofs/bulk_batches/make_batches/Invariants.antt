@@ -4,7 +4,7 @@ use Rattle.bulk_outcomes.specs.Status.{Stands, goes_on}
 use Rattle.bulk_fronts.specs.BulkWrites.{bulk_is_ordered}
 use Rattle.driver_attempt.specs.Client.{options_of}
 use Rattle.driver_attempt.specs.Moment.{moment_of}
-use Rattle.driver_actions.specs.BatchPlans.{places_from}
+use Rattle.many_actions.specs.BatchPlans.{places_from}
 use Rattle.bulk_actions.proofs.BulkSequence.{SoFar}
 use Rattle.bulk_actions.proofs.bulk_batches.make_batches.Given as goal
 

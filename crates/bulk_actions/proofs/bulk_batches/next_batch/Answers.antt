@@ -4,7 +4,7 @@ use Rattle.std.proofs.lemmas.Result.{err_from_is_err_and}
 use Rattle.bulk_outcomes.specs.Status.{goes_on}
 use Rattle.bulk_fronts.specs.BulkWrites.{bulk_is_ordered}
 use Rattle.driver_attempt.specs.Moment.{moment_of}
-use Rattle.driver_actions.proofs.BatchPlaces.{places_left}
+use Rattle.many_actions.proofs.BatchPlaces.{places_left}
 use Rattle.bulk_actions.specs.BulkBatches.{end_goes_on}
 use Rattle.bulk_actions.proofs.BulkParts.{KeepsKind, comes_behind, goes_behind, next_within, stands_behind, stops_refused, stops_unmade}
 use Rattle.bulk_actions.proofs.bulk_batches.next_batch.Goals as goal

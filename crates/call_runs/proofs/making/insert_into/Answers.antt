@@ -2,8 +2,8 @@
 use Rattle.std.proofs.Common.{subst}
 use Rattle.driver_ops.specs.Targets.{in_collection}
 use Rattle.driver_attempt.specs.Moment.{moment_of}
-use Rattle.driver_actions.specs.ManyCalls.{MakesMany, ManyCaused}
-use Rattle.driver_actions.proofs.ManyParts.{many_refused_exit, many_unmade_exit}
+use Rattle.many_actions.specs.ManyCalls.{MakesMany, ManyCaused}
+use Rattle.many_actions.proofs.ManyParts.{many_refused_exit, many_unmade_exit}
 use Rattle.call_runs.proofs.making.insert_into.Goals as goal
 
 pub returns-in_err-try_clone-clause-makes : goal.returns-in_err-try_clone-clause-makes

@@ -1,6 +1,0 @@
--- What a call of an insert of many documents says of its run: the lemmas that it cites, from one place.
-pub use Rattle.driver_actions.proofs.FewestCuts.{many_fewest}
-pub use Rattle.driver_actions.proofs.ManyCompleteness.{many_complete}
-pub use Rattle.driver_actions.proofs.ManyMade.{many_keeps, many_listed}
-pub use Rattle.driver_actions.proofs.ManyNumbers.{many_raises}
-pub use Rattle.driver_actions.proofs.ManySpelled.{many_truly}

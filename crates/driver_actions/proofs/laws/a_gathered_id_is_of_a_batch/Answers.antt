@@ -1,6 +1,0 @@
--- The law is a lemma.
-use Rattle.driver_actions.proofs.GatheredEnds.{id_of_batch}
-use Rattle.driver_actions.proofs.laws.a_gathered_id_is_of_a_batch.Goals as goal
-
-pub returns : goal.returns
-returns c = id_of_batch

@@ -1,6 +1,0 @@
--- The law is a lemma.
-use Rattle.driver_actions.proofs.GatheredLaws.{concern_gathered}
-use Rattle.driver_actions.proofs.laws.the_last_concern_error_is_gathered.Goals as goal
-
-pub returns : goal.returns
-returns c = concern_gathered

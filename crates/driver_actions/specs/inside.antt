@@ -1,4 +1,0 @@
--- What the functions that no other crate calls say of themselves.
-pub mod Batches
-pub mod OwnDocuments
-pub mod Taking

@@ -1,0 +1,11 @@
+pub mod BatchPlans
+pub mod BatchTells
+pub mod Batches
+pub mod FewestBatches
+pub mod ManyAnswers
+pub mod ManyCalls
+pub mod ManyCompleteness
+pub mod ManyEntries
+pub mod ManyTold
+pub mod Numbers
+pub mod inside
