@@ -22,7 +22,7 @@ use Rattle.bulk_ops.proofs.BulkErrorKinds.{IsOne, KindHas, reads_has, told_by}
 use Rattle.bulk_fronts.specs.BulkWrites.{IsBulkCommand}
 use Rattle.driver_attempt.specs.Causes.{ErrorOutline, HasReply, end_of, outline_of}
 use Rattle.driver_attempt.specs.Moment.{Moment}
-use Rattle.driver_attempt.specs.OldDeployment.{reworded_kind}
+use Rattle.retry_rules.specs.OldDeployment.{reworded_kind}
 use Rattle.driver_exec.specs.OperationCauses.{Caused, Grounds, KindNeeds, SpellsEnd, grounds}
 use Rattle.driver_exec.specs.Reporting.{HasBuilt, HasRun}
 use Rattle.driver_exec.specs.Resending.{IsReadFailure}

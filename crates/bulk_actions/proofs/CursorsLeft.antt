@@ -30,16 +30,16 @@ use Rattle.bulk_ops.specs.BulkSpec.{admin_target, bulk_spec}
 use Rattle.bulk_fronts.specs.BulkWrites.{bulk_is_ordered}
 use Rattle.driver_attempt.specs.declared.attempt_end.AttemptEnd.{AttemptEnd}
 use Rattle.driver_attempt.specs.declared.attempt_end.AttemptEnd.TheVariants.{Done, Ended, Failed, Stopped, Unfit, Unselected}
-use Rattle.driver_attempt.specs.declared.failure.AttemptFailure.{AttemptFailure}
-use Rattle.driver_attempt.specs.declared.failure.FailurePhase.{FailurePhase}
-use Rattle.driver_attempt.specs.declared.failure.FailurePhase.TheVariants.{ConnectionEstablishment, Execution}
+use Rattle.retry_rules.specs.declared.failure.AttemptFailure.{AttemptFailure}
+use Rattle.retry_rules.specs.declared.failure.FailurePhase.{FailurePhase}
+use Rattle.retry_rules.specs.declared.failure.FailurePhase.TheVariants.{ConnectionEstablishment, Execution}
 use Rattle.driver_attempt.specs.AttemptExchanges.{AttemptExchanges}
 use Rattle.driver_attempt.specs.Attempting.{AsksEarly, AttemptState, AttemptedOperation, Connects, FailsIn, MakesAttempt, MayReadOn, NotConnected, ReadsOn, Sends, attempted_operation, avoided, besides_out}
 use Rattle.driver_attempt.specs.Concerns.{concern_of}
 use Rattle.driver_attempt.specs.Executing.{AttemptsFail, Ends, Executes, Proceeds, first_state}
 use Rattle.driver_attempt.specs.Holding.{ExecutionSession, held_id}
 use Rattle.driver_attempt.specs.Moment.{Moment}
-use Rattle.driver_attempt.specs.Retry.{RetryState}
+use Rattle.retry_rules.specs.Retry.{RetryState}
 use Rattle.driver_exec.proofs.Moments.{LeadsCalling, calling_twice, checks_lead, connects_lead, one_moment, selects_lead}
 use Rattle.many_actions.specs.BatchPlans.{MakesAllPlanned, PlannedEnd, places_from, rest_of}
 use Rattle.many_actions.proofs.PlannedBatches.{fixed_or_one, is_fixed_or_one}

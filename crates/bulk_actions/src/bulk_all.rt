@@ -8,12 +8,12 @@ ghost use Rattle.bulk_actions.specs.inside.BulkBatches.{IsBegun};
 use crate::bulk_batches::make_batches;
 use crate::bulk_start::bulk_ops;
 use bulk_outcomes::{BulkWriteResult, ExecutionStatus};
-use many_actions::places_from;
 use driver_attempt::{Client, Outside};
 use driver_error::Result;
 use driver_link::{Clock, Link};
 use driver_options::{BulkWriteOptions, WriteModel};
 use driver_session::SessionStore;
+use many_actions::places_from;
 use rand_core::Rng;
 use std::alloc::Global;
 

@@ -16,7 +16,6 @@ use bson_lite::{Document, List, Namespace, TryClone};
 use bulk_actions::bulk_all::bulk_all;
 use bulk_outcomes::BulkWriteResult;
 use driver_actions::SingleWrites;
-use many_actions::insert_all::insert_all;
 use driver_attempt::{Client, Outside};
 use driver_error::{InsertManyResult, Result, SummaryBulkWriteResult, VerboseBulkWriteResult};
 use driver_inputs::{Answer, Call, Outcome, SingleWrite};
@@ -24,6 +23,7 @@ use driver_link::{Clock, Link};
 use driver_ops::Collection;
 use driver_options::{BulkWriteOptions, InsertManyOptions, WriteModel};
 use driver_session::SessionStore;
+use many_actions::insert_all::insert_all;
 use rand_core::Rng;
 use std::alloc::Global;
 

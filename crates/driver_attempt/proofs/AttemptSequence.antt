@@ -16,13 +16,13 @@ use Rattle.driver_ops.specs.Operations.{Batch, OperationSpec, SameSpec}
 use Rattle.driver_ops.specs.SendKinds.{SendKind}
 use Rattle.driver_attempt.specs.declared.attempt_end.AttemptEnd.{AttemptEnd}
 use Rattle.driver_attempt.specs.declared.attempt_end.AttemptEnd.TheVariants.{Done, Ended, Failed, Stopped, Unfit, Unselected}
-use Rattle.driver_attempt.specs.declared.failure.AttemptFailure.{AttemptFailure}
+use Rattle.retry_rules.specs.declared.failure.AttemptFailure.{AttemptFailure}
 use Rattle.driver_attempt.specs.Attempting.{AttemptState, AttemptedOperation, MakesAttempt, attempted_operation}
 use Rattle.driver_attempt.specs.Concerns.{concern_of}
 use Rattle.driver_attempt.proofs.CommandParts.{concern_same}
 use Rattle.driver_attempt.proofs.Sameness.{attempt_same}
 use Rattle.driver_attempt.specs.Executing.{EndsWith, Attempts, limit_reached}
-use Rattle.driver_attempt.specs.Retry.{Decides, RetryState, after, after_first, after_further, avoiding, decide, decide_reworded, may_be_retried, may_be_sent, one_more, reworded_failure}
+use Rattle.retry_rules.specs.Retry.{Decides, RetryState, after, after_first, after_further, avoiding, decide, decide_reworded, may_be_retried, may_be_sent, one_more, reworded_failure}
 use Rattle.driver_attempt.specs.inside.Executing.{FailureOf, IsLastError, MayAnswer, Reaches}
 use Rattle.driver_attempt.proofs.RetryFold.{attempts_of}
 

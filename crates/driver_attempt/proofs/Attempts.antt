@@ -15,7 +15,7 @@ use Rattle.driver_session.specs.Session.{MayRaise, Numbers, Raises, Session}
 use Rattle.driver_attempt.specs.AttemptExchanges.{PageAsked, held_after, held_after_answer, held_after_pages}
 use Rattle.driver_attempt.specs.Attempting.{AttemptState, AttemptedOperation, MayReadOn, ReadsOn, Sends}
 use Rattle.driver_attempt.specs.Holding.{ExecutionSession, dirty_session_held, number_before}
-use Rattle.driver_attempt.specs.Retry.{RetryState}
+use Rattle.retry_rules.specs.Retry.{RetryState}
 
 -- a next number is the last one and one more
 pub raises : (old now : Session) (number : ℤ) → Numbers old now (Ok number) → Raises old now

@@ -9,5 +9,4 @@ pub mod JoinedBodies
 pub mod OneAttempt
 pub mod ReadingPages
 pub mod RetryFold
-pub mod Rewording
 pub mod Sameness

@@ -39,7 +39,7 @@ use Rattle.driver_attempt.specs.AttemptExchanges.{AsksPages, AttemptExchanges, E
 use Rattle.driver_attempt.specs.Attempting.{AsksEarly, AttemptState, AttemptedOperation, Connects, FailsIn, LosesExchange, MakesAttempt, NotConnected, Readies, ReadsOn, Selects, Sends, SpellsFailure, asked_for, asks_session, attempted_operation, avoided, besides_out, is_nothing, may_use, on_connection, stops}
 use Rattle.driver_attempt.specs.Causes.{AllEarly}
 use Rattle.driver_attempt.specs.Holding.{DrawsNumber, ExecutionSession, held_id, needs_session, number_before}
-use Rattle.driver_attempt.specs.Retry.{RetryState}
+use Rattle.retry_rules.specs.Retry.{RetryState}
 use Rattle.driver_attempt.proofs.Attempts.{check_out_counts, counts_twice, number_after_pages, select_counts, sent_number}
 use Rattle.driver_attempt.proofs.Causes.{notes_since}
 use Rattle.driver_attempt.specs.inside.Attempting.{Comes, Sending, attempt_state}

@@ -5,10 +5,10 @@ use Rattle.std.specs.Prelude.{Bool, false, reverse, Option, None, Some, Result, 
 use Rattle.driver_error.specs.declared.error.Error.{Error}
 use Rattle.driver_session.specs.declared.retryability.Retryability.{Retryability}
 use Rattle.driver_attempt.specs.declared.attempt_end.AttemptEnd.TheVariants.{Failed}
-use Rattle.driver_attempt.specs.declared.failure.AttemptFailure.{AttemptFailure}
+use Rattle.retry_rules.specs.declared.failure.AttemptFailure.{AttemptFailure}
 use Rattle.driver_attempt.specs.Attempting.{AttemptState, AttemptedOperation, MakesAttempt}
 use Rattle.driver_attempt.specs.Executing.{Attempts, AttemptsFail, Ends, FailsUnder, kept_after, limit_reached}
-use Rattle.driver_attempt.specs.Retry.{RetryState, and_then, decide, folded}
+use Rattle.retry_rules.specs.Retry.{RetryState, and_then, decide, folded}
 use Rattle.driver_attempt.specs.inside.Executing.{Reaches}
 
 -- what the fold keeps is one value

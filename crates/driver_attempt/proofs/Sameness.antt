@@ -13,13 +13,13 @@ use Rattle.driver_ops.specs.Operations.{Batch, OperationSpec, SameSpec}
 use Rattle.driver_ops.specs.SendKinds.{SendKind}
 use Rattle.driver_attempt.specs.declared.attempt_end.AttemptEnd.{AttemptEnd}
 use Rattle.driver_attempt.specs.declared.attempt_end.AttemptEnd.TheVariants.{Done, Ended, Failed, Stopped, Unfit, Unselected}
-use Rattle.driver_attempt.specs.declared.failure.FailurePhase.{FailurePhase}
-use Rattle.driver_attempt.specs.declared.failure.FailurePhase.TheVariants.{ConnectionEstablishment, Execution}
+use Rattle.retry_rules.specs.declared.failure.FailurePhase.{FailurePhase}
+use Rattle.retry_rules.specs.declared.failure.FailurePhase.TheVariants.{ConnectionEstablishment, Execution}
 use Rattle.driver_attempt.specs.AttemptExchanges.{Exchanges}
 use Rattle.driver_attempt.specs.Attempting.{EndsAtOnce, FailsIn, MayReadOn, Readies, ReadsOn, AttemptState, Sends, AttemptedOperation, MakesAttempt, asks_session, attempted_operation}
 use Rattle.driver_attempt.specs.Holding.{held_id, needs_session}
 use Rattle.driver_attempt.specs.inside.Holding.{HoldsAt}
-use Rattle.driver_attempt.specs.Retry.{RetryState}
+use Rattle.retry_rules.specs.Retry.{RetryState}
 use Rattle.driver_attempt.proofs.OneAttempt.{behind_same, framed_same, refuses_same, unspelled_same}
 
 module _ {A : Type 0} (old now : OperationSpec A) (same : SameSpec old now) (batch : Batch) (which : SendKind) (retryability : Retryability) (concern : Option WriteConcern) where

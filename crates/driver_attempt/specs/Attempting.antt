@@ -25,13 +25,13 @@ use Rattle.driver_ops.specs.Operations.{Batch, IsUnframed, OperationSpec, Refuse
 use Rattle.driver_ops.specs.SendKinds.{SendKind}
 use Rattle.driver_attempt.specs.declared.attempt_end.AttemptEnd.{AttemptEnd}
 use Rattle.driver_attempt.specs.declared.attempt_end.AttemptEnd.TheVariants.{Done, Ended, Failed, Stopped, Unfit, Unselected}
-use Rattle.driver_attempt.specs.declared.failure.FailurePhase.{FailurePhase}
-use Rattle.driver_attempt.specs.declared.failure.FailurePhase.TheVariants.{ConnectionEstablishment, Execution}
+use Rattle.retry_rules.specs.declared.failure.FailurePhase.{FailurePhase}
+use Rattle.retry_rules.specs.declared.failure.FailurePhase.TheVariants.{ConnectionEstablishment, Execution}
 use Rattle.driver_attempt.specs.AttemptExchanges.{AttemptExchanges, Exchanges, held_after}
 use Rattle.driver_attempt.specs.Failures.{IsFaultOf, IsLabelledRead, IsVersioned}
 use Rattle.driver_attempt.specs.Holding.{DrawsNumber, ExecutionSession, HoldsSession, IsLentAt, held_id, needs_session, number_before}
 use Rattle.driver_attempt.specs.Readings.{MayRead}
-use Rattle.driver_attempt.specs.Retry.{RetryState}
+use Rattle.retry_rules.specs.Retry.{RetryState}
 
 -- what a link tells besides the connections that are out
 abbrev pub besides_out : LinkState → LinkState

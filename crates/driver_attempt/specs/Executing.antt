@@ -11,12 +11,12 @@ use Rattle.driver_ops.specs.Operations.{Batch, OperationSpec}
 use Rattle.driver_ops.specs.SendKinds.{SendKind}
 use Rattle.driver_attempt.specs.declared.attempt_end.AttemptEnd.{AttemptEnd}
 use Rattle.driver_attempt.specs.declared.attempt_end.AttemptEnd.TheVariants.{Done, Ended, Failed, Stopped, Unfit, Unselected}
-use Rattle.driver_attempt.specs.declared.failure.AttemptFailure.{AttemptFailure}
+use Rattle.retry_rules.specs.declared.failure.AttemptFailure.{AttemptFailure}
 use Rattle.driver_attempt.specs.Attempting.{AttemptState, AttemptedOperation, MakesAttempt, attempted_operation, besides_out}
 use Rattle.driver_attempt.specs.Concerns.{IsConcernError, concern_of, concern_refusal}
 use Rattle.driver_attempt.specs.Holding.{GivesBack, IsBackAt, holds_nothing}
 use Rattle.driver_attempt.specs.Moment.{Moment}
-use Rattle.driver_attempt.specs.Retry.{RetryState, decide, folded}
+use Rattle.retry_rules.specs.Retry.{RetryState, decide, folded}
 
 -- no further attempt is made
 abbrev pub limit_reached : Option RetryState → Bool

@@ -7,7 +7,7 @@ use Rattle.driver_error.specs.LabelTexts.{label_set}
 use Rattle.driver_link.specs.declared.fault.LinkFault.{LinkFault}
 use Rattle.driver_link.specs.Failures.{fault_kind}
 use Rattle.driver_session.specs.declared.retryability.Retryability.{Retryability}
-use Rattle.driver_attempt.specs.LabelTable.{labels_outside_transactions}
+use Rattle.retry_rules.specs.LabelTable.{labels_outside_transactions}
 
 -- there was no memory
 abbrev pub is_memory : ErrorKind → Bool

@@ -6,9 +6,6 @@ pub mod Concerns
 pub mod Executing
 pub mod Failures
 pub mod Holding
-pub mod LabelTable
 pub mod Moment
-pub mod OldDeployment
 pub mod Readings
-pub mod Retry
 pub mod inside

@@ -4,5 +4,3 @@ pub mod Executing
 pub mod Failures
 pub mod Holding
 pub mod JoinedBodies
-pub mod OldDeployment
-pub mod Retry

@@ -9,14 +9,13 @@ ghost use Rattle.driver_ops.specs.Operations.{HasBodies, IsFixed, SameSpec, Stay
 ghost use Rattle.driver_attempt.specs.Attempting.{Connects, MakesAttempt, asks_session, attempted_operation, avoided, besides_out, is_nothing, may_use, on_connection, stops};
 ghost use Rattle.driver_attempt.specs.Client.{options_of, store_of};
 ghost use Rattle.driver_attempt.specs.Concerns.{concern_of};
-ghost use Rattle.driver_attempt.specs.Retry.{RetryState};
+ghost use Rattle.retry_rules.specs.Retry.{RetryState};
 ghost use Rattle.driver_attempt.specs.inside.Attempting.{attempt_state};
 
 use crate::attempt_end::{AttemptEnd, unconnected, unselected};
 use crate::client::Client;
 use crate::execution_session::{ExecutionSession, check_out_session};
 use crate::outside::Outside;
-use crate::retry::Retry;
 use crate::sending::{AttemptConnection, send};
 use crate::steps::Steps;
 use driver_error::{Error, ErrorKind};
@@ -24,6 +23,7 @@ use driver_link::{Clock, Link, Place};
 use driver_ops::Operation;
 use driver_options::{Address, Conn, Description};
 use driver_session::{Retryability, SessionStore};
+use retry_rules::Retry;
 use std::alloc::Global;
 use std::sync::ledger::Ledger;
 

@@ -6,12 +6,11 @@ ghost use Rattle.driver_attempt.specs.Failures.{is_memory};
 ghost use Rattle.driver_attempt.specs.inside.Attempting.{EndsUnbuilt};
 ghost use Rattle.driver_attempt.specs.inside.Failures.{EndsLost, EndsRead, EndsUnconnected, EndsUnselected, FaultError, IsLabelledBy};
 
-use crate::failure::{AttemptFailure, FailurePhase};
-use crate::labels::add_labels;
 use driver_error::{Error, ErrorKind};
 use driver_link::LinkError;
 use driver_options::Address;
 use driver_session::Retryability;
+use retry_rules::{AttemptFailure, FailurePhase, add_labels};
 use std::alloc::Global;
 
 /// How an attempt ended.

@@ -20,15 +20,15 @@ use Rattle.driver_ops.specs.Operations.{Batch, OperationSpec}
 use Rattle.driver_ops.specs.SendKinds.{SendKind}
 use Rattle.driver_attempt.specs.declared.attempt_end.AttemptEnd.{AttemptEnd}
 use Rattle.driver_attempt.specs.declared.attempt_end.AttemptEnd.TheVariants.{Done, Ended, Failed, Stopped, Unfit, Unselected}
-use Rattle.driver_attempt.specs.declared.failure.AttemptFailure.{AttemptFailure}
-use Rattle.driver_attempt.specs.declared.failure.FailurePhase.{FailurePhase}
-use Rattle.driver_attempt.specs.declared.failure.FailurePhase.TheVariants.{ConnectionEstablishment, Execution}
+use Rattle.retry_rules.specs.declared.failure.AttemptFailure.{AttemptFailure}
+use Rattle.retry_rules.specs.declared.failure.FailurePhase.{FailurePhase}
+use Rattle.retry_rules.specs.declared.failure.FailurePhase.TheVariants.{ConnectionEstablishment, Execution}
 use Rattle.driver_attempt.specs.Attempting.{AttemptState, AttemptedOperation, FailsIn, MakesAttempt, Sends, attempted_operation, besides_out}
 use Rattle.driver_attempt.specs.Concerns.{concern_of}
 use Rattle.driver_attempt.specs.Executing.{Ends, EndsWith, Executes, Proceeds, RefusesConcern, first_state}
 use Rattle.driver_attempt.specs.Moment.{Moment}
-use Rattle.driver_attempt.specs.OldDeployment.{reworded}
-use Rattle.driver_attempt.specs.Retry.{RetryState, decide}
+use Rattle.retry_rules.specs.OldDeployment.{reworded}
+use Rattle.retry_rules.specs.Retry.{RetryState, decide}
 use Rattle.driver_attempt.specs.inside.Executing.{Reaches}
 use Rattle.driver_attempt.proofs.RetryFold.{Came, came_of}
 use Rattle.driver_exec.specs.Resending.{IsReadFailure}

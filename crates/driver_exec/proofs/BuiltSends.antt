@@ -14,14 +14,14 @@ use Rattle.driver_ops.specs.Operations.{Batch, OperationSpec}
 use Rattle.driver_ops.specs.SendKinds.{SendKind}
 use Rattle.driver_attempt.specs.declared.attempt_end.AttemptEnd.{AttemptEnd}
 use Rattle.driver_attempt.specs.declared.attempt_end.AttemptEnd.TheVariants.{Done, Ended, Failed, Stopped, Unfit, Unselected}
-use Rattle.driver_attempt.specs.declared.failure.AttemptFailure.{AttemptFailure}
-use Rattle.driver_attempt.specs.declared.failure.FailurePhase.{FailurePhase}
-use Rattle.driver_attempt.specs.declared.failure.FailurePhase.TheVariants.{ConnectionEstablishment, Execution}
+use Rattle.retry_rules.specs.declared.failure.AttemptFailure.{AttemptFailure}
+use Rattle.retry_rules.specs.declared.failure.FailurePhase.{FailurePhase}
+use Rattle.retry_rules.specs.declared.failure.FailurePhase.TheVariants.{ConnectionEstablishment, Execution}
 use Rattle.driver_attempt.specs.Attempting.{AttemptState, AttemptedOperation, FailsIn, MakesAttempt, Readies, Sends, attempted_operation, besides_out}
 use Rattle.driver_attempt.specs.Concerns.{concern_of}
 use Rattle.driver_attempt.specs.Executing.{AttemptsFail, Ends, Executes, Proceeds, first_state}
 use Rattle.driver_attempt.specs.Moment.{Moment}
-use Rattle.driver_attempt.specs.Retry.{RetryState}
+use Rattle.retry_rules.specs.Retry.{RetryState}
 use Rattle.driver_attempt.proofs.Attempts.{counts_twice}
 use Rattle.driver_attempt.proofs.OneAttempt.{checked_counted, connected_counted, early_counted, selected_counted}
 

@@ -13,16 +13,16 @@ use Rattle.driver_ops.specs.Operations.{Batch, OperationSpec}
 use Rattle.driver_ops.specs.SendKinds.{SendKind}
 use Rattle.driver_attempt.specs.declared.attempt_end.AttemptEnd.{AttemptEnd}
 use Rattle.driver_attempt.specs.declared.attempt_end.AttemptEnd.TheVariants.{Done, Ended, Failed, Stopped, Unfit, Unselected}
-use Rattle.driver_attempt.specs.declared.failure.AttemptFailure.{AttemptFailure}
-use Rattle.driver_attempt.specs.declared.failure.FailurePhase.{FailurePhase}
-use Rattle.driver_attempt.specs.declared.failure.FailurePhase.TheVariants.{ConnectionEstablishment, Execution}
+use Rattle.retry_rules.specs.declared.failure.AttemptFailure.{AttemptFailure}
+use Rattle.retry_rules.specs.declared.failure.FailurePhase.{FailurePhase}
+use Rattle.retry_rules.specs.declared.failure.FailurePhase.TheVariants.{ConnectionEstablishment, Execution}
 use Rattle.driver_attempt.specs.Attempting.{AttemptState, AttemptedOperation, EndsAtOnce, FailsIn, MakesAttempt, Readies, Sends, asks_session, attempted_operation, besides_out}
 use Rattle.driver_attempt.specs.Concerns.{concern_of}
 use Rattle.driver_attempt.specs.Executing.{Ends, Proceeds, first_state}
 use Rattle.driver_attempt.specs.Holding.{ExecutionSession, GivesBack, HoldsSession, IsBackAt, IsLentAt, needs_session}
 use Rattle.driver_attempt.specs.Moment.{Moment}
 use Rattle.driver_attempt.specs.Readings.{MayRead, OnlyRead, ReadsClockBy}
-use Rattle.driver_attempt.specs.Retry.{RetryState}
+use Rattle.retry_rules.specs.Retry.{RetryState}
 use Rattle.driver_attempt.specs.inside.Executing.{Reaches}
 use Rattle.driver_attempt.proofs.Attempts.{may_read_leaves}
 use Rattle.driver_attempt.proofs.RetryFold.{came_of}

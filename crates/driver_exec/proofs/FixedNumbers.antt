@@ -11,14 +11,14 @@ use Rattle.driver_link.specs.declared.machine.Setup.{Setup}
 use Rattle.driver_link.specs.Failures.{is_network}
 use Rattle.driver_ops.specs.Operations.{OperationSpec}
 use Rattle.driver_attempt.specs.declared.attempt_end.AttemptEnd.TheVariants.{Failed}
-use Rattle.driver_attempt.specs.declared.failure.AttemptFailure.{AttemptFailure}
-use Rattle.driver_attempt.specs.declared.failure.FailurePhase.{FailurePhase}
-use Rattle.driver_attempt.specs.declared.failure.FailurePhase.TheVariants.{ConnectionEstablishment, Execution}
+use Rattle.retry_rules.specs.declared.failure.AttemptFailure.{AttemptFailure}
+use Rattle.retry_rules.specs.declared.failure.FailurePhase.{FailurePhase}
+use Rattle.retry_rules.specs.declared.failure.FailurePhase.TheVariants.{ConnectionEstablishment, Execution}
 use Rattle.driver_attempt.specs.AttemptExchanges.{PageAsked, held_after, held_after_answer, held_after_pages}
 use Rattle.driver_attempt.specs.Attempting.{AttemptState, AttemptedOperation, FailsIn, MakesAttempt, Readies, ReadsOn, Sends, asks_session, builds_again}
 use Rattle.driver_attempt.specs.Executing.{AttemptsFail}
 use Rattle.driver_attempt.specs.Holding.{ExecutionSession, HoldsSession, dirty_session_held, needs_session}
-use Rattle.driver_attempt.specs.Retry.{RetryState}
+use Rattle.retry_rules.specs.Retry.{RetryState}
 use Rattle.driver_attempt.specs.inside.Executing.{Reaches}
 use Rattle.driver_exec.specs.OperationCauses.{TakesFirst}
 use Rattle.driver_exec.proofs.HeldSessions.{IsOf, is_told}

@@ -17,14 +17,14 @@ use Rattle.driver_ops.specs.Fields.{under}
 use Rattle.driver_ops.specs.OperationLaw.{NeverOpen}
 use Rattle.driver_ops.specs.Operations.{AsksFor, send_of}
 use Rattle.driver_attempt.specs.declared.attempt_end.AttemptEnd.TheVariants.{Failed}
-use Rattle.driver_attempt.specs.declared.failure.AttemptFailure.{AttemptFailure}
-use Rattle.driver_attempt.specs.declared.failure.FailurePhase.{FailurePhase}
-use Rattle.driver_attempt.specs.declared.failure.FailurePhase.TheVariants.{ConnectionEstablishment, Execution}
+use Rattle.retry_rules.specs.declared.failure.AttemptFailure.{AttemptFailure}
+use Rattle.retry_rules.specs.declared.failure.FailurePhase.{FailurePhase}
+use Rattle.retry_rules.specs.declared.failure.FailurePhase.TheVariants.{ConnectionEstablishment, Execution}
 use Rattle.driver_attempt.specs.AttemptExchanges.{held_after, held_after_pages, pages_of}
 use Rattle.driver_attempt.specs.Attempting.{AttemptState, AttemptedOperation, FailsIn, MakesAttempt, OnlyLink, Readies, ReadsOn, RefusedAgain, Sends, asks_session, on_connection}
 use Rattle.driver_attempt.specs.Holding.{ExecutionSession, held_id}
-use Rattle.driver_attempt.specs.OldDeployment.{reworded}
-use Rattle.driver_attempt.specs.Retry.{RetryState, decide}
+use Rattle.retry_rules.specs.OldDeployment.{reworded}
+use Rattle.retry_rules.specs.Retry.{RetryState, decide}
 use Rattle.driver_attempt.proofs.OneAttempt.{checked_counted, connected_counted}
 use Rattle.driver_exec.specs.Resending.{AnsweredAmong, IsReadFailure}
 use Rattle.driver_exec.proofs.BorrowedSession.{CountFits, MayGoOn, id_of, number_of}

@@ -27,12 +27,12 @@ use Rattle.driver_ops.specs.Fields.{SendContext, under}
 use Rattle.driver_ops.specs.GetMores.{AsksCursor, at_namespace, kill_spec, more_spec}
 use Rattle.driver_ops.specs.Operations.{AsksFor, OperationSpec, send_of}
 use Rattle.driver_ops.specs.SendKinds.{SendKind}
-use Rattle.driver_attempt.specs.declared.failure.FailurePhase.{FailurePhase}
-use Rattle.driver_attempt.specs.declared.failure.FailurePhase.TheVariants.{ConnectionEstablishment, Execution}
+use Rattle.retry_rules.specs.declared.failure.FailurePhase.{FailurePhase}
+use Rattle.retry_rules.specs.declared.failure.FailurePhase.TheVariants.{ConnectionEstablishment, Execution}
 use Rattle.driver_attempt.specs.AttemptExchanges.{AsksPage, AsksPages, AttemptExchanges, EndsCursor, EndsCursorWhere, EndsPages, Exchanges, PageAsked, ends_cursor, no_statements}
 use Rattle.driver_attempt.specs.Attempting.{AttemptState, AttemptedOperation, Connects, FailsIn, MayReadOn, NotConnected, ReadsOn, Sends}
 use Rattle.driver_attempt.specs.Holding.{ExecutionSession, held_id}
-use Rattle.driver_attempt.specs.Retry.{RetryState}
+use Rattle.retry_rules.specs.Retry.{RetryState}
 use Rattle.driver_exec.specs.Gentle.{IsCounted, IsGentlePart}
 
 -- a moment is not after another: the schedule is the same, neither the trace nor a count became less, and each send of the trace

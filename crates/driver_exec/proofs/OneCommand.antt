@@ -18,13 +18,13 @@ use Rattle.driver_ops.specs.Operations.{Batch, OperationSpec, send_of}
 use Rattle.driver_ops.specs.SendKinds.{SendKind}
 use Rattle.driver_attempt.specs.declared.attempt_end.AttemptEnd.{AttemptEnd}
 use Rattle.driver_attempt.specs.declared.attempt_end.AttemptEnd.TheVariants.{Done, Ended, Failed, Stopped, Unfit, Unselected}
-use Rattle.driver_attempt.specs.declared.failure.AttemptFailure.{AttemptFailure}
+use Rattle.retry_rules.specs.declared.failure.AttemptFailure.{AttemptFailure}
 use Rattle.driver_attempt.specs.Attempting.{AttemptState, AttemptedOperation, EndsAtOnce, EndsRefused, MakesAttempt, RefusedAgain, attempted_operation, besides_out, on_connection}
 use Rattle.driver_attempt.specs.Concerns.{concern_of}
 use Rattle.driver_attempt.specs.Executing.{Ends, EndsNotAllowed, EndsWith, Proceeds, first_state}
 use Rattle.driver_attempt.specs.Holding.{DrawsNumber, DrawsSession, GivesBack, GivesNumber, ExecutionSession}
 use Rattle.driver_attempt.specs.Moment.{Moment}
-use Rattle.driver_attempt.specs.Retry.{RetryState, may_be_sent}
+use Rattle.retry_rules.specs.Retry.{RetryState, may_be_sent}
 use Rattle.driver_attempt.specs.inside.Executing.{Reaches}
 use Rattle.driver_attempt.proofs.Attempts.{may_raise, stays}
 use Rattle.driver_attempt.proofs.AttemptSequence.{AtMostOne, attempts_left, decided_fewer, decided_sent, one_left}

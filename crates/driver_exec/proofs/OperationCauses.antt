@@ -41,9 +41,9 @@ use Rattle.driver_ops.specs.Operations.{Batch, IsUnframed, LeavesCursor, Operati
 use Rattle.driver_ops.specs.SendKinds.{SendKind}
 use Rattle.driver_attempt.specs.declared.attempt_end.AttemptEnd.{AttemptEnd}
 use Rattle.driver_attempt.specs.declared.attempt_end.AttemptEnd.TheVariants.{Done, Ended, Failed, Stopped, Unfit, Unselected}
-use Rattle.driver_attempt.specs.declared.failure.AttemptFailure.{AttemptFailure}
-use Rattle.driver_attempt.specs.declared.failure.FailurePhase.{FailurePhase}
-use Rattle.driver_attempt.specs.declared.failure.FailurePhase.TheVariants.{ConnectionEstablishment, Execution}
+use Rattle.retry_rules.specs.declared.failure.AttemptFailure.{AttemptFailure}
+use Rattle.retry_rules.specs.declared.failure.FailurePhase.{FailurePhase}
+use Rattle.retry_rules.specs.declared.failure.FailurePhase.TheVariants.{ConnectionEstablishment, Execution}
 use Rattle.driver_attempt.specs.AttemptExchanges.{AsksPage, AsksPages, AttemptExchanges, EndsCursor, EndsCursorWhere, EndsPages, PageAsked, PageCame, ends_cursor, no_statements, pages_of}
 use Rattle.driver_attempt.specs.Attempting.{Connects, EndsAtOnce, EndsRefused, EndsSent, EndsUnready, FailsIn, IsAnswered, LosesExchange, MayReadOn, NoFrame, NoNumber, NoSessions, NotConnected, NotSelected, Readies, ReadsOn, AttemptState, Sends, SpellsFailure, AttemptedOperation, MakesAttempt, besides_out, builds_again, on_connection, attempted_operation}
 use Rattle.driver_attempt.specs.Causes as causes
@@ -52,10 +52,10 @@ use Rattle.driver_attempt.specs.Executing.{Ends, EndsWith, Proceeds, first_state
 use Rattle.driver_attempt.specs.Concerns.{concern_of}
 use Rattle.driver_attempt.specs.Failures.{IsFaultOf, is_memory}
 use Rattle.driver_attempt.specs.Holding.{DrawsNumber, ExecutionSession, held_id}
-use Rattle.driver_attempt.specs.LabelTable.{labels_outside_transactions}
+use Rattle.retry_rules.specs.LabelTable.{labels_outside_transactions}
 use Rattle.driver_attempt.specs.Moment.{Moment}
-use Rattle.driver_attempt.specs.OldDeployment.{reworded, reworded_kind}
-use Rattle.driver_attempt.specs.Retry.{RetryState, after, after_further, avoiding, decide, in_phase, may_be_retried, reworded_failure, stays}
+use Rattle.retry_rules.specs.OldDeployment.{reworded, reworded_kind}
+use Rattle.retry_rules.specs.Retry.{RetryState, after, after_further, avoiding, decide, in_phase, may_be_retried, reworded_failure, stays}
 use Rattle.driver_attempt.specs.inside.Executing.{Reaches}
 use Rattle.driver_attempt.proofs.RetryFold.{came_of}
 use Rattle.driver_attempt.proofs.Causes.{notes_nothing}

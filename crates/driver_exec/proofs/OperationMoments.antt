@@ -11,12 +11,12 @@ use Rattle.driver_ops.specs.Operations.{AsksFor, Batch, OperationSpec}
 use Rattle.driver_ops.specs.SendKinds.{SendKind}
 use Rattle.driver_attempt.specs.declared.attempt_end.AttemptEnd.{AttemptEnd}
 use Rattle.driver_attempt.specs.declared.attempt_end.AttemptEnd.TheVariants.{Done, Ended, Failed, Stopped, Unfit, Unselected}
-use Rattle.driver_attempt.specs.declared.failure.AttemptFailure.{AttemptFailure}
+use Rattle.retry_rules.specs.declared.failure.AttemptFailure.{AttemptFailure}
 use Rattle.driver_attempt.specs.Attempting.{AsksEarly, AttemptState, AttemptedOperation, MakesAttempt, attempted_operation, avoided, besides_out}
 use Rattle.driver_attempt.specs.Concerns.{concern_of}
 use Rattle.driver_attempt.specs.Executing.{AttemptsFail, Ends, Executes, Proceeds, first_state}
 use Rattle.driver_attempt.specs.Moment.{Moment}
-use Rattle.driver_attempt.specs.Retry.{RetryState}
+use Rattle.retry_rules.specs.Retry.{RetryState}
 use Rattle.driver_exec.proofs.Moments.{IsBefore, Leads, before_refl, calling_twice, checks_lead, connects_lead, fails_lead, leads_same, leads_twice, may_read_leads, one_moment, read_leads, selects_lead}
 
 module _ {A : Type 0} (op : AttemptedOperation A) (body : SendBody) (asked : AsksFor op.spec op.batch body) where

@@ -16,13 +16,13 @@ use Rattle.driver_ops.specs.Fields.{under}
 use Rattle.driver_ops.specs.OperationLaw.{NeverOpen}
 use Rattle.driver_ops.specs.Operations.{AsksFor, Page, send_of}
 use Rattle.driver_attempt.specs.declared.attempt_end.AttemptEnd.TheVariants.{Failed}
-use Rattle.driver_attempt.specs.declared.failure.AttemptFailure.{AttemptFailure}
-use Rattle.driver_attempt.specs.declared.failure.FailurePhase.{FailurePhase}
-use Rattle.driver_attempt.specs.declared.failure.FailurePhase.TheVariants.{ConnectionEstablishment, Execution}
+use Rattle.retry_rules.specs.declared.failure.AttemptFailure.{AttemptFailure}
+use Rattle.retry_rules.specs.declared.failure.FailurePhase.{FailurePhase}
+use Rattle.retry_rules.specs.declared.failure.FailurePhase.TheVariants.{ConnectionEstablishment, Execution}
 use Rattle.driver_attempt.specs.AttemptExchanges.{held_after, held_after_pages, pages_of}
 use Rattle.driver_attempt.specs.Attempting.{EndsSent, FailsIn, IsAnswered, MayReadOn, OnlyLink, Readies, ReadsOn, AttemptState, Sends, AttemptedOperation, MakesAttempt, asks_session, on_connection}
 use Rattle.driver_attempt.specs.Holding.{ExecutionSession, held_id, number_before}
-use Rattle.driver_attempt.specs.Retry.{RetryState, may_be_sent}
+use Rattle.retry_rules.specs.Retry.{RetryState, may_be_sent}
 use Rattle.driver_attempt.proofs.OneAttempt.{checked_counted, connected_counted}
 use Rattle.driver_exec.specs.Resending.{AnsweredLast, ReadsLast}
 use Rattle.driver_exec.proofs.FixedNumbers.{read_sent, ready_sent}

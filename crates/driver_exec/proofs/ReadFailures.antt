@@ -16,8 +16,8 @@ use Rattle.driver_attempt.specs.Attempting.{AttemptState, AttemptedOperation, En
 use Rattle.driver_attempt.specs.Concerns.{IsConcernError}
 use Rattle.driver_attempt.specs.Failures.{IsFaultOf}
 use Rattle.driver_attempt.specs.Holding.{DrawsNumber, ExecutionSession}
-use Rattle.driver_attempt.specs.OldDeployment.{reworded, reworded_kind}
-use Rattle.driver_attempt.specs.Retry.{RetryState}
+use Rattle.retry_rules.specs.OldDeployment.{reworded, reworded_kind}
+use Rattle.retry_rules.specs.Retry.{RetryState}
 use Rattle.driver_exec.specs.Resending.{IsReadFailure}
 use Rattle.driver_exec.proofs.HeldSessions.{IsFirst, unnumbered_at_end}
 use Rattle.driver_exec.proofs.OperationCauses.{fault_error, reworded_is}

@@ -10,12 +10,12 @@ use Rattle.driver_session.specs.Session.{Session}
 use Rattle.driver_session.proofs.IdDraws.{apart_before, draws_lending, draws_staying, draws_taking}
 use Rattle.driver_attempt.specs.declared.attempt_end.AttemptEnd.{AttemptEnd}
 use Rattle.driver_attempt.specs.declared.attempt_end.AttemptEnd.TheVariants.{Done, Ended, Failed, Stopped, Unfit, Unselected}
-use Rattle.driver_attempt.specs.declared.failure.FailurePhase.{FailurePhase}
-use Rattle.driver_attempt.specs.declared.failure.FailurePhase.TheVariants.{ConnectionEstablishment, Execution}
+use Rattle.retry_rules.specs.declared.failure.FailurePhase.{FailurePhase}
+use Rattle.retry_rules.specs.declared.failure.FailurePhase.TheVariants.{ConnectionEstablishment, Execution}
 use Rattle.driver_attempt.specs.Attempting.{FailsIn, Readies, AttemptState, Sends, AttemptedOperation, MakesAttempt, asks_session}
 use Rattle.driver_attempt.specs.Executing.{Ends}
 use Rattle.driver_attempt.specs.Holding.{GivesBack, ExecutionSession, HoldsSession, needs_session}
-use Rattle.driver_attempt.specs.Retry.{RetryState}
+use Rattle.retry_rules.specs.Retry.{RetryState}
 use Rattle.driver_attempt.proofs.Attempts.{may_read_leaves}
 
 -- a session is lent where one is needed

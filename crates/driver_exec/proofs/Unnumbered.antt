@@ -12,13 +12,13 @@ use Rattle.driver_session.specs.declared.retryability.Retryability.TheVariants a
 use Rattle.driver_session.specs.StoreTells.{StoreTells}
 use Rattle.driver_attempt.specs.declared.attempt_end.AttemptEnd.{AttemptEnd}
 use Rattle.driver_attempt.specs.declared.attempt_end.AttemptEnd.TheVariants.{Done, Ended, Failed, Stopped, Unfit, Unselected}
-use Rattle.driver_attempt.specs.declared.failure.AttemptFailure.{AttemptFailure}
-use Rattle.driver_attempt.specs.declared.failure.FailurePhase.{FailurePhase}
-use Rattle.driver_attempt.specs.declared.failure.FailurePhase.TheVariants.{ConnectionEstablishment, Execution}
+use Rattle.retry_rules.specs.declared.failure.AttemptFailure.{AttemptFailure}
+use Rattle.retry_rules.specs.declared.failure.FailurePhase.{FailurePhase}
+use Rattle.retry_rules.specs.declared.failure.FailurePhase.TheVariants.{ConnectionEstablishment, Execution}
 use Rattle.driver_attempt.specs.Attempting.{AttemptState, AttemptedOperation, EndsRefused, FailsIn, MakesAttempt, Readies, Sends, asks_session, on_connection}
 use Rattle.driver_attempt.specs.Executing.{Ends}
 use Rattle.driver_attempt.specs.Holding.{DrawsNumber, ExecutionSession, HoldsSession, needs_session, number_before}
-use Rattle.driver_attempt.specs.Retry.{RetryState, after, decide, may_be_retried, reworded_failure}
+use Rattle.retry_rules.specs.Retry.{RetryState, after, decide, may_be_retried, reworded_failure}
 use Rattle.driver_attempt.specs.inside.Executing.{Reaches}
 use Rattle.driver_attempt.proofs.Attempts.{may_read_leaves, reads_leave, sent_number}
 

@@ -32,8 +32,8 @@ use Rattle.driver_attempt.specs.Attempting.{on_connection}
 use Rattle.driver_attempt.specs.Causes.{AllEarly, ErrorOutline, HasExchangeFault, HasReply, IsLast, KindAtLast, MayBeLast, next_number, outline_of}
 use Rattle.driver_attempt.specs.Concerns.{concern_of, concern_refusal}
 use Rattle.driver_attempt.specs.Failures.{IsFaultOf, is_memory}
-use Rattle.driver_attempt.specs.LabelTable.{labels_outside_transactions}
-use Rattle.driver_attempt.specs.OldDeployment.{reworded_kind}
+use Rattle.retry_rules.specs.LabelTable.{labels_outside_transactions}
+use Rattle.retry_rules.specs.OldDeployment.{reworded_kind}
 use Rattle.driver_attempt.specs.Moment.{Moment}
 
 -- the labels of the error of a fault: a failure of the network has the label that lets a write be tried again beside the

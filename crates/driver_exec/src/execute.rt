@@ -9,7 +9,7 @@ ghost use Rattle.driver_attempt.specs.Concerns.{concern_of, concern_refusal};
 ghost use Rattle.driver_attempt.specs.Executing.{Attempts, EndsWith, Executes, limit_reached};
 ghost use Rattle.driver_attempt.specs.Holding.{holds_nothing};
 ghost use Rattle.driver_attempt.specs.Moment.{moment_of};
-ghost use Rattle.driver_attempt.specs.Retry.{Decides, decide};
+ghost use Rattle.retry_rules.specs.Retry.{Decides, decide};
 ghost use Rattle.driver_attempt.specs.inside.Attempting.{attempt_state};
 ghost use Rattle.driver_attempt.specs.inside.Executing.{FailureOf, IsLastError, MayAnswer, kept_or};
 ghost use Rattle.driver_exec.specs.Keeping.{KeepsInvariant, OkHasEntries};
@@ -18,8 +18,8 @@ ghost use Rattle.driver_exec.specs.Reporting.{ErrIsReported, HasRun};
 ghost use Rattle.driver_exec.specs.Resending.{SendsOneCommand};
 
 use driver_attempt::{
-    AttemptEnd, AttemptFailure, Client, ExecutionSession, FailurePhase, Outside, Retry, Steps,
-    check_in_session, concern_refusal, make_attempt,
+    AttemptEnd, Client, ExecutionSession, Outside, Steps, check_in_session, concern_refusal,
+    make_attempt,
 };
 use driver_error::{Error, Result};
 use driver_link::{Clock, Link, Place};
@@ -27,6 +27,7 @@ use driver_ops::Operation;
 use driver_options::ClientOptions;
 use driver_session::{Retryability, SessionStore};
 use rand_core::Rng;
+use retry_rules::{AttemptFailure, FailurePhase, Retry};
 use std::alloc::Global;
 use std::sync::ledger::Ledger;
 

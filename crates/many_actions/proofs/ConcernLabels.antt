@@ -34,9 +34,9 @@ use Rattle.write_ops.specs.InsertAnswers as insert
 use Rattle.write_ops.specs.InsertAnswers.{AnswersReply, ReadsInsert, insert_reply, odd_insert_text}
 use Rattle.write_ops.specs.InsertSpec.{insert_spec, statements_fixed}
 use Rattle.driver_attempt.specs.Causes.{ErrorOutline, HasReply, end_of, outline_of}
-use Rattle.driver_attempt.specs.LabelTable.{labels_outside_transactions}
+use Rattle.retry_rules.specs.LabelTable.{labels_outside_transactions}
 use Rattle.driver_attempt.specs.Moment.{Moment}
-use Rattle.driver_attempt.specs.OldDeployment.{reworded}
+use Rattle.retry_rules.specs.OldDeployment.{reworded}
 use Rattle.driver_exec.specs.OperationCauses.{Caused, EndsCaused, Grounds, KindNeeds, SpellsEnd, grounds}
 use Rattle.driver_exec.specs.Resending.{IsReadFailure}
 use Rattle.driver_exec.proofs.OperationCauses.{reworded_is}

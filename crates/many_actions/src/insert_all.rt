@@ -6,8 +6,8 @@ ghost use Rattle.driver_attempt.specs.Moment.{moment_of};
 ghost use Rattle.many_actions.specs.ManyCalls.{MakesMany, ManyCaused};
 
 use crate::batches::make_batches;
-use driver_actions::own_documents;
 use bson_lite::Document;
+use driver_actions::own_documents;
 use driver_attempt::{Client, Outside};
 use driver_error::{InsertManyResult, Result};
 use driver_inputs::many_refusal::many_refusal;

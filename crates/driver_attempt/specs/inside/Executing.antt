@@ -3,10 +3,10 @@ use Rattle.std.specs.Prelude.{◌≡◌, Bool, true, false, List, [], ◌∷◌,
 use Rattle.driver_error.specs.declared.error.Error.{Error}
 use Rattle.driver_attempt.specs.declared.attempt_end.AttemptEnd.{AttemptEnd}
 use Rattle.driver_attempt.specs.declared.attempt_end.AttemptEnd.TheVariants.{Failed, Stopped, Unfit}
-use Rattle.driver_attempt.specs.declared.failure.AttemptFailure.{AttemptFailure}
+use Rattle.retry_rules.specs.declared.failure.AttemptFailure.{AttemptFailure}
 use Rattle.driver_attempt.specs.Attempting.{AttemptState, AttemptedOperation, MakesAttempt}
 use Rattle.driver_attempt.specs.Executing.{limit_reached}
-use Rattle.driver_attempt.specs.Retry.{RetryState, decide}
+use Rattle.retry_rules.specs.Retry.{RetryState, decide}
 
 -- the error of the failure that is kept
 abbrev pub IsLastError : Option RetryState → Error → Type 0

@@ -14,15 +14,15 @@ use Rattle.driver_link.specs.ServerRun.{ServerRun}
 use Rattle.driver_session.specs.StoreTells.{DrawnApart}
 use Rattle.driver_attempt.specs.declared.attempt_end.AttemptEnd.{AttemptEnd}
 use Rattle.driver_attempt.specs.declared.attempt_end.AttemptEnd.TheVariants.{Done, Ended, Failed, Stopped, Unfit, Unselected}
-use Rattle.driver_attempt.specs.declared.failure.AttemptFailure.{AttemptFailure}
-use Rattle.driver_attempt.specs.declared.failure.FailurePhase.{FailurePhase}
+use Rattle.retry_rules.specs.declared.failure.AttemptFailure.{AttemptFailure}
+use Rattle.retry_rules.specs.declared.failure.FailurePhase.{FailurePhase}
 use Rattle.driver_attempt.specs.Attempting.{AttemptState, EndsAtOnce, FailsIn, MakesAttempt, RefusedAgain, Stops, attempted_operation, besides_out, is_nothing}
 use Rattle.driver_attempt.specs.Concerns.{concern_of, concern_refusal}
 use Rattle.driver_attempt.specs.Executing.{Attempts, Ends, EndsWith, Executes, Proceeds, first_state, limit_reached}
 use Rattle.driver_attempt.specs.Holding.{number_before}
 use Rattle.driver_attempt.specs.Moment.{Moment}
-use Rattle.driver_attempt.specs.OldDeployment.{reworded}
-use Rattle.driver_attempt.specs.Retry.{RetryState, after_first, avoiding, decide, reworded_failure}
+use Rattle.retry_rules.specs.OldDeployment.{reworded}
+use Rattle.retry_rules.specs.Retry.{RetryState, after_first, avoiding, decide, reworded_failure}
 use Rattle.driver_attempt.specs.inside.Executing.{Reaches}
 use Rattle.driver_attempt.proofs.AttemptSequence.{avoids}
 use Rattle.driver_attempt.proofs.RetryFold.{came_of}

@@ -32,13 +32,13 @@ use Rattle.driver_session.specs.Session.{Session}
 use Rattle.driver_session.specs.StoreTells.{StoreTells}
 use Rattle.driver_ops.specs.OperationLaw.{NeverOpen}
 use Rattle.driver_ops.specs.Operations.{OperationSpec, ReadsAnswer}
-use Rattle.driver_attempt.specs.declared.failure.AttemptFailure.{AttemptFailure}
-use Rattle.driver_attempt.specs.declared.failure.FailurePhase.{FailurePhase}
-use Rattle.driver_attempt.specs.declared.failure.FailurePhase.TheVariants.{ConnectionEstablishment, Execution}
+use Rattle.retry_rules.specs.declared.failure.AttemptFailure.{AttemptFailure}
+use Rattle.retry_rules.specs.declared.failure.FailurePhase.{FailurePhase}
+use Rattle.retry_rules.specs.declared.failure.FailurePhase.TheVariants.{ConnectionEstablishment, Execution}
 use Rattle.driver_attempt.specs.AttemptExchanges.{AsksPages, EndsPages, PageAsked, held_after}
 use Rattle.driver_attempt.specs.Holding.{DrawsSession, ExecutionSession, HoldsSession, dirty_session, dirty_session_held, needs_session}
-use Rattle.driver_attempt.specs.OldDeployment.{reworded}
-use Rattle.driver_attempt.specs.Retry.{RetryState, after, after_first, avoiding, decide, may_be_retried, may_be_sent, reworded_failure}
+use Rattle.retry_rules.specs.OldDeployment.{reworded}
+use Rattle.retry_rules.specs.Retry.{RetryState, after, after_first, avoiding, decide, may_be_retried, may_be_sent, reworded_failure}
 use Rattle.driver_exec.specs.Gentle.{IsLossy}
 use Rattle.driver_exec.specs.OperationCauses.{DrawsNumbers}
 use Rattle.driver_exec.proofs.PassesBy.{none_asked}

@@ -22,14 +22,14 @@ use Rattle.driver_session.specs.Session.{Session}
 use Rattle.driver_session.specs.StoreTells.{DrawnApart}
 use Rattle.driver_ops.specs.Fields.{under}
 use Rattle.driver_ops.specs.Operations.{send_of}
-use Rattle.driver_attempt.specs.declared.failure.FailurePhase.{FailurePhase}
-use Rattle.driver_attempt.specs.declared.failure.FailurePhase.TheVariants.{ConnectionEstablishment, Execution}
+use Rattle.retry_rules.specs.declared.failure.FailurePhase.{FailurePhase}
+use Rattle.retry_rules.specs.declared.failure.FailurePhase.TheVariants.{ConnectionEstablishment, Execution}
 use Rattle.driver_attempt.specs.AttemptExchanges.{AsksPages, held_after}
 use Rattle.driver_attempt.specs.Attempting.{AttemptState, FailsIn, LosesExchange, NotConnected, NotSelected, Sends, SpellsFailure, asks_session, on_connection}
 use Rattle.driver_attempt.specs.Failures.{is_memory}
 use Rattle.driver_attempt.specs.Holding.{HoldsSession, dirty_session, held_id, needs_session}
-use Rattle.driver_attempt.specs.OldDeployment.{reworded}
-use Rattle.driver_attempt.specs.Retry.{RetryState}
+use Rattle.retry_rules.specs.OldDeployment.{reworded}
+use Rattle.retry_rules.specs.Retry.{RetryState}
 use Rattle.driver_exec.specs.Gentle.{IsGentlePart, IsLossy, IsOfPart}
 use Rattle.driver_exec.specs.OperationCauses.{DrawsNumbers, labels_after}
 use Rattle.driver_exec.proofs.FixedNumbers.{MayBeFixed, sends_first}

@@ -30,7 +30,7 @@ use Rattle.driver_attempt.specs.Attempting.{AttemptState, AttemptedOperation, En
 use Rattle.driver_attempt.specs.Concerns.{concern_refusal}
 use Rattle.driver_attempt.specs.Executing.{first_state}
 use Rattle.driver_attempt.specs.Holding.{DrawsNumber, DrawsSession, GivesNumber, ExecutionSession, HoldsSession, held_id, holds_nothing, needs_session}
-use Rattle.driver_attempt.specs.Retry.{RetryState}
+use Rattle.retry_rules.specs.Retry.{RetryState}
 use Rattle.driver_exec.specs.Gentle.{IsGentlePart, IsLossy}
 use Rattle.driver_exec.specs.OperationCauses.{DrawsNumbers}
 use Rattle.driver_exec.proofs.FixedNumbers.{MayBeFixed}

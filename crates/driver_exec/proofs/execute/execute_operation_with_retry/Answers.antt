@@ -5,7 +5,7 @@ use Rattle.driver_ops.specs.Operations.{batch_of}
 use Rattle.driver_attempt.specs.declared.attempt_end.AttemptEnd.TheVariants.{Failed}
 use Rattle.driver_attempt.specs.Client.{options_of, store_of}
 use Rattle.driver_attempt.specs.Holding.{holds_nothing}
-use Rattle.driver_attempt.specs.Retry.{Decides, decide}
+use Rattle.retry_rules.specs.Retry.{Decides, decide}
 use Rattle.driver_attempt.proofs.CommandParts.{bodies_same, counted_twice, fixed_some, fixes_twice}
 use Rattle.driver_attempt.proofs.AttemptSequence.{attempt_under_options, attempted_under, decided_fewer, ends_at_limit, ends_last, ends_refused, failed_is, goes_further, may_answer, same_twice}
 use Rattle.driver_attempt.specs.inside.Attempting.{attempt_state}

@@ -1,7 +1,7 @@
 //! The labels that a failure of an operation gains.
 ghost use Rattle.std.specs.Prelude.{◌≡◌, OnOk, OnErr};
 ghost use Rattle.driver_error.specs.Error.{labels_of, KeepsAllButLabels};
-ghost use Rattle.driver_attempt.specs.LabelTable.{labels_outside_transactions};
+ghost use Rattle.retry_rules.specs.LabelTable.{labels_outside_transactions};
 
 use driver_error::{Error, RETRYABLE_WRITE_ERROR};
 use driver_session::Retryability;

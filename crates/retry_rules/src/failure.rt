@@ -1,9 +1,9 @@
 //! The failures of an operation's attempts: which may be followed by another attempt, and which of two is kept.
 ghost use Rattle.std.specs.Prelude.{◌≡◌, IfOk};
 ghost use Rattle.driver_options.specs.declared.options.Address.{Address as Server};
-ghost use Rattle.driver_attempt.specs.OldDeployment.{reworded};
-ghost use Rattle.driver_attempt.specs.Retry.{failure_kept, indicates_writes_performed, may_be_retried, may_be_sent, stays, tells_writes_performed};
-ghost use Rattle.driver_attempt.specs.inside.Retry.{failure_at};
+ghost use Rattle.retry_rules.specs.OldDeployment.{reworded};
+ghost use Rattle.retry_rules.specs.Retry.{failure_kept, indicates_writes_performed, may_be_retried, may_be_sent, stays, tells_writes_performed};
+ghost use Rattle.retry_rules.specs.inside.Retry.{failure_at};
 
 use crate::old_deployment::reworded;
 use driver_error::{Error, NO_WRITES_PERFORMED, RETRYABLE_WRITE_ERROR};

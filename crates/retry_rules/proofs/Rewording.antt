@@ -2,7 +2,7 @@
 use Rattle.std.proofs.Common.{◌≡◌, ap, ◌∙◌}
 use Rattle.driver_error.specs.declared.error.Error.{Error, roll-out-Error}
 use Rattle.driver_error.specs.Error.{kind_of, with_kind}
-use Rattle.driver_attempt.specs.OldDeployment.{reworded, reworded_kind}
+use Rattle.retry_rules.specs.OldDeployment.{reworded, reworded_kind}
 
 same_kind : (error : Error) → with_kind (kind_of error) error ≡ error
 unfolding with_kind

@@ -1,7 +1,7 @@
 -- A kind that may be reworded, as the function that rewords it says.
 use Rattle.std.specs.Prelude.{◌≡◌, Option, None, Some}
 use Rattle.driver_error.specs.Error.{ErrorKind}
-use Rattle.driver_attempt.specs.OldDeployment.{reworded_kind}
+use Rattle.retry_rules.specs.OldDeployment.{reworded_kind}
 
 -- a kind that is reworded, or one that stays
 abbrev pub MayReword : ErrorKind → Option ErrorKind → Type 0

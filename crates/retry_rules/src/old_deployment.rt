@@ -1,8 +1,8 @@
 //! The failure of a numbered write at a deployment that takes no transaction numbers, in words for the caller.
 ghost use Rattle.std.specs.Prelude.{◌≡◌, [], IfOk, IfSome};
 ghost use Rattle.driver_error.specs.Kinds.{inner_labels};
-ghost use Rattle.driver_attempt.specs.OldDeployment.{no_retryable_writes, refuses_numbers, reworded};
-ghost use Rattle.driver_attempt.specs.inside.OldDeployment.{MayReword};
+ghost use Rattle.retry_rules.specs.OldDeployment.{no_retryable_writes, refuses_numbers, reworded};
+ghost use Rattle.retry_rules.specs.inside.OldDeployment.{MayReword};
 
 use bson_lite::{Text, TryClone};
 use driver_error::{CommandError, Error, ErrorKind};

@@ -2,9 +2,9 @@
 ghost use Rattle.std.specs.Prelude.{◌≡◌, [], nat_lt, IfOk, OnOk};
 ghost use Rattle.std.specs.List.{list_any};
 ghost use Rattle.driver_options.specs.declared.options.Address.{Address as Server};
-ghost use Rattle.driver_attempt.specs.Retry.{Decides, decide, after, avoiding, is_server, with_server, after_further, number_kept};
-ghost use Rattle.driver_attempt.specs.inside.Retry.{failure_at};
-ghost use Rattle.driver_attempt.specs.declared.failure.FailurePhase.TheVariants.{ConnectionEstablishment, Execution};
+ghost use Rattle.retry_rules.specs.Retry.{Decides, decide, after, avoiding, is_server, with_server, after_further, number_kept};
+ghost use Rattle.retry_rules.specs.inside.Retry.{failure_at};
+ghost use Rattle.retry_rules.specs.declared.failure.FailurePhase.TheVariants.{ConnectionEstablishment, Execution};
 
 use crate::failure::{Failure, FailurePhase, failure_kept, may_be_retried, reworded_failure};
 use bson_lite::{List, TryClone};
@@ -32,7 +32,7 @@ pub struct Retry {
 impl Model for Retry {
     ghost use Rattle.std.specs.Coded.{codes};
     ghost use Rattle.driver_error.specs.contracts.error.Error as error_contract;
-    ghost use Rattle.driver_attempt.specs.Retry.{RetryState};
+    ghost use Rattle.retry_rules.specs.Retry.{RetryState};
 
     ghost Value = { RetryState };
 

@@ -1,0 +1,4 @@
+pub mod LabelTable
+pub mod OldDeployment
+pub mod Retry
+pub mod inside

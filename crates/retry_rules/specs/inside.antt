@@ -1,0 +1,3 @@
+-- What the functions that no other crate calls say of themselves.
+pub mod OldDeployment
+pub mod Retry
