@@ -5,9 +5,9 @@ use driver_link::{
     Failing, Item, Place, PlacedWrite, Planned, PlannedConcern, Send, SendBody, SendCommand,
     Server, Shared, WriteKind, Written,
 };
+use model_effects::new_server;
 use model_server::delivery::deliver;
 use model_server::meeting::take;
-use model_server::new_server;
 use rows::{CASES, COUNTS, HONESTY, INTERRUPTED_TRANSACTIONS, INTERRUPTED_WRITES, ITEMS, LATE};
 use std::alloc::{AllocError, Global};
 use std::test::Fail;

@@ -17,21 +17,21 @@ use Rattle.driver_link.specs.declared.machine.Send.{Send}
 use Rattle.driver_link.specs.declared.machine.Server.{Server}
 use Rattle.driver_link.specs.declared.machine.ServerTransaction.TheVariants as transaction
 use Rattle.driver_link.specs.declared.machine.Statement.{Statement}
-use Rattle.model_server.proofs.EffectLaws.{taken_law}
+use Rattle.model_effects.proofs.EffectLaws.{taken_law}
 use Rattle.model_server.proofs.StillLaws.{still_law}
 use Rattle.model_server.proofs.TransientLaws.{before_traced, cursors_stay, transient_law, transient_traced}
-use Rattle.model_server.specs.Changes.{changed, effect_in}
-use Rattle.model_server.specs.Does.{Does}
-use Rattle.model_server.specs.Parts.{Makes, parts_as}
-use Rattle.model_server.specs.Seen.{is_too_old, seen}
+use Rattle.model_effects.specs.Changes.{changed, effect_in}
+use Rattle.model_effects.specs.Does.{Does}
+use Rattle.model_effects.specs.Parts.{Makes, parts_as}
+use Rattle.model_effects.specs.Seen.{is_too_old, seen}
 use Rattle.model_server.specs.Transient.{called, still_transient}
-use Rattle.model_server.specs.declared.cases.Case.{Case as Met}
-use Rattle.model_server.specs.declared.cases.Case.TheVariants as met
-use Rattle.model_server.specs.declared.change.CursorChange.TheVariants as cursor
-use Rattle.model_server.specs.declared.change.Effect.{Effect}
-use Rattle.model_server.specs.declared.change.Effect.TheVariants as effect
-use Rattle.model_server.specs.declared.change.SessionStep.{SessionStep}
-use Rattle.model_server.specs.declared.change.SessionStep.TheVariants as step
+use Rattle.model_effects.specs.declared.cases.Case.{Case as Met}
+use Rattle.model_effects.specs.declared.cases.Case.TheVariants as met
+use Rattle.model_effects.specs.declared.change.CursorChange.TheVariants as cursor
+use Rattle.model_effects.specs.declared.change.Effect.{Effect}
+use Rattle.model_effects.specs.declared.change.Effect.TheVariants as effect
+use Rattle.model_effects.specs.declared.change.SessionStep.{SessionStep}
+use Rattle.model_effects.specs.declared.change.SessionStep.TheVariants as step
 
 -- statements that gather and are interrupted abort their transaction
 pub fails_interrupted : (done : List Statement) (ran : List Entry) (has : Bool) (known : KnownSession)

@@ -1,8 +1,5 @@
-pub mod EffectLaws
 pub mod ExchangeLaws
 pub mod InterruptLaws
-pub mod ServeLaws
-pub mod SessionStepLaws
 pub mod StillLaws
 pub mod TransientLaws
 pub mod UndoLaws

@@ -13,12 +13,12 @@ use Rattle.driver_link.specs.Sessions.{taken}
 use Rattle.driver_link.specs.declared.machine.KnownSession.{KnownSession}
 use Rattle.driver_link.specs.declared.machine.Send.{Send}
 use Rattle.driver_link.specs.declared.machine.Server.{Server}
-use Rattle.model_server.specs.Changes.{changed, effect_in, step_in, stepped}
-use Rattle.model_server.specs.declared.change.CursorChange.TheVariants as cursor
-use Rattle.model_server.specs.declared.change.Effect.{Effect}
-use Rattle.model_server.specs.declared.change.Effect.TheVariants as effect
-use Rattle.model_server.specs.declared.change.SessionStep.{SessionStep}
-use Rattle.model_server.specs.declared.change.SessionStep.TheVariants as step
+use Rattle.model_effects.specs.Changes.{changed, effect_in, step_in, stepped}
+use Rattle.model_effects.specs.declared.change.CursorChange.TheVariants as cursor
+use Rattle.model_effects.specs.declared.change.Effect.{Effect}
+use Rattle.model_effects.specs.declared.change.Effect.TheVariants as effect
+use Rattle.model_effects.specs.declared.change.SessionStep.{SessionStep}
+use Rattle.model_effects.specs.declared.change.SessionStep.TheVariants as step
 
 -- what ran before does not depend on the trace
 pub before_traced : (session : Option (List ℕ)) (number : Option ℤ) (server : Server) (trace : List Send)

@@ -14,16 +14,16 @@ use Rattle.driver_link.specs.Sessions.{taken}
 use Rattle.driver_link.specs.declared.machine.Entry.{Entry}
 use Rattle.driver_link.specs.declared.machine.KnownSession.{KnownSession}
 use Rattle.driver_link.specs.declared.machine.Server.{Server}
-use Rattle.model_server.specs.Changes.{changed, cursors_put, effect_in, ended, logged_by, stepped}
-use Rattle.model_server.specs.Displacing.{displaced_by, left_displaced, session_displaced}
+use Rattle.model_effects.specs.Changes.{changed, cursors_put, effect_in, ended, logged_by, stepped}
+use Rattle.model_effects.specs.Displacing.{displaced_by, left_displaced, session_displaced}
 use Rattle.model_server.specs.Undoing.{closed_place, cursors_before, each_before, known_before, late_before, reopened, rewritten, rewritten_at, server_before, sessions_before, transaction_before, unbegun}
-use Rattle.model_server.specs.Waiting.{waits_at}
-use Rattle.model_server.specs.declared.change.CursorChange.{CursorChange}
-use Rattle.model_server.specs.declared.change.CursorChange.TheVariants as cursor
-use Rattle.model_server.specs.declared.change.Effect.{Effect}
-use Rattle.model_server.specs.declared.change.Effect.TheVariants as effect
-use Rattle.model_server.specs.declared.change.SessionStep.{SessionStep}
-use Rattle.model_server.specs.declared.change.SessionStep.TheVariants as step
+use Rattle.model_effects.specs.Waiting.{waits_at}
+use Rattle.model_effects.specs.declared.change.CursorChange.{CursorChange}
+use Rattle.model_effects.specs.declared.change.CursorChange.TheVariants as cursor
+use Rattle.model_effects.specs.declared.change.Effect.{Effect}
+use Rattle.model_effects.specs.declared.change.Effect.TheVariants as effect
+use Rattle.model_effects.specs.declared.change.SessionStep.{SessionStep}
+use Rattle.model_effects.specs.declared.change.SessionStep.TheVariants as step
 use Rattle.model_server.specs.declared.delivery.Late.{Late}
 use Rattle.model_server.specs.declared.undoing.PastSessions.{PastSessions}
 use Rattle.model_server.specs.declared.undoing.PastStep.{PastStep}

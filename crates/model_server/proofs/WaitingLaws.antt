@@ -4,7 +4,7 @@ use Rattle.driver_link.specs.Exchange.{arrived, delivered}
 use Rattle.driver_link.specs.Serving.{served, usual}
 use Rattle.driver_link.specs.declared.machine.Send.{Send}
 use Rattle.driver_link.specs.declared.machine.Server.{Server}
-use Rattle.model_server.specs.Waiting.{waits_at}
+use Rattle.model_effects.specs.Waiting.{waits_at}
 
 -- no send waits there
 none_arrives : (server : Server) (at : ℕ) (found : Option (Option Send)) → unwrap_or found None ≡ None → arrived server at found ≡ server

@@ -1,12 +1,6 @@
-pub mod Changes
-pub mod Displacing
-pub mod Does
 pub mod Judged
 pub mod Meets
 pub mod ModelAddress
 pub mod ModelState
-pub mod Parts
-pub mod Seen
 pub mod Transient
 pub mod Undoing
-pub mod Waiting

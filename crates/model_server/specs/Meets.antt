@@ -8,7 +8,7 @@ use Rattle.driver_link.specs.declared.fault.LinkCall.TheVariants.{Exchange}
 use Rattle.driver_link.specs.declared.fault.LinkFault.TheVariants.{Io}
 use Rattle.driver_link.specs.declared.machine.Server.{Server}
 use Rattle.driver_link.specs.Cursors.{Reply}
-use Rattle.model_server.specs.Changes.{changed}
+use Rattle.model_effects.specs.Changes.{changed}
 use Rattle.model_server.specs.declared.meeting.Meeting.{Meeting}
 use Rattle.model_server.specs.declared.meeting.Meeting.TheVariants.{Comes, Waits}
 

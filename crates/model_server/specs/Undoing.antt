@@ -7,9 +7,9 @@ use Rattle.driver_link.specs.declared.machine.KnownSession.{KnownSession}
 use Rattle.driver_link.specs.declared.machine.Server.{Server}
 use Rattle.driver_link.specs.declared.machine.ServerTransaction.{ServerTransaction}
 use Rattle.driver_link.specs.declared.machine.ServerTransaction.TheVariants as transaction
-use Rattle.model_server.specs.declared.change.CursorChange.{CursorChange}
-use Rattle.model_server.specs.declared.change.CursorChange.TheVariants as cursor
-use Rattle.model_server.specs.declared.change.Displaced.{Displaced}
+use Rattle.model_effects.specs.declared.change.CursorChange.{CursorChange}
+use Rattle.model_effects.specs.declared.change.CursorChange.TheVariants as cursor
+use Rattle.model_effects.specs.declared.change.Displaced.{Displaced}
 use Rattle.model_server.specs.declared.delivery.Late.{Late}
 use Rattle.model_server.specs.declared.undoing.Past.{Past}
 use Rattle.model_server.specs.declared.undoing.PastSessions.{PastSessions}

@@ -4,14 +4,14 @@ ghost use Rattle.std.specs.Prelude.{◌≡◌, None, Some, slice_set, is_some, I
 ghost use Rattle.driver_link.specs.Exchange.{after_picks, delivered};
 ghost use Rattle.driver_link.specs.Serving.{served, usual};
 ghost use Rattle.model_server.specs.Undoing.{each_before, found_before, late_before, server_before};
-ghost use Rattle.model_server.specs.Waiting.{waits_at};
+ghost use Rattle.model_effects.specs.Waiting.{waits_at};
 
-use crate::change::{Displaced, put_changes};
-use crate::exchange::{Prepared, prepare};
-use crate::places::{put_back, take_out};
 use crate::undoing::{Past, note, undo};
 use bson_lite::List;
 use driver_link::{Send, Server};
+use model_effects::change::{Displaced, put_changes};
+use model_effects::exchange::{Prepared, prepare};
+use model_effects::places::{put_back, take_out};
 use std::alloc::{AllocError, Global};
 
 /// A send that was served late: where it waited, and what undoes its serving.

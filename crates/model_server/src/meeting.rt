@@ -6,8 +6,6 @@ ghost use Rattle.driver_link.specs.declared.fault.LinkFault.TheVariants.{Io};
 ghost use Rattle.driver_link.specs.declared.machine.Send.{Send as Sent};
 ghost use Rattle.model_server.specs.Meets.{met_by, reply_of, IsSpelled, note_of as noted};
 
-use crate::change::{CursorChange, Effect, put_changes};
-use crate::exchange::{Prepared, prepare};
 use crate::interrupting::interrupt;
 use crate::refusing::refuse;
 use bson_lite::{Bytes, List, Text, TryClone};
@@ -15,6 +13,8 @@ use driver_error::IoKind;
 use driver_link::{
     Answered, Failing, Item, LinkCall, LinkFault, Planned, PlannedConcern, Send, Server,
 };
+use model_effects::change::{CursorChange, Effect, put_changes};
+use model_effects::exchange::{Prepared, prepare};
 use model_replies::copying::copied_send;
 use model_replies::kept_reply::Reply;
 use model_replies::replying::{REAUTHENTICATION_REQUIRED, error};
@@ -153,7 +153,7 @@ fn refused(
 }
 
 /// What a send comes to by its item. It holds whatever the trace is by then.
-#[tactic(auto, unfolding(driver_link::specs::Exchange::met, driver_link::specs::Exchange::reply, crate::specs::Meets::met_by, crate::specs::Changes::changed, crate::specs::Changes::effect_in))]
+#[tactic(auto, unfolding(driver_link::specs::Exchange::met, driver_link::specs::Exchange::reply, crate::specs::Meets::met_by, model_effects::specs::Changes::changed, model_effects::specs::Changes::effect_in))]
 pub(crate) fn meet(
     server: &Server,
     alloc: Global,

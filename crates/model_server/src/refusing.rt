@@ -7,14 +7,14 @@ ghost use Rattle.driver_link.specs.Replies.{error_reply};
 ghost use Rattle.driver_link.specs.Sessions.{is_committed as committed};
 ghost use Rattle.driver_link.specs.declared.machine.Send.{Send as Sent};
 ghost use Rattle.driver_link.specs.declared.machine.Server.{Server as State};
-ghost use Rattle.model_server.specs.Changes.{changed, effect_in};
+ghost use Rattle.model_effects.specs.Changes.{changed, effect_in};
 
-use crate::cases::{begin_session, is_in_transaction};
-use crate::change::{CursorChange, Effect, SessionStep};
-use crate::exchange::Prepared;
 use crate::honesty::{Judgement, has_transient, honest, ran_before};
 use bson_lite::Text;
 use driver_link::{Send, Server, ServerTransaction};
+use model_effects::cases::{begin_session, is_in_transaction};
+use model_effects::change::{CursorChange, Effect, SessionStep};
+use model_effects::exchange::Prepared;
 use model_replies::kept_reply::Reply;
 use model_replies::replying::error;
 use std::alloc::{AllocError, Global};
@@ -51,7 +51,7 @@ pub(crate) fn can_be_transient(alloc: Global, server: &Server, send: &Send) -> b
 }
 
 /// What an error with these labels does to its send's session.
-#[tactic(auto, unfolding(driver_link::specs::Interrupting::told_of_error, driver_link::specs::Interrupting::transient_as, crate::specs::Changes::effect_in))]
+#[tactic(auto, unfolding(driver_link::specs::Interrupting::told_of_error, driver_link::specs::Interrupting::transient_as, model_effects::specs::Changes::effect_in))]
 fn refused_effect(send: &Send, labels: &[Text]) -> Effect
     ensures { (state : State) → effect_in result state ≡ told_of_error labels.now state send.now }
 {

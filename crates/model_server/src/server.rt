@@ -6,13 +6,13 @@ ghost use Rattle.driver_error.specs.declared.kind.ErrorKind.TheVariants.{Memory}
 ghost use Rattle.driver_link.specs.Exchange.{delivered, empty_server};
 ghost use Rattle.driver_link.specs.WellFormed.{IsWellFormed};
 ghost use Rattle.model_server.specs.ModelState.{no_calls, Stepped};
-ghost use Rattle.model_server.specs.Waiting.{waits_at};
+ghost use Rattle.model_effects.specs.Waiting.{waits_at};
 
 use crate::delivery::deliver;
-use crate::exchange::new_server;
 use crate::stepping::take_next;
 use bson_lite::{Bytes, List};
 use driver_link::{Answered, Schedule, Send, Server, Setup};
+use model_effects::exchange::new_server;
 use std::alloc::{AllocError, Global};
 use std::marker::Model;
 

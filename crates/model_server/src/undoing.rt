@@ -5,14 +5,14 @@ ghost use Rattle.std.specs.FinMap as finite;
 ghost use Rattle.driver_link.specs.Gathered.{entries_in};
 ghost use Rattle.driver_link.specs.Sessions.{taken};
 ghost use Rattle.driver_link.specs.declared.machine.Entry.{Entry as Written};
-ghost use Rattle.model_server.specs.Changes.{changed, effect_in, ended, stepped};
-ghost use Rattle.model_server.specs.Displacing.{displaced_by, outdated, session_displaced};
+ghost use Rattle.model_effects.specs.Changes.{changed, effect_in, ended, stepped};
+ghost use Rattle.model_effects.specs.Displacing.{displaced_by, outdated, session_displaced};
 ghost use Rattle.model_server.specs.Undoing.{closed_place, cursors_before, known_before, lessened, rewritten, server_before, sessions_before, transaction_before};
 
-use crate::change::{CursorChange, Displaced, Effect, SessionStep, give_back, lend};
-use crate::places::put_back;
 use bson_lite::{ByIndex, Document, List};
 use driver_link::{ById, Counted, Entry, KnownSession, Server, ServerTransaction};
+use model_effects::change::{CursorChange, Displaced, Effect, SessionStep, give_back, lend};
+use model_effects::places::put_back;
 use model_replies::copying::{copied_kept, copied_transaction};
 use model_replies::cursors::place_of;
 use std::alloc::{AllocError, Global};
@@ -143,7 +143,7 @@ fn note_step(
 }
 
 /// Notes the sessions before one takes a number and a step.
-#[tactic(auto, unfolding(driver_link::specs::Sessions::taken, crate::specs::Displacing::outdated), using(crate::proofs::UndoLaws::begins_back, crate::proofs::UndoLaws::anew_back, crate::proofs::UndoLaws::goes_back))]
+#[tactic(auto, unfolding(driver_link::specs::Sessions::taken, model_effects::specs::Displacing::outdated), using(crate::proofs::UndoLaws::begins_back, crate::proofs::UndoLaws::anew_back, crate::proofs::UndoLaws::goes_back))]
 fn note_session(
     alloc: Global,
     sessions: &ById<KnownSession>,
@@ -172,7 +172,7 @@ fn note_session(
 }
 
 /// Notes the sessions before an effect.
-#[tactic(auto, unfolding(crate::specs::Changes::effect_in))]
+#[tactic(auto, unfolding(model_effects::specs::Changes::effect_in))]
 fn note_sessions(
     alloc: Global,
     server: &Server,

@@ -6,7 +6,7 @@ use crate::running::Run;
 use bson_lite::Bytes;
 use driver_inputs::{Call, Outcome};
 use driver_link::{Send, Server};
-use model_server::new_server;
+use model_effects::new_server;
 use report_lines::{are_distinct, push_calls, push_entries, push_sends};
 use std::alloc::{AllocError, Global};
 

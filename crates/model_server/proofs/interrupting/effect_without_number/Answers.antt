@@ -5,8 +5,8 @@ use Rattle.driver_link.specs.Interrupting.{session_interrupted}
 use Rattle.driver_link.specs.Statements.{entries_of}
 use Rattle.driver_link.specs.declared.machine.Server.{Server}
 use Rattle.model_server.proofs.InterruptLaws.{unnumbered_called}
-use Rattle.model_server.specs.Changes.{effect_in}
-use Rattle.model_server.specs.Parts.{Makes, parts_as}
+use Rattle.model_effects.specs.Changes.{effect_in}
+use Rattle.model_effects.specs.Parts.{Makes, parts_as}
 use Rattle.model_server.proofs.interrupting.effect_without_number.Goals as goal
 
 pub returns : goal.returns

@@ -10,7 +10,7 @@ use Rattle.driver_link.specs.Replies.{error_reply, served_reply}
 use Rattle.driver_link.specs.Serving.{served, usual}
 use Rattle.driver_link.specs.declared.machine.Send.{Send}
 use Rattle.model_server.proofs.InterruptLaws.{decided_law, decided_reply_law, open_law, open_reply_law}
-use Rattle.model_server.specs.Changes.{changed}
+use Rattle.model_effects.specs.Changes.{changed}
 use Rattle.model_server.proofs.interrupting.interrupt.Goals as goal
 
 pub returns-then-is_decided-clause-reply : goal.returns-then-is_decided-clause-reply

@@ -8,8 +8,8 @@ use Rattle.driver_link.specs.Replies.{error_reply}
 use Rattle.driver_link.specs.Statements.{entries_of}
 use Rattle.driver_link.specs.declared.machine.Server.{Server}
 use Rattle.model_server.proofs.InterruptLaws.{interrupt_law, labels_law}
-use Rattle.model_server.specs.Parts.{parts_as}
-use Rattle.model_server.specs.Seen.{seen}
+use Rattle.model_effects.specs.Parts.{parts_as}
+use Rattle.model_effects.specs.Seen.{seen}
 use Rattle.model_server.specs.Transient.{called}
 use Rattle.model_server.proofs.interrupting.interrupt_in.Goals as goal
 

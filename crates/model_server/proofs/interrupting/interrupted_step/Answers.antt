@@ -6,8 +6,8 @@ use Rattle.driver_link.specs.Serving.{session_after}
 use Rattle.driver_link.specs.Statements.{entries_of}
 use Rattle.driver_link.specs.declared.machine.KnownSession.{KnownSession}
 use Rattle.model_server.proofs.InterruptLaws.{fails_interrupted, as_served}
-use Rattle.model_server.specs.Does.{Does}
-use Rattle.model_server.specs.declared.change.SessionStep.TheVariants as step
+use Rattle.model_effects.specs.Does.{Does}
+use Rattle.model_effects.specs.declared.change.SessionStep.TheVariants as step
 use Rattle.model_server.proofs.interrupting.interrupted_step.Goals as goal
 
 pub returns-in-Gathers : goal.returns-in-Gathers

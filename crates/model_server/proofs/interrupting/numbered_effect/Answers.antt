@@ -2,8 +2,8 @@ use Rattle.std.proofs.Common.{◌≡◌, ◌&&◌, ap, ◌∙◌, rules, w64}
 use mir.Val.{of_z, to_z}
 use Rattle.driver_link.specs.Interrupting.{session_interrupted}
 use Rattle.model_server.proofs.InterruptLaws.{effect_called}
-use Rattle.model_server.specs.Changes.{effect_in}
-use Rattle.model_server.specs.declared.change.Effect.TheVariants as effect
+use Rattle.model_effects.specs.Changes.{effect_in}
+use Rattle.model_effects.specs.declared.change.Effect.TheVariants as effect
 use Rattle.model_server.proofs.interrupting.numbered_effect.Goals as goal
 
 pub returns : goal.returns

@@ -1,6 +1,6 @@
 use Rattle.std.proofs.Common.{◌∙◌}
-use Rattle.model_server.specs.Changes.{changed}
-use Rattle.model_server.specs.Displacing.{displaced_by}
+use Rattle.model_effects.specs.Changes.{changed}
+use Rattle.model_effects.specs.Displacing.{displaced_by}
 use Rattle.model_server.specs.Undoing.{server_before}
 use Rattle.model_server.proofs.UndoLaws.{all_back}
 use Rattle.model_server.proofs.undoing.note.Goals as goal
