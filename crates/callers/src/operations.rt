@@ -1,12 +1,12 @@
 //! A caller of the operations' commands: the delete of the document that has an id.
 ghost use Rattle.std.specs.Prelude.{◌≡◌, ◌∷◌, [], ℕ, false, List as Listed, IfOk};
 ghost use Rattle.driver_link.specs.Numbers.{field};
-ghost use Rattle.write_ops.specs.Deleting.{delete_command, delete_statement};
+ghost use Rattle.statement_ops.specs.Deleting.{delete_command, delete_statement};
 
 use bson_lite::{Bson, Document, ID_KEY};
 use driver_options::DeleteOptions;
+use statement_ops::delete_body;
 use std::alloc::{AllocError, Global};
-use write_ops::delete_body;
 
 /// The body of the command that deletes the document with this id, without the executor's fields.
 pub fn delete_by_id(

@@ -10,7 +10,7 @@ use Rattle.driver_link.specs.declared.machine.Place.{Place}
 use Rattle.driver_link.specs.declared.machine.SendBody.{SendBody}
 use Rattle.driver_ops.specs.Operations.{OperationSpec}
 use Rattle.driver_ops.specs.Targets.{in_collection}
-use Rattle.write_ops.specs.StatementSpec.{delete_spec, find_spec, update_spec}
+use Rattle.statement_ops.specs.StatementSpec.{delete_spec, find_spec, update_spec}
 use Rattle.driver_attempt.specs.Causes.{end_of, outline_of}
 use Rattle.driver_attempt.specs.Moment.{Moment}
 use Rattle.driver_actions.specs.Causes.{BecomesEnd, EndsAsCaused, EndsEarly, OperationCaused, RefusesFirst, WriteCaused}

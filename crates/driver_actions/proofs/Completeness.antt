@@ -35,11 +35,11 @@ use Rattle.driver_ops.specs.SendKinds.{SendKind, first}
 use Rattle.driver_ops.specs.Operations.{batch_of}
 use Rattle.driver_ops.specs.Targets.{in_collection}
 use Rattle.write_ops.specs.InsertSpec.{insert_spec}
-use Rattle.write_ops.specs.DeleteLawful.{delete_lawful}
-use Rattle.write_ops.specs.FindLawful.{find_lawful}
+use Rattle.statement_ops.specs.DeleteLawful.{delete_lawful}
+use Rattle.statement_ops.specs.FindLawful.{find_lawful}
 use Rattle.write_ops.specs.InsertLawful.{insert_lawful}
-use Rattle.write_ops.specs.UpdateLawful.{update_lawful}
-use Rattle.write_ops.specs.StatementSpec.{delete_spec, find_spec, update_spec}
+use Rattle.statement_ops.specs.UpdateLawful.{update_lawful}
+use Rattle.statement_ops.specs.StatementSpec.{delete_spec, find_spec, update_spec}
 use Rattle.write_ops.proofs.FindLaw.{find_plain}
 use Rattle.write_ops.proofs.InsertReading.{inserted_plain, plain_read}
 use Rattle.write_ops.proofs.StatementLaw.{delete_plain, update_plain}

@@ -18,7 +18,7 @@ use Rattle.driver_ops.specs.SendKinds.{first}
 use Rattle.driver_ops.specs.Targets.{in_collection}
 use Rattle.write_ops.specs.declared.own_document.OwnDocument.{OwnDocument}
 use Rattle.write_ops.specs.InsertSpec.{insert_spec}
-use Rattle.write_ops.specs.StatementSpec.{delete_spec, find_spec, update_spec}
+use Rattle.statement_ops.specs.StatementSpec.{delete_spec, find_spec, update_spec}
 use Rattle.driver_attempt.specs.Causes.{ErrorOutline, end_of}
 use Rattle.driver_attempt.specs.Moment.{Moment}
 use Rattle.driver_exec.specs.OperationCauses.{Caused}

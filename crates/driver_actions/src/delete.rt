@@ -16,10 +16,10 @@ use driver_ops::Collection;
 use driver_options::DeleteOptions;
 use driver_session::SessionStore;
 use rand_core::Rng;
+use statement_ops::Delete;
 use std::alloc::Global;
 use std::marker::Brand;
 use std::sync::ledger::Blank;
-use write_ops::Delete;
 
 /// Deletes one of the documents that a filter finds, or all of them (`multi`), in a place that is given.
 pub(crate) fn delete_found<S: SessionStore, L: Link, K: Clock, R: Rng>(

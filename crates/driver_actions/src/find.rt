@@ -24,10 +24,10 @@ use driver_options::{
 };
 use driver_session::SessionStore;
 use rand_core::Rng;
+use statement_ops::FindAndModify;
 use std::alloc::{AllocError, Global};
 use std::marker::Brand;
 use std::sync::ledger::Blank;
-use write_ops::FindAndModify;
 
 /// Takes out one of the documents that a filter finds, in a place that is given, and answers it.
 pub(crate) fn find_one_and_delete<S: SessionStore, L: Link, K: Clock, R: Rng>(

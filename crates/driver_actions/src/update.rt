@@ -16,10 +16,10 @@ use driver_ops::Collection;
 use driver_options::{UpdateOptions, UpdateOrReplace};
 use driver_session::SessionStore;
 use rand_core::Rng;
+use statement_ops::Update;
 use std::alloc::Global;
 use std::marker::Brand;
 use std::sync::ledger::Blank;
-use write_ops::Update;
 
 /// Updates or replaces one of the documents that a filter finds, or all of them (`multi`), in a place that is given.
 pub(crate) fn update_found<S: SessionStore, L: Link, K: Clock, R: Rng>(

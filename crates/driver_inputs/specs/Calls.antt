@@ -15,8 +15,8 @@ use Rattle.driver_link.specs.declared.machine.Place.{Place}
 use Rattle.driver_link.specs.declared.machine.WriteKind.{WriteKind}
 use Rattle.driver_link.specs.declared.machine.WriteKind.TheVariants as kind
 use Rattle.driver_link.specs.declared.machine.Written.{Written}
-use Rattle.write_ops.specs.CountAnswers.{deleted_by, updated_by}
-use Rattle.write_ops.specs.FoundAnswers.{found_by}
+use Rattle.statement_ops.specs.CountAnswers.{deleted_by, updated_by}
+use Rattle.statement_ops.specs.FoundAnswers.{found_by}
 use Rattle.bulk_ops.specs.BulkEntries.{counts_by, kept_told}
 use Rattle.bulk_fronts.specs.BulkOps.{model_written}
 use Rattle.driver_inputs.specs.declared.call.Answer.{Answer}

@@ -29,10 +29,10 @@ use Rattle.driver_ops.specs.Fields.{SendContext, executor_fields, under}
 use Rattle.driver_ops.specs.Inserts.{insert_command, insert_is_ordered}
 use Rattle.driver_ops.specs.Operations.{send_of}
 use Rattle.driver_ops.specs.Defaults.{own_of_statement}
-use Rattle.write_ops.specs.Deleting.{delete_command, delete_statement}
-use Rattle.write_ops.specs.FindingAndModifying.{find_command}
+use Rattle.statement_ops.specs.Deleting.{delete_command, delete_statement}
+use Rattle.statement_ops.specs.FindingAndModifying.{find_command}
 use Rattle.write_ops.specs.InsertSpec.{own_of_insert}
-use Rattle.write_ops.specs.Updating.{update_command, update_statement}
+use Rattle.statement_ops.specs.Updating.{update_command, update_statement}
 use Rattle.driver_inputs.specs.declared.call.SingleWrite.{SingleWrite}
 use Rattle.driver_inputs.specs.declared.call.SingleWrite.TheVariants.{DeleteMany, DeleteOne, FindOneAndDelete, FindOneAndReplace, FindOneAndUpdate, InsertOne, ReplaceOne, UpdateMany, UpdateOne}
 

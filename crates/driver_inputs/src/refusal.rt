@@ -20,8 +20,9 @@ use driver_options::{
     DeleteOptions, FindAndModifyOptions, InsertManyOptions, Modification, UpdateModifications,
     UpdateOptions, UpdateOrReplace,
 };
+use statement_ops::{delete_body, find_and_modify_body, update_body};
 use std::alloc::{AllocError, Global};
-use write_ops::{delete_body, find_and_modify_body, insert_body, update_body};
+use write_ops::insert_body;
 
 /// The length in bytes that an object id adds to a document.
 pub(crate) const ID_LENGTH: u64 = 17;

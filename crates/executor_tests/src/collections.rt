@@ -16,6 +16,7 @@ use driver_session::PlainStore;
 use memory_links::{CountingIds, FakeLink, MemClock};
 use rand_core::SeedableRng;
 use rand_pcg::Pcg32;
+use statement_ops::FindAndModify;
 use std::alloc::{AllocError, Global};
 use std::marker::Brand;
 use std::sync::ledger::{Blank, Ledger};
@@ -24,7 +25,6 @@ use test_parts::faking::{ALIKE, ANY_DONE, Given, fake_link};
 use test_parts::inserting::{Ended, how_ended};
 use test_parts::spelling::{FIRST_NUMBER, LAST, joined};
 use test_parts::writes::{Concern, namespace, number, write_concern};
-use write_ops::FindAndModify;
 
 /// `writeConcern: {w: 1}`, and the same of 2 and of 3
 const BY_ONE: &[u8] = b"\x03writeConcern\0\x0c\0\0\0\x10w\0\x01\0\0\0\0";

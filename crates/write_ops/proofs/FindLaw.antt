@@ -38,17 +38,17 @@ use Rattle.driver_ops.specs.Responses.{done, said}
 use Rattle.driver_ops.specs.Targets.{namespace_of}
 use Rattle.driver_ops.specs.WriteReplies.{concern_error_of, write_errors_in}
 use Rattle.driver_ops.proofs.PlainReading.{may_be_done, only_memory}
-use Rattle.write_ops.specs.declared.failed_write.FailedWrite.{FailedWrite}
-use Rattle.write_ops.specs.declared.find_and_modify.FindReply.{FindReply}
-use Rattle.write_ops.specs.CountAnswers.{failed_write_in}
-use Rattle.write_ops.specs.FindLawful.{find_reading}
-use Rattle.write_ops.specs.FindingAndModifying.{find_command}
-use Rattle.write_ops.specs.FoundAnswers.{AnswersFind, ReadsFind, find_reply, found_by}
+use Rattle.statement_ops.specs.declared.failed_write.FailedWrite.{FailedWrite}
+use Rattle.statement_ops.specs.declared.find_and_modify.FindReply.{FindReply}
+use Rattle.statement_ops.specs.CountAnswers.{failed_write_in}
+use Rattle.statement_ops.specs.FindLawful.{find_reading}
+use Rattle.statement_ops.specs.FindingAndModifying.{find_command}
+use Rattle.statement_ops.specs.FoundAnswers.{AnswersFind, ReadsFind, find_reply, found_by}
 use Rattle.write_ops.specs.StatementLaw.{CountsStatement, ExchangesStatement, IsReadAsCounted}
-use Rattle.write_ops.specs.StatementSpec.{find_spec, statement_write}
-use Rattle.write_ops.specs.lawful.FindReplies.{reply_found, value_read}
-use Rattle.write_ops.specs.lawful.OneWriteReplies.{IsOneOf}
-use Rattle.write_ops.specs.lawful.StatementReading.{output_told, told_by_reading}
+use Rattle.statement_ops.specs.StatementSpec.{find_spec, statement_write}
+use Rattle.statement_ops.specs.lawful.FindReplies.{reply_found, value_read}
+use Rattle.statement_ops.specs.lawful.OneWriteReplies.{IsOneOf}
+use Rattle.statement_ops.specs.lawful.StatementReading.{output_told, told_by_reading}
 use Rattle.write_ops.proofs.StatementLaw.{concern_is_failure, counts_one, told_reply, unfailed}
 
 -- the reply to a findAndModify that was done

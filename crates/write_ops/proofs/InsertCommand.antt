@@ -47,7 +47,7 @@ use Rattle.write_ops.specs.InsertFronts.{RefusesFront, TakesFront, insert_limits
 use Rattle.write_ops.specs.InsertSpec.{AreOwn, AsksInsert, IsInsertCommand, insert_spec}
 use Rattle.write_ops.specs.inside.InsertFronts.{IsTaken, StopsAt}
 use Rattle.write_ops.proofs.InsertFronts.{fixed_by, refuses_front}
-use Rattle.write_ops.proofs.StatementCommand.{stays}
+use Rattle.statement_ops.proofs.StatementCommand.{stays}
 
 -- the option before the order is no order
 no_order : (collection : List ℕ) (value : Option Bson) → value_of ORDERED.now ((field INSERT.now (bson.String collection) ∷ []) ++ option_field BYPASS_DOCUMENT_VALIDATION.now value) ≡ None

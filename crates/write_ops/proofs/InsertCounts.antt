@@ -13,7 +13,7 @@ use Rattle.driver_link.specs.Replies.{results_in}
 use Rattle.driver_ops.specs.lawful.InsertRead.{differ}
 use Rattle.write_ops.specs.InsertAnswers.{are_apart, counts_all, counts_ordered, counts_unordered, is_at, is_below}
 use Rattle.write_ops.specs.InsertLaw.{AddsUp, errors_told}
-use Rattle.write_ops.specs.lawful.CountReplies.{plus_nothing}
+use Rattle.statement_ops.specs.lawful.CountReplies.{plus_nothing}
 use Rattle.write_ops.specs.lawful.InsertFields.{error_with, sum_in}
 use Rattle.write_ops.specs.lawful.InsertReplies.{EndAs}
 

@@ -1,6 +1,5 @@
 pub mod FailedStatements
 pub mod FailureReading
-pub mod FindCommand
 pub mod FindLaw
 pub mod InsertCommand
 pub mod InsertCounts
@@ -8,6 +7,5 @@ pub mod InsertFronts
 pub mod InsertIds
 pub mod InsertLaw
 pub mod InsertReading
-pub mod StatementCommand
 pub mod StatementLaw
 pub mod UnfailedIds

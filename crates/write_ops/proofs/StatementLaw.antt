@@ -49,20 +49,20 @@ use Rattle.driver_ops.specs.Targets.{namespace_of}
 use Rattle.driver_ops.specs.WriteReplies.{concern_error_of, write_errors_in}
 use Rattle.driver_ops.specs.lawful.ReplyNumbers.{reply_number_is}
 use Rattle.driver_ops.proofs.PlainReading.{may_be_done, only_memory}
-use Rattle.write_ops.specs.declared.delete.DeleteReply.{DeleteReply}
-use Rattle.write_ops.specs.declared.failed_write.FailedWrite.{FailedWrite}
-use Rattle.write_ops.specs.declared.update.UpdateReply.{UpdateReply}
-use Rattle.write_ops.specs.CountAnswers.{AnswersDelete, AnswersUpdate, ReadsDelete, ReadsUpdate, delete_reply, delete_result, deleted_by, failed_write_in, update_reply, update_result, updated_by, upserted_in}
-use Rattle.write_ops.specs.DeleteLawful.{delete_reading}
-use Rattle.write_ops.specs.Deleting.{delete_statement}
+use Rattle.statement_ops.specs.declared.delete.DeleteReply.{DeleteReply}
+use Rattle.statement_ops.specs.declared.failed_write.FailedWrite.{FailedWrite}
+use Rattle.statement_ops.specs.declared.update.UpdateReply.{UpdateReply}
+use Rattle.statement_ops.specs.CountAnswers.{AnswersDelete, AnswersUpdate, ReadsDelete, ReadsUpdate, delete_reply, delete_result, deleted_by, failed_write_in, update_reply, update_result, updated_by, upserted_in}
+use Rattle.statement_ops.specs.DeleteLawful.{delete_reading}
+use Rattle.statement_ops.specs.Deleting.{delete_statement}
 use Rattle.write_ops.specs.InsertLaw.{planned_concern}
 use Rattle.write_ops.specs.StatementLaw.{CountsStatement, ExchangesStatement, IsReadAsCounted}
-use Rattle.write_ops.specs.StatementSpec.{delete_spec, statement_write, update_spec}
-use Rattle.write_ops.specs.UpdateLawful.{update_reading}
-use Rattle.write_ops.specs.Updating.{update_statement}
-use Rattle.write_ops.specs.lawful.CountReplies.{plus_nothing, reply_counted, reply_taken, upserted_read}
-use Rattle.write_ops.specs.lawful.OneWriteReplies.{IsOneCounted, IsOneOf, counted_unfailed, one_told}
-use Rattle.write_ops.specs.lawful.StatementReading.{output_told, told_by_reading}
+use Rattle.statement_ops.specs.StatementSpec.{delete_spec, statement_write, update_spec}
+use Rattle.statement_ops.specs.UpdateLawful.{update_reading}
+use Rattle.statement_ops.specs.Updating.{update_statement}
+use Rattle.statement_ops.specs.lawful.CountReplies.{plus_nothing, reply_counted, reply_taken, upserted_read}
+use Rattle.statement_ops.specs.lawful.OneWriteReplies.{IsOneCounted, IsOneOf, counted_unfailed, one_told}
+use Rattle.statement_ops.specs.lawful.StatementReading.{output_told, told_by_reading}
 
 -- a number of a reply is read as the count that it is
 count_is : (n : ℤ) → natural_of (reply_number (n +ℤ pos 0)) ≡ natural n

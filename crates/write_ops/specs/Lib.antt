@@ -1,17 +1,8 @@
-pub mod CountAnswers
-pub mod DeleteLawful
-pub mod Deleting
-pub mod FindLawful
-pub mod FindingAndModifying
-pub mod FoundAnswers
 pub mod InsertAnswers
 pub mod InsertFronts
 pub mod InsertLaw
 pub mod InsertLawful
 pub mod InsertSpec
 pub mod StatementLaw
-pub mod StatementSpec
-pub mod UpdateLawful
-pub mod Updating
 pub mod inside
 pub mod lawful

@@ -25,7 +25,7 @@ use Rattle.driver_ops.specs.OperationLaw.{TellsOutput}
 use Rattle.driver_ops.specs.Operations.{OperationSpec, ReadsAnswer, send_of}
 use Rattle.driver_ops.specs.Served.{statements_in}
 use Rattle.write_ops.specs.InsertLaw.{planned_concern}
-use Rattle.write_ops.specs.StatementSpec.{AsksStatement}
+use Rattle.statement_ops.specs.StatementSpec.{AsksStatement}
 
 -- one exchange of a command of one statement, outside transactions, with the machine's own reply to it in bytes
 pub record ExchangesStatement (asks : SendCommand) (does : WriteKind) (namespace : Namespace) (statement : List (Pair Bson)) (server : Server) (send : Send) (step : Scheduled) (reply : List ℕ) : Type 0 where

@@ -16,14 +16,14 @@ ghost use Rattle.driver_link.specs.declared.machine.WriteKind.TheVariants as kin
 ghost use Rattle.driver_ops.specs.declared.target.OperationTarget.{OperationTarget};
 ghost use Rattle.driver_ops.specs.Targets.{namespace_of};
 ghost use Rattle.write_ops.specs.declared.own_document.OwnDocument.{OwnDocument};
-ghost use Rattle.write_ops.specs.CountAnswers.{deleted_by, updated_by};
-ghost use Rattle.write_ops.specs.Deleting.{delete_statement};
-ghost use Rattle.write_ops.specs.FindingAndModifying.{find_command};
-ghost use Rattle.write_ops.specs.FoundAnswers.{found_by};
+ghost use Rattle.statement_ops.specs.CountAnswers.{deleted_by, updated_by};
+ghost use Rattle.statement_ops.specs.Deleting.{delete_statement};
+ghost use Rattle.statement_ops.specs.FindingAndModifying.{find_command};
+ghost use Rattle.statement_ops.specs.FoundAnswers.{found_by};
 ghost use Rattle.write_ops.specs.InsertLaw.{ExchangesInsert, IsReadExactly};
 ghost use Rattle.write_ops.specs.StatementLaw.{ExchangesStatement, IsReadAsCounted};
-ghost use Rattle.write_ops.specs.StatementSpec.{delete_spec, find_spec, update_spec};
-ghost use Rattle.write_ops.specs.Updating.{update_statement};
+ghost use Rattle.statement_ops.specs.StatementSpec.{delete_spec, find_spec, update_spec};
+ghost use Rattle.statement_ops.specs.Updating.{update_statement};
 
 /// Over the model server's own reply to its send, the insert of the front of some documents is read as done exactly
 /// where each of its statements ran now or had its kept result, these count one document each together, and there is

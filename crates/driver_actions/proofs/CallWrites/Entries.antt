@@ -19,7 +19,7 @@ use Rattle.driver_ops.specs.Operations.{OperationSpec}
 use Rattle.driver_ops.specs.Served.{AreEntries}
 use Rattle.driver_ops.specs.Targets.{in_collection}
 use Rattle.write_ops.specs.InsertSpec.{insert_spec}
-use Rattle.write_ops.specs.StatementSpec.{delete_spec, find_spec, update_spec}
+use Rattle.statement_ops.specs.StatementSpec.{delete_spec, find_spec, update_spec}
 use Rattle.driver_attempt.specs.Moment.{Moment}
 use Rattle.driver_exec.specs.BetweenCalls.{MaySendPlaces}
 use Rattle.driver_exec.specs.Keeping.{AreWritten, HasEntries, KeepsWhereTold, OkHasEntries, StandsAfter, StandsBefore}

@@ -25,7 +25,7 @@ use Rattle.driver_ops.specs.SendKinds.{SendKind, first}
 use Rattle.driver_ops.specs.Targets.{in_collection}
 use Rattle.write_ops.specs.declared.own_document.OwnDocument.{OwnDocument}
 use Rattle.write_ops.specs.InsertSpec.{AsksInsert, insert_spec}
-use Rattle.write_ops.specs.StatementSpec.{delete_spec, find_spec, update_spec}
+use Rattle.statement_ops.specs.StatementSpec.{delete_spec, find_spec, update_spec}
 use Rattle.driver_attempt.specs.Causes.{end_of}
 use Rattle.driver_attempt.specs.Executing.{Executes}
 use Rattle.driver_attempt.specs.Moment.{Moment}

@@ -1,6 +1,6 @@
 -- The first fault of the values, else that of the length.
 use Rattle.std.proofs.Common.{sym, ap, ◌∙◌}
-use Rattle.write_ops.specs.FindingAndModifying.{find_command}
+use Rattle.statement_ops.specs.FindingAndModifying.{find_command}
 use Rattle.driver_inputs.specs.Forms.{command_body, finds}
 use Rattle.driver_inputs.specs.Inputs.{is_long, values_in}
 use Rattle.driver_inputs.specs.Faults.{first_of, length_fault, values_fault}

@@ -1,0 +1,2 @@
+pub mod FindCommand
+pub mod StatementCommand

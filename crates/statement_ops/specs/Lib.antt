@@ -1,0 +1,10 @@
+pub mod CountAnswers
+pub mod DeleteLawful
+pub mod Deleting
+pub mod FindLawful
+pub mod FindingAndModifying
+pub mod FoundAnswers
+pub mod StatementSpec
+pub mod UpdateLawful
+pub mod Updating
+pub mod lawful
