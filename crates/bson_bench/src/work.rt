@@ -1,6 +1,7 @@
 //! What is done in a round, and how much came out of it.
 use crate::samples::Sample;
-use bson_lite::{Bytes, DecodeFault, Document, EncodeFault, List, decode, encode};
+use bson_lite::{Bytes, DecodeFault, Document, EncodeFault, List, encode};
+use bson_reading::decode;
 use std::alloc::{AllocError, Global};
 
 /// What is done with each document of a sample in a round.

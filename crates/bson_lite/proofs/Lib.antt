@@ -1,6 +1,4 @@
 pub mod Again
-pub mod Breaking
-pub mod Found
 pub mod FinMaps
 pub mod Framing
 pub mod Lengths
@@ -8,11 +6,5 @@ pub mod Loops
 pub mod Named
 pub mod Nested
 pub mod Numbers
-pub mod Places
-pub mod Refusing
 pub mod Rising
-pub mod Sound
-pub mod Steps
-pub mod Takes
 pub mod Uniting
-pub mod Wholeness

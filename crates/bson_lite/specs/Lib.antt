@@ -1,5 +1,4 @@
 pub mod Fields
-pub mod FirstBroken
 pub mod Indexed
 pub mod Keys
 pub mod Namespace

@@ -1,12 +1,10 @@
-//! The laws of the spelling, of what spells no document, of the order of timestamps, and of maps put
-//! together.
-ghost use Rattle.std.specs.Prelude.{◌≡◌, ◌↔◌, ℕ, List, Ok, Err};
+//! The laws of the spelling, of the order of timestamps, and of maps put together.
+ghost use Rattle.std.specs.Prelude.{◌≡◌, ℕ, List, Ok};
 ghost use Rattle.std.specs.FinMap as finite;
 ghost use Rattle.std.specs.Option.{option_or};
 ghost use Rattle.std.specs.Ordering.{nat_cmp};
-ghost use Rattle.bson_lite.specs.FirstBroken.{IsFirstBroken};
 ghost use Rattle.bson_lite.specs.Reading.{read};
-ghost use Rattle.bson_lite.specs.Spelling.{HasSpelling, Spells, spelling};
+ghost use Rattle.bson_lite.specs.Spelling.{HasSpelling, spelling};
 ghost use Rattle.bson_lite.specs.declared.bson.Bson.{Bson};
 ghost use Rattle.bson_lite.specs.declared.document.Pair.{Pair};
 ghost use Rattle.bson_lite.specs.Stamps.{by_time_then_increment};
@@ -18,16 +16,6 @@ use std::cmp::Ordering;
 /// What has a spelling is read again from it.
 pub fn round_trip()
     ensures { (d : List (Pair Bson)) → HasSpelling d → read (spelling d) ≡ Ok d }
-{}
-
-/// What is read was spelled so.
-pub fn read_is_spelled()
-    ensures { (bytes : List ℕ) (d : List (Pair Bson)) → read bytes ≡ Ok d → Spells d bytes }
-{}
-
-/// Reading breaks off exactly where the first broken item stands, by the rules of the layout.
-pub fn breaks_at_first_broken()
-    ensures { (bytes : List ℕ) (offset : ℕ) → (read bytes ≡ Err offset) ↔ IsFirstBroken bytes offset }
 {}
 
 /// Timestamps are ordered by time, and where that is the same by increment.

@@ -1,4 +1,4 @@
-//! BSON documents: the values, their one spelling in bytes, and the way back.
+//! BSON documents: the values, and their one spelling in bytes.
 //!
 //! A contract sees a [`Document`] as the list of its pairs and a [`Bson`] as a plain tree, so an
 //! equality of documents is an equality of trees. `Text`, `Bytes` and `List` are seen as lists.
@@ -8,8 +8,6 @@ pub mod boxed;
 pub mod bson;
 pub mod by_index;
 pub mod copy;
-mod counting;
-pub mod decoding;
 mod deeper;
 pub mod document;
 pub mod encoding;
@@ -19,7 +17,6 @@ pub mod key;
 pub mod laws;
 pub mod list;
 pub mod namespace;
-mod parts;
 pub mod raw;
 mod same;
 mod survey;
@@ -29,7 +26,6 @@ pub use boxed::Boxed;
 pub use bson::{Binary, Bson, ObjectId, Regex, Timestamp};
 pub use by_index::{ByIndex, unite_four, unite_three};
 pub use copy::TryClone;
-pub use decoding::decode;
 pub use document::{Document, Pair};
 pub use encoding::{encode, encode_refusal, encode_with_id, encode_with_id_within, encode_within};
 pub use fault::{DecodeFault, EncodeFault};
@@ -37,9 +33,7 @@ pub use fields::{
     ID_KEY, get_int, get_or_prepend_id_field, replacement_document_check, update_document_check,
 };
 pub use key::Key;
-pub use laws::{
-    breaks_at_first_broken, order_of_timestamps, read_is_spelled, round_trip, union_by_index,
-};
+pub use laws::{order_of_timestamps, round_trip, union_by_index};
 pub use list::List;
 pub use namespace::Namespace;
 pub use raw::RawDocumentBuf;

@@ -2,10 +2,11 @@
 //! The helpers promise nothing, so that a test's proof has little to read.
 use bson_lite::{
     Bson, Bytes, DecodeFault, Document, EncodeFault, ObjectId, RawDocumentBuf, Text, TryClone,
-    decode, encode, encode_refusal, encode_with_id, encode_with_id_within, encode_within,
-    encoded_len, get_int, get_or_prepend_id_field, refusal_within, replacement_document_check,
+    encode, encode_refusal, encode_with_id, encode_with_id_within, encode_within, encoded_len,
+    get_int, get_or_prepend_id_field, refusal_within, replacement_document_check,
     update_document_check,
 };
+use bson_reading::decode;
 use std::alloc::{AllocError, Global};
 use std::test::Fail;
 

@@ -10,7 +10,8 @@ ghost use Rattle.driver_ops.specs.Readings.{command_error_in};
 ghost use Rattle.driver_ops.specs.inside.Responses.{IsSaid, ReadsDocument};
 
 use crate::reply_fields::{Unread, command_error};
-use bson_lite::{Bson, Bytes, DecodeFault, Document, RawDocumentBuf, Text, decode, get_int};
+use bson_lite::{Bson, Bytes, DecodeFault, Document, RawDocumentBuf, Text, get_int};
+use bson_reading::decode;
 use driver_error::{Error, ErrorKind, Result};
 use driver_link::keys;
 use std::alloc::Global;

@@ -1,5 +1,0 @@
-use Rattle.bson_lite.proofs.Sound.{read_took}
-use Rattle.bson_lite.proofs.laws.read_is_spelled.Goals as goal
-
-pub returns : goal.returns
-returns c = read_took
