@@ -27,7 +27,7 @@ use driver_options::{
 };
 use driver_session::Retryability;
 use std::alloc::{AllocError, Global};
-use write_ops::failed_write::{FailedWrite, answer_of, failed_write_in};
+use crate::failed_write::{FailedWrite, answer_of, failed_write_in};
 
 /// A reply tells of no delete.
 const ODD_DELETE: &str = "the reply does not tell of a delete";
@@ -168,7 +168,7 @@ impl Operation for Delete {
 }
 
 /// The statement, field by field.
-#[tactic(auto, unfolding(write_ops::specs::Deleting::delete_statement))]
+#[tactic(auto, unfolding(crate::specs::Deleting::delete_statement))]
 fn delete_statement(
     alloc: Global,
     filter: &Document,
@@ -193,7 +193,7 @@ fn limit_of(multi: bool) -> i32
 }
 
 /// The body of the command, with this statement.
-#[tactic(auto, unfolding(write_ops::specs::Deleting::delete_command))]
+#[tactic(auto, unfolding(crate::specs::Deleting::delete_command))]
 fn delete_command(
     alloc: Global,
     collection: &str,
@@ -248,7 +248,7 @@ pub(crate) fn read_delete_answer(alloc: Global, reply: &Document) -> Result<Dele
 }
 
 /// The fields, each in its form.
-#[tactic(auto, unfolding(write_ops::specs::CountAnswers::delete_reply))]
+#[tactic(auto, unfolding(crate::specs::CountAnswers::delete_reply))]
 fn delete_reply(alloc: Global, reply: &Document) -> std::result::Result<DeleteReply, Unread>
     ensures { Gives result (delete_reply reply.now) }
 {
@@ -266,7 +266,7 @@ fn answer_of_delete(alloc: Global, found: DeleteReply) -> Result<DeleteResult>
 }
 
 /// The error of a reply that breaks its form.
-#[tactic(auto, unfolding(write_ops::specs::CountAnswers::odd_delete_text))]
+#[tactic(auto, unfolding(crate::specs::CountAnswers::odd_delete_text))]
 fn odd_delete(alloc: Global) -> Error
     ensures { IsMade (InvalidResponse odd_delete_text) no_labels result }
 {

@@ -21,7 +21,7 @@ pub(crate) struct FailedWrite {
 }
 
 /// The failure that a reply tells of.
-#[tactic(auto, unfolding(write_ops::specs::CountAnswers::failed_write_in))]
+#[tactic(auto, unfolding(crate::specs::CountAnswers::failed_write_in))]
 pub(crate) fn failed_write_in(
     alloc: Global,
     reply: &Document,
@@ -71,7 +71,7 @@ pub(crate) fn answer_of<T: Drop>(alloc: Global, failed: FailedWrite, made: T) ->
 }
 
 /// A copy of the id of the document that an update put in, where it did.
-#[tactic(auto, unfolding(write_ops::specs::CountAnswers::upserted_in))]
+#[tactic(auto, unfolding(crate::specs::CountAnswers::upserted_in))]
 pub(crate) fn upserted_in(
     alloc: Global,
     reply: &Document,

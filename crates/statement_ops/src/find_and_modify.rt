@@ -32,8 +32,8 @@ use driver_options::{
 };
 use driver_session::Retryability;
 use std::alloc::{AllocError, Global};
-use write_ops::failed_write::{FailedWrite, answer_of, failed_write_in};
-use write_ops::update::change_value;
+use crate::failed_write::{FailedWrite, answer_of, failed_write_in};
+use crate::update::change_value;
 
 /// A reply tells of no findAndModify.
 const ODD_FIND: &str = "the reply does not tell of a findAndModify";
@@ -187,7 +187,7 @@ fn push_modification(
 }
 
 /// The collection, the filter, and what is done to the document that it finds.
-#[tactic(auto, unfolding(write_ops::specs::FindingAndModifying::find_head))]
+#[tactic(auto, unfolding(crate::specs::FindingAndModifying::find_head))]
 fn find_head(
     alloc: Global,
     collection: &str,
@@ -206,7 +206,7 @@ fn find_head(
 
 /// The same, and behind it the first options: which document is changed and which is answered, how it is changed,
 /// and how long that may take.
-#[tactic(auto, unfolding(write_ops::specs::FindingAndModifying::find_front))]
+#[tactic(auto, unfolding(crate::specs::FindingAndModifying::find_front))]
 fn find_front(
     alloc: Global,
     collection: &str,
@@ -231,7 +231,7 @@ fn find_front(
 }
 
 /// The body of a findAndModify's command in a collection, without the executor's fields.
-#[tactic(auto, unfolding(write_ops::specs::FindingAndModifying::find_command))]
+#[tactic(auto, unfolding(crate::specs::FindingAndModifying::find_command))]
 pub fn find_and_modify_body(
     alloc: Global,
     collection: &str,
@@ -271,7 +271,7 @@ fn read_find_answer(alloc: Global, reply: &Document) -> Result<Option<Document>>
 }
 
 /// The fields, each in its form.
-#[tactic(auto, unfolding(write_ops::specs::FoundAnswers::find_reply))]
+#[tactic(auto, unfolding(crate::specs::FoundAnswers::find_reply))]
 fn find_reply(alloc: Global, reply: &Document) -> std::result::Result<FindReply, Unread>
     ensures { Gives result (find_reply reply.now) }
 {
@@ -306,7 +306,7 @@ fn answer_of_find(alloc: Global, told: FindReply) -> Result<Option<Document>>
 }
 
 /// The error of a reply that breaks its form.
-#[tactic(auto, unfolding(write_ops::specs::FoundAnswers::odd_find_text))]
+#[tactic(auto, unfolding(crate::specs::FoundAnswers::odd_find_text))]
 fn odd_find(alloc: Global) -> Error
     ensures { IsMade (InvalidResponse odd_find_text) no_labels result }
 {

@@ -34,7 +34,7 @@ use driver_options::{
 };
 use driver_session::Retryability;
 use std::alloc::{AllocError, Global};
-use write_ops::failed_write::{FailedWrite, answer_of, failed_write_in, upserted_in};
+use crate::failed_write::{FailedWrite, answer_of, failed_write_in, upserted_in};
 
 /// A reply tells of no update.
 const ODD_UPDATE: &str = "the reply does not tell of an update";
@@ -184,7 +184,7 @@ impl Operation for Update {
 }
 
 /// The statement, field by field.
-#[tactic(auto, unfolding(write_ops::specs::Updating::update_statement))]
+#[tactic(auto, unfolding(crate::specs::Updating::update_statement))]
 fn update_statement(
     alloc: Global,
     filter: &Document,
@@ -225,7 +225,7 @@ pub(crate) fn change_value(
 }
 
 /// The collection and the options of the command.
-#[tactic(auto, unfolding(write_ops::specs::Updating::update_head))]
+#[tactic(auto, unfolding(crate::specs::Updating::update_head))]
 fn update_head(
     alloc: Global,
     collection: &str,
@@ -247,7 +247,7 @@ fn update_head(
 }
 
 /// The body of the command, with this statement.
-#[tactic(auto, unfolding(write_ops::specs::Updating::update_command))]
+#[tactic(auto, unfolding(crate::specs::Updating::update_command))]
 fn update_command(
     alloc: Global,
     collection: &str,
@@ -302,7 +302,7 @@ pub(crate) fn read_update_answer(alloc: Global, reply: &Document) -> Result<Upda
 }
 
 /// The fields, each in its form.
-#[tactic(auto, unfolding(write_ops::specs::CountAnswers::update_reply))]
+#[tactic(auto, unfolding(crate::specs::CountAnswers::update_reply))]
 fn update_reply(alloc: Global, reply: &Document) -> std::result::Result<UpdateReply, Unread>
     ensures { Gives result (update_reply reply.now) }
 {
@@ -337,7 +337,7 @@ fn answer_of_update(alloc: Global, found: UpdateReply) -> Result<UpdateResult>
 }
 
 /// The error of a reply that breaks its form.
-#[tactic(auto, unfolding(write_ops::specs::CountAnswers::odd_update_text))]
+#[tactic(auto, unfolding(crate::specs::CountAnswers::odd_update_text))]
 fn odd_update(alloc: Global) -> Error
     ensures { IsMade (InvalidResponse odd_update_text) no_labels result }
 {
