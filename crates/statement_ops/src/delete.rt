@@ -11,6 +11,7 @@ ghost use Rattle.statement_ops.specs.DeleteLawful.{delete_lawful};
 ghost use Rattle.statement_ops.specs.Deleting.{delete_command, delete_statement, limit_of};
 ghost use Rattle.statement_ops.specs.StatementSpec.{delete_spec};
 
+use crate::failed_write::{FailedWrite, answer_of, failed_write_in};
 use bson_lite::{Bson, Document, List, Text, TryClone};
 use driver_error::{DeleteResult, Error, ErrorKind, Result};
 use driver_link::{CommandName, keys};
@@ -27,7 +28,6 @@ use driver_options::{
 };
 use driver_session::Retryability;
 use std::alloc::{AllocError, Global};
-use crate::failed_write::{FailedWrite, answer_of, failed_write_in};
 
 /// A reply tells of no delete.
 const ODD_DELETE: &str = "the reply does not tell of a delete";

@@ -12,6 +12,8 @@ ghost use Rattle.statement_ops.specs.FindingAndModifying.{find_command, find_fro
 ghost use Rattle.statement_ops.specs.FoundAnswers.{AnswersFind, ReadsFind, find_reply, found_of, odd_find_text};
 ghost use Rattle.statement_ops.specs.StatementSpec.{find_spec};
 
+use crate::failed_write::{FailedWrite, answer_of, failed_write_in};
+use crate::update::change_value;
 use bson_lite::{Bson, Document, List, Text, TryClone};
 use driver_error::{Error, ErrorKind, Result};
 use driver_link::{CommandName, keys};
@@ -32,8 +34,6 @@ use driver_options::{
 };
 use driver_session::Retryability;
 use std::alloc::{AllocError, Global};
-use crate::failed_write::{FailedWrite, answer_of, failed_write_in};
-use crate::update::change_value;
 
 /// A reply tells of no findAndModify.
 const ODD_FIND: &str = "the reply does not tell of a findAndModify";

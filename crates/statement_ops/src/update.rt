@@ -11,6 +11,7 @@ ghost use Rattle.statement_ops.specs.StatementSpec.{update_spec};
 ghost use Rattle.statement_ops.specs.UpdateLawful.{update_lawful};
 ghost use Rattle.statement_ops.specs.Updating.{change_value, update_command, update_head, update_statement};
 
+use crate::failed_write::{FailedWrite, answer_of, failed_write_in, upserted_in};
 use bson_lite::{Bson, Document, List, Text, TryClone};
 use driver_error::{Error, ErrorKind, Result, UpdateResult};
 use driver_link::{CommandName, keys};
@@ -34,7 +35,6 @@ use driver_options::{
 };
 use driver_session::Retryability;
 use std::alloc::{AllocError, Global};
-use crate::failed_write::{FailedWrite, answer_of, failed_write_in, upserted_in};
 
 /// A reply tells of no update.
 const ODD_UPDATE: &str = "the reply does not tell of an update";
