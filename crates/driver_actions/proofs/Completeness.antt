@@ -40,9 +40,9 @@ use Rattle.statement_ops.specs.FindLawful.{find_lawful}
 use Rattle.write_ops.specs.InsertLawful.{insert_lawful}
 use Rattle.statement_ops.specs.UpdateLawful.{update_lawful}
 use Rattle.statement_ops.specs.StatementSpec.{delete_spec, find_spec, update_spec}
-use Rattle.write_ops.proofs.FindLaw.{find_plain}
+use Rattle.statement_ops.proofs.FindLaw.{find_plain}
 use Rattle.write_ops.proofs.InsertReading.{inserted_plain, plain_read}
-use Rattle.write_ops.proofs.StatementLaw.{delete_plain, update_plain}
+use Rattle.statement_ops.proofs.StatementLaw.{delete_plain, update_plain}
 use Rattle.driver_attempt.specs.Attempting.{besides_out}
 use Rattle.driver_attempt.specs.Concerns.{concern_of, concern_refusal, effective_concern}
 use Rattle.driver_attempt.specs.Moment.{Moment}

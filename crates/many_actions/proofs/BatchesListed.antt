@@ -39,7 +39,8 @@ use Rattle.driver_ops.specs.SendKinds.{first}
 use Rattle.driver_ops.specs.Targets.{namespace_of}
 use Rattle.write_ops.specs.declared.own_document.OwnDocument.{OwnDocument}
 use Rattle.write_ops.specs.InsertAnswers.{all_ids, odd_insert_text}
-use Rattle.write_ops.specs.InsertLaw.{AddsUp, IsReadExactly, TellsFailures, failures_told, planned_concern}
+use Rattle.statement_ops.specs.StatementLaw.{planned_concern}
+use Rattle.write_ops.specs.InsertLaw.{AddsUp, IsReadExactly, TellsFailures, failures_told}
 use Rattle.write_ops.specs.InsertLawful.{insert_lawful}
 use Rattle.write_ops.specs.InsertSpec.{AreOwn, ids_from, insert_spec, statements_fixed}
 use Rattle.write_ops.proofs.InsertLaw.{read_exactly}

@@ -24,7 +24,8 @@ use Rattle.driver_ops.specs.declared.target.OperationTarget.{OperationTarget}
 use Rattle.driver_ops.specs.Operations.{send_of}
 use Rattle.driver_ops.specs.Served.{statements_in}
 use Rattle.write_ops.specs.declared.own_document.OwnDocument.{OwnDocument}
-use Rattle.write_ops.specs.InsertLaw.{concern_told, planned_concern}
+use Rattle.statement_ops.specs.StatementLaw.{planned_concern}
+use Rattle.write_ops.specs.InsertLaw.{concern_told}
 use Rattle.write_ops.specs.InsertSpec.{AreOwn, insert_spec}
 use Rattle.driver_attempt.specs.Moment.{Moment}
 use Rattle.driver_exec.specs.BetweenCalls.{Between, Sound}

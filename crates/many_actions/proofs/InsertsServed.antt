@@ -32,7 +32,8 @@ use Rattle.driver_link.proofs.Plain.{case_above, known, plain_known, results_her
 use Rattle.driver_link.proofs.ServedSends.{taken_is}
 use Rattle.driver_link.proofs.Unnumbered.{case_free, results_free}
 use Rattle.driver_ops.specs.Served.{case_statements, met_statements, statements_in}
-use Rattle.write_ops.specs.InsertLaw.{AddsUp, CountsDocuments, planned_concern}
+use Rattle.statement_ops.specs.StatementLaw.{planned_concern}
+use Rattle.write_ops.specs.InsertLaw.{AddsUp, CountsDocuments}
 use Rattle.driver_exec.specs.Gentle.{IsLossy}
 use Rattle.many_actions.specs.ManyCompleteness.{CountOneEach, ServesInserts}
 use Rattle.many_actions.proofs.KeptCounts.{KeepsEach, MayGoUnder, PlansEach, RunsEach, again_under, first_under, meets_kept, taken_each}

@@ -23,7 +23,8 @@ use Rattle.driver_ops.specs.declared.target.OperationTarget.{OperationTarget}
 use Rattle.driver_ops.specs.Served.{statements_in}
 use Rattle.driver_ops.specs.Targets.{namespace_of}
 use Rattle.write_ops.specs.InsertAnswers.{errors_there}
-use Rattle.write_ops.specs.InsertLaw.{concern_told, errors_told, planned_concern}
+use Rattle.statement_ops.specs.StatementLaw.{planned_concern}
+use Rattle.write_ops.specs.InsertLaw.{concern_told, errors_told}
 use Rattle.driver_attempt.specs.Moment.{Moment}
 use Rattle.many_actions.specs.BatchTells.{all_errors}
 use Rattle.many_actions.specs.Batches.{BatchEnd, places_from}

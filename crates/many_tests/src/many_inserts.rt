@@ -4,7 +4,6 @@ ghost use Rattle.driver_link.specs.WellFormed.{IsWellFormed};
 
 use crate::many_failures::id_at;
 use bson_lite::{Bson, ByIndex, Document, List};
-use many_actions::{InsertMany, ManyInserts};
 use driver_attempt::{Client, Outside};
 use driver_error::{InsertManyResult, Result};
 use driver_inputs::ToDocument;
@@ -12,6 +11,7 @@ use driver_link::{Link, Schedule, Server, Setup};
 use driver_ops::Collection;
 use driver_options::{ClientOptions, Description, InsertManyOptions, WriteConcern};
 use driver_session::PlainStore;
+use many_actions::{InsertMany, ManyInserts};
 use memory_links::{CountingIds, MemClock};
 use model_server::{ModelServer, USUAL_SETUP};
 use rand_core::SeedableRng;

@@ -1,2 +1,4 @@
 pub mod FindCommand
+pub mod FindLaw
 pub mod StatementCommand
+pub mod StatementLaw

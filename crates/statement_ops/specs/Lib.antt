@@ -4,6 +4,7 @@ pub mod Deleting
 pub mod FindLawful
 pub mod FindingAndModifying
 pub mod FoundAnswers
+pub mod StatementLaw
 pub mod StatementSpec
 pub mod UpdateLawful
 pub mod Updating

@@ -3,8 +3,8 @@ use crate::batches::bench;
 use crate::inserts::{new_client, outside_with, small};
 use crate::one_reply::OneReply;
 use bson_lite::{Document, List};
-use many_actions::{InsertMany, ManyInserts};
 use driver_error::Result;
+use many_actions::{InsertMany, ManyInserts};
 use std::alloc::{AllocError, Global};
 
 /// Makes so many documents and hands them in as one insert, which is not run.

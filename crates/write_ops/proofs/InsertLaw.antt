@@ -38,7 +38,8 @@ use Rattle.driver_ops.specs.Targets.{namespace_of}
 use Rattle.driver_ops.specs.lawful.InsertRead.{differ}
 use Rattle.write_ops.specs.declared.own_document.OwnDocument.{OwnDocument}
 use Rattle.write_ops.specs.InsertAnswers.{errors_there, failures_of, is_unfailed, tells_of_all}
-use Rattle.write_ops.specs.InsertLaw.{AddsUp, CountsDocuments, ExchangesInsert, IsReadExactly, TellsFailures, concern_told, errors_told, failures_told, planned_concern}
+use Rattle.write_ops.specs.InsertLaw.{AddsUp, CountsDocuments, ExchangesInsert, IsReadExactly, TellsFailures, concern_told, errors_told, failures_told}
+use Rattle.statement_ops.specs.StatementLaw.{planned_concern}
 use Rattle.write_ops.specs.InsertLawful.{Ids, insert_lawful}
 use Rattle.write_ops.specs.InsertSpec.{AreOwn, insert_spec}
 use Rattle.write_ops.specs.lawful.InsertFields.{fields_told, reply_read, reply_to, sum_in}

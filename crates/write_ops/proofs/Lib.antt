@@ -1,11 +1,9 @@
 pub mod FailedStatements
 pub mod FailureReading
-pub mod FindLaw
 pub mod InsertCommand
 pub mod InsertCounts
 pub mod InsertFronts
 pub mod InsertIds
 pub mod InsertLaw
 pub mod InsertReading
-pub mod StatementLaw
 pub mod UnfailedIds

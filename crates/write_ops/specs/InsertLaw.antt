@@ -35,14 +35,10 @@ use Rattle.driver_ops.specs.OperationLaw.{TellsOutput}
 use Rattle.driver_ops.specs.Operations.{ReadsAnswer, send_of}
 use Rattle.driver_ops.specs.Served.{statements_in}
 use Rattle.driver_ops.specs.Targets.{namespace_of}
+use Rattle.statement_ops.specs.StatementLaw.{planned_concern}
 use Rattle.write_ops.specs.declared.own_document.OwnDocument.{OwnDocument}
 use Rattle.write_ops.specs.InsertAnswers.{all_ids, errors_there, odd_insert_text}
 use Rattle.write_ops.specs.InsertSpec.{AsksInsert, insert_spec}
-
--- the write concern error that an item plans
-abbrev pub planned_concern : Item → Option PlannedConcern
-planned_concern (Serve results fail concern page) = concern
-planned_concern other = None
 
 -- the write concern error of a plan, as a client reads it
 abbrev pub concern_told : PlannedConcern → WriteConcernError

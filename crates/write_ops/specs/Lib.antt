@@ -3,6 +3,5 @@ pub mod InsertFronts
 pub mod InsertLaw
 pub mod InsertLawful
 pub mod InsertSpec
-pub mod StatementLaw
 pub mod inside
 pub mod lawful

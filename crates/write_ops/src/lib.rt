@@ -1,5 +1,5 @@
-//! The operation of inserts, the command that it builds and what it reads in replies, and what the model server's
-//! replies say to every operation of writes.
+//! The operation of inserts: the command that it builds, what it reads in replies, and what the model server's
+//! replies say to it.
 #![tactic(auto)]
 
 mod insert;

@@ -55,8 +55,7 @@ use Rattle.statement_ops.specs.declared.update.UpdateReply.{UpdateReply}
 use Rattle.statement_ops.specs.CountAnswers.{AnswersDelete, AnswersUpdate, ReadsDelete, ReadsUpdate, delete_reply, delete_result, deleted_by, failed_write_in, update_reply, update_result, updated_by, upserted_in}
 use Rattle.statement_ops.specs.DeleteLawful.{delete_reading}
 use Rattle.statement_ops.specs.Deleting.{delete_statement}
-use Rattle.write_ops.specs.InsertLaw.{planned_concern}
-use Rattle.write_ops.specs.StatementLaw.{CountsStatement, ExchangesStatement, IsReadAsCounted}
+use Rattle.statement_ops.specs.StatementLaw.{CountsStatement, ExchangesStatement, IsReadAsCounted, planned_concern}
 use Rattle.statement_ops.specs.StatementSpec.{delete_spec, statement_write, update_spec}
 use Rattle.statement_ops.specs.UpdateLawful.{update_reading}
 use Rattle.statement_ops.specs.Updating.{update_statement}

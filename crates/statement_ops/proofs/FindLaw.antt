@@ -44,12 +44,12 @@ use Rattle.statement_ops.specs.CountAnswers.{failed_write_in}
 use Rattle.statement_ops.specs.FindLawful.{find_reading}
 use Rattle.statement_ops.specs.FindingAndModifying.{find_command}
 use Rattle.statement_ops.specs.FoundAnswers.{AnswersFind, ReadsFind, find_reply, found_by}
-use Rattle.write_ops.specs.StatementLaw.{CountsStatement, ExchangesStatement, IsReadAsCounted}
+use Rattle.statement_ops.specs.StatementLaw.{CountsStatement, ExchangesStatement, IsReadAsCounted}
 use Rattle.statement_ops.specs.StatementSpec.{find_spec, statement_write}
 use Rattle.statement_ops.specs.lawful.FindReplies.{reply_found, value_read}
 use Rattle.statement_ops.specs.lawful.OneWriteReplies.{IsOneOf}
 use Rattle.statement_ops.specs.lawful.StatementReading.{output_told, told_by_reading}
-use Rattle.write_ops.proofs.StatementLaw.{concern_is_failure, counts_one, told_reply, unfailed}
+use Rattle.statement_ops.proofs.StatementLaw.{concern_is_failure, counts_one, told_reply, unfailed}
 
 -- the reply to a findAndModify that was done
 find_is : (page : Option ℕ) (concern : Option PlannedConcern) (cursors : List (Option (List Reply))) (write : PlacedWrite) (statement : Statement) (result : Counted)

@@ -8,7 +8,10 @@ use Rattle.driver_error.specs.declared.error.Error.{Error}
 use Rattle.driver_error.specs.declared.kind.ErrorKind.TheVariants.{Memory}
 use Rattle.driver_error.specs.Error.{kind_of}
 use Rattle.driver_link.specs.declared.machine.Counted.{Counted}
+use Rattle.driver_link.specs.declared.machine.Item.{Item}
+use Rattle.driver_link.specs.declared.machine.Item.TheVariants.{Serve}
 use Rattle.driver_link.specs.declared.machine.Place.{Place}
+use Rattle.driver_link.specs.declared.machine.PlannedConcern.{PlannedConcern}
 use Rattle.driver_link.specs.declared.machine.Scheduled.{Scheduled}
 use Rattle.driver_link.specs.declared.machine.Send.{Send}
 use Rattle.driver_link.specs.declared.machine.SendBody.{SendBody}
@@ -24,8 +27,12 @@ use Rattle.driver_ops.specs.Fields.{SendContext}
 use Rattle.driver_ops.specs.OperationLaw.{TellsOutput}
 use Rattle.driver_ops.specs.Operations.{OperationSpec, ReadsAnswer, send_of}
 use Rattle.driver_ops.specs.Served.{statements_in}
-use Rattle.write_ops.specs.InsertLaw.{planned_concern}
 use Rattle.statement_ops.specs.StatementSpec.{AsksStatement}
+
+-- the write concern error that an item plans
+abbrev pub planned_concern : Item → Option PlannedConcern
+planned_concern (Serve results fail concern page) = concern
+planned_concern other = None
 
 -- one exchange of a command of one statement, outside transactions, with the machine's own reply to it in bytes
 pub record ExchangesStatement (asks : SendCommand) (does : WriteKind) (namespace : Namespace) (statement : List (Pair Bson)) (server : Server) (send : Send) (step : Scheduled) (reply : List ℕ) : Type 0 where

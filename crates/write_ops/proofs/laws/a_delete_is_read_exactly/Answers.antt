@@ -1,6 +1,0 @@
--- The law is a lemma.
-use Rattle.write_ops.proofs.StatementLaw.{delete_exactly}
-use Rattle.write_ops.proofs.laws.a_delete_is_read_exactly.Goals as goal
-
-pub returns : goal.returns
-returns c = delete_exactly

@@ -1,6 +1,0 @@
--- The law is a lemma.
-use Rattle.write_ops.proofs.FindLaw.{find_exactly}
-use Rattle.write_ops.proofs.laws.a_find_and_modify_is_read_exactly.Goals as goal
-
-pub returns : goal.returns
-returns c = find_exactly
