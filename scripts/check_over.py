@@ -40,12 +40,16 @@ def is_same(clone, commit, crates, name, known):
     return known[name]
 
 
+def all_below(crates, crate):
+    """The crates of the repository below a crate, lowest first."""
+    found = {it for name in crates[crate] if name in crates for it in [name, *all_below(crates, name)]}
+    return [it for it in crates if it in found]
+
+
 def libraries(clone, commit, libs, crates, crate):
     """The flags that name the libraries of a crate."""
     flags, known, kits = [], {}, {it for rest in crates.values() for it in rest if it not in crates}
-    for name in crates[crate]:
-        if name not in crates:
-            continue
+    for name in all_below(crates, crate):
         if is_same(clone, commit, crates, name, known) and os.path.isdir(f"{libs}/{name}.rlib"):
             flags += ["--extern", f"{name}={libs}/{name}.rlib"]
         else:
