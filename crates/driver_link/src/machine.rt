@@ -24,11 +24,23 @@ pub enum WriteKind {
 
 /// A write as the server sees it: the inserted document, the statement or the op without its index, or
 /// the body of a findAndModify without the executor's fields.
-#[derive(Debug, Drop)]
+#[derive(Debug)]
 pub struct Written {
     pub kind: WriteKind,
     pub namespace: Namespace,
     pub document: Document,
+}
+
+impl Drop for Written {
+    fn drop(self) {
+        let Written {
+            kind: _,
+            namespace,
+            document,
+        } = self;
+        drop(namespace);
+        drop(document);
+    }
 }
 
 impl TryClone for Written {
@@ -42,10 +54,17 @@ impl TryClone for Written {
 }
 
 /// A write with the place from which it came. Those who keep it share it.
-#[derive(Debug, Drop)]
+#[derive(Debug)]
 pub struct PlacedWrite {
     pub place: Place,
     pub written: Shared<Written>,
+}
+
+impl Drop for PlacedWrite {
+    fn drop(self) {
+        let PlacedWrite { place: _, written } = self;
+        drop(written);
+    }
 }
 
 /// Which command carries writes. It decides the form of the reply.
@@ -80,7 +99,7 @@ pub enum SendBody {
 }
 
 /// One command as the server sees it.
-#[derive(Debug, Drop)]
+#[derive(Debug)]
 pub struct Send {
     pub session: Option<[u8; 16]>,
     pub number: Option<i64>,
@@ -88,6 +107,19 @@ pub struct Send {
     pub start: bool,
     pub in_transaction: bool,
     pub body: SendBody,
+}
+
+impl Drop for Send {
+    fn drop(self) {
+        let Send {
+            session: _,
+            number: _,
+            start: _,
+            in_transaction: _,
+            body,
+        } = self;
+        drop(body);
+    }
 }
 
 /// The result of one statement.
@@ -100,13 +132,27 @@ pub struct Counted {
 }
 
 /// A write that the server ran.
-#[derive(Debug, Drop)]
+#[derive(Debug)]
 pub struct Entry {
     pub place: Place,
     pub written: Shared<Written>,
     pub result: Counted,
     pub session: Option<[u8; 16]>,
     pub number: Option<i64>,
+}
+
+impl Drop for Entry {
+    fn drop(self) {
+        let Entry {
+            place: _,
+            written,
+            result,
+            session: _,
+            number: _,
+        } = self;
+        drop(written);
+        drop(result);
+    }
 }
 
 /// What a statement of a send came to.
@@ -155,12 +201,25 @@ pub struct Server {
 }
 
 /// What a schedule says of one statement. What it leaves out counts as usual.
-#[derive(Debug, Drop)]
+#[derive(Debug)]
 pub struct Planned {
     pub n: Option<i64>,
     pub modified: Option<i64>,
     pub upserted: Option<Bson>,
     pub value: Option<Document>,
+}
+
+impl Drop for Planned {
+    fn drop(self) {
+        let Planned {
+            n: _,
+            modified: _,
+            upserted,
+            value,
+        } = self;
+        drop(upserted);
+        drop(value);
+    }
 }
 
 /// The statement at a position fails with a code.
@@ -171,10 +230,17 @@ pub struct Failing {
 }
 
 /// A write concern error that a reply has.
-#[derive(Debug, Drop)]
+#[derive(Debug)]
 pub struct PlannedConcern {
     pub code: i32,
     pub message: Text,
+}
+
+impl Drop for PlannedConcern {
+    fn drop(self) {
+        let PlannedConcern { code: _, message } = self;
+        drop(message);
+    }
 }
 
 /// What happens to one exchange.
@@ -213,10 +279,18 @@ pub enum Item {
 }
 
 /// One step of a schedule: the waiting sends that are served first, and what happens to the exchange.
-#[derive(Debug, Drop)]
+#[derive(Debug)]
 pub struct Scheduled {
     pub deliver: List<u64>,
     pub item: Item,
+}
+
+impl Drop for Scheduled {
+    fn drop(self) {
+        let Scheduled { deliver, item } = self;
+        drop(deliver);
+        drop(item);
+    }
 }
 
 /// What happens to the exchanges of a run, one item each, and which calls fail by their number, from 0.

@@ -15,10 +15,21 @@ pub enum OperationType {
 }
 
 /// The insert of one document.
-#[derive(Debug, Drop)]
+#[derive(Debug)]
 pub struct InsertOneModel {
     pub namespace: Namespace,
     pub document: Document,
+}
+
+impl Drop for InsertOneModel {
+    fn drop(self) {
+        let InsertOneModel {
+            namespace,
+            document,
+        } = self;
+        drop(namespace);
+        drop(document);
+    }
 }
 
 impl InsertOneModel {
@@ -33,7 +44,7 @@ impl InsertOneModel {
 }
 
 /// An update of one of the documents that a filter finds.
-#[derive(Debug, Drop)]
+#[derive(Debug)]
 pub struct UpdateOneModel {
     pub namespace: Namespace,
     pub filter: Document,
@@ -48,6 +59,28 @@ pub struct UpdateOneModel {
     pub upsert: Option<bool>,
     /// Which of the documents found comes first.
     pub sort: Option<Document>,
+}
+
+impl Drop for UpdateOneModel {
+    fn drop(self) {
+        let UpdateOneModel {
+            namespace,
+            filter,
+            update,
+            array_filters,
+            collation,
+            hint,
+            upsert: _,
+            sort,
+        } = self;
+        drop(namespace);
+        drop(filter);
+        drop(update);
+        drop(array_filters);
+        drop(collation);
+        drop(hint);
+        drop(sort);
+    }
 }
 
 impl UpdateOneModel {
@@ -117,7 +150,7 @@ impl UpdateOneModel {
 }
 
 /// An update of all documents that a filter finds.
-#[derive(Debug, Drop)]
+#[derive(Debug)]
 pub struct UpdateManyModel {
     pub namespace: Namespace,
     pub filter: Document,
@@ -130,6 +163,26 @@ pub struct UpdateManyModel {
     pub hint: Option<Bson>,
     /// Whether a document is put in where none is found.
     pub upsert: Option<bool>,
+}
+
+impl Drop for UpdateManyModel {
+    fn drop(self) {
+        let UpdateManyModel {
+            namespace,
+            filter,
+            update,
+            array_filters,
+            collation,
+            hint,
+            upsert: _,
+        } = self;
+        drop(namespace);
+        drop(filter);
+        drop(update);
+        drop(array_filters);
+        drop(collation);
+        drop(hint);
+    }
 }
 
 impl UpdateManyModel {
@@ -190,7 +243,7 @@ impl UpdateManyModel {
 }
 
 /// A document that takes the place of one of those that a filter finds.
-#[derive(Debug, Drop)]
+#[derive(Debug)]
 pub struct ReplaceOneModel {
     pub namespace: Namespace,
     pub filter: Document,
@@ -203,6 +256,26 @@ pub struct ReplaceOneModel {
     pub upsert: Option<bool>,
     /// Which of the documents found comes first.
     pub sort: Option<Document>,
+}
+
+impl Drop for ReplaceOneModel {
+    fn drop(self) {
+        let ReplaceOneModel {
+            namespace,
+            filter,
+            replacement,
+            collation,
+            hint,
+            upsert: _,
+            sort,
+        } = self;
+        drop(namespace);
+        drop(filter);
+        drop(replacement);
+        drop(collation);
+        drop(hint);
+        drop(sort);
+    }
 }
 
 impl ReplaceOneModel {
@@ -259,7 +332,7 @@ impl ReplaceOneModel {
 }
 
 /// A delete of one of the documents that a filter finds.
-#[derive(Debug, Drop)]
+#[derive(Debug)]
 pub struct DeleteOneModel {
     pub namespace: Namespace,
     pub filter: Document,
@@ -267,6 +340,21 @@ pub struct DeleteOneModel {
     pub collation: Option<Document>,
     /// Which index serves it, by its keys or its name.
     pub hint: Option<Bson>,
+}
+
+impl Drop for DeleteOneModel {
+    fn drop(self) {
+        let DeleteOneModel {
+            namespace,
+            filter,
+            collation,
+            hint,
+        } = self;
+        drop(namespace);
+        drop(filter);
+        drop(collation);
+        drop(hint);
+    }
 }
 
 impl DeleteOneModel {
@@ -298,7 +386,7 @@ impl DeleteOneModel {
 }
 
 /// A delete of all documents that a filter finds.
-#[derive(Debug, Drop)]
+#[derive(Debug)]
 pub struct DeleteManyModel {
     pub namespace: Namespace,
     pub filter: Document,
@@ -306,6 +394,21 @@ pub struct DeleteManyModel {
     pub collation: Option<Document>,
     /// Which index serves it, by its keys or its name.
     pub hint: Option<Bson>,
+}
+
+impl Drop for DeleteManyModel {
+    fn drop(self) {
+        let DeleteManyModel {
+            namespace,
+            filter,
+            collation,
+            hint,
+        } = self;
+        drop(namespace);
+        drop(filter);
+        drop(collation);
+        drop(hint);
+    }
 }
 
 impl DeleteManyModel {

@@ -25,11 +25,24 @@ use rand_core::Rng;
 use std::alloc::{AllocError, Global};
 
 /// An insert of documents into a collection, which is not made yet. Nothing is judged, drawn or asked before `run`.
-#[derive(Debug, Drop)]
+#[derive(Debug)]
 pub struct InsertMany {
     collection: Collection,
     documents: List<Document>,
     options: InsertManyOptions,
+}
+
+impl Drop for InsertMany {
+    fn drop(self) {
+        let InsertMany {
+            collection,
+            documents,
+            options,
+        } = self;
+        drop(collection);
+        drop(documents);
+        drop(options);
+    }
 }
 
 /// Inserts of many documents into a collection.
