@@ -19,10 +19,11 @@ import time
 # Minutes of processor of a task, where they are known; a task that is not named here has 6.
 MINUTES = {
     "proof": {
-        "driver_batches": 1, "bson_lite": 10, "driver_error": 12, "bulk_outcomes": 2, "driver_options": 6, "driver_link": 5, "memory_links": 3, "driver_session": 2,
-        "frame_reading": 6, "machine_laws": 1, "driver_ops": 6, "write_ops": 9, "bulk_fronts": 6, "bulk_ops": 9, "driver_inputs": 5, "driver_attempt": 9,
-        "driver_exec": 3, "driver_actions": 12, "bulk_actions": 4, "call_runs": 3, "model_replies": 6, "model_server": 10, "script_parts": 6, "driver_script": 8,
-        "report_lines": 5, "script_run": 11, "test_parts": 12, "script_rows": 3, "write_bench": 8, "driver_cli": 7, "callers": 3, "bson_bench": 2,
+        "driver_batches": 1, "bson_lite": 10, "driver_error": 11, "bulk_outcomes": 2, "driver_options": 5, "driver_link": 4, "memory_links": 3, "driver_session": 2,
+        "frame_reading": 5, "machine_laws": 1, "driver_ops": 5, "statement_ops": 4, "write_ops": 3, "bulk_fronts": 4, "bulk_ops": 6, "driver_inputs": 4, "retry_rules": 2,
+        "driver_attempt": 5, "driver_exec": 3, "driver_actions": 5, "many_actions": 5, "bulk_actions": 5, "call_runs": 4, "model_replies": 5, "model_effects": 4,
+        "model_server": 6, "script_parts": 4, "driver_script": 7, "report_lines": 4, "script_run": 5, "test_parts": 9, "script_rows": 2, "write_bench": 4,
+        "driver_cli": 4, "callers": 3, "bson_bench": 2,
     },
     "tests": {
         "bson_tests": 7, "error_tests": 14, "form_tests": 9, "link_tests": 10, "page_tests": 7, "page_server_tests": 11, "bulk_tests": 11,
