@@ -2,11 +2,9 @@
 //! writes the report to its standard output.
 #![tactic(auto)]
 
-mod standard;
-
-use crate::standard::{Reading, Writing};
 use bson_lite::Text;
 use script_run::{Run, top};
+use standard_streams::{Reading, Writing};
 use std::alloc::AllocError;
 use std::env::Env;
 use std::io::ErrorKind;

@@ -14,7 +14,7 @@ use Rattle.driver_link.specs.declared.machine.Statement.TheVariants.{Kept, Ran, 
 use Rattle.driver_link.specs.Serving.{gathered, session_after}
 use Rattle.driver_link.specs.Statements.{Results, negated, is_failed, has_failed, has_run, before_failing, kept_with}
 use Rattle.model_effects.specs.Does.{Does}
-use Rattle.model_replies.specs.Ran.{ran_at, runs_first}
+use Rattle.model_statements.specs.Ran.{ran_at, runs_first}
 use Rattle.model_effects.specs.declared.cases.Case.TheVariants as met
 use Rattle.model_effects.specs.declared.change.SessionStep.TheVariants as step
 

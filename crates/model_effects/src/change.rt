@@ -14,7 +14,7 @@ use crate::cases::begin_session;
 use crate::places::take_out;
 use bson_lite::{Document, List};
 use driver_link::{ById, Counted, Entry, KnownSession, Server, ServerTransaction};
-use model_replies::cursors::place_of;
+use model_statements::cursors::place_of;
 use std::alloc::{AllocError, Global};
 use std::mem;
 

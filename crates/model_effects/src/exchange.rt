@@ -15,7 +15,7 @@ use crate::serving::{cursor_change, done_under, kept_reply_in, step_in};
 use bson_lite::List;
 use driver_link::{ById, Failing, Planned, PlannedConcern, Send, Server, Statement};
 use model_replies::kept_reply::Reply;
-use model_replies::statements::entries;
+use model_statements::statements::entries;
 use std::alloc::{AllocError, Global};
 
 /// A server that has seen nothing. It takes no memory.

@@ -29,13 +29,13 @@ use driver_link::{
     ServerTransaction, Statement,
 };
 use model_replies::counts::sum_n;
-use model_replies::cursors::{pages_left, rows};
-use model_replies::fields::small;
 use model_replies::kept_reply::Reply;
 use model_replies::replying::{
     TRANSACTION_TOO_OLD, cursor_reply, denied_reply, end_reply, error, write_reply,
 };
-use model_replies::statements::{
+use model_statements::cursors::{pages_left, rows};
+use model_statements::fields::small;
+use model_statements::statements::{
     entries, has_failed, has_run, has_run_before_failing, ran_results, statements,
 };
 use std::alloc::{AllocError, Global};

@@ -1,3 +1,2 @@
 pub mod KeptReplies
-pub mod Ran
 pub mod SomeField

@@ -1,9 +1,9 @@
 //! Copies of a send, of a transaction and of the results that a session keeps.
 ghost use Rattle.std.specs.Prelude.{◌≡◌, IfOk};
 
-use crate::statements::copy_counts;
 use bson_lite::{ByIndex, List, TryClone};
 use driver_link::{Counted, Entry, PlacedWrite, Send, SendBody, ServerTransaction};
+use model_statements::statements::copy_counts;
 use std::alloc::{AllocError, Global};
 
 /// Copies of writes with their places.

@@ -6,8 +6,8 @@ ghost use Rattle.driver_link.specs.Replies.{result_of, results_in, sum_of, is_ki
 ghost use Rattle.driver_link.specs.Statements.{is_failed as failed};
 ghost use Rattle.driver_link.specs.declared.machine.Counted.{Counted as Count};
 
-use crate::statements::is_failed;
 use driver_link::{Counted, PlacedWrite, Statement, WriteKind};
+use model_statements::statements::is_failed;
 use std::alloc::AllocError;
 
 /// The sum of two numbers.

@@ -1,12 +1,9 @@
-//! What the statements of a send count and leave, the rows of a cursor, and replies as bytes.
+//! The replies to a send as documents and as bytes, and what they count.
 //!
 //! Each function computes one of the machine's definitions, and its clause is the equation with it.
 #![tactic(auto)]
 
 pub mod copying;
 pub mod counts;
-pub mod cursors;
-pub mod fields;
 pub mod kept_reply;
 pub mod replying;
-pub mod statements;

@@ -6,8 +6,7 @@ ghost use Rattle.driver_link.specs.Numbers.{field, reply_number};
 ghost use Rattle.driver_link.specs.Replies.{done_field, error_reply, errors_field, write_errors as all_errors, write_error as error_at, upserted_at, upserted_by, result_of, upserted_field, upserts as all_upserts, concern_field, first_value as value_of, cursor_field, bulk_fields, needed_fields, write_reply as reply_to_writes, end_reply as reply_to_end, results_in, sum_of, cursor_reply as reply_of_cursor, denied_reply as reply_denied};
 ghost use Rattle.model_replies.specs.SomeField.{some_field, upsert_value};
 
-use crate::fields::{count, number};
-use crate::{counts, cursors};
+use crate::counts;
 use bson_lite::{Bson, Document, ID_KEY, List, Text, TryClone};
 use driver_error::TRANSIENT_TRANSACTION_ERROR;
 use driver_link::keys::{
@@ -18,6 +17,8 @@ use driver_link::keys::{
 use driver_link::{
     PlacedWrite, PlannedConcern, SendBody, SendCommand, ServerTransaction, Statement, WriteKind,
 };
+use model_statements::cursors;
+use model_statements::fields::{count, number};
 use std::alloc::{AllocError, Global};
 
 /// The code of a number below the greatest of its session.

@@ -27,7 +27,7 @@ use model_effects::exchange::{Prepared, prepare, unnumbered_effect};
 use model_effects::serving::step_in;
 use model_replies::kept_reply::Reply;
 use model_replies::replying::error;
-use model_replies::statements::{first_statements, has_run};
+use model_statements::statements::{first_statements, has_run};
 use std::alloc::{AllocError, Global};
 
 /// The case as an interruption leaves it.

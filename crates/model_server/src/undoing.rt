@@ -14,7 +14,7 @@ use driver_link::{ById, Counted, Entry, KnownSession, Server, ServerTransaction}
 use model_effects::change::{CursorChange, Displaced, Effect, SessionStep, give_back, lend};
 use model_effects::places::put_back;
 use model_replies::copying::{copied_kept, copied_transaction};
-use model_replies::cursors::place_of;
+use model_statements::cursors::place_of;
 use std::alloc::{AllocError, Global};
 
 /// What a transaction was before a step.

@@ -1,35 +1,46 @@
-//! Rows of calls with what a script says behind them and its report, and which of them is not reported so.
-use crate::runs::ran;
+//! Rows of scripts, as a file has them. Behind its heading each begins with a line of four equals signs, which may say
+//! something of it; then come the script, a line of two hyphens, and the report.
+use bson_lite::{Bytes, List};
+use memory_links::{MemSink, MemSource};
+use script_run::{Run, run_script};
 use std::alloc::{AllocError, Global};
 
-/// A script's calls, what it says behind them, and its report.
-pub struct Row {
-    pub calls: &'static str,
-    pub behind: &'static str,
-    pub report: &'static str,
+/// How many rows a file has, or the first that is not reported as it says, counted from 1.
+pub(crate) enum Told {
+    All(usize),
+    Wrong(usize),
 }
 
-/// Whether the script of a row is reported as the row says.
-pub fn is_reported(alloc: Global, row: &Row) -> Result<bool, AllocError> {
-    let mut script = String::new(alloc);
-    script.push_str("{\"calls\":[")?;
-    script.push_str(row.calls)?;
-    script.push_str("],")?;
-    script.push_str(row.behind)?;
-    script.push_str("}")?;
-    let (status, text) = ran(alloc, script.as_str(), None, 1000)?;
-    Ok(status == 0 && text.as_slice() == row.report.as_bytes())
+/// Whether a script ends with status 0 and with this report, for which there is just room.
+fn is_reported(alloc: Global, script: &str, report: &str) -> Result<bool, AllocError> {
+    let bytes = Bytes::from_slice(alloc, script.as_bytes())?;
+    let mut source = MemSource::new(bytes, List::new(alloc));
+    let mut sink = MemSink::new(alloc, report.len(), List::new(alloc))?;
+    let mut run = Run::new();
+    let status = run_script(alloc, &mut source, &mut sink, &mut run);
+    drop(run);
+    Ok(status == 0 && sink.contents() == report.as_bytes())
 }
 
-/// The calls of the first row that is not reported as it says, and what its script says behind them.
-pub fn first_wrong(
-    alloc: Global,
-    rows: &[Row],
-) -> Result<Option<(&'static str, &'static str)>, AllocError> {
-    for row in rows {
-        if !is_reported(alloc, row)? {
-            return Ok(Some((row.calls, row.behind)));
+/// Whether a row is reported as it says. What has no script or no report is not.
+fn row_is_reported(alloc: Global, row: &str) -> Result<bool, AllocError> {
+    let Some((_remark, row)) = row.split_once("\n") else {
+        return Ok(false);
+    };
+    let Some((script, report)) = row.split_once("--\n") else {
+        return Ok(false);
+    };
+    is_reported(alloc, script, report)
+}
+
+/// What the rows of a file come to.
+pub(crate) fn tell(alloc: Global, text: &str) -> Result<Told, AllocError> {
+    let mut count: usize = 0;
+    for row in text.split("====").skip(1) {
+        count = count.saturating_add(1);
+        if !row_is_reported(alloc, row)? {
+            return Ok(Told::Wrong(count));
         }
     }
-    Ok(None)
+    Ok(Told::All(count))
 }

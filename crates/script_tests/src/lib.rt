@@ -1,17 +1,17 @@
-//! Tests of runs from outside: statuses and reports, each fault of one insert, the rows of updates, deletes and
-//! findAndModify, limits of the server, and the examples. They stand apart so that the library is proved once and not
-//! once more for its tests.
+//! Tests of runs from outside, of what the rows of `script_rows` don't say: documents and arrays, refused scripts,
+//! streams that fail, limits of the input, lists of 10,000 writes, and what an answer lists. They stand apart so that the
+//! library is proved once and not once more for its tests.
 #![tactic(auto)]
 
 #[cfg(test)]
-mod examples;
+mod listed;
 #[cfg(test)]
-mod finds;
+mod long_bulk_writes;
 #[cfg(test)]
-mod retries;
+mod long_inserts;
+#[cfg(test)]
+mod order;
+#[cfg(test)]
+mod runs;
 #[cfg(test)]
 mod scripts;
-#[cfg(test)]
-mod sizes;
-#[cfg(test)]
-mod writes;

@@ -1,9 +1,9 @@
 //! Scripts run from a source to a sink: statuses and texts.
+use crate::runs::ran;
 use bson_lite::{Bytes, EncodeFault, List, Text, encode};
 use driver_inputs::{Call, SingleWrite};
 use driver_script::{ScriptFault, read_script};
 use memory_links::{MemSink, MemSource};
-use script_rows::runs::ran;
 use script_run::{Run, top};
 use serde_json::Value;
 use std::alloc::{AllocError, Global};
