@@ -1,9 +1,11 @@
 #!/usr/bin/env python3
 """Looks whether texts that stand twice are the same: the examples, and the Rust in the pages of the crates.
 
-Each NAME.json and NAME.txt of examples/ is, byte for byte, a constant of the tests, NAME and REPORT_OF_NAME in capital
-letters. Each of these constants is such a file, and a test takes it. A block of Rust in a README.md of a crate that
-comes right behind a line which names a source file, as "From `crates/NAME/src/FILE.rt`:", stands in that file as it is.
+Each NAME.json and NAME.txt of examples/ is, byte for byte, a row of the examples among the rows of scripts, behind a
+line of four equals signs and NAME. Each of these rows is such an example.
+
+A block of Rust in a README.md of a crate that comes right behind a line which names a source file, as
+"From `crates/NAME/src/FILE.rt`:", stands in that file as it is.
 
 Prints what differs or lacks its partner, and exits with 1 then; prints nothing where all is well.
 
@@ -16,25 +18,10 @@ import re
 import sys
 
 ROOT = os.path.dirname(os.path.dirname(os.path.abspath(__file__)))
-TESTS = "crates/script_tests/src/examples.rt"
-REPORT = "REPORT_OF_"
-CONSTANT = re.compile(r'^const (\w+): &str =\s+(?:r(#*)"(.*?)"\2|"((?:[^"\\]|\\.)*)");$', re.S | re.M)
-ESCAPE = re.compile(r"\\(?:u\{([0-9a-fA-F]+)\}|x([0-9a-fA-F]{2})|\n\s*|(.))", re.S)
-ESCAPED = {"n": "\n", "r": "\r", "t": "\t", "0": "\0", "\\": "\\", '"': '"', "'": "'"}
+ROWS = "crates/script_rows/data/examples.txt"
+ROW = re.compile(r"^==== (\w+)\n(.*?)^--\n(.*?)(?=^====|\Z)", re.S | re.M)
 BLOCK = re.compile(r"([^\n]*)\n\s*^```rust\n(.*?)^```$", re.S | re.M)
 SOURCE = re.compile(r"`([^`\s]+\.rt)`")
-
-
-def unescaped(text):
-    """The text of a literal with escapes."""
-
-    def plain(escape):
-        number = escape[1] or escape[2]
-        if number:
-            return chr(int(number, 16))
-        return ESCAPED[escape[3]] if escape[3] else ""
-
-    return ESCAPE.sub(plain, text)
 
 
 def read(path):
@@ -46,35 +33,20 @@ def read(path):
         return file.read()
 
 
-def file_of(constant):
-    """The file that a constant is."""
-    if constant.startswith(REPORT):
-        return f"examples/{constant[len(REPORT):].lower()}.txt"
-    return f"examples/{constant.lower()}.json"
-
-
 def faults_of_examples():
-    """What differs between the examples and the constants of the tests, or lacks its partner."""
-    tests = read(TESTS)
-    if tests is None:
-        return [f"{TESTS}: missing"]
-    tests, constants, faults = tests.decode(), {}, []
-    for name, _hashes, raw, escaped in CONSTANT.findall(tests):
-        constants[file_of(name)] = (raw or unescaped(escaped)).encode()
-        if len(re.findall(rf"\b{name}\b", tests)) < 2:
-            faults.append(f"{TESTS}: no test takes {name}")
+    """What differs between the examples and their rows, or lacks its partner."""
+    rows, faults = {}, []
+    for name, script, report in ROW.findall((read(ROWS) or b"").decode()):
+        rows[f"examples/{name}.json"], rows[f"examples/{name}.txt"] = script.encode(), report.encode()
     names = {os.path.relpath(path, ROOT) for path in glob.glob(os.path.join(ROOT, "examples", "*"))}
-    names = (names | constants.keys()) - {"examples/README.md"}
-    stems = {os.path.splitext(name)[0] for name in names}
-    names |= {stem + ending for stem in stems for ending in (".json", ".txt")}
-    for name in sorted(names):
-        text, constant = read(name), constants.get(name)
+    for name in sorted((names | rows.keys()) - {"examples/README.md"}):
+        text, row = read(name), rows.get(name)
         if text is None:
             faults.append(f"{name}: missing")
-        if constant is None:
-            faults.append(f"{name}: no constant in {TESTS}")
-        if None not in (text, constant) and text != constant:
-            faults.append(f"{name}: differs from its constant in {TESTS}")
+        elif row is None:
+            faults.append(f"{name}: no row in {ROWS}")
+        elif text != row:
+            faults.append(f"{name}: differs from its row in {ROWS}")
     return faults
 
 

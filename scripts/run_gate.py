@@ -21,14 +21,13 @@ MINUTES = {
     "proof": {
         "driver_batches": 1, "bson_lite": 10, "driver_error": 11, "bulk_outcomes": 2, "driver_options": 5, "driver_link": 4, "memory_links": 3, "driver_session": 2,
         "frame_reading": 5, "machine_laws": 1, "driver_ops": 5, "statement_ops": 4, "write_ops": 3, "bulk_fronts": 4, "bulk_ops": 6, "driver_inputs": 4, "retry_rules": 2,
-        "driver_attempt": 5, "driver_exec": 3, "driver_actions": 5, "many_actions": 5, "bulk_actions": 5, "call_runs": 4, "model_replies": 5, "model_effects": 4,
+        "driver_attempt": 5, "driver_exec": 3, "driver_actions": 5, "many_actions": 5, "bulk_actions": 5, "call_runs": 4, "model_statements": 2, "model_replies": 4, "standard_streams": 1, "model_effects": 4,
         "model_server": 6, "script_parts": 4, "driver_script": 7, "report_lines": 4, "script_run": 5, "test_parts": 9, "script_rows": 2, "write_bench": 4,
         "driver_cli": 4, "callers": 3, "bson_bench": 2,
     },
     "tests": {
         "bson_tests": 7, "error_tests": 14, "form_tests": 9, "link_tests": 10, "page_tests": 7, "page_server_tests": 11, "bulk_tests": 11,
-        "bulk_input_tests": 5, "many_tests": 10, "executor_tests": 7, "reply_tests": 5, "call_tests": 10, "script_tests": 10,
-        "list_tests": 11,
+        "bulk_input_tests": 5, "many_tests": 10, "executor_tests": 7, "reply_tests": 5, "call_tests": 10, "script_tests": 6,
     },
 }
 
