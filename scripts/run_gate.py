@@ -19,7 +19,7 @@ import time
 # Minutes of processor of a task, where they are known; a task that is not named here has 6.
 MINUTES = {
     "proof": {
-        "driver_batches": 1, "bson_lite": 10, "driver_error": 11, "bulk_outcomes": 2, "driver_options": 5, "driver_link": 4, "memory_links": 3, "driver_session": 2,
+        "driver_batches": 1, "bson_lite": 10, "server_answers": 2, "wire_keys": 1, "link_faults": 1, "driver_error": 9, "bulk_outcomes": 2, "driver_options": 5, "driver_link": 4, "memory_links": 3, "driver_session": 2,
         "frame_reading": 5, "machine_laws": 1, "driver_ops": 5, "statement_ops": 4, "write_ops": 3, "bulk_fronts": 4, "bulk_ops": 6, "driver_inputs": 4, "retry_rules": 2,
         "driver_attempt": 5, "driver_exec": 3, "driver_actions": 5, "many_actions": 5, "bulk_actions": 5, "call_runs": 4, "model_statements": 2, "model_replies": 4, "standard_streams": 1, "model_effects": 4,
         "model_server": 6, "script_parts": 4, "driver_script": 7, "report_lines": 4, "script_run": 5, "test_parts": 9, "script_rows": 2, "write_bench": 4,

@@ -10,8 +10,8 @@ use Rattle.driver_error.specs.Error.{ErrorKind, kind_of, source_of}
 use Rattle.driver_error.specs.LabelTexts.{LabelSet}
 use Rattle.bulk_outcomes.specs.Status.{IsBulkOfKind, is_followed}
 use Rattle.driver_options.specs.declared.write_options.BulkWriteOptions.{BulkWriteOptions}
-use Rattle.driver_link.specs.declared.fault.Answered.{Answered}
-use Rattle.driver_link.specs.declared.fault.Answered.TheVariants as answer
+use Rattle.link_faults.specs.declared.fault.Answered.{Answered}
+use Rattle.link_faults.specs.declared.fault.Answered.TheVariants as answer
 use Rattle.driver_ops.specs.declared.target.OperationTarget.{OperationTarget}
 use Rattle.driver_ops.specs.Operations.{MayRefuse, Page, ReadsPages}
 use Rattle.driver_ops.specs.Responses.{Said, SpellsError, TellsResponse, breaks, done, fails, said}

@@ -10,7 +10,7 @@ use Rattle.driver_options.specs.declared.models.WriteModel.{WriteModel}
 use Rattle.driver_options.specs.declared.options.ClientOptions.{ClientOptions}
 use Rattle.driver_options.specs.declared.write_options.BulkWriteOptions.{BulkWriteOptions}
 use Rattle.driver_options.specs.Models.{is_multi}
-use Rattle.driver_link.specs.declared.keys.TheConstants.{ADMIN}
+use Rattle.wire_keys.specs.declared.keys.TheConstants.{ADMIN}
 use Rattle.driver_link.specs.declared.machine.Place.{Place}
 use Rattle.driver_link.specs.declared.machine.PlacedWrite.{PlacedWrite}
 use Rattle.driver_link.specs.declared.machine.Scheduled.{Scheduled}

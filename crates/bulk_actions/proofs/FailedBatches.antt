@@ -3,7 +3,7 @@ use Rattle.std.proofs.Common.{◌≡◌, ℕ, zero, suc, ◌+◌, ◌≤◌, tru
 use Rattle.std.specs.Prelude.{ℤ, Option, None, Some, Result, Ok, Err, slice_get}
 use Rattle.driver_error.specs.declared.error.Error.{Error}
 use Rattle.driver_error.specs.declared.kind.ErrorKind.TheVariants as kind
-use Rattle.driver_error.specs.declared.results.PartialBulkWriteResult.{PartialBulkWriteResult}
+use Rattle.server_answers.specs.declared.results.PartialBulkWriteResult.{PartialBulkWriteResult}
 use Rattle.driver_error.specs.declared.write.BulkWriteError.{BulkWriteError}
 use Rattle.driver_error.specs.BulkErrors.{failures_in}
 use Rattle.bulk_outcomes.specs.BulkResults.{MergesResults, ResultSpec}
@@ -11,7 +11,7 @@ use Rattle.driver_error.specs.Error.{ErrorKind, kind_of}
 use Rattle.bulk_outcomes.specs.PartialResults.{MakesPartial}
 use Rattle.driver_options.specs.declared.models.WriteModel.{WriteModel}
 use Rattle.driver_options.specs.declared.write_options.BulkWriteOptions.{BulkWriteOptions}
-use Rattle.driver_link.specs.declared.keys.TheConstants.{OK}
+use Rattle.wire_keys.specs.declared.keys.TheConstants.{OK}
 use Rattle.driver_link.specs.declared.machine.Counted.{Counted}
 use Rattle.driver_link.specs.declared.machine.Entry.{Entry}
 use Rattle.driver_link.specs.declared.machine.Place.{Place}

@@ -15,7 +15,7 @@ use Rattle.driver_options.specs.declared.updates.UpdateModifications.{UpdateModi
 use Rattle.driver_options.specs.declared.updates.UpdateModifications.TheVariants as modifications
 use Rattle.driver_options.specs.declared.updates.UpdateOrReplace.TheVariants as change
 use Rattle.driver_options.specs.Models.{operation_of}
-use Rattle.driver_link.specs.declared.keys.TheConstants.{DOCUMENT}
+use Rattle.wire_keys.specs.declared.keys.TheConstants.{DOCUMENT}
 use Rattle.driver_link.specs.Numbers.{field}
 use Rattle.driver_ops.specs.declared.keys.TheConstants.{ARRAY_FILTERS, COLLATION, FILTER, HINT, MULTI, SORT, UPDATE_MODIFICATIONS, UPSERT}
 use Rattle.driver_ops.specs.OptionFields.{document_in, flag_of, option_field}

@@ -11,7 +11,7 @@ use Rattle.bson_lite.specs.declared.document.Pair.{Pair}
 use Rattle.bson_lite.specs.Spelling.{body_of, deepest_pair, depth, element, four, framed, holds_zero, nesting, on_value, refusal, spelled, spelling, zero_in, zero_in_pairs, zero_within}
 use Rattle.bson_lite.proofs.Named.{by_tests}
 use Rattle.bson_lite.proofs.Nested.{folded}
-use Rattle.driver_link.specs.declared.keys.TheConstants.{COLLECTION, DATABASE, GET_MORE, SESSION, SESSION_ID, UUID_SUBTYPE}
+use Rattle.wire_keys.specs.declared.keys.TheConstants.{COLLECTION, DATABASE, GET_MORE, SESSION, SESSION_ID, UUID_SUBTYPE}
 use Rattle.driver_link.specs.Numbers.{field}
 use Rattle.driver_ops.specs.Fields.{IsSixteen, executor_fields, number_field, session_document, session_field, under}
 use Rattle.driver_ops.specs.GetMores.{more_command}

@@ -11,7 +11,7 @@ use Rattle.driver_options.specs.declared.options.ClientOptions.{ClientOptions}
 use Rattle.driver_options.specs.declared.options.Description.{Description}
 use Rattle.driver_options.specs.declared.write_options.BulkWriteOptions.{BulkWriteOptions}
 use Rattle.driver_options.specs.Models.{is_multi}
-use Rattle.driver_link.specs.declared.keys.TheConstants.{ADMIN}
+use Rattle.wire_keys.specs.declared.keys.TheConstants.{ADMIN}
 use Rattle.driver_link.specs.declared.machine.Entry.{Entry}
 use Rattle.driver_link.specs.declared.machine.Item.{Item}
 use Rattle.driver_link.specs.declared.machine.Item.TheVariants.{Serve}

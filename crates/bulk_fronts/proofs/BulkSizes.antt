@@ -9,7 +9,7 @@ use Rattle.bson_lite.specs.declared.bson.Bson.TheVariants.{rolls-Document}
 use Rattle.bson_lite.specs.declared.document.Pair.{Pair}
 use Rattle.bson_lite.specs.Spelling.{counted, element, four, framed, spelled, spelling}
 use Rattle.bson_lite.proofs.Nested.{folded}
-use Rattle.driver_link.specs.declared.keys.TheConstants.{DOCUMENT, INSERT, NAMESPACE}
+use Rattle.wire_keys.specs.declared.keys.TheConstants.{DOCUMENT, INSERT, NAMESPACE}
 use Rattle.driver_link.specs.Numbers.{field}
 use Rattle.bulk_fronts.specs.declared.own_op.OwnOp.{OwnOp}
 use Rattle.bulk_fronts.specs.BulkFronts.{described_size}

@@ -13,7 +13,7 @@ use Rattle.bson_lite.specs.declared.document.Pair.{Pair}
 use Rattle.bson_lite.specs.Spelling.{Spells, body_of, depth, element, four, framed, nesting, refusal_within, spelled, spelling, valid, valid_pairs, zero_in, zero_within}
 use Rattle.bson_lite.proofs.Named.{tests_of_none}
 use Rattle.bson_lite.proofs.Nested.{Folded, folded}
-use Rattle.driver_link.specs.declared.keys.TheConstants.{DOCUMENT, INSERT}
+use Rattle.wire_keys.specs.declared.keys.TheConstants.{DOCUMENT, INSERT}
 use Rattle.bulk_fronts.specs.inside.BulkOps.{insert_op}
 use Rattle.bulk_fronts.specs.inside.InsertSpelling.{FramesInsert, insert_elements}
 use Rattle.bulk_fronts.proofs.BulkSizes.{document_spelled, insert_length}

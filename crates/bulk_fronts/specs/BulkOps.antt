@@ -21,7 +21,7 @@ use Rattle.driver_options.specs.declared.models.WriteModel.TheVariants.{InsertOn
 use Rattle.driver_options.specs.declared.updates.UpdateModifications.{UpdateModifications}
 use Rattle.driver_options.specs.declared.updates.UpdateModifications.TheVariants as modifications
 use Rattle.driver_options.specs.Models.{is_multi, namespace_of, operation_of}
-use Rattle.driver_link.specs.declared.keys.TheConstants.{DELETE, DOCUMENT, INSERT, NAMESPACE, UPDATE}
+use Rattle.wire_keys.specs.declared.keys.TheConstants.{DELETE, DOCUMENT, INSERT, NAMESPACE, UPDATE}
 use Rattle.driver_link.specs.declared.machine.Place.{Place}
 use Rattle.driver_link.specs.declared.machine.PlacedWrite.{PlacedWrite}
 use Rattle.driver_link.specs.declared.machine.WriteKind.TheVariants as kind

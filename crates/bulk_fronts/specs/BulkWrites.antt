@@ -6,7 +6,7 @@ use Rattle.bson_lite.specs.declared.document.Pair.{Pair}
 use Rattle.bson_lite.specs.Spelling.{HasSpelling, spelling}
 use Rattle.driver_options.specs.declared.write_options.BulkWriteOptions.{BulkWriteOptions}
 use Rattle.driver_link.specs.declared.frame.Sequence.{Sequence}
-use Rattle.driver_link.specs.declared.keys.TheConstants.{ADMIN, BULK_WRITE, NAMESPACES, OPS, ORDERED}
+use Rattle.wire_keys.specs.declared.keys.TheConstants.{ADMIN, BULK_WRITE, NAMESPACES, OPS, ORDERED}
 use Rattle.driver_link.specs.Numbers.{field}
 use Rattle.driver_ops.specs.declared.command.Command.{Command}
 use Rattle.driver_ops.specs.declared.keys.TheConstants.{BYPASS_DOCUMENT_VALIDATION, COMMENT, ERRORS_ONLY, LET}

@@ -15,11 +15,11 @@ use crate::own_op::OwnOp;
 use bson_lite::{Bson, Bytes, Document, List, Text, encode};
 use driver_batches::Limits;
 use driver_error::{Error, ErrorKind};
-use driver_link::keys;
 use driver_ops::BuiltFront;
 use driver_options::Description;
 use std::alloc::{AllocError, Global};
 use std::collections::HashMap;
+use wire_keys::keys;
 
 /// The wire version from which on a server takes bulk writes.
 const BULK_VERSION: i32 = 25;

@@ -15,7 +15,6 @@ use bson_lite::{
     get_or_prepend_id_field,
 };
 use driver_error::Result;
-use driver_link::keys;
 use driver_ops::encode_document;
 use driver_ops::keys::{
     ARRAY_FILTERS, COLLATION, FILTER, HINT, MULTI, SORT, UPDATE_MODIFICATIONS, UPSERT,
@@ -25,6 +24,7 @@ use driver_options::{
     ReplaceOneModel, UpdateManyModel, UpdateModifications, UpdateOneModel, WriteModel,
 };
 use std::alloc::{AllocError, Global};
+use wire_keys::keys;
 
 /// What an op does.
 #[derive(Drop)]

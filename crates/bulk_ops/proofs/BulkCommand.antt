@@ -18,7 +18,7 @@ use Rattle.driver_options.specs.declared.models.WriteModel.TheVariants.{InsertOn
 use Rattle.driver_options.specs.declared.write_options.BulkWriteOptions.{BulkWriteOptions}
 use Rattle.driver_options.specs.Models.{namespace_of}
 use Rattle.driver_link.specs.declared.command.CommandName.TheVariants as name
-use Rattle.driver_link.specs.declared.keys.TheConstants.{ADMIN, BULK_WRITE, DELETE, DOCUMENT, INSERT, NAMESPACES, OPS, ORDERED, UPDATE}
+use Rattle.wire_keys.specs.declared.keys.TheConstants.{ADMIN, BULK_WRITE, DELETE, DOCUMENT, INSERT, NAMESPACES, OPS, ORDERED, UPDATE}
 use Rattle.driver_link.specs.declared.machine.Place.{Place}
 use Rattle.driver_link.specs.declared.machine.PlacedWrite.{PlacedWrite}
 use Rattle.driver_link.specs.declared.machine.SendBody.{SendBody}

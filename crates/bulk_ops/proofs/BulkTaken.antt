@@ -10,7 +10,7 @@ use Rattle.driver_options.specs.declared.options.Description.{Description}
 use Rattle.driver_options.specs.declared.write_options.BulkWriteOptions.{BulkWriteOptions}
 use Rattle.driver_batches.specs.declared.sizes.Limits.{Limits}
 use Rattle.driver_link.specs.declared.command.CommandName.TheVariants as name
-use Rattle.driver_link.specs.declared.keys.TheConstants.{ADMIN, NAMESPACES, OPS}
+use Rattle.wire_keys.specs.declared.keys.TheConstants.{ADMIN, NAMESPACES, OPS}
 use Rattle.driver_ops.specs.declared.command.Command.{Command}
 use Rattle.driver_ops.specs.declared.target.OperationTarget.{OperationTarget}
 use Rattle.driver_ops.specs.Operations.{BuildsCommand, MayRefuse, Refuses}

@@ -6,7 +6,7 @@ use Rattle.std.specs.Ordering.{int_eq}
 use Rattle.bson_lite.specs.declared.namespace.Namespace.{Namespace}
 use Rattle.driver_error.specs.declared.error.Error.{Error}
 use Rattle.driver_error.specs.declared.kind.ErrorKind.TheVariants as kind
-use Rattle.driver_error.specs.declared.results.PartialBulkWriteResult.{PartialBulkWriteResult}
+use Rattle.server_answers.specs.declared.results.PartialBulkWriteResult.{PartialBulkWriteResult}
 use Rattle.driver_error.specs.declared.write.BulkWriteError.{BulkWriteError}
 use Rattle.bulk_outcomes.specs.BulkResults.{ResultSpec}
 use Rattle.driver_error.specs.Error.{ErrorKind, IsAlone, kind_of}

@@ -5,9 +5,9 @@ use Rattle.std.specs.Cmp.{nat_cmp_total, unsigned_ties}
 use Rattle.std.specs.FinMap as finite
 use Rattle.std.specs.Ordering.{eq_by_cmp, nat_cmp}
 use Rattle.std.proofs.Math.IntN.{+ℤ_idl}
-use Rattle.driver_error.specs.declared.results.PartialBulkWriteResult.{PartialBulkWriteResult}
-use Rattle.driver_error.specs.declared.results.PartialBulkWriteResult.TheVariants as partly
-use Rattle.driver_error.specs.declared.results.VerboseBulkWriteResult.{VerboseBulkWriteResult}
+use Rattle.server_answers.specs.declared.results.PartialBulkWriteResult.{PartialBulkWriteResult}
+use Rattle.server_answers.specs.declared.results.PartialBulkWriteResult.TheVariants as partly
+use Rattle.server_answers.specs.declared.results.VerboseBulkWriteResult.{VerboseBulkWriteResult}
 use Rattle.bulk_outcomes.specs.BulkResults.{ResultSpec, no_counts}
 use Rattle.driver_error.specs.Counts.{Counts, added, five}
 use Rattle.bulk_outcomes.specs.PartialResults.{IsOfNoWrite, MakesPartial, partial_counted, partial_delete, partial_insert, partial_update}

@@ -2,10 +2,10 @@
 use Rattle.std.specs.Prelude.{◌≡◌, ℕ, ◌+◌, ℤ, pos, ◌+ℤ◌, List, [], ◌∷◌, is_none, is_some, nat_abs, if◌then◌else◌}
 use Rattle.bson_lite.specs.declared.bson.Bson.{Bson}
 use Rattle.bson_lite.specs.declared.document.Pair.{Pair}
-use Rattle.driver_error.specs.declared.results.DeleteResult.{DeleteResult}
-use Rattle.driver_error.specs.declared.results.InsertOneResult.{InsertOneResult}
-use Rattle.driver_error.specs.declared.results.SummaryBulkWriteResult.{SummaryBulkWriteResult}
-use Rattle.driver_error.specs.declared.results.UpdateResult.{UpdateResult}
+use Rattle.server_answers.specs.declared.results.DeleteResult.{DeleteResult}
+use Rattle.server_answers.specs.declared.results.InsertOneResult.{InsertOneResult}
+use Rattle.server_answers.specs.declared.results.SummaryBulkWriteResult.{SummaryBulkWriteResult}
+use Rattle.server_answers.specs.declared.results.UpdateResult.{UpdateResult}
 use Rattle.bulk_outcomes.specs.BulkResults.{ResultSpec}
 use Rattle.driver_link.specs.declared.machine.Counted.{Counted}
 use Rattle.driver_link.specs.declared.machine.Entry.{Entry}

@@ -10,7 +10,7 @@ use Rattle.bson_lite.specs.declared.namespace.Namespace.{Namespace}
 use Rattle.driver_error.specs.declared.error.Error.{Error}
 use Rattle.bulk_outcomes.specs.BulkResults.{ResultSpec}
 use Rattle.driver_options.specs.declared.write_options.BulkWriteOptions.{BulkWriteOptions}
-use Rattle.driver_link.specs.declared.keys.TheConstants.{OK}
+use Rattle.wire_keys.specs.declared.keys.TheConstants.{OK}
 use Rattle.driver_link.specs.declared.machine.PlacedWrite.{PlacedWrite}
 use Rattle.driver_link.specs.declared.machine.Scheduled.{Scheduled}
 use Rattle.driver_link.specs.declared.machine.Send.{Send}

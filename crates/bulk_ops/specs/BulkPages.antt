@@ -7,9 +7,9 @@ use Rattle.bson_lite.specs.declared.document.Pair.{Pair}
 use Rattle.bson_lite.specs.declared.fields.TheConstants.{ID_KEY}
 use Rattle.bson_lite.specs.declared.namespace.Namespace.{Namespace}
 use Rattle.bson_lite.specs.Fields.{int_of, value_of}
-use Rattle.driver_error.specs.declared.results.SummaryBulkWriteResult.{SummaryBulkWriteResult}
+use Rattle.server_answers.specs.declared.results.SummaryBulkWriteResult.{SummaryBulkWriteResult}
 use Rattle.driver_error.specs.declared.write.WriteError.{WriteError}
-use Rattle.driver_link.specs.declared.keys.TheConstants.{CODE, CURSOR, CURSOR_ID, CURSOR_NAMESPACE, ERROR_MESSAGE, FIRST_BATCH, N, N_DELETED, N_ERRORS, N_INSERTED, N_MATCHED, N_MODIFIED, N_UPSERTED, NEXT_BATCH, RESULT_INDEX, UPSERTED}
+use Rattle.wire_keys.specs.declared.keys.TheConstants.{CODE, CURSOR, CURSOR_ID, CURSOR_NAMESPACE, ERROR_MESSAGE, FIRST_BATCH, N, N_DELETED, N_ERRORS, N_INSERTED, N_MATCHED, N_MODIFIED, N_UPSERTED, NEXT_BATCH, RESULT_INDEX, UPSERTED}
 use Rattle.driver_link.specs.Commands.{needed, optional}
 use Rattle.driver_link.specs.Values.{array_of, document_of, text_of}
 use Rattle.driver_link.specs.Writes.{cut}

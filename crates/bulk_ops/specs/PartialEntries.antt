@@ -2,9 +2,9 @@
 use Rattle.std.specs.Prelude.{◌≡◌, ℕ, ◌+◌, ◌≤◌, List, [], ◌∷◌, Some}
 use Rattle.std.specs.FinMap as finite
 use Rattle.std.specs.Ordering.{nat_cmp}
-use Rattle.driver_error.specs.declared.results.PartialBulkWriteResult.{PartialBulkWriteResult}
-use Rattle.driver_error.specs.declared.results.PartialBulkWriteResult.TheVariants as partly
-use Rattle.driver_error.specs.declared.results.VerboseBulkWriteResult.{VerboseBulkWriteResult}
+use Rattle.server_answers.specs.declared.results.PartialBulkWriteResult.{PartialBulkWriteResult}
+use Rattle.server_answers.specs.declared.results.PartialBulkWriteResult.TheVariants as partly
+use Rattle.server_answers.specs.declared.results.VerboseBulkWriteResult.{VerboseBulkWriteResult}
 use Rattle.driver_error.specs.BulkErrors.{partial_counts}
 use Rattle.driver_link.specs.declared.machine.Entry.{Entry}
 use Rattle.driver_link.specs.declared.machine.WriteKind.{WriteKind}

@@ -10,11 +10,11 @@ ghost use Rattle.bulk_ops.specs.BulkPages.{bulk_reply, count_in, counts_in, curs
 
 use bson_lite::{Bson, Document, ID_KEY, List, Namespace, Text, TryClone};
 use driver_error::{SummaryBulkWriteResult, WriteConcernError, WriteError};
-use driver_link::keys;
 use driver_ops::keys::{CODE_NAME, ERROR_INFO};
 use driver_ops::reply_fields::{Unread, code_at, count_at, int_at, labels_at, natural_at, text_at};
 use driver_ops::write_reply::{document_at, optional_text_at, reply_concern_error};
 use std::alloc::{AllocError, Global};
+use wire_keys::keys;
 
 /// What became of an op.
 #[derive(Drop)]

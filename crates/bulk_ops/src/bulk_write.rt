@@ -26,7 +26,7 @@ use bulk_fronts::{
 };
 use bulk_outcomes::BulkWriteResult;
 use driver_error::{Error, ErrorKind, Result};
-use driver_link::{CommandName, Sequence, keys};
+use driver_link::{CommandName, Sequence};
 use driver_ops::keys::{BYPASS_DOCUMENT_VALIDATION, COMMENT, ERRORS_ONLY, LET};
 use driver_ops::option_fields::{push_document, push_flag, push_value};
 use driver_ops::reply_fields::Unread;
@@ -40,6 +40,7 @@ use driver_options::{
 };
 use driver_session::Retryability;
 use std::alloc::{AllocError, Global};
+use wire_keys::keys;
 
 /// A reply has not its form.
 const ODD_BULK: &str = "the reply does not tell of a bulk write";

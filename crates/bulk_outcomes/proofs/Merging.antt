@@ -3,7 +3,7 @@ use Rattle.std.proofs.Common.{◌≡◌, ℤ, pos, ◌+ℤ◌, ◌≤ℤ◌, Fit
 use Rattle.std.proofs.Math.IntN.{+ℤ_comm}
 use Rattle.std.proofs.lemmas.Int.{ints}
 use Rattle.bson_lite.proofs.Uniting.{union_comm}
-use Rattle.driver_error.specs.declared.results.VerboseBulkWriteResult.{VerboseBulkWriteResult}
+use Rattle.server_answers.specs.declared.results.VerboseBulkWriteResult.{VerboseBulkWriteResult}
 use Rattle.driver_error.specs.BulkErrors.{merged_verbose}
 use Rattle.bulk_outcomes.specs.BulkResults.{AreApart, AreCounted}
 use Rattle.driver_error.specs.Counts.{AllFit, Counts, added, five}

@@ -1,10 +1,10 @@
 -- The result of a bulk write that failed, by how the result is made: what joins the result joins it too.
 use Rattle.std.specs.Prelude.{◌≡◌, ℕ}
-use Rattle.driver_error.specs.declared.results.DeleteResult.{DeleteResult}
-use Rattle.driver_error.specs.declared.results.InsertOneResult.{InsertOneResult}
-use Rattle.driver_error.specs.declared.results.PartialBulkWriteResult.{PartialBulkWriteResult}
-use Rattle.driver_error.specs.declared.results.PartialBulkWriteResult.TheVariants as partly
-use Rattle.driver_error.specs.declared.results.UpdateResult.{UpdateResult}
+use Rattle.server_answers.specs.declared.results.DeleteResult.{DeleteResult}
+use Rattle.server_answers.specs.declared.results.InsertOneResult.{InsertOneResult}
+use Rattle.server_answers.specs.declared.results.PartialBulkWriteResult.{PartialBulkWriteResult}
+use Rattle.server_answers.specs.declared.results.PartialBulkWriteResult.TheVariants as partly
+use Rattle.server_answers.specs.declared.results.UpdateResult.{UpdateResult}
 use Rattle.bulk_outcomes.specs.BulkResults.{ResultSpec, no_counts, no_writes, verbose_delete, verbose_insert, verbose_update}
 use Rattle.driver_error.specs.Counts.{Counts, added}
 

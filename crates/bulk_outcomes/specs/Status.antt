@@ -3,7 +3,7 @@ use Rattle.std.specs.Prelude.{◌≡◌, ⊤, ◌==◌, Bool, true, false, not, 
 use Rattle.std.specs.FinMap as finite
 use Rattle.driver_error.specs.declared.error.Error.{Error}
 use Rattle.driver_error.specs.declared.kind.ErrorKind.TheVariants as kind
-use Rattle.driver_error.specs.declared.results.PartialBulkWriteResult.{PartialBulkWriteResult}
+use Rattle.server_answers.specs.declared.results.PartialBulkWriteResult.{PartialBulkWriteResult}
 use Rattle.bulk_outcomes.specs.declared.status.ExecutionStatus.{ExecutionStatus}
 use Rattle.bulk_outcomes.specs.declared.status.ExecutionStatus.TheVariants as status
 use Rattle.driver_error.specs.declared.write.BulkWriteError.{BulkWriteError}

@@ -6,7 +6,7 @@ ghost use Rattle.bulk_outcomes.specs.declared.status.ExecutionStatus.{ExecutionS
 ghost use Rattle.bulk_outcomes.specs.BulkResults.{AreApart, AreCounted};
 ghost use Rattle.bulk_outcomes.specs.Status.{FailsWith, HasKind, IsBulkOfKind, Stands, Succeeds, goes_on};
 ghost use Rattle.driver_error.specs.declared.error.Error.{Error};
-ghost use Rattle.driver_error.specs.declared.results.VerboseBulkWriteResult.{VerboseBulkWriteResult};
+ghost use Rattle.server_answers.specs.declared.results.VerboseBulkWriteResult.{VerboseBulkWriteResult};
 ghost use Rattle.driver_error.specs.BulkErrors.{failures_in, merged_verbose};
 ghost use Rattle.driver_error.specs.Counts.{AllFit, Counts, added};
 ghost use Rattle.driver_error.specs.Error.{kind_of};

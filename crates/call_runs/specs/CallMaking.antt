@@ -1,9 +1,9 @@
 -- How a call of a list is made, and why it ended as it did, by what it does.
 use Rattle.std.specs.Prelude.{ℕ, Bool, true, false, List, Result, Ok, Err}
 use Rattle.driver_error.specs.declared.error.Error.{Error}
-use Rattle.driver_error.specs.declared.results.InsertManyResult.{InsertManyResult}
-use Rattle.driver_error.specs.declared.results.SummaryBulkWriteResult.{SummaryBulkWriteResult}
-use Rattle.driver_error.specs.declared.results.VerboseBulkWriteResult.{VerboseBulkWriteResult}
+use Rattle.server_answers.specs.declared.results.InsertManyResult.{InsertManyResult}
+use Rattle.server_answers.specs.declared.results.SummaryBulkWriteResult.{SummaryBulkWriteResult}
+use Rattle.server_answers.specs.declared.results.VerboseBulkWriteResult.{VerboseBulkWriteResult}
 use Rattle.bulk_outcomes.specs.BulkResults.{summary_spec, verbose_spec}
 use Rattle.driver_options.specs.declared.models.WriteModel.{WriteModel}
 use Rattle.driver_options.specs.declared.write_options.BulkWriteOptions.{BulkWriteOptions}

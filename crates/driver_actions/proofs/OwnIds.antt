@@ -10,7 +10,7 @@ use Rattle.bson_lite.specs.Spelling.{Spells}
 use Rattle.bson_lite.proofs.Named.{kept_with, none_found, with_none}
 use Rattle.driver_error.specs.declared.error.Error.{Error}
 use Rattle.driver_error.specs.declared.kind.ErrorKind.TheVariants.{Memory}
-use Rattle.driver_error.specs.declared.results.InsertOneResult.{InsertOneResult}
+use Rattle.server_answers.specs.declared.results.InsertOneResult.{InsertOneResult}
 use Rattle.driver_error.specs.Error.{kind_of}
 use Rattle.driver_session.specs.StoreTells.{DrawsObjectId, MayDrawObjectId, StoreTells}
 use Rattle.driver_ops.specs.Encoding.{IsUnspelled}

@@ -7,7 +7,7 @@ use Rattle.bson_lite.specs.declared.namespace.Namespace.{Namespace}
 use Rattle.bson_lite.specs.Fields.{id_key, value_of, with_id}
 use Rattle.bson_lite.specs.Spelling.{Spells}
 use Rattle.driver_error.specs.declared.error.Error.{Error}
-use Rattle.driver_error.specs.declared.results.InsertManyResult.{InsertManyResult}
+use Rattle.server_answers.specs.declared.results.InsertManyResult.{InsertManyResult}
 use Rattle.driver_options.specs.declared.write_options.InsertManyOptions.{InsertManyOptions}
 use Rattle.driver_link.specs.declared.machine.Place.{Place}
 use Rattle.driver_link.specs.declared.machine.SendBody.{SendBody}

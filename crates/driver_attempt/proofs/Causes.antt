@@ -2,7 +2,7 @@
 use Rattle.std.proofs.Common.{◌≡◌, List, [], refl, sym, ap, subst}
 use Rattle.std.specs.Prelude.{Option, None, Some}
 use Rattle.std.proofs.lemmas.List.{append-nil}
-use Rattle.driver_link.specs.declared.fault.Answered.{Answered}
+use Rattle.link_faults.specs.declared.fault.Answered.{Answered}
 use Rattle.driver_link.specs.LinkState.{GainsAll}
 use Rattle.driver_session.specs.StoreTells.{StoreTells}
 use Rattle.driver_attempt.specs.Causes.{next_number}

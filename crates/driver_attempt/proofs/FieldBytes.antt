@@ -16,7 +16,7 @@ use Rattle.bson_lite.specs.Ranges.{fits}
 use Rattle.bson_lite.specs.Spelling.{Spells, body_of, counted, deepest_pair, depth, eight, element, four, framed, on_value, spelled, spelling, valid, valid_pairs, zero_in, zero_within}
 use Rattle.bson_lite.proofs.Nested.{Folded, folded}
 use Rattle.driver_options.specs.declared.concerns.WriteConcern.{WriteConcern}
-use Rattle.driver_link.specs.declared.keys.TheConstants.{DATABASE, SESSION, SESSION_ID, TRANSACTION_NUMBER, UUID_SUBTYPE}
+use Rattle.wire_keys.specs.declared.keys.TheConstants.{DATABASE, SESSION, SESSION_ID, TRANSACTION_NUMBER, UUID_SUBTYPE}
 use Rattle.driver_link.specs.Framed.{Framed}
 use Rattle.driver_link.specs.Numbers.{field}
 use Rattle.driver_ops.specs.declared.command.Command.{Command}

@@ -12,11 +12,11 @@ use Rattle.driver_options.specs.declared.options.Address.{Address}
 use Rattle.driver_options.specs.declared.options.Conn.{Conn}
 use Rattle.driver_options.specs.declared.options.Description.{Description}
 use Rattle.driver_link.specs.Clock.{ClockTells, ReadsClock}
-use Rattle.driver_link.specs.declared.fault.Answered.{Answered}
-use Rattle.driver_link.specs.declared.fault.LinkCall.{LinkCall}
-use Rattle.driver_link.specs.declared.fault.LinkCall.TheVariants.{CheckOut, Select}
-use Rattle.driver_link.specs.declared.fault.LinkError.{LinkError}
-use Rattle.driver_link.specs.declared.fault.LinkError.TheVariants.{Fault, Memory}
+use Rattle.link_faults.specs.declared.fault.Answered.{Answered}
+use Rattle.link_faults.specs.declared.fault.LinkCall.{LinkCall}
+use Rattle.link_faults.specs.declared.fault.LinkCall.TheVariants.{CheckOut, Select}
+use Rattle.link_faults.specs.declared.fault.LinkError.{LinkError}
+use Rattle.link_faults.specs.declared.fault.LinkError.TheVariants.{Fault, Memory}
 use Rattle.driver_link.specs.declared.machine.Place.{Place}
 use Rattle.driver_link.specs.Counting.{Listed, OnlyCounts, check_out_fault, checked_out, select_fault, selected}
 use Rattle.driver_link.specs.Faults.{HasLinkCause}

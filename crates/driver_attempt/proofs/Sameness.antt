@@ -5,7 +5,7 @@ use Rattle.driver_error.specs.declared.error.Error.{Error}
 use Rattle.driver_options.specs.declared.concerns.WriteConcern.{WriteConcern}
 use Rattle.driver_options.specs.declared.options.Address.{Address}
 use Rattle.driver_options.specs.declared.options.Conn.{Conn}
-use Rattle.driver_link.specs.declared.fault.LinkError.{LinkError}
+use Rattle.link_faults.specs.declared.fault.LinkError.{LinkError}
 use Rattle.driver_link.specs.LinkState.{LinkState}
 use Rattle.driver_session.specs.declared.retryability.Retryability.{Retryability}
 use Rattle.driver_ops.specs.Fields.{SendContext}

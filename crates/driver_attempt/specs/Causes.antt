@@ -4,10 +4,10 @@ use Rattle.driver_error.specs.declared.error.Error.{Error}
 use Rattle.driver_error.specs.declared.kind.ErrorKind.TheVariants as kind
 use Rattle.driver_error.specs.Error.{ErrorKind, kind_of, labels_of, source_of}
 use Rattle.driver_error.specs.LabelTexts.{LabelSet}
-use Rattle.driver_link.specs.declared.fault.Answered.{Answered}
-use Rattle.driver_link.specs.declared.fault.Answered.TheVariants as answer
-use Rattle.driver_link.specs.declared.fault.LinkCall.TheVariants.{Exchange}
-use Rattle.driver_link.specs.declared.fault.LinkFault.{LinkFault}
+use Rattle.link_faults.specs.declared.fault.Answered.{Answered}
+use Rattle.link_faults.specs.declared.fault.Answered.TheVariants as answer
+use Rattle.link_faults.specs.declared.fault.LinkCall.TheVariants.{Exchange}
+use Rattle.link_faults.specs.declared.fault.LinkFault.{LinkFault}
 use Rattle.driver_session.specs.declared.pool.IdleSession.{IdleSession}
 use Rattle.driver_session.specs.Session.{last_number}
 use Rattle.driver_session.specs.Pool.{Pool}

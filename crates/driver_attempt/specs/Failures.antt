@@ -4,8 +4,8 @@ use Rattle.driver_error.specs.declared.error.Error.{Error}
 use Rattle.driver_error.specs.declared.kind.ErrorKind.TheVariants as kind
 use Rattle.driver_error.specs.Error.{ErrorKind, HasVersion, IsAlone, KeepsAllButLabels, kind_of, labels_of}
 use Rattle.driver_error.specs.LabelTexts.{label_set}
-use Rattle.driver_link.specs.declared.fault.LinkFault.{LinkFault}
-use Rattle.driver_link.specs.Failures.{fault_kind}
+use Rattle.link_faults.specs.declared.fault.LinkFault.{LinkFault}
+use Rattle.link_faults.specs.Failures.{fault_kind}
 use Rattle.driver_session.specs.declared.retryability.Retryability.{Retryability}
 use Rattle.retry_rules.specs.LabelTable.{labels_outside_transactions}
 

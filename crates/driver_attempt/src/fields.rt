@@ -6,10 +6,10 @@ ghost use Rattle.driver_ops.specs.Fields.{IsSixteen, session_document, session_f
 ghost use Rattle.driver_ops.specs.OptionFields.{option_field};
 
 use bson_lite::{Binary, Bson, Bytes, Document, TryClone};
-use driver_link::keys;
 use driver_ops::{Command, concern_document};
 use driver_options::WriteConcern;
 use std::alloc::{AllocError, Global};
+use wire_keys::keys;
 
 /// Appends the session, its transaction number, the write concern and the database, in this order, of which the
 /// first three may be missing.

@@ -10,9 +10,9 @@ use Rattle.bson_lite.specs.declared.bson.Bson.{Bson}
 use Rattle.bson_lite.specs.declared.document.Pair.{Pair}
 use Rattle.bson_lite.specs.Same.{same_by, document_code}
 use Rattle.bson_lite.specs.Sameness.{same_by-Decides}
-use Rattle.driver_error.specs.declared.results.CreateIndexResult.{CreateIndexResult}
-use Rattle.driver_error.specs.declared.results.CreateIndexesResult.{CreateIndexesResult}
-use Rattle.driver_error.specs.declared.specifications.DatabaseSpecification.{DatabaseSpecification}
+use Rattle.server_answers.specs.declared.results.CreateIndexResult.{CreateIndexResult}
+use Rattle.server_answers.specs.declared.results.CreateIndexesResult.{CreateIndexesResult}
+use Rattle.server_answers.specs.declared.specifications.DatabaseSpecification.{DatabaseSpecification}
 use Rattle.driver_error.specs.declared.write.IndexedWriteError.{IndexedWriteError}
 use Rattle.driver_error.specs.declared.write.WriteConcernError.{WriteConcernError}
 use Rattle.driver_error.specs.declared.write.WriteError.{WriteError}

@@ -3,9 +3,9 @@ use Rattle.std.specs.Prelude.{◌≡◌, ⊤, ◌++◌, Option, None, Some, IfSo
 use Rattle.bson_lite.specs.Unions.{union}
 use Rattle.driver_error.specs.declared.error.Error.{Error}
 use Rattle.driver_error.specs.declared.kind.ErrorKind.TheVariants as kind
-use Rattle.driver_error.specs.declared.results.PartialBulkWriteResult.{PartialBulkWriteResult}
-use Rattle.driver_error.specs.declared.results.PartialBulkWriteResult.TheVariants as partly
-use Rattle.driver_error.specs.declared.results.VerboseBulkWriteResult.{VerboseBulkWriteResult}
+use Rattle.server_answers.specs.declared.results.PartialBulkWriteResult.{PartialBulkWriteResult}
+use Rattle.server_answers.specs.declared.results.PartialBulkWriteResult.TheVariants as partly
+use Rattle.server_answers.specs.declared.results.VerboseBulkWriteResult.{VerboseBulkWriteResult}
 use Rattle.driver_error.specs.declared.write.BulkWriteError.{BulkWriteError}
 use Rattle.driver_error.specs.Counts.{AllFit, Counts, RefusesMerge, added}
 use Rattle.driver_error.specs.Error.{ErrorKind, IsAlone, kind_of, labels_of, response_of, source_of, wire_version_of}

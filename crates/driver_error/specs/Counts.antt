@@ -3,7 +3,7 @@ use Rattle.std.specs.Prelude.{ℕ, ℤ, ◌+ℤ◌, ◌⊎◌, List, codes, Fits
 use Rattle.std.specs.Int.{w64}
 use Rattle.driver_error.specs.declared.error.Error.{Error}
 use Rattle.driver_error.specs.declared.kind.ErrorKind.TheVariants as kind
-use Rattle.driver_error.specs.declared.results.SummaryBulkWriteResult.{SummaryBulkWriteResult}
+use Rattle.server_answers.specs.declared.results.SummaryBulkWriteResult.{SummaryBulkWriteResult}
 use Rattle.driver_error.specs.Conversions.{IsMade}
 use Rattle.driver_error.specs.Error.{IsAlone}
 use Rattle.driver_error.specs.LabelTexts.{no_labels}

@@ -1,6 +1,5 @@
 pub mod BulkErrors
 pub mod Chains
-pub mod CommandText
 pub mod Conversions
 pub mod Counts
 pub mod Error

@@ -6,7 +6,7 @@ use Rattle.bson_lite.specs.declared.bson.Bson.{Bson}
 use Rattle.bson_lite.specs.declared.document.Pair.{Pair}
 use Rattle.bson_lite.specs.Indexed.{changed}
 use Rattle.bson_lite.specs.Spelling.{spelling}
-use Rattle.driver_error.specs.declared.command.CommandError.{CommandError}
+use Rattle.server_answers.specs.declared.command.CommandError.{CommandError}
 use Rattle.driver_error.specs.declared.error.Error.{Error, Error-F, out-Error, roll-Error}
 use Rattle.driver_error.specs.declared.kind.ErrorKind.TheVariants as kind
 use Rattle.driver_error.specs.declared.write.BulkWriteError.{BulkWriteError}

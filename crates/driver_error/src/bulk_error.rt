@@ -9,9 +9,9 @@ ghost use Rattle.driver_error.specs.Counts.{AllFit, RefusesMerge, added};
 use crate::counts::added_counts;
 use crate::error::{Error, Parts, Result};
 use crate::kind::ErrorKind;
-use crate::results::{PartialBulkWriteResult, SummaryBulkWriteResult, VerboseBulkWriteResult};
 use crate::write::{BulkWriteError, WriteError};
 use bson_lite::{Boxed, ByIndex, unite_four};
+use server_answers::{PartialBulkWriteResult, SummaryBulkWriteResult, VerboseBulkWriteResult};
 use std::alloc::Global;
 
 impl BulkWriteError {
@@ -26,11 +26,7 @@ impl BulkWriteError {
         ensures why { IfErr result (λ error. RefusesSums
             (joint_sums self.old.partial_result other.partial_result) error) }
     {
-        let BulkWriteError {
-            write_concern_errors,
-            write_errors,
-            partial_result,
-        } = other;
+        let (write_concern_errors, write_errors, partial_result) = other.into_parts();
         let count = self.write_concern_errors.len();
         self.write_concern_errors.append(write_concern_errors)?;
         match merge_results(

@@ -5,12 +5,12 @@ ghost use Rattle.driver_error.specs.Conversions.{IsMade, Converts, IsSingle, sin
 ghost use Rattle.driver_error.specs.Kinds.{inner_labels};
 ghost use Rattle.driver_error.specs.LabelTexts.{no_labels};
 
-use crate::command::CommandErrorBody;
 use crate::error::{Error, Parts, concern_error_of};
 use crate::kind::{ErrorKind, IoKind};
 use crate::labels::Labels;
 use crate::write::{IndexedWriteError, InsertManyError, WriteConcernError, WriteFailure};
 use bson_lite::{Boxed, EncodeFault, List, Text};
+use server_answers::CommandErrorBody;
 use std::alloc::{AllocError, Global};
 
 const NO_FAILURE: &str = "error missing write errors and write concern errors";

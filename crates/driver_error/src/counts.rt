@@ -7,8 +7,8 @@ ghost use Rattle.driver_error.specs.LabelTexts.{no_labels};
 
 use crate::error::{Error, Result};
 use crate::kind::ErrorKind;
-use crate::results::SummaryBulkWriteResult;
 use bson_lite::Text;
+use server_answers::SummaryBulkWriteResult;
 use std::alloc::Global;
 
 /// A sum of counts has more than 64 bits.

@@ -1,9 +1,9 @@
 //! What went wrong, without its labels and causes.
-use crate::command::CommandError;
 use crate::error::Error;
 use crate::gridfs::GridFsErrorKind;
 use crate::write::{BulkWriteError, InsertManyError, WriteFailure};
 use bson_lite::{Boxed, EncodeFault, Text, TryClone};
+use server_answers::CommandError;
 use std::alloc::{AllocError, Global};
 use std::fmt::Debug;
 use thiserror::Error as DeriveError;

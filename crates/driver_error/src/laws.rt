@@ -5,9 +5,10 @@ ghost use Rattle.driver_error.specs.Labelling.{HaveTexts};
 ghost use Rattle.driver_error.specs.SortedLabels.{Lists};
 
 use crate::kind::IoKind;
-use crate::results::{CreateIndexResult, CreateIndexesResult};
-use crate::specifications::{CollectionType, DatabaseSpecification};
 use crate::write::{IndexedWriteError, WriteConcernError, WriteError};
+use server_answers::{
+    CollectionType, CreateIndexResult, CreateIndexesResult, DatabaseSpecification,
+};
 
 /// The labels have these texts.
 pub fn the_labels_have_their_texts()

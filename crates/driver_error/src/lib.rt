@@ -6,7 +6,6 @@
 
 mod bulk_error;
 mod codes;
-pub mod command;
 pub mod conversions;
 mod copy;
 pub mod counts;
@@ -19,11 +18,8 @@ pub mod laws;
 pub mod predicates;
 pub mod redact;
 pub mod redaction;
-pub mod results;
-pub mod specifications;
 mod write;
 
-pub use command::{CommandError, CommandErrorBody};
 pub use conversions::convert_insert_many_error;
 pub use error::{Error, Result};
 pub use gridfs::{GridFsErrorKind, GridFsFileIdentifier};
@@ -34,12 +30,11 @@ pub use labels::{
     UNKNOWN_TRANSACTION_COMMIT_RESULT,
 };
 pub use redact::Redact;
-pub use results::{
-    CreateIndexResult, CreateIndexesResult, DeleteResult, InsertManyResult, InsertOneResult,
-    PartialBulkWriteResult, SummaryBulkWriteResult, UpdateResult, VerboseBulkWriteResult,
-};
-pub use specifications::{
-    CollectionSpecification, CollectionSpecificationInfo, CollectionType, DatabaseSpecification,
+pub use server_answers::{
+    CollectionSpecification, CollectionSpecificationInfo, CollectionType, CommandError,
+    CommandErrorBody, CreateIndexResult, CreateIndexesResult, DatabaseSpecification, DeleteResult,
+    InsertManyResult, InsertOneResult, PartialBulkWriteResult, SummaryBulkWriteResult,
+    UpdateResult, VerboseBulkWriteResult,
 };
 pub use write::{
     BulkWriteError, IndexedWriteError, InsertManyError, WriteConcernError, WriteError, WriteFailure,

@@ -5,13 +5,13 @@ ghost use Rattle.std.specs.Option.{option_map};
 ghost use Rattle.bson_lite.specs.Indexed.{changed};
 ghost use Rattle.driver_error.specs.Redaction.{redacted, redacted_kind, redacted_many, redacted_bulk, redacted_command, redacted_failure, redacted_concern, redacted_write, redacted_indexed, redacted_text, redacted_reply};
 
-use crate::command::CommandError;
 use crate::error::Error;
 use crate::kind::ErrorKind;
 use crate::write::{
     BulkWriteError, IndexedWriteError, InsertManyError, WriteConcernError, WriteError, WriteFailure,
 };
 use bson_lite::{Boxed, Bson, ByIndex, Document, List, RawDocumentBuf, Text, TryClone};
+use server_answers::CommandError;
 use std::alloc::{AllocError, Global};
 use std::mem;
 

@@ -8,8 +8,8 @@ use Rattle.driver_options.specs.declared.concerns.WriteConcern.{WriteConcern}
 use Rattle.driver_options.specs.declared.options.Address.{Address}
 use Rattle.driver_options.specs.declared.options.Conn.{Conn}
 use Rattle.driver_link.specs.Clock.{ClockTells}
-use Rattle.driver_link.specs.declared.fault.LinkError.{LinkError}
-use Rattle.driver_link.specs.declared.fault.LinkError.TheVariants.{Fault}
+use Rattle.link_faults.specs.declared.fault.LinkError.{LinkError}
+use Rattle.link_faults.specs.declared.fault.LinkError.TheVariants.{Fault}
 use Rattle.driver_link.specs.LinkState.{LinkState, setup_of}
 use Rattle.driver_session.specs.declared.retryability.Retryability.{Retryability}
 use Rattle.driver_session.specs.declared.retryability.Retryability.TheVariants as may

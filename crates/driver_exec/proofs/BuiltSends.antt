@@ -4,8 +4,8 @@ use Rattle.std.specs.Prelude.{Bool, Option, None, Some, ◌⊎◌, Result, Ok, E
 use Rattle.driver_error.specs.declared.error.Error.{Error}
 use Rattle.driver_options.specs.declared.options.Address.{Address}
 use Rattle.driver_options.specs.declared.options.Conn.{Conn}
-use Rattle.driver_link.specs.declared.fault.LinkError.{LinkError}
-use Rattle.driver_link.specs.declared.fault.LinkError.TheVariants.{Fault}
+use Rattle.link_faults.specs.declared.fault.LinkError.{LinkError}
+use Rattle.link_faults.specs.declared.fault.LinkError.TheVariants.{Fault}
 use Rattle.driver_link.specs.Counting.{OnlyCounts}
 use Rattle.driver_link.specs.LinkState.{LinkState, server_run}
 use Rattle.driver_link.specs.ServerRun.{ServerRun}

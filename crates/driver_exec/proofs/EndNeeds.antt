@@ -6,11 +6,11 @@ use Rattle.bson_lite.specs.Spelling.{Spells}
 use Rattle.driver_error.specs.declared.kind.ErrorKind.TheVariants as kind
 use Rattle.driver_error.specs.Error.{ErrorKind}
 use Rattle.driver_error.specs.LabelTexts.{LabelSet}
-use Rattle.driver_link.specs.declared.fault.Answered.{Answered}
-use Rattle.driver_link.specs.declared.fault.Answered.TheVariants as answer
-use Rattle.driver_link.specs.declared.fault.LinkCall.TheVariants as call
-use Rattle.driver_link.specs.declared.fault.LinkFault.{LinkFault}
-use Rattle.driver_link.specs.declared.fault.LinkFault.TheVariants as fault
+use Rattle.link_faults.specs.declared.fault.Answered.{Answered}
+use Rattle.link_faults.specs.declared.fault.Answered.TheVariants as answer
+use Rattle.link_faults.specs.declared.fault.LinkCall.TheVariants as call
+use Rattle.link_faults.specs.declared.fault.LinkFault.{LinkFault}
+use Rattle.link_faults.specs.declared.fault.LinkFault.TheVariants as fault
 use Rattle.driver_link.specs.declared.machine.Setup.{Setup}
 use Rattle.driver_link.specs.Faults.{Rose}
 use Rattle.driver_link.specs.LinkState.{GainsAll}

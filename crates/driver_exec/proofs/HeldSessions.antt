@@ -11,11 +11,11 @@ use Rattle.driver_error.specs.LabelTexts.{no_labels}
 use Rattle.driver_options.specs.declared.options.Address.{Address}
 use Rattle.driver_options.specs.declared.options.Conn.{Conn}
 use Rattle.driver_options.specs.declared.options.Description.{Description}
-use Rattle.driver_link.specs.declared.fault.LinkError.{LinkError}
-use Rattle.driver_link.specs.declared.fault.LinkError.TheVariants.{Fault, Memory}
+use Rattle.link_faults.specs.declared.fault.LinkError.{LinkError}
+use Rattle.link_faults.specs.declared.fault.LinkError.TheVariants.{Fault, Memory}
 use Rattle.driver_link.specs.declared.machine.Setup.{Setup}
 use Rattle.driver_link.specs.LinkCalls.{IsTo}
-use Rattle.driver_link.specs.Failures.{is_network}
+use Rattle.link_faults.specs.Failures.{is_network}
 use Rattle.driver_link.proofs.Lists.{none_told}
 use Rattle.driver_session.specs.declared.pool.IdleSession.{IdleSession}
 use Rattle.driver_session.specs.declared.retryability.Retryability.{Retryability}

@@ -15,18 +15,18 @@ use Rattle.driver_options.specs.declared.options.Address.{Address}
 use Rattle.driver_options.specs.declared.options.Conn.{Conn}
 use Rattle.driver_options.specs.declared.options.Description.{Description}
 use Rattle.driver_link.specs.Clock.{ClockTells}
-use Rattle.driver_link.specs.declared.fault.Answered.{Answered}
-use Rattle.driver_link.specs.declared.fault.Answered.TheVariants as answer
-use Rattle.driver_link.specs.declared.fault.LinkCall.{LinkCall}
-use Rattle.driver_link.specs.declared.fault.LinkCall.TheVariants.{CheckOut, Exchange, Select}
-use Rattle.driver_link.specs.declared.fault.LinkError.{LinkError}
-use Rattle.driver_link.specs.declared.fault.LinkError.TheVariants.{Fault, Memory}
-use Rattle.driver_link.specs.declared.fault.LinkFault.{LinkFault}
-use Rattle.driver_link.specs.declared.fault.LinkFault.TheVariants as fault
+use Rattle.link_faults.specs.declared.fault.Answered.{Answered}
+use Rattle.link_faults.specs.declared.fault.Answered.TheVariants as answer
+use Rattle.link_faults.specs.declared.fault.LinkCall.{LinkCall}
+use Rattle.link_faults.specs.declared.fault.LinkCall.TheVariants.{CheckOut, Exchange, Select}
+use Rattle.link_faults.specs.declared.fault.LinkError.{LinkError}
+use Rattle.link_faults.specs.declared.fault.LinkError.TheVariants.{Fault, Memory}
+use Rattle.link_faults.specs.declared.fault.LinkFault.{LinkFault}
+use Rattle.link_faults.specs.declared.fault.LinkFault.TheVariants as fault
 use Rattle.driver_link.specs.declared.machine.Place.{Place}
 use Rattle.driver_link.specs.declared.machine.Setup.{Setup}
 use Rattle.driver_link.specs.Counting.{Listed}
-use Rattle.driver_link.specs.Failures.{fault_kind, is_network}
+use Rattle.link_faults.specs.Failures.{fault_kind, is_network}
 use Rattle.driver_link.specs.Faults.{HasLinkCause, Rose}
 use Rattle.driver_link.specs.Framed.{Framed}
 use Rattle.driver_link.specs.LinkCalls.{CallsLink, ExchangesFrame}

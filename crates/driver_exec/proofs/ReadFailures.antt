@@ -5,9 +5,9 @@ use Rattle.driver_error.specs.declared.error.Error.{Error}
 use Rattle.driver_error.specs.declared.kind.ErrorKind.TheVariants as kind
 use Rattle.driver_error.specs.Error.{ErrorKind, kind_of}
 use Rattle.driver_options.specs.declared.concerns.WriteConcern.{WriteConcern}
-use Rattle.driver_link.specs.declared.fault.LinkFault.{LinkFault}
-use Rattle.driver_link.specs.declared.fault.LinkFault.TheVariants as fault
-use Rattle.driver_link.specs.Failures.{fault_kind}
+use Rattle.link_faults.specs.declared.fault.LinkFault.{LinkFault}
+use Rattle.link_faults.specs.declared.fault.LinkFault.TheVariants as fault
+use Rattle.link_faults.specs.Failures.{fault_kind}
 use Rattle.driver_session.specs.declared.retryability.Retryability.{Retryability}
 use Rattle.driver_session.specs.Session.{Session}
 use Rattle.driver_ops.specs.Operations.{MayRefuse, OperationSpec, Page, ReadsPages, ReadsPagesError}

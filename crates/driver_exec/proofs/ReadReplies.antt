@@ -7,12 +7,12 @@ use Rattle.driver_error.specs.declared.error.Error.{Error}
 use Rattle.driver_error.specs.Error.{kind_of, source_of}
 use Rattle.driver_options.specs.declared.concerns.WriteConcern.{WriteConcern}
 use Rattle.driver_options.specs.declared.options.Conn.{Conn}
-use Rattle.driver_link.specs.declared.fault.LinkError.{LinkError}
-use Rattle.driver_link.specs.declared.fault.LinkError.TheVariants.{Fault, Memory}
-use Rattle.driver_link.specs.declared.fault.LinkFault.{LinkFault}
+use Rattle.link_faults.specs.declared.fault.LinkError.{LinkError}
+use Rattle.link_faults.specs.declared.fault.LinkError.TheVariants.{Fault, Memory}
+use Rattle.link_faults.specs.declared.fault.LinkFault.{LinkFault}
 use Rattle.driver_link.specs.declared.machine.SendBody.{SendBody}
 use Rattle.driver_link.specs.Counting.{OnlyCounts}
-use Rattle.driver_link.specs.Failures.{is_network}
+use Rattle.link_faults.specs.Failures.{is_network}
 use Rattle.driver_link.specs.LinkState.{LinkState, server_run}
 use Rattle.driver_link.specs.ServerRun.{ServerRun, TakesStep}
 use Rattle.driver_link.proofs.Lists.{none_told}

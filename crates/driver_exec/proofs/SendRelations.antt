@@ -1,8 +1,8 @@
 -- The sends of a command, one after another: how many went out, what answers the last, and what answered one of them.
 use Rattle.std.proofs.Common.{◌≡◌, ℕ, zero, suc, List, [], refl, sym, subst, inl, inr}
 use Rattle.std.specs.Prelude.{Bool, Option, None, Some, ◌⊎◌, Ok, Err}
-use Rattle.driver_link.specs.declared.fault.LinkError.TheVariants.{Fault, Memory}
-use Rattle.driver_link.specs.declared.fault.LinkFault.{LinkFault}
+use Rattle.link_faults.specs.declared.fault.LinkError.TheVariants.{Fault, Memory}
+use Rattle.link_faults.specs.declared.fault.LinkFault.{LinkFault}
 use Rattle.driver_link.specs.declared.machine.Send.{Send}
 use Rattle.driver_link.specs.ServerRun.{ServerRun, TakesStep, run_after}
 use Rattle.driver_link.proofs.Lists.{none_is_some}

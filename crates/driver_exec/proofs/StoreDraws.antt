@@ -4,7 +4,7 @@ use Rattle.std.specs.Prelude.{Bool, true, false, List, Option, None, Some, Resul
 use Rattle.driver_error.specs.declared.error.Error.{Error}
 use Rattle.driver_options.specs.declared.options.Address.{Address}
 use Rattle.driver_options.specs.declared.options.Conn.{Conn}
-use Rattle.driver_link.specs.declared.fault.LinkError.{LinkError}
+use Rattle.link_faults.specs.declared.fault.LinkError.{LinkError}
 use Rattle.driver_session.specs.StoreTells.{DrawnApart, Draws, StoreTells}
 use Rattle.driver_session.specs.Session.{Session}
 use Rattle.driver_session.proofs.IdDraws.{apart_before, draws_lending, draws_staying, draws_taking}

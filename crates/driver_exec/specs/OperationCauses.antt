@@ -10,16 +10,16 @@ use Rattle.driver_error.specs.Error.{ErrorKind, kind_of, source_of}
 use Rattle.driver_error.specs.LabelTexts.{LabelSet, label_set, no_labels, with_label}
 use Rattle.driver_options.specs.declared.concerns.WriteConcern.{WriteConcern}
 use Rattle.driver_options.specs.declared.options.Description.{Description}
-use Rattle.driver_link.specs.declared.fault.Answered.{Answered}
-use Rattle.driver_link.specs.declared.fault.Answered.TheVariants as answer
-use Rattle.driver_link.specs.declared.fault.LinkCall.{LinkCall}
-use Rattle.driver_link.specs.declared.fault.LinkCall.TheVariants.{CheckOut, Exchange}
-use Rattle.driver_link.specs.declared.fault.LinkFault.{LinkFault}
-use Rattle.driver_link.specs.declared.fault.LinkFault.TheVariants as fault
+use Rattle.link_faults.specs.declared.fault.Answered.{Answered}
+use Rattle.link_faults.specs.declared.fault.Answered.TheVariants as answer
+use Rattle.link_faults.specs.declared.fault.LinkCall.{LinkCall}
+use Rattle.link_faults.specs.declared.fault.LinkCall.TheVariants.{CheckOut, Exchange}
+use Rattle.link_faults.specs.declared.fault.LinkFault.{LinkFault}
+use Rattle.link_faults.specs.declared.fault.LinkFault.TheVariants as fault
 use Rattle.driver_link.specs.declared.machine.Setup.{Setup}
 use Rattle.driver_link.specs.Faults.{Rose}
 use Rattle.driver_link.specs.LinkState.{GainsAll, LinkState, setup_of}
-use Rattle.driver_link.specs.Failures.{is_network}
+use Rattle.link_faults.specs.Failures.{is_network}
 use Rattle.driver_session.specs.declared.retryability.Retryability.{Retryability}
 use Rattle.driver_session.specs.declared.retryability.Retryability.TheVariants as may
 use Rattle.driver_session.specs.Session.{number_at_its_end}

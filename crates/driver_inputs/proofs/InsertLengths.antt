@@ -12,7 +12,7 @@ use Rattle.bson_lite.specs.declared.namespace.Namespace.{Namespace}
 use Rattle.bson_lite.specs.Spelling.{counted, element, four, framed, spelled, spelling}
 use Rattle.bson_lite.proofs.Nested.{folded}
 use Rattle.driver_options.specs.declared.write_options.InsertManyOptions.{InsertManyOptions}
-use Rattle.driver_link.specs.declared.keys.TheConstants.{INSERT, ORDERED}
+use Rattle.wire_keys.specs.declared.keys.TheConstants.{INSERT, ORDERED}
 use Rattle.driver_link.specs.Numbers.{field}
 use Rattle.driver_ops.specs.declared.keys.TheConstants.{BYPASS_DOCUMENT_VALIDATION, COMMENT}
 use Rattle.driver_ops.specs.Inserts.{insert_command, insert_is_ordered}

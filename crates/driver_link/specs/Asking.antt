@@ -8,7 +8,7 @@ use Rattle.bson_lite.specs.declared.namespace.Namespace.{Namespace}
 use Rattle.driver_link.specs.declared.command.CommandName.{CommandName}
 use Rattle.driver_link.specs.declared.command.CommandName.TheVariants as name
 use Rattle.driver_link.specs.declared.frame.Documents.{Documents}
-use Rattle.driver_link.specs.declared.keys.TheConstants.{ADMIN, COLLECTION, CURSORS, DELETES, DOCUMENTS, NAMESPACES, OPS, ORDERED, UPDATES}
+use Rattle.wire_keys.specs.declared.keys.TheConstants.{ADMIN, COLLECTION, CURSORS, DELETES, DOCUMENTS, NAMESPACES, OPS, ORDERED, UPDATES}
 use Rattle.driver_link.specs.declared.machine.Place.{Place}
 use Rattle.driver_link.specs.declared.machine.Send.{Send}
 use Rattle.driver_link.specs.declared.machine.SendBody.{SendBody}

@@ -2,7 +2,7 @@
 use Rattle.std.specs.Prelude.{ℕ, List, Option, None, Some, bytes_eq, if◌then◌else◌}
 use Rattle.driver_link.specs.declared.command.CommandName.{CommandName}
 use Rattle.driver_link.specs.declared.command.CommandName.TheVariants as name
-use Rattle.driver_link.specs.declared.keys.TheConstants.{ABORT_TRANSACTION, BULK_WRITE, COMMIT_TRANSACTION, DELETE, FIND_AND_MODIFY, GET_MORE, INSERT, KILL_CURSORS, UPDATE}
+use Rattle.wire_keys.specs.declared.keys.TheConstants.{ABORT_TRANSACTION, BULK_WRITE, COMMIT_TRANSACTION, DELETE, FIND_AND_MODIFY, GET_MORE, INSERT, KILL_CURSORS, UPDATE}
 
 -- the command that a text names
 unfoldable pub command_named : List ℕ → Option CommandName

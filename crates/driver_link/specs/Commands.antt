@@ -6,7 +6,7 @@ use Rattle.bson_lite.specs.declared.bson.Binary.{Binary}
 use Rattle.bson_lite.specs.declared.bson.Bson.{Bson}
 use Rattle.bson_lite.specs.declared.document.Pair.{Pair}
 use Rattle.bson_lite.specs.Fields.{value_of}
-use Rattle.driver_link.specs.declared.keys.TheConstants.{AUTOCOMMIT, DATABASE, SESSION, SESSION_ID, START_TRANSACTION, TRANSACTION_NUMBER, UUID_SUBTYPE}
+use Rattle.wire_keys.specs.declared.keys.TheConstants.{AUTOCOMMIT, DATABASE, SESSION, SESSION_ID, START_TRANSACTION, TRANSACTION_NUMBER, UUID_SUBTYPE}
 use Rattle.driver_link.specs.declared.machine.Send.{Send}
 use Rattle.driver_link.specs.declared.machine.SendBody.{SendBody}
 use Rattle.driver_link.specs.Values.{text_of, bool_of, int64_of, document_of, binary_of}

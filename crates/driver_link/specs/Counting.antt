@@ -3,11 +3,11 @@ use Rattle.std.specs.Prelude.{◌≡◌, ℕ, ◌+◌, ◌-◌, ◌^◌, ◌==�
 use Rattle.std.specs.List.{list_any}
 use Rattle.driver_error.specs.declared.kind.IoKind.TheVariants.{ConnectionRefused}
 use Rattle.driver_error.specs.declared.labels.TheConstants.{RETRYABLE_ERROR, SYSTEM_OVERLOADED_ERROR}
-use Rattle.driver_link.specs.declared.fault.LinkError.{LinkError}
-use Rattle.driver_link.specs.declared.fault.LinkError.TheVariants.{Fault, Memory}
-use Rattle.driver_link.specs.declared.fault.LinkFault.{LinkFault}
-use Rattle.driver_link.specs.declared.fault.LinkFault.TheVariants.{Io, Selection, Authentication}
-use Rattle.driver_link.specs.declared.keys.TheConstants.{SELECTION_FAILURE, REAUTHENTICATION_FAILURE}
+use Rattle.link_faults.specs.declared.fault.LinkError.{LinkError}
+use Rattle.link_faults.specs.declared.fault.LinkError.TheVariants.{Fault, Memory}
+use Rattle.link_faults.specs.declared.fault.LinkFault.{LinkFault}
+use Rattle.link_faults.specs.declared.fault.LinkFault.TheVariants.{Io, Selection, Authentication}
+use Rattle.wire_keys.specs.declared.keys.TheConstants.{SELECTION_FAILURE, REAUTHENTICATION_FAILURE}
 use Rattle.driver_link.specs.ServerRun.{ServerRun}
 
 -- a fault that a schedule lists, with its labels

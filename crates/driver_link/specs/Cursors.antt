@@ -5,7 +5,7 @@ use Rattle.bson_lite.specs.declared.bson.Bson.{Bson}
 use Rattle.bson_lite.specs.declared.bson.Bson as bson
 use Rattle.bson_lite.specs.declared.document.Pair.{Pair}
 use Rattle.bson_lite.specs.declared.fields.TheConstants.{ID_KEY}
-use Rattle.driver_link.specs.declared.keys.TheConstants.{CODE, ERROR_MESSAGE, N, N_MODIFIED, RESULT_INDEX, SCHEDULED, UPSERTED}
+use Rattle.wire_keys.specs.declared.keys.TheConstants.{CODE, ERROR_MESSAGE, N, N_MODIFIED, RESULT_INDEX, SCHEDULED, UPSERTED}
 use Rattle.driver_link.specs.declared.machine.Counted.{Counted}
 use Rattle.driver_link.specs.declared.machine.PlacedWrite.{PlacedWrite}
 use Rattle.driver_link.specs.declared.machine.SendBody.{SendBody}

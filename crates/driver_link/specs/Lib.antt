@@ -7,14 +7,12 @@ pub mod Commands
 pub mod Counting
 pub mod Cursors
 pub mod Exchange
-pub mod Failures
 pub mod Faults
 pub mod Framed
 pub mod Gathered
 pub mod Honesty
 pub mod Ids
 pub mod Interrupting
-pub mod Keys
 pub mod LinkCalls
 pub mod LinkState
 pub mod Numbers

@@ -3,9 +3,9 @@ use Rattle.std.specs.Prelude.{◌≡◌, ℕ, Bool, List, Option, None, Some, Re
 use Rattle.driver_options.specs.declared.options.Address.{Address}
 use Rattle.driver_options.specs.declared.options.Asked.{Asked}
 use Rattle.driver_options.specs.declared.options.Conn.{Conn}
-use Rattle.driver_link.specs.declared.fault.LinkCall.{LinkCall}
-use Rattle.driver_link.specs.declared.fault.LinkCall.TheVariants.{Select, Support, CheckOut, Exchange, Reauthenticate}
-use Rattle.driver_link.specs.declared.fault.LinkError.{LinkError}
+use Rattle.link_faults.specs.declared.fault.LinkCall.{LinkCall}
+use Rattle.link_faults.specs.declared.fault.LinkCall.TheVariants.{Select, Support, CheckOut, Exchange, Reauthenticate}
+use Rattle.link_faults.specs.declared.fault.LinkError.{LinkError}
 use Rattle.driver_link.specs.declared.machine.Place.{Place}
 use Rattle.driver_link.specs.declared.machine.Send.{Send}
 use Rattle.driver_link.specs.declared.machine.Setup.{Setup}

@@ -6,7 +6,7 @@ use Rattle.bson_lite.specs.declared.bson.Bson as bson
 use Rattle.bson_lite.specs.declared.document.Pair.{Pair}
 use Rattle.bson_lite.specs.declared.fields.TheConstants.{ID_KEY}
 use Rattle.driver_error.specs.declared.labels.TheConstants.{TRANSIENT_TRANSACTION_ERROR}
-use Rattle.driver_link.specs.declared.keys.TheConstants.{BULK_NAMESPACE, CODE, CURSOR, CURSOR_ID, CURSOR_NAMESPACE, ERROR_LABELS, ERROR_MESSAGE, FIRST_BATCH, INDEX, N, N_DELETED, N_ERRORS, N_INSERTED, N_MATCHED, N_MODIFIED, N_UPSERTED, NEXT_BATCH, OK, SCHEDULED, UPSERTED, VALUE, WRITE_CONCERN_ERROR, WRITE_ERRORS}
+use Rattle.wire_keys.specs.declared.keys.TheConstants.{BULK_NAMESPACE, CODE, CURSOR, CURSOR_ID, CURSOR_NAMESPACE, ERROR_LABELS, ERROR_MESSAGE, FIRST_BATCH, INDEX, N, N_DELETED, N_ERRORS, N_INSERTED, N_MATCHED, N_MODIFIED, N_UPSERTED, NEXT_BATCH, OK, SCHEDULED, UPSERTED, VALUE, WRITE_CONCERN_ERROR, WRITE_ERRORS}
 use Rattle.driver_link.specs.declared.machine.Counted.{Counted}
 use Rattle.driver_link.specs.declared.machine.KnownSession.{KnownSession}
 use Rattle.driver_link.specs.declared.machine.PlacedWrite.{PlacedWrite}

@@ -2,7 +2,7 @@
 -- that it was done.
 use Rattle.std.specs.Prelude.{◌≡◌, ℕ, ◌<ℤ◌, ◌≤ℤ◌, ℤ, pos, List, [], ◌∷◌, Option, None, Some}
 use Rattle.std.specs.FinMap as finite
-use Rattle.driver_link.specs.declared.keys.TheConstants.{N}
+use Rattle.wire_keys.specs.declared.keys.TheConstants.{N}
 use Rattle.driver_link.specs.declared.machine.Counted.{Counted}
 use Rattle.driver_link.specs.declared.machine.Item.{Item}
 use Rattle.driver_link.specs.declared.machine.Item.TheVariants.{Serve}

@@ -7,7 +7,7 @@ use Rattle.bson_lite.specs.declared.document.Pair.{Pair}
 use Rattle.bson_lite.specs.declared.namespace.Namespace.{Namespace}
 use Rattle.driver_link.specs.declared.command.CommandName.{CommandName}
 use Rattle.driver_link.specs.declared.command.CommandName.TheVariants as name
-use Rattle.driver_link.specs.declared.keys.TheConstants.{AUTOCOMMIT, CLUSTER_TIME, DATABASE, DOCUMENT, NAMESPACE, READ_CONCERN, RECOVERY_TOKEN, SESSION, START_TRANSACTION, TRANSACTION_NUMBER, WRITE_CONCERN}
+use Rattle.wire_keys.specs.declared.keys.TheConstants.{AUTOCOMMIT, CLUSTER_TIME, DATABASE, DOCUMENT, NAMESPACE, READ_CONCERN, RECOVERY_TOKEN, SESSION, START_TRANSACTION, TRANSACTION_NUMBER, WRITE_CONCERN}
 use Rattle.driver_link.specs.declared.machine.Place.{Place}
 use Rattle.driver_link.specs.declared.machine.PlacedWrite.{PlacedWrite}
 use Rattle.driver_link.specs.declared.machine.WriteKind.{WriteKind}

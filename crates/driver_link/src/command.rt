@@ -2,7 +2,7 @@
 ghost use Rattle.std.specs.Prelude.{◌≡◌};
 ghost use Rattle.driver_link.specs.CommandNames.{command_named};
 
-use crate::keys::{
+use wire_keys::keys::{
     ABORT_TRANSACTION, BULK_WRITE, COMMIT_TRANSACTION, DELETE, FIND_AND_MODIFY, GET_MORE, INSERT,
     KILL_CURSORS, UPDATE,
 };

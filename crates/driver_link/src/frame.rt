@@ -8,10 +8,18 @@ use std::alloc::{AllocError, Global};
 use std::marker::Model;
 
 /// A named list of documents beside a body.
-#[derive(Debug, Drop)]
+#[derive(Debug)]
 pub struct Sequence {
     pub name: Text,
     pub documents: List<Bytes>,
+}
+
+impl Drop for Sequence {
+    fn drop(self) {
+        let Sequence { name, documents } = self;
+        drop(name);
+        drop(documents);
+    }
 }
 
 impl TryClone for Sequence {

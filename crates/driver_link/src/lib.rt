@@ -6,11 +6,8 @@ pub mod by_id;
 pub mod clock;
 pub mod command;
 mod copy;
-pub mod fault;
 pub mod frame;
 pub mod ids;
-pub mod keys;
-pub mod laws;
 pub mod link;
 pub mod machine;
 pub mod shared;
@@ -19,10 +16,10 @@ pub mod stream;
 pub use by_id::ById;
 pub use clock::Clock;
 pub use command::{CommandName, command_named};
-pub use fault::{Answered, LinkCall, LinkError, LinkFault};
 pub use frame::{Documents, Frame, Sequence};
 pub use ids::{IdKind, IdSource};
 pub use link::Link;
+pub use link_faults::{Answered, LinkCall, LinkError, LinkFault};
 pub use machine::{
     Counted, Entry, Failing, Item, KnownSession, Place, PlacedWrite, Planned, PlannedConcern,
     Schedule, Scheduled, Send, SendBody, SendCommand, Server, ServerTransaction, Setup, Statement,

@@ -6,12 +6,12 @@ ghost use Rattle.driver_link.specs.LinkCalls.{AsksSupport, ChecksInConnection, C
 ghost use Rattle.driver_link.specs.LinkState.{LinkState, setup_of};
 ghost use Rattle.driver_link.specs.Reads.{Reads};
 
-use crate::fault::LinkError;
 use crate::frame::Frame;
 use crate::machine::Place;
 use bson_lite::Bytes;
 use driver_error::Error;
 use driver_options::{Address, Conn, SelectionCriteria};
+use link_faults::LinkError;
 use std::alloc::Global;
 
 /// Servers behind connections. What a link tells is for contracts alone.

@@ -123,12 +123,25 @@ impl Drop for Send {
 }
 
 /// The result of one statement.
-#[derive(Debug, Drop)]
+#[derive(Debug)]
 pub struct Counted {
     pub n: i64,
     pub modified: i64,
     pub upserted: Option<Bson>,
     pub value: Option<Document>,
+}
+
+impl Drop for Counted {
+    fn drop(self) {
+        let Counted {
+            n: _,
+            modified: _,
+            upserted,
+            value,
+        } = self;
+        drop(upserted);
+        drop(value);
+    }
 }
 
 /// A write that the server ran.

@@ -10,7 +10,7 @@ use Rattle.bson_lite.specs.declared.document.Pair.{Pair}
 use Rattle.bson_lite.specs.Fields.{value_of}
 use Rattle.bson_lite.proofs.Numbers.{bytes_eq-same}
 use Rattle.driver_error.specs.declared.error.Error.{Error}
-use Rattle.driver_link.specs.declared.keys.TheConstants.{AUTOCOMMIT, DATABASE, SESSION, START_TRANSACTION, TRANSACTION_NUMBER, UUID_SUBTYPE, WRITE_CONCERN}
+use Rattle.wire_keys.specs.declared.keys.TheConstants.{AUTOCOMMIT, DATABASE, SESSION, START_TRANSACTION, TRANSACTION_NUMBER, UUID_SUBTYPE, WRITE_CONCERN}
 use Rattle.driver_link.specs.declared.frame.Documents.{Documents}
 use Rattle.driver_link.specs.declared.machine.Place.{Place}
 use Rattle.driver_link.specs.declared.machine.SendBody.{SendBody}

@@ -9,7 +9,7 @@ use Rattle.driver_error.specs.declared.error.Error.{Error}
 use Rattle.driver_error.specs.declared.kind.ErrorKind.TheVariants.{Memory}
 use Rattle.driver_error.specs.Error.{kind_of}
 use Rattle.driver_options.specs.declared.concerns.WriteConcern.{WriteConcern}
-use Rattle.driver_link.specs.declared.keys.TheConstants.{SESSION, SESSION_ID, TRANSACTION_NUMBER, DATABASE, UUID_SUBTYPE, WRITE_CONCERN}
+use Rattle.wire_keys.specs.declared.keys.TheConstants.{SESSION, SESSION_ID, TRANSACTION_NUMBER, DATABASE, UUID_SUBTYPE, WRITE_CONCERN}
 use Rattle.driver_link.specs.Framed.{Framed}
 use Rattle.driver_link.specs.Numbers.{field}
 use Rattle.driver_link.specs.Writes.{common_keys, is_common}

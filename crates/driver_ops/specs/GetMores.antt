@@ -10,7 +10,7 @@ use Rattle.driver_error.specs.Error.{kind_of}
 use Rattle.driver_options.specs.declared.options.ClientOptions.{ClientOptions}
 use Rattle.driver_options.specs.declared.options.Description.{Description}
 use Rattle.driver_link.specs.declared.command.CommandName.TheVariants as name
-use Rattle.driver_link.specs.declared.keys.TheConstants.{COLLECTION, CURSORS, GET_MORE, KILL_CURSORS}
+use Rattle.wire_keys.specs.declared.keys.TheConstants.{COLLECTION, CURSORS, GET_MORE, KILL_CURSORS}
 use Rattle.driver_link.specs.declared.machine.Entry.{Entry}
 use Rattle.driver_link.specs.declared.machine.Place.{Place}
 use Rattle.driver_link.specs.declared.machine.SendBody.{SendBody}

@@ -11,7 +11,7 @@ use Rattle.bson_lite.specs.declared.fault.EncodeFault.{EncodeFault}
 use Rattle.bson_lite.specs.Spelling.{refusal}
 use Rattle.driver_options.specs.declared.write_options.InsertManyOptions.{InsertManyOptions}
 use Rattle.driver_link.specs.declared.frame.Sequence.{Sequence}
-use Rattle.driver_link.specs.declared.keys.TheConstants.{INSERT, ORDERED, DOCUMENTS}
+use Rattle.wire_keys.specs.declared.keys.TheConstants.{INSERT, ORDERED, DOCUMENTS}
 use Rattle.driver_link.specs.declared.machine.Place.{Place}
 use Rattle.driver_link.specs.declared.machine.PlacedWrite.{PlacedWrite}
 use Rattle.driver_link.specs.declared.machine.WriteKind.TheVariants as write_kind

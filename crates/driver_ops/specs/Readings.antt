@@ -5,8 +5,8 @@ use Rattle.bson_lite.specs.declared.bson.Bson.{Bson}
 use Rattle.bson_lite.specs.declared.document.Pair.{Pair}
 use Rattle.bson_lite.specs.Fields.{int_of}
 use Rattle.bson_lite.specs.Ranges.{fits}
-use Rattle.driver_error.specs.declared.command.CommandErrorBody.{CommandErrorBody}
-use Rattle.driver_link.specs.declared.keys.TheConstants.{CODE, ERROR_LABELS, ERROR_MESSAGE}
+use Rattle.server_answers.specs.declared.command.CommandErrorBody.{CommandErrorBody}
+use Rattle.wire_keys.specs.declared.keys.TheConstants.{CODE, ERROR_LABELS, ERROR_MESSAGE}
 use Rattle.driver_link.specs.Commands.{needed, optional}
 use Rattle.driver_link.specs.Values.{text_of, array_of}
 use Rattle.driver_ops.specs.declared.keys.TheConstants.{BASE_BACKOFF, CODE_NAME}

@@ -7,12 +7,12 @@ use Rattle.bson_lite.specs.declared.bson.Bson.TheOpen.{Bson-F}
 use Rattle.bson_lite.specs.declared.document.Pair.{Pair}
 use Rattle.bson_lite.specs.Fields.{value_of, int_of}
 use Rattle.bson_lite.specs.Spelling.{Spells}
-use Rattle.driver_error.specs.declared.command.CommandErrorBody.{CommandErrorBody}
+use Rattle.server_answers.specs.declared.command.CommandErrorBody.{CommandErrorBody}
 use Rattle.driver_error.specs.declared.error.Error.{Error}
 use Rattle.driver_error.specs.declared.kind.ErrorKind.TheVariants as kind
 use Rattle.driver_error.specs.Error.{ErrorKind, HasResponse, IsAlone, kind_of, labels_of, source_of, response_of, wire_version_of}
 use Rattle.driver_error.specs.LabelTexts.{LabelSet, no_labels, label_set}
-use Rattle.driver_link.specs.declared.keys.TheConstants.{CLUSTER_TIME, OK}
+use Rattle.wire_keys.specs.declared.keys.TheConstants.{CLUSTER_TIME, OK}
 use Rattle.driver_ops.specs.declared.response.CommandResponse.{CommandResponse}
 use Rattle.driver_ops.specs.Readings.{command_error_in}
 

@@ -7,7 +7,7 @@ use Rattle.driver_error.specs.declared.error.Error.{Error}
 use Rattle.driver_error.specs.declared.kind.ErrorKind.TheVariants as kind
 use Rattle.driver_error.specs.Error.{IsAlone, kind_of}
 use Rattle.driver_error.specs.LabelTexts.{no_labels}
-use Rattle.driver_link.specs.declared.keys.TheConstants.{CURSOR, FIRST_BATCH}
+use Rattle.wire_keys.specs.declared.keys.TheConstants.{CURSOR, FIRST_BATCH}
 use Rattle.driver_link.specs.Commands.{needed}
 use Rattle.driver_link.specs.Values.{array_of, document_of}
 use Rattle.driver_ops.specs.declared.single_cursor.SingleCursorResult.{SingleCursorResult}

@@ -5,7 +5,7 @@ use Rattle.bson_lite.specs.declared.bson.Bson.{Bson}
 use Rattle.bson_lite.specs.declared.document.Pair.{Pair}
 use Rattle.driver_error.specs.declared.write.IndexedWriteError.{IndexedWriteError}
 use Rattle.driver_error.specs.declared.write.WriteConcernError.{WriteConcernError}
-use Rattle.driver_link.specs.declared.keys.TheConstants.{CODE, ERROR_MESSAGE, INDEX, WRITE_CONCERN_ERROR, WRITE_ERRORS}
+use Rattle.wire_keys.specs.declared.keys.TheConstants.{CODE, ERROR_MESSAGE, INDEX, WRITE_CONCERN_ERROR, WRITE_ERRORS}
 use Rattle.driver_link.specs.Commands.{needed, optional}
 use Rattle.driver_link.specs.Values.{array_of, document_of, text_of}
 use Rattle.driver_ops.specs.declared.keys.TheConstants.{CODE_NAME, ERROR_INFO}

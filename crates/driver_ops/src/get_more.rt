@@ -14,10 +14,11 @@ use crate::operation::{Operation, Reading};
 use crate::target::OperationTarget;
 use bson_lite::{Bson, Document, List, Namespace, Text, TryClone};
 use driver_error::{Error, Result};
-use driver_link::{CommandName, keys};
+use driver_link::CommandName;
 use driver_options::{ClientOptions, Description, ReadConcern, SelectionCriteria, WriteConcern};
 use driver_session::Retryability;
 use std::alloc::{AllocError, Global};
+use wire_keys::keys;
 
 /// The question for the next page of a cursor.
 #[derive(Drop)]

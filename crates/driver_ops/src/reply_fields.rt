@@ -9,8 +9,8 @@ ghost use Rattle.driver_ops.specs.Readings.{Gives, small_of, natural_of, text_in
 use crate::keys::{BASE_BACKOFF, CODE_NAME};
 use bson_lite::{Bson, Document, List, Text, TryClone, get_int};
 use driver_error::{CommandError, CommandErrorBody};
-use driver_link::keys;
 use std::alloc::{AllocError, Global};
+use wire_keys::keys;
 
 /// Why a field was not read.
 #[derive(Clone, Copy, Debug, PartialEq, Eq)]

@@ -13,8 +13,8 @@ use crate::reply_fields::{Unread, command_error};
 use bson_lite::{Bson, Bytes, DecodeFault, Document, RawDocumentBuf, Text, get_int};
 use bson_reading::decode;
 use driver_error::{Error, ErrorKind, Result};
-use driver_link::keys;
 use std::alloc::Global;
+use wire_keys::keys;
 
 /// The bytes of a reply spell no document.
 const NO_DOCUMENT: &str = "the reply is no document";

@@ -1,5 +1,5 @@
 //! The first document of the cursor in a reply.
-ghost use Rattle.driver_link.specs.declared.keys.TheConstants.{FIRST_BATCH};
+ghost use Rattle.wire_keys.specs.declared.keys.TheConstants.{FIRST_BATCH};
 ghost use Rattle.driver_link.specs.Commands.{needed};
 ghost use Rattle.driver_ops.specs.SingleCursor.{ReadsSingleCursor, batch_of_one, first_document, single_cursor};
 ghost use Rattle.driver_ops.specs.Readings.{Gives};
@@ -8,8 +8,8 @@ use crate::reply_fields::Unread;
 use crate::response::odd_reply;
 use bson_lite::{Bson, Document, TryClone};
 use driver_error::{Error, ErrorKind, Result};
-use driver_link::keys;
 use std::alloc::Global;
+use wire_keys::keys;
 
 /// The cursor of a reply does not begin with a document.
 const NO_CURSOR: &str = "the reply has no cursor that begins with a document";

@@ -10,8 +10,8 @@ use crate::keys::{CODE_NAME, ERROR_INFO};
 use crate::reply_fields::{Unread, code_at, count_at, labels_at, text_at};
 use bson_lite::{Bson, Document, List, Text, TryClone};
 use driver_error::{IndexedWriteError, WriteConcernError};
-use driver_link::keys;
 use std::alloc::Global;
+use wire_keys::keys;
 
 /// The document of a value.
 fn document_of(value: &Bson) -> Option<&Document>

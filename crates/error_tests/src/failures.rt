@@ -1,7 +1,7 @@
 //! Errors as plain data: what a row says of one, made into an error and found in one.
 ghost use Rattle.std.specs.Prelude.{◌≡◌, None, Some, IfOk};
 ghost use Rattle.driver_error.specs.declared.kind.ErrorKind.TheVariants.{BulkWrite};
-ghost use Rattle.driver_error.specs.declared.results.PartialBulkWriteResult.TheVariants.{Summary, Verbose};
+ghost use Rattle.server_answers.specs.declared.results.PartialBulkWriteResult.TheVariants.{Summary, Verbose};
 ghost use Rattle.driver_error.specs.BulkErrors.{AreAlike, failures_in};
 ghost use Rattle.bulk_outcomes.specs.BulkResults.{no_counts, no_writes};
 ghost use Rattle.driver_error.specs.Error.{kind_of, source_of};

@@ -16,7 +16,7 @@ use Rattle.bson_lite.specs.Ranges.{fits}
 use Rattle.bson_lite.specs.Spelling.{body_of, counted, deepest_pair, depth, eight, element, four, framed, on_value, spelled, spelling, valid, valid_pairs, zero_in, zero_within}
 use Rattle.bson_lite.proofs.Nested.{Folded, folded}
 use Rattle.bson_lite.proofs.Numbers.{same-bytes_eq}
-use Rattle.driver_link.specs.declared.keys.TheConstants.{DATABASE, INSERT, ORDERED, SESSION, SESSION_ID, TRANSACTION_NUMBER, UUID_SUBTYPE}
+use Rattle.wire_keys.specs.declared.keys.TheConstants.{DATABASE, INSERT, ORDERED, SESSION, SESSION_ID, TRANSACTION_NUMBER, UUID_SUBTYPE}
 use Rattle.frame_reading.specs.declared.plain_insert.PlainInsert.{PlainInsert}
 use Rattle.frame_reading.specs.inside.PlainInserts.{collection_field, database_field, number_field, order_field, plain_body, session_document, session_field}
 

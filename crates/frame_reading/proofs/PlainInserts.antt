@@ -14,7 +14,7 @@ use Rattle.bson_lite.specs.declared.document.Pair.{Pair}
 use Rattle.bson_lite.specs.Spelling.{Spells, deepest_pair, depth, holds_zero, on_value, spelling, valid, valid_pairs, zero_in, zero_within}
 use Rattle.bson_lite.proofs.Numbers.{bytes_eq-same}
 use Rattle.driver_link.specs.declared.frame.Documents.{Documents}
-use Rattle.driver_link.specs.declared.keys.TheConstants.{AUTOCOMMIT, DATABASE, INSERT, ORDERED, SESSION, SESSION_ID, START_TRANSACTION, TRANSACTION_NUMBER, UUID_SUBTYPE}
+use Rattle.wire_keys.specs.declared.keys.TheConstants.{AUTOCOMMIT, DATABASE, INSERT, ORDERED, SESSION, SESSION_ID, START_TRANSACTION, TRANSACTION_NUMBER, UUID_SUBTYPE}
 use Rattle.driver_link.specs.declared.machine.Place.{Place}
 use Rattle.driver_link.specs.declared.machine.SendBody.{SendBody}
 use Rattle.driver_link.specs.Asking.{asks, asks_as, asks_insert, may_go_to, spelled, target}

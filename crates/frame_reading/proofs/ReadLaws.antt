@@ -8,7 +8,7 @@ use Rattle.bson_lite.specs.declared.bson.Bson.{Bson}
 use Rattle.bson_lite.specs.declared.document.Pair.{Pair}
 use Rattle.bson_lite.specs.Spelling.{Spells}
 use Rattle.driver_link.specs.Asking.{only_sequence, spelled}
-use Rattle.driver_link.specs.declared.keys.TheConstants.{DOCUMENTS}
+use Rattle.wire_keys.specs.declared.keys.TheConstants.{DOCUMENTS}
 use Rattle.driver_link.specs.Framed.{Framed}
 use Rattle.driver_link.specs.Reads.{Reads, SpellAll, SpellSequences, SpellsSequence}
 use Rattle.driver_link.specs.Sequences.{documents_at, name_at}

@@ -7,9 +7,9 @@ use crate::body_fields::{array_field, text_field};
 use crate::ops::asked_bulk;
 use crate::writing::{asked_insert, asked_one, asked_statements, target};
 use bson_lite::{Bson, Document, List};
-use driver_link::keys::{ADMIN, COLLECTION, CURSORS, DELETES, UPDATES};
 use driver_link::{CommandName, Documents, Place, SendBody, SendCommand, WriteKind, command_named};
 use std::alloc::{AllocError, Global};
+use wire_keys::keys::{ADMIN, COLLECTION, CURSORS, DELETES, UPDATES};
 
 /// Whether a value is the 1 of a command that names nothing.
 #[tactic(auto, unfolding(driver_link::specs::Asking::is_plain_one))]

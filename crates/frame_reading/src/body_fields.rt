@@ -5,10 +5,10 @@ ghost use Rattle.driver_link.specs.Commands.{needed, optional, flag as flag_of, 
 ghost use Rattle.driver_link.specs.Values.{text_of, bool_of, int64_of, array_of, document_of};
 
 use bson_lite::{Binary, Bson, Document, List, Text};
-use driver_link::keys::{
+use driver_link::{Send, SendBody};
+use wire_keys::keys::{
     AUTOCOMMIT, DATABASE, SESSION, SESSION_ID, START_TRANSACTION, TRANSACTION_NUMBER, UUID_SUBTYPE,
 };
-use driver_link::{Send, SendBody};
 
 /// The text under a key.
 #[tactic(auto, unfolding(driver_link::specs::Commands::needed))]

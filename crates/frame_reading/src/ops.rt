@@ -8,11 +8,11 @@ ghost use Rattle.frame_reading.specs.Indexes.{place_in as place_of};
 use crate::body_fields::{bool_field, document_field, text_field};
 use crate::writing::asked_writes;
 use bson_lite::{Bson, Document, List, Namespace, Pair, Text, TryClone};
-use driver_link::keys::{DOCUMENT, NAMESPACE, NAMESPACES, OPS, ORDERED};
 use driver_link::{
     CommandName, Documents, Place, SendBody, SendCommand, WriteKind, Written, command_named,
 };
 use std::alloc::{AllocError, Global};
+use wire_keys::keys::{DOCUMENT, NAMESPACE, NAMESPACES, OPS, ORDERED};
 
 /// A namespace in one text, cut at its first dot.
 #[tactic(auto, unfolding(driver_link::specs::Writes::cut))]

@@ -8,8 +8,8 @@ ghost use Rattle.bson_lite.specs.Spelling.{body_of, counted, eight, four};
 ghost use Rattle.frame_reading.specs.inside.PlainInserts.{IsSound, ReadsPlain, collection_field, database_field, number_field, order_field, plain_body, session_field};
 
 use bson_lite::{Bytes, Namespace, Text};
-use driver_link::keys::INSERT;
 use std::alloc::{AllocError, Global};
+use wire_keys::keys::INSERT;
 
 /// What the body of such an insert says.
 #[derive(Drop)]

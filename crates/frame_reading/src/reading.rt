@@ -20,9 +20,9 @@ use crate::plain_insert::{PlainInsert, plain_insert};
 use crate::writing::asked_inserts;
 use bson_lite::{DecodeFault, Document, List, Text};
 use bson_reading::decode;
-use driver_link::keys::DOCUMENTS;
 use driver_link::{Documents, Frame, Place, Send};
 use std::alloc::{AllocError, Global};
+use wire_keys::keys::DOCUMENTS;
 
 /// The send that a frame and places read as, and `None` where they read as none. A plain insert's body is told by its
 /// bytes.

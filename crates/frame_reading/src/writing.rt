@@ -9,14 +9,14 @@ ghost use Rattle.frame_reading.specs.inside.PlainInserts.{asks_inserts};
 
 use crate::body_fields::{array_field, bool_field};
 use bson_lite::{Bson, Document, List, Namespace, Pair, Text, TryClone};
-use driver_link::keys::{
-    AUTOCOMMIT, CLUSTER_TIME, DATABASE, DOCUMENTS, ORDERED, READ_CONCERN, RECOVERY_TOKEN, SESSION,
-    START_TRANSACTION, TRANSACTION_NUMBER, WRITE_CONCERN,
-};
 use driver_link::{
     Documents, Place, PlacedWrite, SendBody, SendCommand, Shared, WriteKind, Written,
 };
 use std::alloc::{AllocError, Global};
+use wire_keys::keys::{
+    AUTOCOMMIT, CLUSTER_TIME, DATABASE, DOCUMENTS, ORDERED, READ_CONCERN, RECOVERY_TOKEN, SESSION,
+    START_TRANSACTION, TRANSACTION_NUMBER, WRITE_CONCERN,
+};
 
 /// The namespace of a command whose first field names a collection.
 #[tactic(auto, unfolding(driver_link::specs::Asking::target))]

@@ -5,7 +5,7 @@ use denote.Hole.Carrier.{out}
 use Rattle.bson_lite.specs.declared.bson.Bson.{Bson}
 use Rattle.bson_lite.specs.declared.bson.Bson as bson
 use Rattle.bson_lite.specs.Spelling.{Spells}
-use Rattle.driver_link.specs.declared.keys.TheConstants.{ADMIN}
+use Rattle.wire_keys.specs.declared.keys.TheConstants.{ADMIN}
 use Rattle.driver_link.specs.declared.machine.SendBody.TheVariants.{Abort}
 use Rattle.driver_link.specs.Asking.{asks, asks_alone, asks_as, is_plain_one, may_go_to, spelled}
 use Rattle.driver_link.specs.CommandNames.{command_named}

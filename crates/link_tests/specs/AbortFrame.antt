@@ -3,7 +3,7 @@ use Rattle.std.specs.Prelude.{pos, false, List, [], ◌∷◌, None}
 use Rattle.bson_lite.specs.declared.bson.Bson.{Bson}
 use Rattle.bson_lite.specs.declared.bson.Bson as bson
 use Rattle.bson_lite.specs.declared.document.Pair.{Pair}
-use Rattle.driver_link.specs.declared.keys.TheConstants.{ABORT_TRANSACTION, ADMIN, DATABASE}
+use Rattle.wire_keys.specs.declared.keys.TheConstants.{ABORT_TRANSACTION, ADMIN, DATABASE}
 use Rattle.driver_link.specs.declared.machine.Send.{Send}
 use Rattle.driver_link.specs.declared.machine.SendBody.TheVariants.{Abort}
 use Rattle.driver_link.specs.Numbers.{field}

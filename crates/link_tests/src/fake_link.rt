@@ -5,7 +5,6 @@ ghost use Rattle.link_tests.specs.AbortFrame.{abort_body as body_of_abort, abort
 
 use bson_lite::{Bson, Bytes, Document, List, Text, TryClone, encode};
 use driver_error::IoKind;
-use driver_link::keys::{ABORT_TRANSACTION, ADMIN, DATABASE};
 use driver_link::{Answered, Frame, Link, LinkCall, LinkError, LinkFault};
 use driver_options::{
     Acknowledgment, Address, Asked, Conn, Description, ReadConcern, ReadConcernLevel,
@@ -13,6 +12,7 @@ use driver_options::{
 };
 use memory_links::{FakeLink, FakeStep, NotedConn};
 use std::alloc::{AllocError, Global};
+use wire_keys::keys::{ABORT_TRANSACTION, ADMIN, DATABASE};
 
 /// `{ abortTransaction: 1, $db: "admin" }`.
 const ABORT: [u8; 42] = *b"\x2a\0\0\0\x10abortTransaction\0\x01\0\0\0\x02$db\0\x06\0\0\0admin\0\0";

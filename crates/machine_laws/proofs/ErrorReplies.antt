@@ -14,7 +14,7 @@ use Rattle.driver_link.specs.Replies.{body_reply, concern_field, cursor_field, c
 use Rattle.driver_link.specs.Serving.{Plan, done_in}
 use Rattle.driver_link.specs.Sessions.{is_committed}
 use Rattle.driver_link.specs.Values.{array_of, int32_of, text_of}
-use Rattle.driver_link.specs.declared.keys.TheConstants.{NEXT_BATCH}
+use Rattle.wire_keys.specs.declared.keys.TheConstants.{NEXT_BATCH}
 use Rattle.driver_link.specs.declared.machine.PlannedConcern.{PlannedConcern}
 use Rattle.driver_link.specs.declared.machine.Send.{Send}
 use Rattle.driver_link.specs.declared.machine.SendBody.{SendBody}

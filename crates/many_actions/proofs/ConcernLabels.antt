@@ -9,7 +9,7 @@ use Rattle.bson_lite.specs.declared.document.Pair.{Pair}
 use Rattle.driver_error.specs.declared.error.Error.{Error}
 use Rattle.driver_error.specs.declared.kind.ErrorKind.TheVariants as kind
 use Rattle.driver_error.specs.declared.labels.TheConstants.{RETRYABLE_WRITE_ERROR}
-use Rattle.driver_error.specs.declared.results.InsertManyResult.{InsertManyResult}
+use Rattle.server_answers.specs.declared.results.InsertManyResult.{InsertManyResult}
 use Rattle.driver_error.specs.declared.write.InsertManyError.{InsertManyError}
 use Rattle.driver_error.specs.declared.write.WriteConcernError.{WriteConcernError}
 use Rattle.driver_error.specs.Conversions.{IsMade}
@@ -20,8 +20,8 @@ use Rattle.driver_error.specs.Predicates.{is_network_error}
 use Rattle.driver_error.proofs.LabelSets.{has_label-none, has_label-with}
 use Rattle.driver_error.proofs.SortedLabels.{adds_nothing, first_in_set}
 use Rattle.driver_options.specs.declared.write_options.InsertManyOptions.{InsertManyOptions}
-use Rattle.driver_link.specs.declared.fault.Answered.{Answered}
-use Rattle.driver_link.specs.declared.fault.Answered.TheVariants as answer
+use Rattle.link_faults.specs.declared.fault.Answered.{Answered}
+use Rattle.link_faults.specs.declared.fault.Answered.TheVariants as answer
 use Rattle.driver_link.specs.LinkState.{LinkState}
 use Rattle.driver_session.specs.declared.retryability.Retryability.{Retryability}
 use Rattle.driver_session.specs.declared.retryability.Retryability.TheVariants as may

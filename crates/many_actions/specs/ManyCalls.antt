@@ -4,7 +4,7 @@ use Rattle.bson_lite.specs.declared.bson.Bson.{Bson}
 use Rattle.bson_lite.specs.declared.document.Pair.{Pair}
 use Rattle.driver_error.specs.declared.error.Error.{Error}
 use Rattle.driver_error.specs.declared.kind.ErrorKind.TheVariants as kind
-use Rattle.driver_error.specs.declared.results.InsertManyResult.{InsertManyResult}
+use Rattle.server_answers.specs.declared.results.InsertManyResult.{InsertManyResult}
 use Rattle.driver_error.specs.Error.{ErrorKind, kind_of}
 use Rattle.driver_options.specs.declared.write_options.InsertManyOptions.{InsertManyOptions}
 use Rattle.driver_ops.specs.declared.target.OperationTarget.{OperationTarget}

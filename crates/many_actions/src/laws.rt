@@ -4,7 +4,7 @@ ghost use Rattle.std.specs.FinMap as finite;
 ghost use Rattle.bson_lite.specs.declared.bson.Bson.{Bson};
 ghost use Rattle.bson_lite.specs.declared.document.Pair.{Pair};
 ghost use Rattle.driver_error.specs.declared.error.Error.{Error};
-ghost use Rattle.driver_error.specs.declared.results.InsertManyResult.{InsertManyResult};
+ghost use Rattle.server_answers.specs.declared.results.InsertManyResult.{InsertManyResult};
 ghost use Rattle.driver_error.specs.LabelTexts.{has_label};
 ghost use Rattle.driver_options.specs.declared.write_options.InsertManyOptions.{InsertManyOptions};
 ghost use Rattle.driver_batches.specs.declared.sizes.Limits.{Limits};

@@ -10,12 +10,12 @@ use Rattle.driver_options.specs.declared.options.SelectionCriteria.TheVariants a
 use Rattle.memory_links.specs.declared.fake_link.FakeStep.{FakeStep}
 use Rattle.memory_links.specs.declared.fake_link.FakeStep.TheVariants as step
 use Rattle.memory_links.specs.declared.fake_link.TheConstants.{HOST, PORT}
-use Rattle.driver_link.specs.declared.fault.Answered.{Answered}
-use Rattle.driver_link.specs.declared.fault.Answered.TheVariants as answer
-use Rattle.driver_link.specs.declared.fault.LinkCall.TheVariants.{Exchange}
-use Rattle.driver_link.specs.declared.fault.LinkError.{LinkError}
-use Rattle.driver_link.specs.declared.fault.LinkError.TheVariants.{Fault, Memory}
-use Rattle.driver_link.specs.declared.fault.LinkFault.TheVariants.{Io}
+use Rattle.link_faults.specs.declared.fault.Answered.{Answered}
+use Rattle.link_faults.specs.declared.fault.Answered.TheVariants as answer
+use Rattle.link_faults.specs.declared.fault.LinkCall.TheVariants.{Exchange}
+use Rattle.link_faults.specs.declared.fault.LinkError.{LinkError}
+use Rattle.link_faults.specs.declared.fault.LinkError.TheVariants.{Fault, Memory}
+use Rattle.link_faults.specs.declared.fault.LinkFault.TheVariants.{Io}
 use Rattle.driver_link.specs.Counting.{one_more}
 use Rattle.driver_link.specs.Framed.{Framed}
 use Rattle.driver_link.specs.LinkState.{LinkState, Untold, has_number, without_newest}

@@ -10,7 +10,7 @@ use Rattle.bson_lite.specs.declared.bson.Bson.TheOpen.{Bson-F}
 use Rattle.bson_lite.specs.Ranges.{fits}
 use Rattle.bson_lite.specs.Spelling.{Spells, body_of, element, four, framed, spelling, zero_in, valid_pairs}
 use Rattle.bson_lite.proofs.Nested.{Folded, folded}
-use Rattle.driver_link.specs.declared.keys.TheConstants.{N, OK}
+use Rattle.wire_keys.specs.declared.keys.TheConstants.{N, OK}
 use Rattle.driver_link.specs.declared.machine.PlacedWrite.{PlacedWrite}
 use Rattle.driver_link.specs.declared.machine.SendCommand.TheVariants as command
 use Rattle.driver_link.specs.declared.machine.Statement.{Statement}

@@ -1,7 +1,7 @@
 -- Replies as they are kept until they are spelled.
 use Rattle.std.specs.Prelude.{ℤ, [], ◌∷◌}
 use Rattle.bson_lite.specs.declared.bson.Bson as bson
-use Rattle.driver_link.specs.declared.keys.TheConstants.{N}
+use Rattle.wire_keys.specs.declared.keys.TheConstants.{N}
 use Rattle.driver_link.specs.Cursors.{Reply}
 use Rattle.driver_link.specs.Numbers.{field}
 use Rattle.driver_link.specs.Replies.{done_field}

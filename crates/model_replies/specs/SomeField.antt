@@ -5,7 +5,7 @@ use Rattle.bson_lite.specs.declared.bson.Bson as bson
 use Rattle.bson_lite.specs.declared.fields.TheConstants.{ID_KEY}
 use Rattle.driver_link.specs.Cursors.{Reply}
 use Rattle.driver_link.specs.Numbers.{field, reply_count}
-use Rattle.driver_link.specs.declared.keys.TheConstants.{INDEX}
+use Rattle.wire_keys.specs.declared.keys.TheConstants.{INDEX}
 
 -- the field of a list of values, where there are some
 abbrev pub some_field : List ℕ → List Bson → Reply

@@ -9,17 +9,17 @@ ghost use Rattle.model_replies.specs.SomeField.{some_field, upsert_value};
 use crate::counts;
 use bson_lite::{Bson, Document, ID_KEY, List, Text, TryClone};
 use driver_error::TRANSIENT_TRANSACTION_ERROR;
-use driver_link::keys::{
-    BULK_NAMESPACE, CODE, CURSOR, CURSOR_ID, CURSOR_NAMESPACE, ERROR_LABELS, ERROR_MESSAGE,
-    FIRST_BATCH, INDEX, N, N_DELETED, N_ERRORS, N_INSERTED, N_MATCHED, N_MODIFIED, N_UPSERTED,
-    NEXT_BATCH, OK, SCHEDULED, UPSERTED, VALUE, WRITE_CONCERN_ERROR, WRITE_ERRORS,
-};
 use driver_link::{
     PlacedWrite, PlannedConcern, SendBody, SendCommand, ServerTransaction, Statement, WriteKind,
 };
 use model_statements::cursors;
 use model_statements::fields::{count, number};
 use std::alloc::{AllocError, Global};
+use wire_keys::keys::{
+    BULK_NAMESPACE, CODE, CURSOR, CURSOR_ID, CURSOR_NAMESPACE, ERROR_LABELS, ERROR_MESSAGE,
+    FIRST_BATCH, INDEX, N, N_DELETED, N_ERRORS, N_INSERTED, N_MATCHED, N_MODIFIED, N_UPSERTED,
+    NEXT_BATCH, OK, SCHEDULED, UPSERTED, VALUE, WRITE_CONCERN_ERROR, WRITE_ERRORS,
+};
 
 /// The code of a number below the greatest of its session.
 pub const TRANSACTION_TOO_OLD: i32 = 225;

@@ -3,11 +3,11 @@ use Rattle.std.specs.Prelude.{◌≡◌, ℕ, List, [], ◌∷◌, ◌++◌, Opt
 use Rattle.driver_options.specs.declared.options.Address.{Address}
 use Rattle.driver_options.specs.declared.options.SelectionCriteria.{SelectionCriteria}
 use Rattle.driver_options.specs.declared.options.SelectionCriteria.TheVariants as criteria
-use Rattle.driver_link.specs.declared.fault.Answered.{Answered}
-use Rattle.driver_link.specs.declared.fault.Answered.TheVariants as answer
-use Rattle.driver_link.specs.declared.fault.LinkCall.{LinkCall}
-use Rattle.driver_link.specs.declared.fault.LinkError.{LinkError}
-use Rattle.driver_link.specs.declared.fault.LinkError.TheVariants.{Fault, Memory}
+use Rattle.link_faults.specs.declared.fault.Answered.{Answered}
+use Rattle.link_faults.specs.declared.fault.Answered.TheVariants as answer
+use Rattle.link_faults.specs.declared.fault.LinkCall.{LinkCall}
+use Rattle.link_faults.specs.declared.fault.LinkError.{LinkError}
+use Rattle.link_faults.specs.declared.fault.LinkError.TheVariants.{Fault, Memory}
 use Rattle.driver_link.specs.declared.machine.Schedule.{Schedule}
 use Rattle.driver_link.specs.declared.machine.Send.{Send}
 use Rattle.driver_link.specs.declared.machine.Server.{Server}

@@ -2,16 +2,16 @@
 ghost use Rattle.std.specs.Prelude.{◌≡◌, ◌≤◌, IfOk, OnOk, OnErr};
 ghost use Rattle.driver_link.specs.Counting.{one_more, is_listed as listed_at, select_fault, support_fault, check_out_fault, reauthentication_fault, overload_labels};
 ghost use Rattle.driver_link.specs.Faults.{HasLinkCause};
-ghost use Rattle.driver_link.specs.declared.fault.LinkError.TheVariants.{Fault};
-ghost use Rattle.driver_link.specs.declared.fault.LinkCall.TheVariants as call_of;
+ghost use Rattle.link_faults.specs.declared.fault.LinkError.TheVariants.{Fault};
+ghost use Rattle.link_faults.specs.declared.fault.LinkCall.TheVariants as call_of;
 ghost use Rattle.model_server.specs.ModelState.{Called, failed, one_select, one_support, one_check_out, one_reauthentication};
 
 use crate::server::ModelServer;
 use bson_lite::{List, Text, TryClone};
 use driver_error::{IoKind, RETRYABLE_ERROR, SYSTEM_OVERLOADED_ERROR};
-use driver_link::keys::{REAUTHENTICATION_FAILURE, SELECTION_FAILURE};
 use driver_link::{Answered, LinkCall, LinkError, LinkFault};
 use std::alloc::{AllocError, Global};
+use wire_keys::keys::{REAUTHENTICATION_FAILURE, SELECTION_FAILURE};
 
 /// Whether a number is listed.
 fn is_listed(numbers: &[u64], at: u64) -> bool

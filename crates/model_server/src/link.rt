@@ -2,8 +2,8 @@
 ghost use Rattle.std.specs.Prelude.{◌≡◌, [], IfOk};
 ghost use Rattle.std.specs.Option.{option_copied};
 ghost use Rattle.driver_error.specs.declared.kind.IoKind.TheVariants.{ConnectionReset};
-ghost use Rattle.driver_link.specs.declared.fault.LinkError.TheVariants.{Fault};
-ghost use Rattle.driver_link.specs.declared.fault.LinkFault.TheVariants.{Io};
+ghost use Rattle.link_faults.specs.declared.fault.LinkError.TheVariants.{Fault};
+ghost use Rattle.link_faults.specs.declared.fault.LinkFault.TheVariants.{Io};
 ghost use Rattle.model_server.specs.ModelState.{address_for as selected_address};
 
 use crate::server::{HOST, ModelServer, PORT};

@@ -2,7 +2,7 @@
 ghost use Rattle.std.specs.Prelude.{◌≡◌, ◌++◌, ◌∷◌, [], List as Listed, Some, None, IfOk, OnOk, OnErr};
 ghost use Rattle.driver_error.specs.declared.kind.IoKind.TheVariants.{ConnectionReset};
 ghost use Rattle.driver_link.specs.Exchange.{met, reply as reply_by, traced};
-ghost use Rattle.driver_link.specs.declared.fault.LinkFault.TheVariants.{Io};
+ghost use Rattle.link_faults.specs.declared.fault.LinkFault.TheVariants.{Io};
 ghost use Rattle.driver_link.specs.declared.machine.Send.{Send as Sent};
 ghost use Rattle.model_server.specs.Meets.{met_by, reply_of, IsSpelled, note_of as noted};
 

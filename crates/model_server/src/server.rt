@@ -63,7 +63,7 @@ impl Model for ModelServer {
     ghost use Rattle.std.specs.Coded.{codes};
     ghost use Rattle.driver_link.specs.WellFormed.{IsWellFormed};
     ghost use Rattle.model_server.specs.ModelState.{ModelState};
-    ghost use Rattle.driver_link.specs.contracts.fault.Answered as answered_contract;
+    ghost use Rattle.link_faults.specs.contracts.fault.Answered as answered_contract;
     ghost use Rattle.driver_link.specs.contracts.machine.Schedule as schedule_contract;
     ghost use Rattle.driver_link.specs.contracts.machine.Server as server_contract;
     ghost use Rattle.driver_link.specs.contracts.machine.Setup as setup_contract;

@@ -5,9 +5,9 @@ ghost use Rattle.driver_link.specs.Cursors.{upsert_of_row, modified_field, resul
 
 use crate::fields::{count, number};
 use bson_lite::{Bson, Document, ID_KEY, List, Text, TryClone};
-use driver_link::keys::{CODE, ERROR_MESSAGE, N, N_MODIFIED, RESULT_INDEX, SCHEDULED, UPSERTED};
 use driver_link::{Counted, PlacedWrite, Statement, WriteKind};
 use std::alloc::{AllocError, Global};
+use wire_keys::keys::{CODE, ERROR_MESSAGE, N, N_MODIFIED, RESULT_INDEX, SCHEDULED, UPSERTED};
 
 /// Appends how many documents an update changed.
 fn push_modified(row: &mut Document, does: WriteKind, modified: i64) -> Result<(), AllocError>

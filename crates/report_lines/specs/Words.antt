@@ -11,8 +11,8 @@ use Rattle.driver_error.specs.declared.error.Error.{Error}
 use Rattle.driver_error.specs.declared.kind.ErrorKind.TheVariants as kind
 use Rattle.driver_error.specs.declared.kind.IoKind.{IoKind}
 use Rattle.driver_error.specs.declared.kind.IoKind.TheVariants as io
-use Rattle.driver_error.specs.declared.results.PartialBulkWriteResult.{PartialBulkWriteResult}
-use Rattle.driver_error.specs.declared.results.SummaryBulkWriteResult.{SummaryBulkWriteResult}
+use Rattle.server_answers.specs.declared.results.PartialBulkWriteResult.{PartialBulkWriteResult}
+use Rattle.server_answers.specs.declared.results.SummaryBulkWriteResult.{SummaryBulkWriteResult}
 use Rattle.driver_error.specs.declared.write.BulkWriteError.{BulkWriteError}
 use Rattle.driver_error.specs.declared.write.IndexedWriteError.{IndexedWriteError}
 use Rattle.driver_error.specs.declared.write.InsertManyError.{InsertManyError}

@@ -16,10 +16,6 @@ use driver_error::{
     VerboseBulkWriteResult,
 };
 use driver_inputs::{Answer, Call, Outcome, SingleAnswer, SingleWrite};
-use driver_link::keys::{
-    ABORT_TRANSACTION, BULK_WRITE, COMMIT_TRANSACTION, DELETE, FIND_AND_MODIFY, GET_MORE, INSERT,
-    KILL_CURSORS, UPDATE,
-};
 use driver_link::{Entry, Send, SendBody, SendCommand};
 use script_parts::keys;
 use script_parts::keys::{
@@ -27,6 +23,10 @@ use script_parts::keys::{
     INSERT_MANY, INSERT_ONE, REPLACE_ONE, UPDATE_MANY, UPDATE_ONE,
 };
 use std::alloc::{AllocError, Global};
+use wire_keys::keys::{
+    ABORT_TRANSACTION, BULK_WRITE, COMMIT_TRANSACTION, DELETE, FIND_AND_MODIFY, GET_MORE, INSERT,
+    KILL_CURSORS, UPDATE,
+};
 
 #[tactic(auto, unfolding(crate::specs::Lines::inserted_text))]
 fn push_inserted(

@@ -10,7 +10,7 @@ use Rattle.driver_options.specs.declared.find_options.FindAndModifyOptions.{Find
 use Rattle.driver_options.specs.declared.updates.Modification.{Modification}
 use Rattle.driver_options.specs.declared.updates.Modification.TheVariants.{Delete, Update}
 use Rattle.driver_link.specs.declared.command.CommandName.TheVariants as name
-use Rattle.driver_link.specs.declared.keys.TheConstants.{FIND_AND_MODIFY, UPDATE}
+use Rattle.wire_keys.specs.declared.keys.TheConstants.{FIND_AND_MODIFY, UPDATE}
 use Rattle.driver_link.specs.declared.machine.Place.{Place}
 use Rattle.driver_link.specs.declared.machine.SendBody.TheVariants.{Write}
 use Rattle.driver_link.specs.declared.machine.SendCommand.TheVariants as command

@@ -12,7 +12,7 @@ use Rattle.driver_error.specs.declared.kind.ErrorKind.TheVariants as kind
 use Rattle.driver_error.specs.Error.{kind_of}
 use Rattle.driver_options.specs.declared.find_options.FindAndModifyOptions.{FindAndModifyOptions}
 use Rattle.driver_options.specs.declared.updates.Modification.{Modification}
-use Rattle.driver_link.specs.declared.keys.TheConstants.{VALUE}
+use Rattle.wire_keys.specs.declared.keys.TheConstants.{VALUE}
 use Rattle.driver_link.specs.declared.machine.Counted.{Counted}
 use Rattle.driver_link.specs.declared.machine.PlacedWrite.{PlacedWrite}
 use Rattle.driver_link.specs.declared.machine.PlannedConcern.{PlannedConcern}

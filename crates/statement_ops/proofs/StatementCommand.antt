@@ -10,7 +10,7 @@ use Rattle.driver_options.specs.declared.updates.UpdateOrReplace.{UpdateOrReplac
 use Rattle.driver_options.specs.declared.write_options.DeleteOptions.{DeleteOptions}
 use Rattle.driver_options.specs.declared.write_options.UpdateOptions.{UpdateOptions}
 use Rattle.driver_link.specs.declared.command.CommandName.TheVariants as name
-use Rattle.driver_link.specs.declared.keys.TheConstants.{DELETE, DELETES, ORDERED, UPDATE, UPDATES}
+use Rattle.wire_keys.specs.declared.keys.TheConstants.{DELETE, DELETES, ORDERED, UPDATE, UPDATES}
 use Rattle.driver_link.specs.declared.machine.Place.{Place}
 use Rattle.driver_link.specs.declared.machine.SendBody.{SendBody}
 use Rattle.driver_link.specs.declared.machine.SendBody.TheVariants.{Write}

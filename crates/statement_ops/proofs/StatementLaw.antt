@@ -11,15 +11,15 @@ use Rattle.bson_lite.specs.declared.document.Pair.{Pair}
 use Rattle.bson_lite.specs.Spelling.{Spells}
 use Rattle.driver_error.specs.declared.error.Error.{Error}
 use Rattle.driver_error.specs.declared.kind.ErrorKind.TheVariants as kind
-use Rattle.driver_error.specs.declared.results.DeleteResult.{DeleteResult}
-use Rattle.driver_error.specs.declared.results.UpdateResult.{UpdateResult}
+use Rattle.server_answers.specs.declared.results.DeleteResult.{DeleteResult}
+use Rattle.server_answers.specs.declared.results.UpdateResult.{UpdateResult}
 use Rattle.driver_error.specs.declared.write.WriteConcernError.{WriteConcernError}
 use Rattle.driver_error.specs.Conversions.{first_failure}
 use Rattle.driver_error.specs.Error.{kind_of}
 use Rattle.driver_options.specs.declared.updates.UpdateOrReplace.{UpdateOrReplace}
 use Rattle.driver_options.specs.declared.write_options.DeleteOptions.{DeleteOptions}
 use Rattle.driver_options.specs.declared.write_options.UpdateOptions.{UpdateOptions}
-use Rattle.driver_link.specs.declared.keys.TheConstants.{N, N_MODIFIED}
+use Rattle.wire_keys.specs.declared.keys.TheConstants.{N, N_MODIFIED}
 use Rattle.driver_link.specs.declared.machine.Counted.{Counted}
 use Rattle.driver_link.specs.declared.machine.PlacedWrite.{PlacedWrite}
 use Rattle.driver_link.specs.declared.machine.PlannedConcern.{PlannedConcern}

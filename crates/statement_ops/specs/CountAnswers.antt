@@ -7,13 +7,13 @@ use Rattle.bson_lite.specs.declared.fields.TheConstants.{ID_KEY}
 use Rattle.bson_lite.specs.Fields.{value_of}
 use Rattle.driver_error.specs.declared.error.Error.{Error}
 use Rattle.driver_error.specs.declared.kind.ErrorKind.TheVariants as kind
-use Rattle.driver_error.specs.declared.results.DeleteResult.{DeleteResult}
-use Rattle.driver_error.specs.declared.results.UpdateResult.{UpdateResult}
+use Rattle.server_answers.specs.declared.results.DeleteResult.{DeleteResult}
+use Rattle.server_answers.specs.declared.results.UpdateResult.{UpdateResult}
 use Rattle.driver_error.specs.declared.write.WriteFailure.{WriteFailure}
 use Rattle.driver_error.specs.Conversions.{IsMade, IsNew, first_failure}
 use Rattle.driver_error.specs.Error.{kind_of}
 use Rattle.driver_error.specs.LabelTexts.{no_labels}
-use Rattle.driver_link.specs.declared.keys.TheConstants.{N, N_MODIFIED, UPSERTED}
+use Rattle.wire_keys.specs.declared.keys.TheConstants.{N, N_MODIFIED, UPSERTED}
 use Rattle.driver_link.specs.declared.machine.Counted.{Counted}
 use Rattle.driver_link.specs.declared.machine.Entry.{Entry}
 use Rattle.driver_link.specs.Commands.{needed}

@@ -5,7 +5,7 @@ use Rattle.bson_lite.specs.declared.bson.Bson as bson
 use Rattle.bson_lite.specs.declared.document.Pair.{Pair}
 use Rattle.bson_lite.specs.declared.namespace.Namespace.{Namespace}
 use Rattle.driver_options.specs.declared.write_options.DeleteOptions.{DeleteOptions}
-use Rattle.driver_link.specs.declared.keys.TheConstants.{DELETE, DELETES, ORDERED}
+use Rattle.wire_keys.specs.declared.keys.TheConstants.{DELETE, DELETES, ORDERED}
 use Rattle.driver_link.specs.Numbers.{field}
 use Rattle.driver_ops.specs.declared.keys.TheConstants.{COLLATION, COMMENT, HINT, LET, LIMIT, QUERY}
 use Rattle.driver_ops.specs.OptionFields.{document_in, hint_of, option_field}

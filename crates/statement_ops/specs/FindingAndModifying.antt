@@ -7,7 +7,7 @@ use Rattle.bson_lite.specs.declared.namespace.Namespace.{Namespace}
 use Rattle.driver_options.specs.declared.find_options.FindAndModifyOptions.{FindAndModifyOptions}
 use Rattle.driver_options.specs.declared.updates.Modification.{Modification}
 use Rattle.driver_options.specs.declared.updates.Modification.TheVariants.{Delete, Update}
-use Rattle.driver_link.specs.declared.keys.TheConstants.{FIND_AND_MODIFY, UPDATE}
+use Rattle.wire_keys.specs.declared.keys.TheConstants.{FIND_AND_MODIFY, UPDATE}
 use Rattle.driver_link.specs.Numbers.{field}
 use Rattle.driver_ops.specs.declared.keys.TheConstants.{ARRAY_FILTERS, BYPASS_DOCUMENT_VALIDATION, COLLATION, COMMENT, FIELDS, FIND_QUERY, HINT, LET, MAX_TIME, NEW, REMOVE, SORT, UPSERT}
 use Rattle.driver_ops.specs.ConcernFields.{number_of}

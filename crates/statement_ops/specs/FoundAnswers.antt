@@ -9,7 +9,7 @@ use Rattle.driver_error.specs.declared.kind.ErrorKind.TheVariants as kind
 use Rattle.driver_error.specs.Conversions.{IsMade}
 use Rattle.driver_error.specs.Error.{kind_of}
 use Rattle.driver_error.specs.LabelTexts.{no_labels}
-use Rattle.driver_link.specs.declared.keys.TheConstants.{VALUE}
+use Rattle.wire_keys.specs.declared.keys.TheConstants.{VALUE}
 use Rattle.driver_link.specs.declared.machine.Counted.{Counted}
 use Rattle.driver_link.specs.declared.machine.Entry.{Entry}
 use Rattle.driver_link.specs.Commands.{needed}

@@ -8,7 +8,7 @@ use Rattle.driver_options.specs.declared.updates.UpdateModifications.TheVariants
 use Rattle.driver_options.specs.declared.updates.UpdateOrReplace.{UpdateOrReplace}
 use Rattle.driver_options.specs.declared.updates.UpdateOrReplace.TheVariants.{UpdateModifications, Replacement}
 use Rattle.driver_options.specs.declared.write_options.UpdateOptions.{UpdateOptions}
-use Rattle.driver_link.specs.declared.keys.TheConstants.{ORDERED, UPDATE, UPDATES}
+use Rattle.wire_keys.specs.declared.keys.TheConstants.{ORDERED, UPDATE, UPDATES}
 use Rattle.driver_link.specs.Numbers.{field}
 use Rattle.driver_ops.specs.declared.keys.TheConstants.{ARRAY_FILTERS, BYPASS_DOCUMENT_VALIDATION, CHANGE, COLLATION, COMMENT, HINT, LET, MULTI, QUERY, SORT, UPSERT}
 use Rattle.driver_ops.specs.OptionFields.{document_in, documents_of, documents_value, flag_of, hint_of, option_field, where_true}

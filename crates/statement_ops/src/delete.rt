@@ -14,7 +14,7 @@ ghost use Rattle.statement_ops.specs.StatementSpec.{delete_spec};
 use crate::failed_write::{FailedWrite, answer_of, failed_write_in};
 use bson_lite::{Bson, Document, List, Text, TryClone};
 use driver_error::{DeleteResult, Error, ErrorKind, Result};
-use driver_link::{CommandName, keys};
+use driver_link::CommandName;
 use driver_ops::keys::{COLLATION, COMMENT, HINT, LET, LIMIT, QUERY};
 use driver_ops::option_fields::{one_statement, push_document, push_hint, push_value};
 use driver_ops::reply_fields::{Unread, count_at};
@@ -28,6 +28,7 @@ use driver_options::{
 };
 use driver_session::Retryability;
 use std::alloc::{AllocError, Global};
+use wire_keys::keys;
 
 /// A reply tells of no delete.
 const ODD_DELETE: &str = "the reply does not tell of a delete";

@@ -8,10 +8,10 @@ use bson_lite::{Bson, Document, ID_KEY, List, Text, TryClone};
 use driver_error::{
     Error, ErrorKind, IndexedWriteError, Result, WriteConcernError, WriteError, WriteFailure,
 };
-use driver_link::keys;
 use driver_ops::reply_fields::{Unread, labels_at};
 use driver_ops::write_reply::{reply_concern_error, write_errors_in};
 use std::alloc::{AllocError, Global};
+use wire_keys::keys;
 
 /// Why a write failed, if it did, and the labels of the reply.
 #[derive(Drop)]

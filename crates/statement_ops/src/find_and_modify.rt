@@ -16,7 +16,7 @@ use crate::failed_write::{FailedWrite, answer_of, failed_write_in};
 use crate::update::change_value;
 use bson_lite::{Bson, Document, List, Text, TryClone};
 use driver_error::{Error, ErrorKind, Result};
-use driver_link::{CommandName, keys};
+use driver_link::CommandName;
 use driver_ops::keys::{
     ARRAY_FILTERS, BYPASS_DOCUMENT_VALIDATION, COLLATION, COMMENT, FIELDS, FIND_QUERY, HINT, LET,
     MAX_TIME, NEW, REMOVE, SORT, UPSERT,
@@ -34,6 +34,7 @@ use driver_options::{
 };
 use driver_session::Retryability;
 use std::alloc::{AllocError, Global};
+use wire_keys::keys;
 
 /// A reply tells of no findAndModify.
 const ODD_FIND: &str = "the reply does not tell of a findAndModify";

@@ -14,7 +14,7 @@ ghost use Rattle.statement_ops.specs.Updating.{change_value, update_command, upd
 use crate::failed_write::{FailedWrite, answer_of, failed_write_in, upserted_in};
 use bson_lite::{Bson, Document, List, Text, TryClone};
 use driver_error::{Error, ErrorKind, Result, UpdateResult};
-use driver_link::{CommandName, keys};
+use driver_link::CommandName;
 use driver_ops::keys::{
     ARRAY_FILTERS, BYPASS_DOCUMENT_VALIDATION, CHANGE, COLLATION, COMMENT, HINT, LET, MULTI, QUERY,
     SORT, UPSERT,
@@ -35,6 +35,7 @@ use driver_options::{
 };
 use driver_session::Retryability;
 use std::alloc::{AllocError, Global};
+use wire_keys::keys;
 
 /// A reply tells of no update.
 const ODD_UPDATE: &str = "the reply does not tell of an update";

@@ -3,7 +3,7 @@ use Rattle.std.proofs.Common.{◌≡◌, ℕ, true, List, refl, sym, ap, subst, 
 use Rattle.std.specs.Prelude.{false, Some}
 use Rattle.bson_lite.specs.Spelling.{Spells}
 use Rattle.driver_error.specs.declared.error.Error.{Error}
-use Rattle.driver_link.specs.declared.keys.TheConstants.{OK}
+use Rattle.wire_keys.specs.declared.keys.TheConstants.{OK}
 use Rattle.driver_link.specs.declared.machine.Scheduled.{Scheduled}
 use Rattle.driver_link.specs.declared.machine.Send.{Send}
 use Rattle.driver_link.specs.declared.machine.SendBody.{SendBody}

@@ -7,7 +7,7 @@ use Rattle.bson_lite.specs.declared.bson.Bson as bson
 use Rattle.bson_lite.specs.Spelling.{Spells}
 use Rattle.driver_error.specs.declared.error.Error.{Error}
 use Rattle.driver_error.specs.declared.kind.ErrorKind.TheVariants as kind
-use Rattle.driver_error.specs.declared.results.InsertManyResult.{InsertManyResult}
+use Rattle.server_answers.specs.declared.results.InsertManyResult.{InsertManyResult}
 use Rattle.driver_error.specs.declared.write.InsertManyError.{InsertManyError}
 use Rattle.driver_error.specs.Error.{ErrorKind, HasResponse, kind_of, labels_of}
 use Rattle.driver_error.specs.Kinds.{inner_labels}

@@ -9,13 +9,13 @@ use Rattle.bson_lite.specs.declared.document.Pair.{Pair}
 use Rattle.bson_lite.specs.Fields.{int_of}
 use Rattle.driver_error.specs.declared.error.Error.{Error}
 use Rattle.driver_error.specs.declared.kind.ErrorKind.TheVariants as kind
-use Rattle.driver_error.specs.declared.results.InsertManyResult.{InsertManyResult}
+use Rattle.server_answers.specs.declared.results.InsertManyResult.{InsertManyResult}
 use Rattle.driver_error.specs.declared.write.IndexedWriteError.{IndexedWriteError}
 use Rattle.driver_error.specs.declared.write.InsertManyError.{InsertManyError}
 use Rattle.driver_error.specs.Conversions.{IsMade, IsNew}
 use Rattle.driver_error.specs.Error.{kind_of}
 use Rattle.driver_error.specs.LabelTexts.{no_labels}
-use Rattle.driver_link.specs.declared.keys.TheConstants.{N}
+use Rattle.wire_keys.specs.declared.keys.TheConstants.{N}
 use Rattle.driver_link.specs.Commands.{needed}
 use Rattle.driver_ops.specs.Readings.{labels_in}
 use Rattle.driver_ops.specs.WriteReplies.{reply_concern_error, write_errors_in}

@@ -27,7 +27,7 @@ use driver_error::{
     Error, ErrorKind, IndexedWriteError, InsertManyError, InsertManyResult, Result,
     WriteConcernError,
 };
-use driver_link::{CommandName, Sequence, keys};
+use driver_link::{CommandName, Sequence};
 use driver_ops::keys::{BYPASS_DOCUMENT_VALIDATION, COMMENT};
 use driver_ops::option_fields::{push_flag, push_value};
 use driver_ops::reply_fields::{Unread, int_at, labels_at};
@@ -42,6 +42,7 @@ use driver_options::{
 };
 use driver_session::Retryability;
 use std::alloc::{AllocError, Global};
+use wire_keys::keys;
 
 /// A reply tells neither of inserted documents nor of failed ones.
 const ODD_INSERT: &str = "the reply does not tell of the inserted documents";

@@ -4,7 +4,7 @@ use Rattle.std.specs.Map.{update}
 use Rattle.bson_lite.specs.Spelling.{HasSpelling, spelling}
 use Rattle.driver_batches.specs.declared.sizes.Limits.{Limits}
 use Rattle.driver_link.specs.declared.frame.Sequence.{Sequence}
-use Rattle.driver_link.specs.declared.keys.TheConstants.{NAMESPACES, OPS}
+use Rattle.wire_keys.specs.declared.keys.TheConstants.{NAMESPACES, OPS}
 use Rattle.bulk_fronts.specs.declared.bulk_front.OpFront.{OpFront}
 use Rattle.bulk_fronts.specs.declared.bulk_front.Taken.{Taken}
 use Rattle.bulk_fronts.specs.declared.bulk_front.Taken.TheVariants.{Front, Stops}

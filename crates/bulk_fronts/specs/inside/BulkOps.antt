@@ -7,7 +7,7 @@ use Rattle.bson_lite.specs.Spelling.{Spells}
 use Rattle.driver_error.specs.declared.error.Error.{Error}
 use Rattle.driver_error.specs.declared.kind.ErrorKind.TheVariants.{Memory}
 use Rattle.driver_error.specs.Error.{kind_of}
-use Rattle.driver_link.specs.declared.keys.TheConstants.{DELETE, DOCUMENT, INSERT}
+use Rattle.wire_keys.specs.declared.keys.TheConstants.{DELETE, DOCUMENT, INSERT}
 use Rattle.driver_link.specs.Numbers.{field}
 use Rattle.driver_ops.specs.declared.keys.TheConstants.{FILTER, MULTI}
 use Rattle.driver_ops.specs.Encoding.{IsUnspelled}

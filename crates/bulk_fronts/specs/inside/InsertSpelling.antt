@@ -1,7 +1,7 @@
 -- The op of an insert in bytes, from those of its document.
 use Rattle.std.specs.Prelude.{◌≡◌, ℕ, ◌+◌, ◌≤◌, List, ◌++◌, length}
 use Rattle.bson_lite.specs.Spelling.{element, four, framed}
-use Rattle.driver_link.specs.declared.keys.TheConstants.{DOCUMENT, INSERT}
+use Rattle.wire_keys.specs.declared.keys.TheConstants.{DOCUMENT, INSERT}
 
 -- the elements of the op that inserts the document in these bytes, on the namespace of number 0
 abbrev pub insert_elements : List ℕ → List ℕ

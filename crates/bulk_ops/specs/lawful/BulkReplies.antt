@@ -8,9 +8,9 @@ use Rattle.std.proofs.lemmas.List.Sums.{sum_by-cons}
 use Rattle.bson_lite.specs.declared.bson.Bson as bson
 use Rattle.bson_lite.specs.declared.namespace.Namespace.{Namespace}
 use Rattle.bson_lite.specs.Fields.{value_of}
-use Rattle.driver_error.specs.declared.results.SummaryBulkWriteResult.{SummaryBulkWriteResult}
+use Rattle.server_answers.specs.declared.results.SummaryBulkWriteResult.{SummaryBulkWriteResult}
 use Rattle.driver_error.specs.declared.write.WriteConcernError.{WriteConcernError}
-use Rattle.driver_link.specs.declared.keys.TheConstants.{BULK_NAMESPACE, CURSOR, CURSOR_ID, CURSOR_NAMESPACE, FIRST_BATCH, N_DELETED, N_ERRORS, N_INSERTED, N_MATCHED, N_MODIFIED, N_UPSERTED}
+use Rattle.wire_keys.specs.declared.keys.TheConstants.{BULK_NAMESPACE, CURSOR, CURSOR_ID, CURSOR_NAMESPACE, FIRST_BATCH, N_DELETED, N_ERRORS, N_INSERTED, N_MATCHED, N_MODIFIED, N_UPSERTED}
 use Rattle.driver_link.specs.declared.machine.Counted.{Counted}
 use Rattle.driver_link.specs.declared.machine.Entry.{Entry}
 use Rattle.driver_link.specs.declared.machine.PlacedWrite.{PlacedWrite}

@@ -5,7 +5,7 @@ use Rattle.std.specs.Prelude.{ℤ, pos, Option, None, Some, ◌⊎◌, slice_get
 use Rattle.std.specs.Option.{option_and_then, option_map_or}
 use Rattle.std.specs.FinMap as finite
 use Rattle.std.proofs.lemmas.Bool.{cond-true, cond-false}
-use Rattle.driver_link.specs.declared.keys.TheConstants.{NEXT_BATCH}
+use Rattle.wire_keys.specs.declared.keys.TheConstants.{NEXT_BATCH}
 use Rattle.driver_link.specs.declared.machine.Item.{Item}
 use Rattle.driver_link.specs.declared.machine.Item.TheVariants.{Serve, Lost, Late, ReplyLost, Interrupted, Refused, Reauthenticate}
 use Rattle.driver_link.specs.declared.machine.PlannedConcern.{PlannedConcern}

@@ -10,7 +10,7 @@ use Rattle.bson_lite.specs.declared.fields.TheConstants.{ID_KEY}
 use Rattle.bson_lite.specs.Fields.{value_of}
 use Rattle.bson_lite.specs.Ranges.{fits}
 use Rattle.driver_error.specs.declared.write.WriteError.{WriteError}
-use Rattle.driver_link.specs.declared.keys.TheConstants.{CODE, N, N_MODIFIED, RESULT_INDEX, SCHEDULED, UPSERTED}
+use Rattle.wire_keys.specs.declared.keys.TheConstants.{CODE, N, N_MODIFIED, RESULT_INDEX, SCHEDULED, UPSERTED}
 use Rattle.driver_link.specs.declared.machine.PlacedWrite.{PlacedWrite}
 use Rattle.driver_link.specs.declared.machine.Statement.{Statement}
 use Rattle.driver_link.specs.declared.machine.Statement.TheVariants.{Kept, Ran, Failed}

@@ -2,10 +2,10 @@
 use Rattle.std.proofs.Common.{◌≡◌, ℕ, refl, sym}
 use Rattle.std.proofs.Math.IntN.{+ℤ_assoc, +ℤ_idl, +ℤ_idr}
 use Rattle.bson_lite.proofs.Uniting.{empty_union, union_assoc, union_empty, union_insert}
-use Rattle.driver_error.specs.declared.results.DeleteResult.{DeleteResult}
-use Rattle.driver_error.specs.declared.results.InsertOneResult.{InsertOneResult}
-use Rattle.driver_error.specs.declared.results.UpdateResult.{UpdateResult}
-use Rattle.driver_error.specs.declared.results.VerboseBulkWriteResult.{VerboseBulkWriteResult}
+use Rattle.server_answers.specs.declared.results.DeleteResult.{DeleteResult}
+use Rattle.server_answers.specs.declared.results.InsertOneResult.{InsertOneResult}
+use Rattle.server_answers.specs.declared.results.UpdateResult.{UpdateResult}
+use Rattle.server_answers.specs.declared.results.VerboseBulkWriteResult.{VerboseBulkWriteResult}
 use Rattle.driver_error.specs.BulkErrors.{merged_verbose}
 use Rattle.bulk_outcomes.specs.BulkResults.{MergesResults, no_counts, no_writes, summary_spec, verbose_delete, verbose_insert, verbose_spec, verbose_update}
 use Rattle.driver_error.specs.Counts.{Counts, added, five}

@@ -7,9 +7,9 @@ use Rattle.bson_lite.specs.declared.namespace.Namespace.{Namespace}
 use Rattle.bson_lite.specs.Fields.{id_key, value_of}
 use Rattle.bson_lite.specs.Spelling.{Spells}
 use Rattle.driver_error.specs.declared.error.Error.{Error}
-use Rattle.driver_error.specs.declared.results.DeleteResult.{DeleteResult}
-use Rattle.driver_error.specs.declared.results.InsertManyResult.{InsertManyResult}
-use Rattle.driver_error.specs.declared.results.UpdateResult.{UpdateResult}
+use Rattle.server_answers.specs.declared.results.DeleteResult.{DeleteResult}
+use Rattle.server_answers.specs.declared.results.InsertManyResult.{InsertManyResult}
+use Rattle.server_answers.specs.declared.results.UpdateResult.{UpdateResult}
 use Rattle.driver_options.specs.declared.find_options.FindAndModifyOptions.{FindAndModifyOptions}
 use Rattle.driver_options.specs.declared.updates.Modification.{Modification}
 use Rattle.driver_options.specs.declared.updates.UpdateOrReplace.{UpdateOrReplace}

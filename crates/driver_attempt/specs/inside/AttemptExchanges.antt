@@ -5,7 +5,7 @@ use Rattle.driver_error.specs.declared.error.Error.{Error}
 use Rattle.driver_error.specs.declared.kind.ErrorKind.TheVariants as kind
 use Rattle.driver_error.specs.Error.{HasResponse, kind_of}
 use Rattle.driver_options.specs.declared.options.Conn.{Conn}
-use Rattle.driver_link.specs.declared.fault.LinkError.{LinkError}
+use Rattle.link_faults.specs.declared.fault.LinkError.{LinkError}
 use Rattle.driver_link.specs.LinkState.{LinkState}
 use Rattle.driver_ops.specs.declared.get_more.GetMore.{GetMore}
 use Rattle.driver_ops.specs.declared.operation.Reading.{Reading}

@@ -5,7 +5,7 @@ use Rattle.bson_lite.specs.declared.bson.Bson as bson
 use Rattle.bson_lite.specs.declared.document.Pair.{Pair}
 use Rattle.bson_lite.specs.Ranges.{fits}
 use Rattle.bson_lite.specs.Spelling.{Spells, four}
-use Rattle.driver_link.specs.declared.keys.TheConstants.{DATABASE}
+use Rattle.wire_keys.specs.declared.keys.TheConstants.{DATABASE}
 use Rattle.driver_link.specs.Numbers.{field}
 use Rattle.driver_ops.specs.declared.command.Command.{Command}
 use Rattle.driver_ops.specs.Fields.{SendContext, executor_fields}

@@ -12,9 +12,9 @@ use Rattle.driver_error.specs.Error.{kind_of, labels_of}
 use Rattle.driver_error.specs.LabelTexts.{LabelSet, has_label, with_label}
 use Rattle.driver_error.proofs.LabelSets.{has_label-with}
 use Rattle.driver_options.specs.declared.options.Conn.{Conn}
-use Rattle.driver_link.specs.declared.fault.LinkError.TheVariants.{Fault}
-use Rattle.driver_link.specs.declared.fault.LinkFault.{LinkFault}
-use Rattle.driver_link.specs.declared.fault.LinkFault.TheVariants.{Io}
+use Rattle.link_faults.specs.declared.fault.LinkError.TheVariants.{Fault}
+use Rattle.link_faults.specs.declared.fault.LinkFault.{LinkFault}
+use Rattle.link_faults.specs.declared.fault.LinkFault.TheVariants.{Io}
 use Rattle.driver_link.specs.declared.machine.Item.{Item}
 use Rattle.driver_link.specs.declared.machine.Item.TheVariants as met
 use Rattle.driver_link.specs.declared.machine.Scheduled.{Scheduled}
@@ -23,7 +23,7 @@ use Rattle.driver_link.specs.declared.machine.Server.{Server}
 use Rattle.driver_link.specs.declared.machine.Setup.{Setup}
 use Rattle.driver_link.specs.Cursors.{Reply}
 use Rattle.driver_link.specs.Exchange.{after_picks, answered, reply, traced}
-use Rattle.driver_link.specs.Failures.{is_network}
+use Rattle.link_faults.specs.Failures.{is_network}
 use Rattle.driver_link.specs.LinkState.{LinkState, server_run}
 use Rattle.driver_link.specs.ServerRun.{IsReply, ServerRun}
 use Rattle.driver_session.specs.declared.retryability.Retryability.{Retryability}

@@ -9,7 +9,7 @@ use Rattle.bson_lite.specs.Namespace.{dotted}
 use Rattle.driver_options.specs.declared.models.WriteModel.{WriteModel}
 use Rattle.driver_options.specs.declared.models.WriteModel.TheVariants.{InsertOne}
 use Rattle.driver_options.specs.Models.{namespace_of}
-use Rattle.driver_link.specs.declared.keys.TheConstants.{DOCUMENT, INSERT}
+use Rattle.wire_keys.specs.declared.keys.TheConstants.{DOCUMENT, INSERT}
 use Rattle.driver_link.specs.Numbers.{field}
 use Rattle.driver_ops.specs.OptionFields.{document_in}
 use Rattle.bulk_fronts.specs.BulkOps.{namespace_document, op_document}

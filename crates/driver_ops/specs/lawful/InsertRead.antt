@@ -9,8 +9,8 @@ use Rattle.bson_lite.specs.Fields.{int_of, value_of}
 use Rattle.bson_lite.specs.Reading.{read}
 use Rattle.bson_lite.specs.Spelling.{Spells}
 use Rattle.bson_lite.proofs.Nested.{read_again}
-use Rattle.driver_error.specs.declared.command.CommandErrorBody.{CommandErrorBody}
-use Rattle.driver_link.specs.declared.keys.TheConstants.{CLUSTER_TIME, OK}
+use Rattle.server_answers.specs.declared.command.CommandErrorBody.{CommandErrorBody}
+use Rattle.wire_keys.specs.declared.keys.TheConstants.{CLUSTER_TIME, OK}
 use Rattle.driver_ops.specs.Inserts.{int_at, is_one}
 use Rattle.driver_ops.specs.Readings.{command_error_in}
 use Rattle.driver_ops.specs.Responses.{breaks, done, failed_with, has_time_form, missing_ok_text, odd_ok_text, odd_time_text, said, said_by, said_with}

@@ -5,7 +5,7 @@ use denote.Hole.Carrier.{out}
 use Rattle.bson_lite.specs.declared.bson.Bson.{Bson}
 use Rattle.bson_lite.specs.declared.bson.Bson as bson
 use Rattle.bson_lite.specs.Fields.{int_of}
-use Rattle.driver_link.specs.declared.keys.TheConstants.{OK}
+use Rattle.wire_keys.specs.declared.keys.TheConstants.{OK}
 use Rattle.driver_link.specs.Numbers.{reply_number}
 use Rattle.driver_link.specs.Replies.{error_reply}
 use Rattle.driver_ops.specs.Inserts.{int_at, is_one}

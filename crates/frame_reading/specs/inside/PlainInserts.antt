@@ -9,7 +9,7 @@ use Rattle.bson_lite.specs.declared.namespace.Namespace.{Namespace}
 use Rattle.bson_lite.specs.Ranges.{fits}
 use Rattle.bson_lite.specs.Spelling.{spelling}
 use Rattle.driver_link.specs.declared.frame.Documents.{Documents}
-use Rattle.driver_link.specs.declared.keys.TheConstants.{DATABASE, DOCUMENTS, INSERT, ORDERED, SESSION, SESSION_ID, TRANSACTION_NUMBER, UUID_SUBTYPE}
+use Rattle.wire_keys.specs.declared.keys.TheConstants.{DATABASE, DOCUMENTS, INSERT, ORDERED, SESSION, SESSION_ID, TRANSACTION_NUMBER, UUID_SUBTYPE}
 use Rattle.driver_link.specs.declared.machine.Place.{Place}
 use Rattle.driver_link.specs.declared.machine.Send.{Send}
 use Rattle.driver_link.specs.declared.machine.SendBody.{SendBody}

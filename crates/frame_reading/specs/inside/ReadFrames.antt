@@ -4,7 +4,7 @@ use Rattle.bson_lite.specs.declared.bson.Bson.{Bson}
 use Rattle.bson_lite.specs.declared.document.Pair.{Pair}
 use Rattle.driver_link.specs.declared.frame.Documents.{Documents}
 use Rattle.driver_link.specs.declared.frame.Sequence.{Sequence}
-use Rattle.driver_link.specs.declared.keys.TheConstants.{DOCUMENTS}
+use Rattle.wire_keys.specs.declared.keys.TheConstants.{DOCUMENTS}
 use Rattle.driver_link.specs.declared.machine.Place.{Place}
 use Rattle.driver_link.specs.declared.machine.Send.{Send}
 use Rattle.driver_link.specs.Asking.{only_sequence}

@@ -8,12 +8,12 @@ use Rattle.bson_lite.specs.declared.bson.Bson.{Bson}
 use Rattle.bson_lite.specs.declared.bson.Bson as bson
 use Rattle.bson_lite.specs.declared.fields.TheConstants.{ID_KEY}
 use Rattle.bson_lite.specs.Fields.{value_of}
-use Rattle.driver_error.specs.declared.results.DeleteResult.{DeleteResult}
-use Rattle.driver_error.specs.declared.results.UpdateResult.{UpdateResult}
+use Rattle.server_answers.specs.declared.results.DeleteResult.{DeleteResult}
+use Rattle.server_answers.specs.declared.results.UpdateResult.{UpdateResult}
 use Rattle.driver_error.specs.declared.write.IndexedWriteError.{IndexedWriteError}
 use Rattle.driver_error.specs.declared.write.WriteConcernError.{WriteConcernError}
 use Rattle.driver_error.specs.Conversions.{first_failure}
-use Rattle.driver_link.specs.declared.keys.TheConstants.{INDEX, N, N_MODIFIED, WRITE_ERRORS}
+use Rattle.wire_keys.specs.declared.keys.TheConstants.{INDEX, N, N_MODIFIED, WRITE_ERRORS}
 use Rattle.driver_link.specs.declared.machine.Counted.{Counted}
 use Rattle.driver_link.specs.declared.machine.PlacedWrite.{PlacedWrite}
 use Rattle.driver_link.specs.declared.machine.PlannedConcern.{PlannedConcern}

@@ -9,7 +9,7 @@ use Rattle.bson_lite.specs.declared.bson.Bson as bson
 use Rattle.bson_lite.specs.declared.bson.Bson.TheOpen.{Bson-F}
 use Rattle.bson_lite.specs.declared.document.Pair.{Pair}
 use Rattle.bson_lite.specs.Fields.{value_of}
-use Rattle.driver_link.specs.declared.keys.TheConstants.{VALUE, WRITE_ERRORS}
+use Rattle.wire_keys.specs.declared.keys.TheConstants.{VALUE, WRITE_ERRORS}
 use Rattle.driver_link.specs.declared.machine.Counted.{Counted}
 use Rattle.driver_link.specs.declared.machine.PlacedWrite.{PlacedWrite}
 use Rattle.driver_link.specs.declared.machine.PlannedConcern.{PlannedConcern}

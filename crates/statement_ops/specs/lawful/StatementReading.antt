@@ -3,7 +3,7 @@
 use Rattle.std.proofs.Common.{◌≡◌, ℕ, true, List, [], ◌∷◌, refl, sym, ap, subst, ◌∙◌, inl, inr}
 use Rattle.std.specs.Prelude.{Option, Some, Ok}
 use Rattle.bson_lite.specs.Spelling.{Spells}
-use Rattle.driver_link.specs.declared.keys.TheConstants.{OK}
+use Rattle.wire_keys.specs.declared.keys.TheConstants.{OK}
 use Rattle.driver_link.specs.declared.machine.Counted.{Counted}
 use Rattle.driver_link.specs.declared.machine.Entry.{Entry}
 use Rattle.driver_link.specs.declared.machine.Place.{Place}

@@ -15,7 +15,7 @@ use Rattle.bson_lite.specs.Spelling.{Spells, valid, valid_pairs, valid_values}
 use Rattle.bson_lite.proofs.Nested.{folded}
 use Rattle.driver_error.specs.declared.write.IndexedWriteError.{IndexedWriteError}
 use Rattle.driver_error.specs.declared.write.WriteConcernError.{WriteConcernError}
-use Rattle.driver_link.specs.declared.keys.TheConstants.{CODE, ERROR_MESSAGE, INDEX, N, SCHEDULED, WRITE_ERRORS, WRITE_CONCERN_ERROR}
+use Rattle.wire_keys.specs.declared.keys.TheConstants.{CODE, ERROR_MESSAGE, INDEX, N, SCHEDULED, WRITE_ERRORS, WRITE_CONCERN_ERROR}
 use Rattle.driver_link.specs.declared.machine.PlannedConcern.{PlannedConcern}
 use Rattle.driver_link.specs.declared.machine.Statement.{Statement}
 use Rattle.driver_link.specs.declared.machine.Statement.TheVariants.{Kept, Ran, Failed}

@@ -1,6 +1,6 @@
 -- The two are of one kind.
 use Rattle.std.proofs.Common.{subst}
-use Rattle.driver_error.specs.declared.results.PartialBulkWriteResult.TheVariants as partly
+use Rattle.server_answers.specs.declared.results.PartialBulkWriteResult.TheVariants as partly
 use Rattle.driver_error.specs.BulkErrors.{AreOfOneKind}
 use Rattle.driver_error.proofs.bulk_error.merge_partial.Goals as goal
 

@@ -4,7 +4,7 @@ use Rattle.std.specs.Prelude.{bytes_eq}
 use Rattle.std.proofs.lemmas.Result.{IfOk-weaker}
 use Rattle.bson_lite.specs.declared.bson.Bson.{Bson}
 use Rattle.bson_lite.specs.declared.document.Pair.{Pair}
-use Rattle.driver_link.specs.declared.keys.TheConstants.{DOCUMENTS}
+use Rattle.wire_keys.specs.declared.keys.TheConstants.{DOCUMENTS}
 use Rattle.driver_link.specs.Reads.{SpellAll}
 use Rattle.driver_link.specs.Sequences.{documents_at}
 use Rattle.frame_reading.specs.inside.ReadFrames.{AreLone}

@@ -5,10 +5,10 @@ use Rattle.driver_error.specs.declared.kind.ErrorKind.TheVariants as kind
 use Rattle.driver_error.specs.Conversions.{IsMade}
 use Rattle.driver_error.specs.Error.{ErrorKind, IsAlone}
 use Rattle.driver_error.specs.LabelTexts.{no_labels, label_set}
-use Rattle.driver_link.specs.declared.fault.LinkError.{LinkError}
-use Rattle.driver_link.specs.declared.fault.LinkError.TheVariants.{Fault, Memory}
-use Rattle.driver_link.specs.declared.fault.LinkFault.{LinkFault}
-use Rattle.driver_link.specs.declared.fault.LinkFault.TheVariants.{Io, PoolCleared, Selection, Authentication}
+use Rattle.link_faults.specs.declared.fault.LinkError.{LinkError}
+use Rattle.link_faults.specs.declared.fault.LinkError.TheVariants.{Fault, Memory}
+use Rattle.link_faults.specs.declared.fault.LinkFault.{LinkFault}
+use Rattle.link_faults.specs.declared.fault.LinkFault.TheVariants.{Io, PoolCleared, Selection, Authentication}
 
 -- the kind of a link's fault
 abbrev pub fault_kind : LinkFault → ErrorKind

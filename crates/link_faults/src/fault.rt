@@ -1,6 +1,6 @@
 //! How a call of a link can fail, and what a link tells of its answers.
 ghost use Rattle.std.specs.Prelude.{◌≡◌};
-ghost use Rattle.driver_link.specs.Failures.{fault_kind, is_network};
+ghost use Rattle.link_faults.specs.Failures.{fault_kind, is_network};
 
 use bson_lite::{Bytes, List, Text, TryClone};
 use driver_error::{Error, ErrorKind, IoKind};
@@ -51,7 +51,7 @@ pub enum LinkError {
 
 impl From<AllocError> for LinkError {
     ghost use Rattle.std.specs.Prelude.{◌≡◌};
-    ghost use Rattle.driver_link.specs.declared.fault.LinkError.TheVariants.{Memory};
+    ghost use Rattle.link_faults.specs.declared.fault.LinkError.TheVariants.{Memory};
 
     ghost from_gives = { λ _ error. error ≡ Memory };
 
@@ -63,7 +63,7 @@ impl From<AllocError> for LinkError {
 /// The kind of the fault, with the labels that came with it and nothing else. Where their list's
 /// allocator finds no memory for them it is an error of kind Memory.
 impl From<LinkError> for Error {
-    ghost use Rattle.driver_link.specs.Failures.{BecomesError};
+    ghost use Rattle.link_faults.specs.Failures.{BecomesError};
 
     ghost from_gives = { BecomesError };
 

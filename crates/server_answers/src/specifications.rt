@@ -12,7 +12,7 @@ pub enum CollectionType {
 
 impl Default for CollectionType {
     ghost use Rattle.std.specs.Prelude.{◌≡◌};
-    ghost use Rattle.driver_error.specs.declared.specifications.CollectionType.TheVariants.{Collection};
+    ghost use Rattle.server_answers.specs.declared.specifications.CollectionType.TheVariants.{Collection};
 
     ghost is_default = { λ given. given ≡ Collection };
 

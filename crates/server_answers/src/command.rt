@@ -15,7 +15,7 @@ pub struct CommandError {
 
 impl fmt::Display for CommandError {
     ghost use Rattle.std.specs.Prelude.{Some};
-    ghost use Rattle.driver_error.specs.CommandText.{command_text};
+    ghost use Rattle.server_answers.specs.CommandText.{command_text};
 
     ghost output = { λ error. Some (command_text error) };
 

@@ -1,7 +1,7 @@
 -- The text of a command error.
 use Rattle.std.specs.Prelude.{ℕ, List, ◌++◌, codes}
 use Rattle.std.specs.Fmt.{signed_decimal}
-use Rattle.driver_error.specs.declared.command.CommandError.{CommandError}
+use Rattle.server_answers.specs.declared.command.CommandError.{CommandError}
 
 -- its code, its name and its message
 abbrev pub command_text : CommandError → List ℕ
