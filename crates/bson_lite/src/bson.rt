@@ -29,32 +29,17 @@ pub enum Bson {
 }
 
 /// Bytes with a subtype.
-#[derive(Debug, PartialEq)]
+#[derive(Debug, PartialEq, Drop)]
 pub struct Binary {
     pub subtype: u8,
     pub bytes: Bytes,
 }
 
-impl Drop for Binary {
-    fn drop(self) {
-        let Binary { subtype: _, bytes } = self;
-        drop(bytes);
-    }
-}
-
 /// A regular expression: its pattern and its options.
-#[derive(Debug, PartialEq)]
+#[derive(Debug, PartialEq, Drop)]
 pub struct Regex {
     pub pattern: Text,
     pub options: Text,
-}
-
-impl Drop for Regex {
-    fn drop(self) {
-        let Regex { pattern, options } = self;
-        drop(pattern);
-        drop(options);
-    }
 }
 
 /// A moment of the server's log. The order is by time, then by increment.

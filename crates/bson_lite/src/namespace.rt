@@ -3,18 +3,10 @@ use crate::text::Text;
 use std::fmt;
 
 /// A database and a collection.
-#[derive(Debug, PartialEq)]
+#[derive(Debug, PartialEq, Drop)]
 pub struct Namespace {
     pub db: Text,
     pub coll: Text,
-}
-
-impl Drop for Namespace {
-    fn drop(self) {
-        let Namespace { db, coll } = self;
-        drop(db);
-        drop(coll);
-    }
 }
 
 impl fmt::Display for Namespace {

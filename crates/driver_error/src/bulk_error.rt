@@ -26,7 +26,11 @@ impl BulkWriteError {
         ensures why { IfErr result (λ error. RefusesSums
             (joint_sums self.old.partial_result other.partial_result) error) }
     {
-        let (write_concern_errors, write_errors, partial_result) = other.into_parts();
+        let BulkWriteError {
+            write_concern_errors,
+            write_errors,
+            partial_result,
+        } = other;
         let count = self.write_concern_errors.len();
         self.write_concern_errors.append(write_concern_errors)?;
         match merge_results(

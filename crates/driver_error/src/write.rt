@@ -1,35 +1,16 @@
 //! Errors that a server tells of single writes and of write concerns.
-ghost use Rattle.std.specs.Prelude.{◌≡◌};
-ghost use Rattle.driver_error.specs.Conversions.{without_index};
-
 use bson_lite::{Bson, ByIndex, Document, List, Text, TryClone};
 use server_answers::PartialBulkWriteResult;
 use std::alloc::{AllocError, Global};
 
 /// A write concern that was not met.
-#[derive(Debug, PartialEq)]
+#[derive(Debug, PartialEq, Drop)]
 pub struct WriteConcernError {
     pub code: i32,
     pub code_name: Text,
     pub message: Text,
     pub details: Option<Document>,
     pub labels: List<Text>,
-}
-
-impl Drop for WriteConcernError {
-    fn drop(self) {
-        let WriteConcernError {
-            code: _,
-            code_name,
-            message,
-            details,
-            labels,
-        } = self;
-        drop(code_name);
-        drop(message);
-        drop(details);
-        drop(labels);
-    }
 }
 
 impl TryClone for WriteConcernError {
@@ -45,26 +26,12 @@ impl TryClone for WriteConcernError {
 }
 
 /// A write that the server refused.
-#[derive(Debug, PartialEq)]
+#[derive(Debug, PartialEq, Drop)]
 pub struct WriteError {
     pub code: i32,
     pub code_name: Option<Text>,
     pub message: Text,
     pub details: Option<Document>,
-}
-
-impl Drop for WriteError {
-    fn drop(self) {
-        let WriteError {
-            code: _,
-            code_name,
-            message,
-            details,
-        } = self;
-        drop(code_name);
-        drop(message);
-        drop(details);
-    }
 }
 
 impl TryClone for WriteError {
@@ -79,28 +46,13 @@ impl TryClone for WriteError {
 }
 
 /// A write of many that the server refused, with its index among the writes of the call.
-#[derive(Debug, PartialEq)]
+#[derive(Debug, PartialEq, Drop)]
 pub struct IndexedWriteError {
     pub index: usize,
     pub code: i32,
     pub code_name: Option<Text>,
     pub message: Text,
     pub details: Option<Document>,
-}
-
-impl Drop for IndexedWriteError {
-    fn drop(self) {
-        let IndexedWriteError {
-            index: _,
-            code: _,
-            code_name,
-            message,
-            details,
-        } = self;
-        drop(code_name);
-        drop(message);
-        drop(details);
-    }
 }
 
 impl TryClone for IndexedWriteError {
@@ -115,27 +67,6 @@ impl TryClone for IndexedWriteError {
     }
 }
 
-impl IndexedWriteError {
-    /// The same error without its index.
-    fn into_write_error(self) -> WriteError
-        ensures { result ≡ without_index self }
-    {
-        let IndexedWriteError {
-            index: _,
-            code,
-            code_name,
-            message,
-            details,
-        } = self;
-        WriteError {
-            code,
-            code_name,
-            message,
-            details,
-        }
-    }
-}
-
 impl From<IndexedWriteError> for WriteError {
     ghost use Rattle.std.specs.Prelude.{◌≡◌};
     ghost use Rattle.driver_error.specs.Conversions.{without_index};
@@ -143,7 +74,19 @@ impl From<IndexedWriteError> for WriteError {
     ghost from_gives = { λ indexed error. error ≡ without_index indexed };
 
     fn from(indexed: IndexedWriteError) -> WriteError {
-        indexed.into_write_error()
+        let IndexedWriteError {
+            index: _,
+            code,
+            code_name,
+            message,
+            details,
+        } = indexed;
+        WriteError {
+            code,
+            code_name,
+            message,
+            details,
+        }
     }
 }
 
@@ -184,44 +127,11 @@ impl TryClone for InsertManyError {
 }
 
 /// Why a bulk write failed, by the index of each write, and what succeeded.
-#[derive(Debug)]
+#[derive(Debug, Drop)]
 pub struct BulkWriteError {
     pub write_concern_errors: List<WriteConcernError>,
     pub write_errors: ByIndex<WriteError>,
     pub partial_result: Option<PartialBulkWriteResult>,
-}
-
-impl Drop for BulkWriteError {
-    fn drop(self) {
-        let BulkWriteError {
-            write_concern_errors,
-            write_errors,
-            partial_result,
-        } = self;
-        drop(write_concern_errors);
-        drop(write_errors);
-        drop(partial_result);
-    }
-}
-
-impl BulkWriteError {
-    /// Its write concern errors, its write errors by index, and its partial result.
-    pub(crate) fn into_parts(
-        self,
-    ) -> (
-        List<WriteConcernError>,
-        ByIndex<WriteError>,
-        Option<PartialBulkWriteResult>,
-    )
-        ensures { result ≡ (self.write_concern_errors, self.write_errors, self.partial_result) }
-    {
-        let BulkWriteError {
-            write_concern_errors,
-            write_errors,
-            partial_result,
-        } = self;
-        (write_concern_errors, write_errors, partial_result)
-    }
 }
 
 impl TryClone for BulkWriteError {

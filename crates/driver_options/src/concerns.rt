@@ -31,7 +31,7 @@ impl TryClone for Acknowledgment {
 }
 
 /// How a write is acknowledged. One without a field is a concern too, and leaves all to the server.
-#[derive(Debug)]
+#[derive(Debug, Drop)]
 pub struct WriteConcern {
     /// Which servers acknowledge the write.
     pub w: Option<Acknowledgment>,
@@ -39,17 +39,6 @@ pub struct WriteConcern {
     pub w_timeout: Option<u32>,
     /// Whether the write is acknowledged only once it stands in the servers' journals.
     pub journal: Option<bool>,
-}
-
-impl Drop for WriteConcern {
-    fn drop(self) {
-        let WriteConcern {
-            w,
-            w_timeout: _,
-            journal: _,
-        } = self;
-        drop(w);
-    }
 }
 
 impl WriteConcern {

@@ -5,17 +5,10 @@ use bson_lite::{Bson, ByIndex, List, Text, TryClone};
 use std::alloc::{AllocError, Global};
 
 /// The answer of an insert of one document.
-#[derive(Debug)]
+#[derive(Debug, Drop)]
 pub struct InsertOneResult {
     /// The value of `_id` in the document that was sent.
     pub inserted_id: Bson,
-}
-
-impl Drop for InsertOneResult {
-    fn drop(self) {
-        let InsertOneResult { inserted_id } = self;
-        drop(inserted_id);
-    }
 }
 
 impl Default for InsertOneResult {
@@ -55,23 +48,12 @@ impl TryClone for InsertManyResult {
 }
 
 /// The answer of an update.
-#[derive(Debug, Default)]
+#[derive(Debug, Default, Drop)]
 pub struct UpdateResult {
     pub matched_count: u64,
     pub modified_count: u64,
     /// The value of `_id` of the document that was put in, where none was there to update.
     pub upserted_id: Option<Bson>,
-}
-
-impl Drop for UpdateResult {
-    fn drop(self) {
-        let UpdateResult {
-            matched_count: _,
-            modified_count: _,
-            upserted_id,
-        } = self;
-        drop(upserted_id);
-    }
 }
 
 impl TryClone for UpdateResult {
