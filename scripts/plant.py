@@ -2,9 +2,10 @@
 """Puts the libraries that `rt ci` kept on this machine into a clone, so that `rt check` begins over them.
 
 Without it the first `rt check` of a crate in a new clone proves all crates below once more. The last library that
-was kept of each named crate is taken: it must be of the text that stands in the clone, for the stamp says so.
+was kept of each crate is taken: it must be of the text that stands in the clone, for the stamp says so.
 
-Usage: python3 scripts/plant.py CLONE CRATE..
+Usage: python3 scripts/plant.py CLONE CRATE..            (these libraries)
+       python3 scripts/plant.py CLONE --below CRATE..    (all libraries below these crates, and not their own)
 """
 
 import glob
@@ -34,6 +35,9 @@ def plant(clone, name):
     shutil.rmtree(os.path.join(crate, "out", "rlib"), ignore_errors=True)
     with open(os.path.join(kept, "made.json"), encoding="utf8") as made:
         files = json.load(made)["files"]
+    if not any(path.startswith("rlib/") for path, _sum in files):
+        print(f"{name}: no library")
+        return
     for number, (path, _sum) in enumerate(files):
         place = os.path.join(crate, "out", path)
         os.makedirs(os.path.dirname(place), exist_ok=True)
@@ -43,5 +47,31 @@ def plant(clone, name):
     print(f"{name}: planted")
 
 
-for crate_name in sys.argv[2:]:
-    plant(os.path.abspath(sys.argv[1]), crate_name)
+def needs_of(clone):
+    """What each crate of the tree names in crates.txt, in the order of that file."""
+    with open(os.path.join(clone, "crates.txt"), encoding="utf8") as lines:
+        parts = [line.strip().partition(":") for line in lines if line.strip() and not line.startswith("#")]
+    return {name: needs.split() for name, _colon, needs in parts}
+
+
+def below(clone, names):
+    """All crates of the tree that these stand on, callees first."""
+    needs, found = needs_of(clone), set()
+    todo = [each for name in names for each in needs[name]]
+    while todo:
+        name = todo.pop()
+        if name in needs and name not in found:
+            found.add(name)
+            todo += needs[name]
+    return [name for name in needs if name in found]
+
+
+def main():
+    clone, names = os.path.abspath(sys.argv[1]), sys.argv[2:]
+    if names and names[0] == "--below":
+        names = below(clone, names[1:])
+    for name in names:
+        plant(clone, name)
+
+
+main()

@@ -18,7 +18,7 @@ ROOT = os.path.dirname(os.path.dirname(os.path.abspath(__file__)))
 
 # Words of others: of the toolchain, of a scratch copy, of std and the kit's crates, of MongoDB and of the system.
 FOREIGN = set("""
-rattle RT_JOBS must_fail oantt out/ out/rlib cannot-infer-type match-options-6 Proof.antt FUNCTION_spec
+rattle RT_JOBS must_fail oantt out/ out/rlib cannot-infer-type impl-not-in-scope match-options-6 Proof.antt FUNCTION_spec
 src/tiny.rt tiny_a
 Arc FinSet IntoIterator
 mongodb ClientSession add_labels_and_update_pin operationTime
