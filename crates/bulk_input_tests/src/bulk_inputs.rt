@@ -1,5 +1,6 @@
 //! What bulk writes are refused for by their input, test by test over all models, and which ids are drawn; what models
 //! tell, and those that a collection makes.
+use crate::asserting::{Made, holds, holds_at};
 use bson_lite::{Bson, Document, List};
 use bulk_actions::{CollectionModels, bulk_ops};
 use bulk_fronts::OwnOp;
@@ -13,15 +14,15 @@ use driver_options::{
 };
 use driver_session::PlainStore;
 use memory_links::CountingIds;
-use std::alloc::{AllocError, Global};
-use std::test::Fail;
+use std::alloc::Global;
+use std::process::Abort;
 use test_parts::bulk_ends::let_go;
 use test_parts::bulk_models::{around, insert, named, number, six};
 use test_parts::inserting::{Ended, how_ended};
 use test_parts::writes::{Flaw, flawed};
 
 /// A model of a row.
-#[derive(Clone, Copy, Debug)]
+#[derive(Clone, Copy)]
 enum Given {
     /// The insert of `{x: 1}`.
     Plain,
@@ -185,134 +186,135 @@ const MIXED: &[Given] = &[
 ];
 
 /// A document with an operator as its first key, or without one.
-fn change(alloc: Global, operator: bool) -> Result<Document, AllocError> {
-    number(alloc, if operator { "$set" } else { "y" }, 2)
+fn change(rt: &impl Abort, alloc: Global, operator: bool) -> Document {
+    number(alloc, if operator { "$set" } else { "y" }, 2).made(rt)
 }
 
 /// The insert of a document into `items`.
-fn into(alloc: Global, db: &str, document: Document) -> Result<WriteModel, AllocError> {
-    let to = named(alloc, db, "items")?;
-    Ok(insert(alloc, to, document))
+fn into(rt: &impl Abort, alloc: Global, db: &str, document: Document) -> WriteModel {
+    let to = named(alloc, db, "items").made(rt);
+    insert(alloc, to, document)
 }
 
 /// An update of one document by this.
-fn update(alloc: Global, modifications: UpdateModifications) -> Result<UpdateOneModel, AllocError> {
-    let to = named(alloc, "shop", "items")?;
-    Ok(UpdateOneModel::new(to, Document::new(alloc), modifications))
-}
-
-/// An update of one document by a document.
-fn updated(alloc: Global, change: Document) -> Result<WriteModel, AllocError> {
-    Ok(WriteModel::from(update(alloc, UpdateModifications::from(change))?))
+fn update(rt: &impl Abort, alloc: Global, modifications: UpdateModifications) -> UpdateOneModel {
+    let to = named(alloc, "shop", "items").made(rt);
+    UpdateOneModel::new(to, Document::new(alloc), modifications)
 }
 
 /// An update of all documents that a filter finds, by a document.
 fn update_all(
+    rt: &impl Abort,
     alloc: Global,
     filter: Document,
     change: Document,
-) -> Result<UpdateManyModel, AllocError> {
-    let to = named(alloc, "shop", "items")?;
-    Ok(UpdateManyModel::new(to, filter, UpdateModifications::from(change)))
+) -> UpdateManyModel {
+    let to = named(alloc, "shop", "items").made(rt);
+    UpdateManyModel::new(to, filter, UpdateModifications::from(change))
 }
 
 /// An update of all documents by a document.
-fn updated_all(alloc: Global, change: Document) -> Result<WriteModel, AllocError> {
-    Ok(WriteModel::from(update_all(alloc, Document::new(alloc), change)?))
-}
-
-/// An update of all documents that a filter finds.
-fn found_and_updated(alloc: Global, filter: Document) -> Result<WriteModel, AllocError> {
-    Ok(WriteModel::from(update_all(alloc, filter, change(alloc, true)?)?))
+fn updated_all(rt: &impl Abort, alloc: Global, change: Document) -> WriteModel {
+    WriteModel::from(update_all(rt, alloc, Document::new(alloc), change))
 }
 
 /// An update of all documents with a hint.
-fn hinted_in_all(alloc: Global, hint: Document) -> Result<WriteModel, AllocError> {
-    let change = change(alloc, true)?;
-    let model = update_all(alloc, Document::new(alloc), change)?;
-    Ok(WriteModel::from(model.hint(Bson::Document(hint))))
+fn hinted_in_all(rt: &impl Abort, alloc: Global, hint: Document) -> WriteModel {
+    let change = change(rt, alloc, true);
+    let model = update_all(rt, alloc, Document::new(alloc), change);
+    WriteModel::from(model.hint(Bson::Document(hint)))
 }
 
 /// An update by a pipeline of one stage.
-fn staged(alloc: Global) -> Result<WriteModel, AllocError> {
+fn staged(rt: &impl Abort, alloc: Global) -> WriteModel {
     let mut stages = List::new(alloc);
-    stages.push(change(alloc, false)?)?;
-    Ok(WriteModel::from(update(alloc, UpdateModifications::from(stages))?))
+    stages.push(change(rt, alloc, false)).made(rt);
+    WriteModel::from(update(rt, alloc, UpdateModifications::from(stages)))
 }
 
 /// An update by a pipeline with a second stage.
-fn staged_twice(alloc: Global, second: Document) -> Result<WriteModel, AllocError> {
+fn staged_twice(rt: &impl Abort, alloc: Global, second: Document) -> WriteModel {
     let mut stages = List::new(alloc);
-    stages.push(change(alloc, false)?)?;
-    stages.push(second)?;
-    Ok(WriteModel::from(update(alloc, UpdateModifications::from(stages))?))
+    stages.push(change(rt, alloc, false)).made(rt);
+    stages.push(second).made(rt);
+    WriteModel::from(update(rt, alloc, UpdateModifications::from(stages)))
 }
 
 /// An update with a value in its array filters.
-fn filtered(alloc: Global, value: Document) -> Result<WriteModel, AllocError> {
+fn filtered(rt: &impl Abort, alloc: Global, value: Document) -> WriteModel {
     let mut values = List::new(alloc);
-    values.push(Bson::Document(value))?;
-    let modifications = UpdateModifications::from(change(alloc, true)?);
-    Ok(WriteModel::from(update(alloc, modifications)?.array_filters(values)))
+    values.push(Bson::Document(value)).made(rt);
+    let modifications = UpdateModifications::from(change(rt, alloc, true));
+    WriteModel::from(update(rt, alloc, modifications).array_filters(values))
 }
 
 /// A replacement by a document.
-fn replacement(alloc: Global, document: Document) -> Result<ReplaceOneModel, AllocError> {
-    let to = named(alloc, "shop", "items")?;
-    Ok(ReplaceOneModel::new(to, Document::new(alloc), document))
+fn replacement(rt: &impl Abort, alloc: Global, document: Document) -> ReplaceOneModel {
+    let to = named(alloc, "shop", "items").made(rt);
+    ReplaceOneModel::new(to, Document::new(alloc), document)
 }
 
 /// A replacement with a sort.
-fn sorted(alloc: Global, sort: Document) -> Result<WriteModel, AllocError> {
-    let document = change(alloc, false)?;
-    Ok(WriteModel::from(replacement(alloc, document)?.sort(sort)))
+fn sorted(rt: &impl Abort, alloc: Global, sort: Document) -> WriteModel {
+    let document = change(rt, alloc, false);
+    WriteModel::from(replacement(rt, alloc, document).sort(sort))
 }
 
 /// A delete of one document that a filter finds in a database.
-fn delete(alloc: Global, db: &str, filter: Document) -> Result<DeleteOneModel, AllocError> {
-    let to = named(alloc, db, "items")?;
-    Ok(DeleteOneModel::new(to, filter))
+fn delete(rt: &impl Abort, alloc: Global, db: &str, filter: Document) -> DeleteOneModel {
+    let to = named(alloc, db, "items").made(rt);
+    DeleteOneModel::new(to, filter)
 }
 
 /// A delete with a hint.
-fn hinted(alloc: Global, hint: Document) -> Result<WriteModel, AllocError> {
-    let model = delete(alloc, "shop", Document::new(alloc))?;
-    Ok(WriteModel::from(model.hint(Bson::Document(hint))))
+fn hinted(rt: &impl Abort, alloc: Global, hint: Document) -> WriteModel {
+    let model = delete(rt, alloc, "shop", Document::new(alloc));
+    WriteModel::from(model.hint(Bson::Document(hint)))
 }
 
 /// A delete of all documents with a collation.
-fn collated(alloc: Global, collation: Document) -> Result<WriteModel, AllocError> {
-    let to = named(alloc, "shop", "items")?;
+fn collated(rt: &impl Abort, alloc: Global, collation: Document) -> WriteModel {
+    let to = named(alloc, "shop", "items").made(rt);
     let model = DeleteManyModel::new(to, Document::new(alloc));
-    Ok(WriteModel::from(model.collation(collation)))
+    WriteModel::from(model.collation(collation))
 }
 
 /// A model of a row.
-fn model_of(alloc: Global, given: Given) -> Result<WriteModel, AllocError> {
+fn model_of(rt: &impl Abort, alloc: Global, given: Given) -> WriteModel {
     match given {
-        Given::Plain => into(alloc, "shop", number(alloc, "x", 1)?),
-        Given::Named => into(alloc, "shop", number(alloc, "_id", 7)?),
-        Given::Dotted => into(alloc, "a.b", number(alloc, "x", 1)?),
-        Given::AlsoDotted => Ok(WriteModel::from(delete(alloc, "c.d", Document::new(alloc))?)),
-        Given::PlainUpdate => updated(alloc, change(alloc, false)?),
-        Given::PlainUpdates => updated_all(alloc, change(alloc, false)?),
-        Given::Stage => staged(alloc),
-        Given::Operators => { Ok(WriteModel::from(replacement(alloc, change(alloc, true)?)?)) }
-        Given::Document(flaw) => into(alloc, "shop", flawed(alloc, flaw)?),
+        Given::Plain => into(rt, alloc, "shop", number(alloc, "x", 1).made(rt)),
+        Given::Named => into(rt, alloc, "shop", number(alloc, "_id", 7).made(rt)),
+        Given::Dotted => into(rt, alloc, "a.b", number(alloc, "x", 1).made(rt)),
+        Given::AlsoDotted => WriteModel::from(delete(rt, alloc, "c.d", Document::new(alloc))),
+        Given::PlainUpdate => {
+            let change = change(rt, alloc, false);
+            WriteModel::from(update(rt, alloc, UpdateModifications::from(change)))
+        }
+        Given::PlainUpdates => updated_all(rt, alloc, change(rt, alloc, false)),
+        Given::Stage => staged(rt, alloc),
+        Given::Operators => { WriteModel::from(replacement(rt, alloc, change(rt, alloc, true))) }
+        Given::Document(flaw) => into(rt, alloc, "shop", flawed(alloc, flaw).made(rt)),
         Given::Filter(flaw) => {
-            Ok(WriteModel::from(delete(alloc, "shop", flawed(alloc, flaw)?)?))
+            WriteModel::from(delete(rt, alloc, "shop", flawed(alloc, flaw).made(rt)))
         }
-        Given::Hint(flaw) => hinted(alloc, flawed(alloc, flaw)?),
-        Given::ArrayFilter(flaw) => filtered(alloc, flawed(alloc, flaw)?),
-        Given::Collation(flaw) => collated(alloc, flawed(alloc, flaw)?),
-        Given::Sort(flaw) => sorted(alloc, flawed(alloc, flaw)?),
+        Given::Hint(flaw) => hinted(rt, alloc, flawed(alloc, flaw).made(rt)),
+        Given::ArrayFilter(flaw) => filtered(rt, alloc, flawed(alloc, flaw).made(rt)),
+        Given::Collation(flaw) => collated(rt, alloc, flawed(alloc, flaw).made(rt)),
+        Given::Sort(flaw) => sorted(rt, alloc, flawed(alloc, flaw).made(rt)),
         Given::Replacement(flaw) => {
-            Ok(WriteModel::from(replacement(alloc, flawed(alloc, flaw)?)?))
+            WriteModel::from(replacement(rt, alloc, flawed(alloc, flaw).made(rt)))
         }
-        Given::LaterStage(flaw) => staged_twice(alloc, flawed(alloc, flaw)?),
-        Given::FilterOfAll(flaw) => found_and_updated(alloc, flawed(alloc, flaw)?),
-        Given::SetInAll(flaw) => updated_all(alloc, around(alloc, "$set", flawed(alloc, flaw)?)?),
-        Given::HintOfAll(flaw) => hinted_in_all(alloc, flawed(alloc, flaw)?),
+        Given::LaterStage(flaw) => staged_twice(rt, alloc, flawed(alloc, flaw).made(rt)),
+        Given::FilterOfAll(flaw) => {
+            let filter = flawed(alloc, flaw).made(rt);
+            WriteModel::from(update_all(rt, alloc, filter, change(rt, alloc, true)))
+        }
+        Given::SetInAll(flaw) => updated_all(
+            rt,
+            alloc,
+            around(alloc, "$set", flawed(alloc, flaw).made(rt)).made(rt),
+        ),
+        Given::HintOfAll(flaw) => hinted_in_all(rt, alloc, flawed(alloc, flaw).made(rt)),
     }
 }
 
@@ -328,21 +330,21 @@ fn options_of(let_vars: Option<Document>, comment: Option<Bson>) -> BulkWriteOpt
 }
 
 /// The options of a bulk write of which one has a flaw.
-fn options_with(alloc: Global, set: Set, flaw: Flaw) -> Result<BulkWriteOptions, AllocError> {
-    let document = flawed(alloc, flaw)?;
-    Ok(match set {
+fn options_with(rt: &impl Abort, alloc: Global, set: Set, flaw: Flaw) -> BulkWriteOptions {
+    let document = flawed(alloc, flaw).made(rt);
+    match set {
         Set::LetVars => options_of(Some(document), None),
         Set::Comment => options_of(None, Some(Bson::Document(document))),
-    })
+    }
 }
 
 /// The models of a row.
-fn models_of(alloc: Global, row: &[Given]) -> Result<List<WriteModel>, AllocError> {
-    let mut models = List::with_capacity(alloc, row.len())?;
+fn models_of(rt: &impl Abort, alloc: Global, row: &[Given]) -> List<WriteModel> {
+    let mut models = List::with_capacity(alloc, row.len()).made(rt);
     for given in row {
-        models.push(model_of(alloc, *given)?)?;
+        models.push(model_of(rt, alloc, *given)).made(rt);
     }
-    Ok(models)
+    models
 }
 
 /// A new client whose store counts ids from 1.
@@ -360,12 +362,13 @@ fn draws(client: &mut Client<PlainStore<CountingIds>>, id: u8) -> bool {
 
 /// Whether a bulk write ends so, and nothing was drawn where it was refused.
 fn ends(
+    rt: &impl Abort,
     alloc: Global,
     row: &[Given],
     options: &BulkWriteOptions,
     ended: Ended,
-) -> Result<bool, AllocError> {
-    let models = models_of(alloc, row)?;
+) -> bool {
+    let models = models_of(rt, alloc, row);
     let mut client = client(alloc);
     let same = match bulk_ops(alloc, &mut client, models.as_slice(), options) {
         Ok(ops) => {
@@ -380,27 +383,28 @@ fn ends(
         }
     };
     drop(models);
-    Ok(same)
+    same
 }
 
 /// The same with no option set.
-fn ends_plain(alloc: Global, row: &[Given], ended: Ended) -> Result<bool, AllocError> {
+fn ends_plain(rt: &impl Abort, alloc: Global, row: &[Given], ended: Ended) -> bool {
     let options = BulkWriteOptions::default();
-    let same = ends(alloc, row, &options, ended);
+    let same = ends(rt, alloc, row, &options, ended);
     drop(options);
     same
 }
 
 /// Whether a bulk write of one model ends so, where one of its options has a flaw.
 fn ends_with(
+    rt: &impl Abort,
     alloc: Global,
     set: Set,
     flaw: Flaw,
     given: Given,
     ended: Ended,
-) -> Result<bool, AllocError> {
-    let options = options_with(alloc, set, flaw)?;
-    let same = ends(alloc, &[given], &options, ended);
+) -> bool {
+    let options = options_with(rt, alloc, set, flaw);
+    let same = ends(rt, alloc, &[given], &options, ended);
     drop(options);
     same
 }
@@ -414,8 +418,8 @@ fn has_message(error: &Error, text: &str) -> bool {
 }
 
 /// Whether a bulk write is refused with this message.
-fn is_refused(alloc: Global, row: &[Given], text: &str) -> Result<bool, AllocError> {
-    let models = models_of(alloc, row)?;
+fn is_refused(rt: &impl Abort, alloc: Global, row: &[Given], text: &str) -> bool {
+    let models = models_of(rt, alloc, row);
     let options = BulkWriteOptions::default();
     let mut client = client(alloc);
     let same = match bulk_ops(alloc, &mut client, models.as_slice(), &options) {
@@ -430,7 +434,7 @@ fn is_refused(alloc: Global, row: &[Given], text: &str) -> Result<bool, AllocErr
         }
     };
     drop(models);
-    Ok(same)
+    same
 }
 
 /// The last byte of the object id in the op of an insert: behind 12 bytes up to the number, its 4, the type and the
@@ -441,8 +445,8 @@ fn id_in(op: Option<&OwnOp>) -> Option<u8> {
 }
 
 /// Whether ids are drawn in order for those that have none.
-fn draws_in_order(alloc: Global) -> Result<bool, AllocError> {
-    let models = models_of(alloc, MIXED)?;
+fn draws_in_order(rt: &impl Abort, alloc: Global) -> bool {
+    let models = models_of(rt, alloc, MIXED);
     let options = BulkWriteOptions::default();
     let mut client = client(alloc);
     let same = match bulk_ops(alloc, &mut client, models.as_slice(), &options) {
@@ -457,7 +461,7 @@ fn draws_in_order(alloc: Global) -> Result<bool, AllocError> {
         }
     };
     drop(models);
-    Ok(same)
+    same
 }
 
 /// Whether a model tells this.
@@ -471,22 +475,22 @@ fn tells(model: &WriteModel, told: Told) -> bool {
 }
 
 /// Whether the model at a place among the six tells this.
-fn tells_at(alloc: Global, at: usize, told: Told) -> Result<bool, AllocError> {
-    let models = six(alloc)?;
+fn tells_at(rt: &impl Abort, alloc: Global, at: usize, told: Told) -> bool {
+    let models = six(alloc).made(rt);
     let same = match models.get(at) {
         Some(model) => tells(model, told),
         None => false,
     };
     drop(models);
-    Ok(same)
+    same
 }
 
 /// The collection `shop.items`.
-fn items(alloc: Global) -> Result<Collection, AllocError> {
-    Ok(Collection {
-        namespace: named(alloc, "shop", "items")?,
+fn items(rt: &impl Abort, alloc: Global) -> Collection {
+    Collection {
+        namespace: named(alloc, "shop", "items").made(rt),
         write_concern: None,
-    })
+    }
 }
 
 /// Whether an insert into `shop.items` is of this document.
@@ -514,96 +518,92 @@ fn has_no_option(model: &ReplaceOneModel) -> bool {
 }
 
 /// Whether the collection's insert of `{x: 1}` is that.
-fn insert_is_made(alloc: Global) -> Result<bool, AllocError> {
-    let collection = items(alloc)?;
-    let document = number(alloc, "x", 1)?;
+fn insert_is_made(rt: &impl Abort, alloc: Global) -> bool {
+    let collection = items(rt, alloc);
+    let document = number(alloc, "x", 1).made(rt);
     match collection.insert_one_model(alloc, &document) {
         Ok(model) => {
             let same = inserts(&model, &document);
             drop(model);
-            Ok(same)
+            same
         }
         Err(error) => {
             let_go(error);
-            Ok(false)
+            false
         }
     }
 }
 
 /// Whether the collection's replacement by `{x: 1}` of what `{y: 2}` finds is that.
-fn replacement_is_made(alloc: Global) -> Result<bool, AllocError> {
-    let collection = items(alloc)?;
-    let document = number(alloc, "x", 1)?;
-    let filter = number(alloc, "y", 2)?;
-    let given = number(alloc, "y", 2)?;
+fn replacement_is_made(rt: &impl Abort, alloc: Global) -> bool {
+    let collection = items(rt, alloc);
+    let document = number(alloc, "x", 1).made(rt);
+    let filter = number(alloc, "y", 2).made(rt);
+    let given = number(alloc, "y", 2).made(rt);
     match collection.replace_one_model(alloc, given, &document) {
         Ok(model) => {
             let same = replaces(&model, &filter, &document);
             drop(model);
-            Ok(same)
+            same
         }
         Err(error) => {
             let_go(error);
-            Ok(false)
+            false
         }
     }
 }
 
 #[test]
-fn bulk_writes_are_refused_for_their_input_test_by_test(rt: HostRuntime) -> Result<(), Fail> {
-    for (row, ended) in ROWS {
-        let same = ends_plain(rt.alloc(), row, *ended)?;
-        assert!(rt; same, "{row:?} to end {ended:?}");
+fn bulk_writes_are_refused_for_their_input_test_by_test(rt: HostRuntime) {
+    for (at, (row, ended)) in ROWS.iter().enumerate() {
+        let same = ends_plain(&rt, rt.alloc(), row, *ended);
+        holds_at(&rt, same, "the end of the models of a row", at);
     }
-    Ok(())
 }
 
 #[test]
-fn the_first_database_with_a_dot_is_named(rt: HostRuntime) -> Result<(), Fail> {
+fn the_first_database_with_a_dot_is_named(rt: HostRuntime) {
     for (row, text) in DOTTED {
-        let same = is_refused(rt.alloc(), row, text)?;
-        assert!(rt; same, "{text}");
+        let same = is_refused(&rt, rt.alloc(), row, text);
+        holds(&rt, same, text);
     }
-    Ok(())
 }
 
 #[test]
-fn options_of_a_bulk_write_are_judged_like_values_of_its_models(
-    rt: HostRuntime,
-) -> Result<(), Fail> {
+fn options_of_a_bulk_write_are_judged_like_values_of_its_models(rt: HostRuntime) {
     for (at, (set, flaw, given, ended)) in OPTIONS.iter().enumerate() {
-        let same = ends_with(rt.alloc(), *set, *flaw, *given, *ended)?;
-        assert!(rt; same, "row {at}");
+        let same = ends_with(&rt, rt.alloc(), *set, *flaw, *given, *ended);
+        holds_at(
+            &rt,
+            same,
+            "the end of a bulk write with an option that has a flaw",
+            at,
+        );
     }
-    Ok(())
 }
 
 #[test]
-fn ids_are_drawn_in_order_for_inserts_without_one(rt: HostRuntime) -> Result<(), Fail> {
-    let same = draws_in_order(rt.alloc())?;
-    assert!(rt; same);
-    Ok(())
+fn ids_are_drawn_in_order_for_inserts_without_one(rt: HostRuntime) {
+    let same = draws_in_order(&rt, rt.alloc());
+    holds(&rt, same, "the ids that were drawn");
 }
 
 #[test]
-fn each_model_tells_what_it_does_and_where(rt: HostRuntime) -> Result<(), Fail> {
+fn each_model_tells_what_it_does_and_where(rt: HostRuntime) {
     for (at, told) in TOLD.iter().enumerate() {
-        let same = tells_at(rt.alloc(), at, *told)?;
-        assert!(rt; same, "model {at}");
+        let same = tells_at(&rt, rt.alloc(), at, *told);
+        holds_at(&rt, same, "what a model tells", at);
     }
-    Ok(())
 }
 
 #[test]
-fn an_insert_of_a_collection_is_in_it_and_whole(rt: HostRuntime) -> Result<(), Fail> {
-    let same = insert_is_made(rt.alloc())?;
-    assert!(rt; same);
-    Ok(())
+fn an_insert_of_a_collection_is_in_it_and_whole(rt: HostRuntime) {
+    let same = insert_is_made(&rt, rt.alloc());
+    holds(&rt, same, "a collection's insert");
 }
 
 #[test]
-fn a_replacement_of_a_collection_is_in_it_and_has_no_option(rt: HostRuntime) -> Result<(), Fail> {
-    let same = replacement_is_made(rt.alloc())?;
-    assert!(rt; same);
-    Ok(())
+fn a_replacement_of_a_collection_is_in_it_and_has_no_option(rt: HostRuntime) {
+    let same = replacement_is_made(&rt, rt.alloc());
+    holds(&rt, same, "a collection's replacement");
 }

@@ -1,5 +1,6 @@
 //! Bulk writes as they are built: under limits of the connection how many ops go out, or why none does; the bytes of a
 //! command with all six models; and how a batch of these numbers its namespaces.
+use crate::asserting::{Made, holds, holds_at};
 use bson_lite::{Bson, Document, List, ObjectId, Text, TryClone};
 use bulk_actions::bulk_ops;
 use bulk_ops::BulkWriteOp;
@@ -11,8 +12,8 @@ use driver_ops::{Command, Operation, encode_document};
 use driver_options::{BulkWriteOptions, ClientOptions, Description, WriteModel};
 use driver_session::PlainStore;
 use memory_links::CountingIds;
-use std::alloc::{AllocError, Global};
-use std::test::Fail;
+use std::alloc::Global;
+use std::process::Abort;
 use test_parts::bulk_ends::let_go;
 use test_parts::bulk_models::{A_X, A_Z, B_Y, OPS, insert, is_op, named, number, ops_of, six};
 use test_parts::inserting::SERVER;
@@ -74,7 +75,7 @@ const BATCHES: &[Batch] = &[
 type Summed<'a> = BulkWriteOp<'a, SummaryBulkWriteResult>;
 
 /// Which server a build is for: its wire version, and its limits on a document, on a message and on a batch.
-#[derive(Clone, Copy, Debug)]
+#[derive(Clone, Copy)]
 struct Row {
     version: Option<i32>,
     bson: i64,
@@ -83,7 +84,7 @@ struct Row {
 }
 
 /// What a build comes to.
-#[derive(Clone, Copy, Debug)]
+#[derive(Clone, Copy)]
 enum Built {
     Takes(usize),
     /// An InvalidArgument with this text.
@@ -358,21 +359,23 @@ fn described(row: Row) -> Description {
 }
 
 /// `{_id: ObjectId, x: 1}`, of 29 bytes.
-fn document(alloc: Global) -> Result<Document, AllocError> {
+fn document(rt: &impl Abort, alloc: Global) -> Document {
     let mut document = Document::new(alloc);
-    document.push("_id", Bson::ObjectId(ObjectId { bytes: [7; 12] }))?;
-    document.push("x", Bson::Int32(1))?;
-    Ok(document)
+    document
+        .push("_id", Bson::ObjectId(ObjectId { bytes: [7; 12] }))
+        .made(rt);
+    document.push("x", Bson::Int32(1)).made(rt);
+    document
 }
 
 /// Eight inserts of it into `gen.a`, of which the batch has the last three.
-fn eight(alloc: Global) -> Result<List<WriteModel>, AllocError> {
+fn eight(rt: &impl Abort, alloc: Global) -> List<WriteModel> {
     let mut models = List::new(alloc);
     for _ in 0..8 {
-        let to = named(alloc, "gen", "a")?;
-        models.push(insert(alloc, to, document(alloc)?))?;
+        let to = named(alloc, "gen", "a").made(rt);
+        models.push(insert(alloc, to, document(rt, alloc))).made(rt);
     }
-    Ok(models)
+    models
 }
 
 /// How many ops a command has in its second sequence.
@@ -411,13 +414,17 @@ fn builds(alloc: Global, op: &mut Summed<'_>, row: Row, built: Built) -> bool {
     }
 }
 
-/// The first of these that a build of one bulk write does not come to, one after the other; no answer where there is
-/// no memory.
-fn wrong_build(alloc: Global, rows: &[(Row, Built)]) -> Option<Option<(Row, Built)>> {
-    let models = eight(alloc).ok()?;
+/// The first of these that a build of one bulk write does not come to, one after the other; no answer where the
+/// ops are not spelled.
+fn wrong_build(
+    rt: &impl Abort,
+    alloc: Global,
+    rows: &[(Row, Built)],
+) -> Option<Option<(Row, Built)>> {
+    let models = eight(rt, alloc);
     let ops = ops_of(alloc, &models)?;
     let options = BulkWriteOptions::default();
-    let mut op: Summed<'_> = BulkWriteOp::new(alloc, ops.as_slice(), 5, &options).ok()?;
+    let mut op: Summed<'_> = BulkWriteOp::new(alloc, ops.as_slice(), 5, &options).made(rt);
     let mut wrong = None;
     for (row, built) in rows {
         if !builds(alloc, &mut op, *row, *built) && wrong.is_none() {
@@ -432,17 +439,17 @@ fn wrong_build(alloc: Global, rows: &[(Row, Built)]) -> Option<Option<(Row, Buil
 }
 
 /// Whether the insert of `{x: 1}` into `gen.a` alone, with the id that is drawn for it, comes to this.
-fn one_builds(alloc: Global, message: i64, built: Built) -> Option<bool> {
-    let to = named(alloc, "gen", "a").ok()?;
-    let document = number(alloc, "x", 1).ok()?;
+fn one_builds(rt: &impl Abort, alloc: Global, message: i64, built: Built) -> bool {
+    let to = named(alloc, "gen", "a").made(rt);
+    let document = number(alloc, "x", 1).made(rt);
     let mut models = List::new(alloc);
-    models.push(insert(alloc, to, document)).ok()?;
+    models.push(insert(alloc, to, document)).made(rt);
     let options = BulkWriteOptions::default();
     let store = PlainStore::new(alloc, CountingIds::new());
     let mut client = Client::new(ClientOptions::default(), store);
     let same = match bulk_ops(alloc, &mut client, models.as_slice(), &options) {
         Ok(ops) => {
-            let mut op: Summed<'_> = BulkWriteOp::new(alloc, ops.as_slice(), 0, &options).ok()?;
+            let mut op: Summed<'_> = BulkWriteOp::new(alloc, ops.as_slice(), 0, &options).made(rt);
             let row = Row {
                 version: Some(25),
                 bson: 1,
@@ -461,7 +468,7 @@ fn one_builds(alloc: Global, message: i64, built: Built) -> Option<bool> {
     };
     drop(options);
     drop(models);
-    Some(same)
+    same
 }
 
 /// Whether a sequence has this name and these documents.
@@ -503,31 +510,32 @@ fn has_body(alloc: Global, command: &Command, body: &[u8]) -> bool {
 }
 
 /// All options set that a body has, as a copy, which is the same.
-fn all_options(alloc: Global) -> Result<BulkWriteOptions, AllocError> {
-    let comment = Text::from_str(alloc, "c")?;
+fn all_options(rt: &impl Abort, alloc: Global) -> BulkWriteOptions {
+    let comment = Text::from_str(alloc, "c").made(rt);
     let given = BulkWriteOptions {
         ordered: Some(false),
         bypass_document_validation: Some(true),
         comment: Some(Bson::String(comment)),
         write_concern: None,
-        let_vars: Some(number(alloc, "v", 1)?),
+        let_vars: Some(number(alloc, "v", 1).made(rt)),
     };
-    let copy = given.try_clone(alloc);
+    let copy = given.try_clone(alloc).made(rt);
     drop(given);
     copy
 }
 
 /// Whether copies of the six models are built with this body, on `admin`, for results of a kind.
 fn six_are_built<R: BulkWriteResult>(
+    rt: &impl Abort,
     alloc: Global,
     options: &BulkWriteOptions,
     body: &[u8],
 ) -> Option<bool> {
-    let given = six(alloc).ok()?;
-    let models = given.try_clone(alloc).ok()?;
+    let given = six(alloc).made(rt);
+    let models = given.try_clone(alloc).made(rt);
     drop(given);
     let ops = ops_of(alloc, &models)?;
-    let mut op: BulkWriteOp<'_, R> = BulkWriteOp::new(alloc, ops.as_slice(), 0, options).ok()?;
+    let mut op: BulkWriteOp<'_, R> = BulkWriteOp::new(alloc, ops.as_slice(), 0, options).made(rt);
     let same = match op.build(alloc, &SERVER) {
         Ok(command) => {
             let same = command.database.as_str() == "admin"
@@ -590,11 +598,13 @@ fn is_numbered(alloc: Global, op: &mut Summed<'_>, batch: Batch) -> bool {
 }
 
 /// Whether the ops of the six models from a batch's first on are built so.
-fn batch_is_numbered(alloc: Global, batch: Batch) -> Option<bool> {
-    let models = six(alloc).ok()?;
+fn batch_is_numbered(rt: &impl Abort, alloc: Global, batch: Batch) -> Option<bool> {
+    let models = six(alloc).made(rt);
     let ops = ops_of(alloc, &models)?;
     let options = BulkWriteOptions::default();
-    let mut op: Summed<'_> = BulkWriteOp::new(alloc, ops.as_slice(), batch.first, &options).ok()?;
+    let mut op: Summed<'_> = BulkWriteOp::new(alloc, ops.as_slice(), batch.first, &options).made(
+        rt,
+    );
     let same = is_numbered(alloc, &mut op, batch);
     drop(op);
     drop(options);
@@ -604,49 +614,56 @@ fn batch_is_numbered(alloc: Global, batch: Batch) -> Option<bool> {
 }
 
 #[test]
-fn a_first_build_takes_the_longest_front(rt: HostRuntime) -> Result<(), Fail> {
-    for row in BUILDS {
-        let same = matches!(wrong_build(rt.alloc(), &[*row]), Some(None));
-        assert!(rt; same, "{row:?}");
+fn a_first_build_takes_the_longest_front(rt: HostRuntime) {
+    for (at, row) in BUILDS.iter().enumerate() {
+        let same = matches!(wrong_build(&rt, rt.alloc(), &[*row]), Some(None));
+        holds_at(&rt, same, "a first build", at);
     }
-    Ok(())
 }
 
 #[test]
-fn one_insert_goes_out_where_a_message_has_room(rt: HostRuntime) -> Result<(), Fail> {
+fn one_insert_goes_out_where_a_message_has_room(rt: HostRuntime) {
     let refused = Built::TooLarge("operation at index 0 exceeds the maximum size");
-    assert!(rt; one_builds(rt.alloc(), 1118, Built::Takes(1)) == Some(true));
-    assert!(rt; one_builds(rt.alloc(), 1117, refused) == Some(true));
-    Ok(())
+    holds(
+        &rt,
+        one_builds(&rt, rt.alloc(), 1118, Built::Takes(1)),
+        "room for one insert",
+    );
+    holds(
+        &rt,
+        one_builds(&rt, rt.alloc(), 1117, refused),
+        "a byte less",
+    );
 }
 
 #[test]
-fn later_builds_take_as_many_ops(rt: HostRuntime) -> Result<(), Fail> {
-    let wrong = wrong_build(rt.alloc(), LATER);
-    assert!(rt; matches!(wrong, Some(None)), "{wrong:?}");
-    Ok(())
+fn later_builds_take_as_many_ops(rt: HostRuntime) {
+    let wrong = wrong_build(&rt, rt.alloc(), LATER);
+    holds(&rt, matches!(wrong, Some(None)), "later builds");
 }
 
 #[test]
-fn all_six_models_over_three_namespaces_are_spelled(rt: HostRuntime) -> Result<(), Fail> {
+fn all_six_models_over_three_namespaces_are_spelled(rt: HostRuntime) {
     let plain = BulkWriteOptions::default();
-    let summary = six_are_built::<SummaryBulkWriteResult>(rt.alloc(), &plain, BODY) == Some(true);
-    assert!(rt; summary);
+    let summary = six_are_built::<SummaryBulkWriteResult>(&rt, rt.alloc(), &plain, BODY)
+        == Some(true);
+    holds(&rt, summary, "the six models for counts alone");
     drop(plain);
-    let options = all_options(rt.alloc())?;
-    let verbose = six_are_built::<VerboseBulkWriteResult>(rt.alloc(), &options, WHOLE_BODY)
+    let options = all_options(&rt, rt.alloc());
+    let verbose = six_are_built::<VerboseBulkWriteResult>(&rt, rt.alloc(), &options, WHOLE_BODY)
         == Some(true);
     drop(options);
-    assert!(rt; verbose);
-    Ok(())
+    holds(
+        &rt,
+        verbose,
+        "the six models with each option, for all results",
+    );
 }
 
 #[test]
-fn each_batch_numbers_the_namespaces_of_its_own_ops(rt: HostRuntime) -> Result<(), Fail> {
-    for batch in BATCHES {
-        let same = batch_is_numbered(rt.alloc(), *batch) == Some(true);
-        let (first, most) = (batch.first, batch.most);
-        assert!(rt; same, "at most {most} from model {first} on");
+fn each_batch_numbers_the_namespaces_of_its_own_ops(rt: HostRuntime) {
+    for (at, batch) in BATCHES.iter().enumerate() {
+        let same = batch_is_numbered(&rt, rt.alloc(), *batch) == Some(true);
+        holds_at(&rt, same, "the numbers of a batch", at);
     }
-    Ok(())
 }

@@ -1,7 +1,8 @@
 //! Lists of models of random kinds, namespaces and lengths, cut batch by batch under limits that let few ops in: no
 //! other cut into runs that fit has fewer batches. What a run takes is counted from the layout of the op documents,
 //! by lengths written by hand.
-use bson_lite::{Bson, Document, List, Namespace, Text};
+use crate::asserting::{Made, alike};
+use bson_lite::{Bson, Document, List, Text};
 use bulk_fronts::OwnOp;
 use bulk_ops::BulkWriteOp;
 use driver_error::SummaryBulkWriteResult;
@@ -12,8 +13,8 @@ use driver_options::{
 };
 use rand_core::{Rng, SeedableRng};
 use rand_pcg::Pcg32;
-use std::alloc::{AllocError, Global};
-use std::test::Fail;
+use std::alloc::Global;
+use std::process::Abort;
 use test_parts::bulk_ends::let_go;
 use test_parts::bulk_models::{around, insert, named, number, ops_of};
 use test_parts::inserting::SERVER;
@@ -139,68 +140,57 @@ fn drawn_model(words: &mut Pcg32) -> Drawn {
 }
 
 /// A list of random models.
-fn drawn_list(alloc: Global, seed: u64) -> Result<Vec<Drawn>, AllocError> {
+fn drawn_list(rt: &impl Abort, alloc: Global, seed: u64) -> Vec<Drawn> {
     let mut words = Pcg32::seed_from_u64(seed);
     let mut list = Vec::new(alloc);
     for _ in 0..MODELS {
-        list.push(drawn_model(&mut words))?;
+        list.push(drawn_model(&mut words)).made(rt);
     }
-    Ok(list)
+    list
 }
 
 /// `{_id: text}`
-fn identified(alloc: Global, text: &str) -> Result<Document, AllocError> {
-    let text = Text::from_str(alloc, text)?;
+fn identified(rt: &impl Abort, alloc: Global, text: &str) -> Document {
+    let text = Text::from_str(alloc, text).made(rt);
     let mut document = Document::new(alloc);
-    document.push("_id", Bson::String(text))?;
-    Ok(document)
+    document.push("_id", Bson::String(text)).made(rt);
+    document
 }
 
 /// `{$set: {n: 1}}`
-fn operators(alloc: Global) -> Result<UpdateModifications, AllocError> {
-    let set = around(alloc, "$set", number(alloc, "n", 1)?)?;
-    Ok(UpdateModifications::from(set))
-}
-
-/// An update of one document by operators.
-fn update_one(alloc: Global, to: Namespace, filter: Document) -> Result<WriteModel, AllocError> {
-    let update = operators(alloc)?;
-    Ok(WriteModel::from(UpdateOneModel::new(to, filter, update)))
-}
-
-/// The same of all documents found.
-fn update_many(alloc: Global, to: Namespace, filter: Document) -> Result<WriteModel, AllocError> {
-    let update = operators(alloc)?;
-    Ok(WriteModel::from(UpdateManyModel::new(to, filter, update)))
-}
-
-/// A replacement by `{n: 1}`.
-fn replace_one(alloc: Global, to: Namespace, filter: Document) -> Result<WriteModel, AllocError> {
-    let replacement = number(alloc, "n", 1)?;
-    Ok(WriteModel::from(ReplaceOneModel::new(to, filter, replacement)))
+fn operators(rt: &impl Abort, alloc: Global) -> UpdateModifications {
+    let set = around(alloc, "$set", number(alloc, "n", 1).made(rt)).made(rt);
+    UpdateModifications::from(set)
 }
 
 /// The model that was drawn.
-fn model(alloc: Global, drawn: Drawn) -> Result<WriteModel, AllocError> {
-    let to = named(alloc, "gen", drawn.collection.text)?;
-    let document = identified(alloc, drawn.text.text)?;
+fn model(rt: &impl Abort, alloc: Global, drawn: Drawn) -> WriteModel {
+    let to = named(alloc, "gen", drawn.collection.text).made(rt);
+    let document = identified(rt, alloc, drawn.text.text);
     match drawn.kind {
-        Kind::Insert => Ok(insert(alloc, to, document)),
-        Kind::UpdateOne => update_one(alloc, to, document),
-        Kind::UpdateMany => update_many(alloc, to, document),
-        Kind::ReplaceOne => replace_one(alloc, to, document),
-        Kind::DeleteOne => Ok(WriteModel::from(DeleteOneModel::new(to, document))),
-        Kind::DeleteMany => Ok(WriteModel::from(DeleteManyModel::new(to, document))),
+        Kind::Insert => insert(alloc, to, document),
+        Kind::UpdateOne => {
+            WriteModel::from(UpdateOneModel::new(to, document, operators(rt, alloc)))
+        }
+        Kind::UpdateMany => {
+            WriteModel::from(UpdateManyModel::new(to, document, operators(rt, alloc)))
+        }
+        Kind::ReplaceOne => {
+            let replacement = number(alloc, "n", 1).made(rt);
+            WriteModel::from(ReplaceOneModel::new(to, document, replacement))
+        }
+        Kind::DeleteOne => WriteModel::from(DeleteOneModel::new(to, document)),
+        Kind::DeleteMany => WriteModel::from(DeleteManyModel::new(to, document)),
     }
 }
 
 /// The models of a list.
-fn models(alloc: Global, list: &[Drawn]) -> Result<List<WriteModel>, AllocError> {
-    let mut models = List::with_capacity(alloc, list.len())?;
+fn models(rt: &impl Abort, alloc: Global, list: &[Drawn]) -> List<WriteModel> {
+    let mut models = List::with_capacity(alloc, list.len()).made(rt);
     for drawn in list {
-        models.push(model(alloc, *drawn)?)?;
+        models.push(model(rt, alloc, *drawn)).made(rt);
     }
-    Ok(models)
+    models
 }
 
 /// The bytes of a model's op beside those of its text, by the layout.
@@ -249,9 +239,9 @@ fn fits(list: &[Drawn], from: usize, to: usize, room: Room) -> bool {
 }
 
 /// The fewest runs that fit, over all cuts of the list, by the fewest of each front.
-fn fewest(alloc: Global, list: &[Drawn], room: Room) -> Result<usize, AllocError> {
+fn fewest(rt: &impl Abort, alloc: Global, list: &[Drawn], room: Room) -> usize {
     let mut best: Vec<usize> = Vec::new(alloc);
-    best.push(0)?;
+    best.push(0).made(rt);
     let mut last = 0;
     for to in 1..list.len().saturating_add(1) {
         last = usize::MAX;
@@ -261,9 +251,9 @@ fn fewest(alloc: Global, list: &[Drawn], room: Room) -> Result<usize, AllocError
                 last = last.min(before.saturating_add(1));
             }
         }
-        best.push(last)?;
+        best.push(last).made(rt);
     }
-    Ok(last)
+    last
 }
 
 /// A server that lets so much out together.
@@ -276,14 +266,14 @@ fn server(room: Room) -> Description {
 }
 
 /// How many ops from a place on a build takes, or none where it takes none.
-fn taken(alloc: Global, ops: &[OwnOp], from: usize, room: Room) -> Option<usize> {
+fn taken(rt: &impl Abort, alloc: Global, ops: &[OwnOp], from: usize, room: Room) -> Option<usize> {
     if ops.len() <= from {
         return None;
     }
     let options = BulkWriteOptions::default();
     let mut op: BulkWriteOp<'_, SummaryBulkWriteResult> = BulkWriteOp::new(
         alloc, ops, from, &options,
-    ).ok()?;
+    ).made(rt);
     match op.build(alloc, &server(room)) {
         Ok(command) => {
             drop(command);
@@ -297,12 +287,12 @@ fn taken(alloc: Global, ops: &[OwnOp], from: usize, room: Room) -> Option<usize>
 }
 
 /// How many batches cutting the longest front again and again gives, or none where it gets stuck.
-fn batches(alloc: Global, ops: &[OwnOp], room: Room) -> Option<usize> {
+fn batches(rt: &impl Abort, alloc: Global, ops: &[OwnOp], room: Room) -> Option<usize> {
     let mut at: usize = 0;
     let mut count = 0;
     for batch in 0..ops.len() {
         if at < ops.len() {
-            at = at.saturating_add(taken(alloc, ops, at, room)?);
+            at = at.saturating_add(taken(rt, alloc, ops, at, room)?);
             count = batch.saturating_add(1);
         }
     }
@@ -319,14 +309,20 @@ fn widest(list: &[Drawn]) -> usize {
 }
 
 /// Whether the ops of a list are cut into the fewest batches where so much goes out together.
-fn is_cut_in(alloc: Global, list: &[Drawn], ops: &[OwnOp], room: Room) -> Option<bool> {
-    let fewest = fewest(alloc, list, room).ok()?;
-    Some(batches(alloc, ops, room) == Some(fewest))
+fn is_cut_in(rt: &impl Abort, alloc: Global, list: &[Drawn], ops: &[OwnOp], room: Room) -> bool {
+    let fewest = fewest(rt, alloc, list, room);
+    batches(rt, alloc, ops, room) == Some(fewest)
 }
 
 /// The same under a batch limit and under message limits that let the first one to five ops just in, or one of them
 /// just not.
-fn fronts_are_cut(alloc: Global, list: &[Drawn], ops: &[OwnOp], most: usize) -> Option<bool> {
+fn fronts_are_cut(
+    rt: &impl Abort,
+    alloc: Global,
+    list: &[Drawn],
+    ops: &[OwnOp],
+    most: usize,
+) -> bool {
     let mut all = true;
     for front in 1..6 {
         let bytes = cost(list, 0, front);
@@ -338,20 +334,20 @@ fn fronts_are_cut(alloc: Global, list: &[Drawn], ops: &[OwnOp], most: usize) -> 
             ops: most,
             bytes: widest(list).max(bytes.saturating_sub(1)),
         };
-        all = is_cut_in(alloc, list, ops, just)? && all;
-        all = is_cut_in(alloc, list, ops, just_not)? && all;
+        all = is_cut_in(rt, alloc, list, ops, just) && all;
+        all = is_cut_in(rt, alloc, list, ops, just_not) && all;
     }
-    Some(all)
+    all
 }
 
 /// Whether a list is cut into the fewest batches, under batch limits of 1 to 5.
-fn is_cut(alloc: Global, seed: u64) -> Option<bool> {
-    let list = drawn_list(alloc, seed).ok()?;
-    let models = models(alloc, list.as_slice()).ok()?;
+fn is_cut(rt: &impl Abort, alloc: Global, seed: u64) -> Option<bool> {
+    let list = drawn_list(rt, alloc, seed);
+    let models = models(rt, alloc, list.as_slice());
     let ops = ops_of(alloc, &models)?;
     let mut all = ops.len() == MODELS;
     for most in 1..6 {
-        all = fronts_are_cut(alloc, list.as_slice(), ops.as_slice(), most)? && all;
+        all = fronts_are_cut(rt, alloc, list.as_slice(), ops.as_slice(), most) && all;
     }
     drop(ops);
     drop(models);
@@ -360,24 +356,24 @@ fn is_cut(alloc: Global, seed: u64) -> Option<bool> {
 }
 
 /// Whether the op at a place goes out where there is just room for it and its namespace, and not in a byte less.
-fn is_measured(alloc: Global, list: &[Drawn], ops: &[OwnOp], at: usize) -> bool {
+fn is_measured(rt: &impl Abort, alloc: Global, list: &[Drawn], ops: &[OwnOp], at: usize) -> bool {
     let bytes = cost(list, at, at.saturating_add(1));
     let just = Room { ops: 1, bytes };
     let just_not = Room {
         ops: 1,
         bytes: bytes.saturating_sub(1),
     };
-    taken(alloc, ops, at, just) == Some(1) && taken(alloc, ops, at, just_not).is_none()
+    taken(rt, alloc, ops, at, just) == Some(1) && taken(rt, alloc, ops, at, just_not).is_none()
 }
 
 /// Whether each op of a list does.
-fn are_measured(alloc: Global, seed: u64) -> Option<bool> {
-    let list = drawn_list(alloc, seed).ok()?;
-    let models = models(alloc, list.as_slice()).ok()?;
+fn are_measured(rt: &impl Abort, alloc: Global, seed: u64) -> Option<bool> {
+    let list = drawn_list(rt, alloc, seed);
+    let models = models(rt, alloc, list.as_slice());
     let ops = ops_of(alloc, &models)?;
     let mut all = true;
     for at in 0..MODELS {
-        all = is_measured(alloc, list.as_slice(), ops.as_slice(), at) && all;
+        all = is_measured(rt, alloc, list.as_slice(), ops.as_slice(), at) && all;
     }
     drop(ops);
     drop(models);
@@ -386,19 +382,22 @@ fn are_measured(alloc: Global, seed: u64) -> Option<bool> {
 }
 
 #[test]
-fn no_cut_of_random_models_has_fewer_batches(rt: HostRuntime) -> Result<(), Fail> {
+fn no_cut_of_random_models_has_fewer_batches(rt: HostRuntime) {
     for seed in 0..LISTS {
-        let same = is_cut(rt.alloc(), seed) == Some(true);
-        assert!(rt; same, "list {seed}");
+        let same = is_cut(&rt, rt.alloc(), seed) == Some(true);
+        alike(
+            &rt,
+            (seed, same),
+            (seed, true),
+            "the fewest batches of a list",
+        );
     }
-    Ok(())
 }
 
 #[test]
-fn an_op_goes_out_alone_where_just_it_has_room(rt: HostRuntime) -> Result<(), Fail> {
+fn an_op_goes_out_alone_where_just_it_has_room(rt: HostRuntime) {
     for seed in 0..LISTS {
-        let same = are_measured(rt.alloc(), seed) == Some(true);
-        assert!(rt; same, "list {seed}");
+        let same = are_measured(&rt, rt.alloc(), seed) == Some(true);
+        alike(&rt, (seed, same), (seed, true), "each op of a list alone");
     }
-    Ok(())
 }

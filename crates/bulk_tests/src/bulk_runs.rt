@@ -2,14 +2,15 @@
 //! byte; and which entries stand.
 ghost use Rattle.driver_link.specs.WellFormed.{IsWellFormed};
 
+use crate::asserting::{Made, holds, holds_at};
 use bson_lite::List;
 use driver_error::{IoKind, Result, SummaryBulkWriteResult};
 use driver_link::{Frame, Schedule, Server, WriteKind};
 use driver_options::Description;
 use memory_links::FakeLink;
 use model_server::{ModelServer, USUAL_SETUP};
-use std::alloc::{AllocError, Global};
-use std::test::Fail;
+use std::alloc::Global;
+use std::process::Abort;
 use test_parts::bulk_ends::let_go;
 use test_parts::bulk_models::{A_X, A_Z, B_Y, OPS, is_op, six};
 use test_parts::bulk_runs::{Kind, executed_from, models_of};
@@ -255,32 +256,28 @@ fn has_frames(link: &FakeLink, count: usize) -> bool {
 }
 
 /// A link to a server, whose exchanges answer so.
-fn linked(
-    alloc: Global,
-    server: Description,
-    given: &[Given],
-) -> std::result::Result<FakeLink, AllocError> {
+fn linked(rt: &impl Abort, alloc: Global, server: Description, given: &[Given]) -> FakeLink {
     let servers = Servers {
         first: server,
         further: server,
     };
-    fake_link(alloc, servers, given)
+    fake_link(alloc, servers, given).made(rt)
 }
 
 /// Whether a row ends as it says.
-fn ends(alloc: Global, row: Row) -> std::result::Result<bool, AllocError> {
+fn ends(rt: &impl Abort, alloc: Global, row: Row) -> bool {
     let server = Description {
         max_wire_version: Some(row.version),
         max_write_batch_size: row.batch,
         ..SERVER
     };
-    let link = linked(alloc, server, row.given)?;
-    let models = models_of(alloc, row.models)?;
+    let link = linked(rt, alloc, server, row.given);
+    let models = models_of(alloc, row.models).made(rt);
     let (result, link) = executed_from(alloc, link, models.as_slice(), row.first, row.forbidden);
     let sent = has_frames(&link, row.frames);
     drop(link);
     drop(models);
-    Ok(ended(result) == row.ended && sent)
+    ended(result) == row.ended && sent
 }
 
 /// Whether a sequence of a frame has this name, and so many documents.
@@ -338,14 +335,14 @@ fn is_framed(frame: &Frame, body: &[u8], framed: Framed) -> bool {
 }
 
 /// Whether a batch of the six models is done after one frame, which is this one.
-fn sends(alloc: Global, framed: Framed) -> std::result::Result<bool, AllocError> {
+fn sends(rt: &impl Abort, alloc: Global, framed: Framed) -> bool {
     let server = Description {
         max_write_batch_size: framed.batch,
         ..SERVER
     };
-    let body = joined(alloc, framed.body)?;
-    let link = linked(alloc, server, &[Given::Reply(TWO_INSERTED)])?;
-    let mut models = six(alloc)?;
+    let body = joined(alloc, framed.body).made(rt);
+    let link = linked(rt, alloc, server, &[Given::Reply(TWO_INSERTED)]);
+    let mut models = six(alloc).made(rt);
     models.truncate(framed.models);
     let (result, link) = executed_from(alloc, link, models.as_slice(), framed.first, false);
     let sent = match link.frames() {
@@ -354,7 +351,7 @@ fn sends(alloc: Global, framed: Framed) -> std::result::Result<bool, AllocError>
     };
     drop(link);
     drop(models);
-    Ok(ended(result) == Ended::Done && sent)
+    ended(result) == Ended::Done && sent
 }
 
 /// A schedule by which each exchange is served and no call fails.
@@ -380,8 +377,8 @@ fn has_entry(server: &Server, at: usize, kind: WriteKind) -> bool {
 }
 
 /// Whether an insert, an update of all and a delete over a model server stand in its log, and are counted.
-fn stands(alloc: Global) -> std::result::Result<bool, AllocError> {
-    let models = models_of(alloc, &[Kind::Insert, Kind::UpdateMany, Kind::DeleteOne])?;
+fn stands(rt: &impl Abort, alloc: Global) -> bool {
+    let models = models_of(alloc, &[Kind::Insert, Kind::UpdateMany, Kind::DeleteOne]).made(rt);
     let link = ModelServer::new(alloc, USUAL_SETUP, all_served(alloc));
     let (result, link) = executed_from(alloc, link, models.as_slice(), 0, false);
     let stand = link.server().log.len() == 3
@@ -403,36 +400,27 @@ fn stands(alloc: Global) -> std::result::Result<bool, AllocError> {
             false
         }
     };
-    Ok(stand && counted)
+    stand && counted
 }
 
 #[test]
-fn a_bulk_write_is_sent_again_where_it_may_be(rt: HostRuntime) -> std::result::Result<(), Fail> {
+fn a_bulk_write_is_sent_again_where_it_may_be(rt: HostRuntime) {
     for row in ROWS {
-        let shows = row.shows;
-        let same = ends(rt.alloc(), *row)?;
-        assert!(rt; same, "{shows}");
+        let same = ends(&rt, rt.alloc(), *row);
+        holds(&rt, same, row.shows);
     }
-    Ok(())
 }
 
 #[test]
-fn a_batch_goes_out_as_one_frame_of_namespaces_and_ops(
-    rt: HostRuntime,
-) -> std::result::Result<(), Fail> {
-    for framed in FRAMES {
-        let same = sends(rt.alloc(), *framed)?;
-        let (models, first) = (framed.models, framed.first);
-        assert!(rt; same, "from {first} on of {models}");
+fn a_batch_goes_out_as_one_frame_of_namespaces_and_ops(rt: HostRuntime) {
+    for (at, framed) in FRAMES.iter().enumerate() {
+        let same = sends(&rt, rt.alloc(), *framed);
+        holds_at(&rt, same, "the frame of a batch", at);
     }
-    Ok(())
 }
 
 #[test]
-fn the_writes_of_a_bulk_write_stand_at_their_places(
-    rt: HostRuntime,
-) -> std::result::Result<(), Fail> {
-    let stands = stands(rt.alloc())?;
-    assert!(rt; stands);
-    Ok(())
+fn the_writes_of_a_bulk_write_stand_at_their_places(rt: HostRuntime) {
+    let stands = stands(&rt, rt.alloc());
+    holds(&rt, stands, "the entries of a bulk write and its counts");
 }

@@ -4,6 +4,8 @@
 #![tactic(auto)]
 
 #[cfg(test)]
+mod asserting;
+#[cfg(test)]
 mod bulk_builds;
 #[cfg(test)]
 mod bulk_cuts;

@@ -1,9 +1,10 @@
 //! The first document of the cursor in a reply, form by form.
+use crate::asserting::{Made, alike};
 use bson_lite::{Bson, Document, List};
 use driver_error::ErrorKind;
 use driver_ops::SingleCursorResult;
-use std::alloc::{AllocError, Global};
-use std::test::Fail;
+use std::alloc::Global;
+use std::process::Abort;
 use test_parts::bulk_ends::let_go;
 use test_parts::bulk_models::number;
 
@@ -46,40 +47,46 @@ const ROWS: &[(Given, Found)] = &[
 ];
 
 /// The documents of a page.
-fn page(alloc: Global, given: Given) -> Result<List<Bson>, AllocError> {
+fn page(rt: &impl Abort, alloc: Global, given: Given) -> List<Bson> {
     let mut values = List::new(alloc);
     match given {
         Given::First => {
-            values.push(Bson::Document(number(alloc, "a", 1)?))?;
-            values.push(Bson::Int32(7))?;
+            values
+                .push(Bson::Document(number(alloc, "a", 1).made(rt)))
+                .made(rt);
+            values.push(Bson::Int32(7)).made(rt);
         }
         Given::Second => {
-            values.push(Bson::Int32(7))?;
-            values.push(Bson::Document(number(alloc, "a", 1)?))?;
+            values.push(Bson::Int32(7)).made(rt);
+            values
+                .push(Bson::Document(number(alloc, "a", 1).made(rt)))
+                .made(rt);
         }
         _ => {}
     }
-    Ok(values)
+    values
 }
 
 /// A reply with this cursor.
-fn reply(alloc: Global, given: Given) -> Result<Document, AllocError> {
+fn reply(rt: &impl Abort, alloc: Global, given: Given) -> Document {
     let mut cursor = Document::new(alloc);
     match given {
-        Given::Missing => return Ok(cursor),
-        Given::Number => return number(alloc, "cursor", 7),
+        Given::Missing => return cursor,
+        Given::Number => return number(alloc, "cursor", 7).made(rt),
         Given::Bare => {}
-        Given::NoArray => cursor.push("firstBatch", Bson::Int32(7))?,
-        _ => cursor.push("firstBatch", Bson::Array(page(alloc, given)?))?,
+        Given::NoArray => cursor.push("firstBatch", Bson::Int32(7)).made(rt),
+        _ => cursor
+            .push("firstBatch", Bson::Array(page(rt, alloc, given)))
+            .made(rt),
     }
     let mut reply = Document::new(alloc);
-    reply.push("cursor", Bson::Document(cursor))?;
-    Ok(reply)
+    reply.push("cursor", Bson::Document(cursor)).made(rt);
+    reply
 }
 
 /// What a reply comes to.
-fn found_in(alloc: Global, given: Given) -> Result<Found, AllocError> {
-    let reply = reply(alloc, given)?;
+fn found_in(rt: &impl Abort, alloc: Global, given: Given) -> Found {
+    let reply = reply(rt, alloc, given);
     let found = match SingleCursorResult::from_reply(alloc, &reply) {
         Ok(SingleCursorResult { first: None }) => Found::None,
         Ok(SingleCursorResult { first: Some(first) }) => match first.get("a") {
@@ -96,14 +103,18 @@ fn found_in(alloc: Global, given: Given) -> Result<Found, AllocError> {
         }
     };
     drop(reply);
-    Ok(found)
+    found
 }
 
 #[test]
-fn the_first_document_of_a_cursor_is_taken(rt: HostRuntime) -> Result<(), Fail> {
+fn the_first_document_of_a_cursor_is_taken(rt: HostRuntime) {
     for (at, (given, wanted)) in ROWS.iter().enumerate() {
-        let found = found_in(rt.alloc(), *given)?;
-        assert!(rt; found == *wanted, "row {at}");
+        let found = found_in(&rt, rt.alloc(), *given);
+        alike(
+            &rt,
+            (at, found),
+            (at, *wanted),
+            "the first document of a cursor, by its row",
+        );
     }
-    Ok(())
 }

@@ -1,4 +1,5 @@
 //! What no clause shows: that a call succeeds with ample memory, over a link whose replies a test chooses.
+use crate::asserting::{Made, alike, holds};
 use bson_lite::{Bson, Bytes, Document, EncodeFault, List, Namespace, Text, TryClone};
 use call_runs::{CallRun, run_calls};
 use driver_attempt::{Client, Outside};
@@ -10,8 +11,8 @@ use driver_session::PlainStore;
 use memory_links::{CountingIds, MemClock};
 use rand_core::SeedableRng;
 use rand_pcg::Pcg32;
-use std::alloc::{AllocError, Global};
-use std::test::Fail;
+use std::alloc::Global;
+use std::process::Abort;
 use test_parts::inserting::SERVER;
 
 /// A link that gives one reply to each exchange, whatever is sent.
@@ -104,41 +105,41 @@ impl Link for OneReply {
 const DONE: &[u8] = b"\x14\0\0\0\x10ok\0\x01\0\0\0\x10n\0\x01\0\0\0\0";
 
 /// The document `{x: 1}`.
-fn small(alloc: Global) -> Result<Document, AllocError> {
+fn small(rt: &impl Abort, alloc: Global) -> Document {
     let mut document = Document::new(alloc);
-    document.push("x", Bson::Int32(1))?;
-    Ok(document)
+    document.push("x", Bson::Int32(1)).made(rt);
+    document
 }
 
 /// A document that nests so many levels deep, itself counting one.
-fn nested(alloc: Global, levels: usize) -> Result<Document, AllocError> {
+fn nested(rt: &impl Abort, alloc: Global, levels: usize) -> Document {
     let mut document = Document::new(alloc);
     for _ in 1..levels {
         let mut outer = Document::new(alloc);
-        outer.push("d", Bson::Document(document))?;
+        outer.push("d", Bson::Document(document)).made(rt);
         document = outer;
     }
-    Ok(document)
+    document
 }
 
 /// An insert of a document.
-fn insert(alloc: Global, document: Document) -> Result<Call, AllocError> {
+fn insert(rt: &impl Abort, alloc: Global, document: Document) -> Call {
     let namespace = Namespace {
-        db: Text::from_str(alloc, "shop")?,
-        coll: Text::from_str(alloc, "items")?,
+        db: Text::from_str(alloc, "shop").made(rt),
+        coll: Text::from_str(alloc, "items").made(rt),
     };
-    Ok(Call::Single {
+    Call::Single {
         write: SingleWrite::InsertOne {
             namespace,
             document,
             options: InsertManyOptions::default(),
         },
-    })
+    }
 }
 
 /// The insert of `{x: 1}`.
-fn small_insert(alloc: Global) -> Result<Call, AllocError> {
-    insert(alloc, small(alloc)?)
+fn small_insert(rt: &impl Abort, alloc: Global) -> Call {
+    insert(rt, alloc, small(rt, alloc))
 }
 
 /// A client that has done nothing.
@@ -153,65 +154,63 @@ fn new_client(alloc: Global) -> Client<PlainStore<CountingIds>> {
 }
 
 /// The outside with a link that gives this reply. Its clock moves on by one each time it is read.
-fn new_outside(
-    alloc: Global,
-    reply: &[u8],
-) -> Result<Outside<OneReply, MemClock, Pcg32>, AllocError> {
+fn new_outside(rt: &impl Abort, alloc: Global, reply: &[u8]) -> Outside<OneReply, MemClock, Pcg32> {
     let link = OneReply {
-        reply: Bytes::from_slice(alloc, reply)?,
+        reply: Bytes::from_slice(alloc, reply).made(rt),
         answered: List::new(alloc),
     };
-    Ok(Outside {
+    Outside {
         link,
         clock: MemClock::new(0, 1),
         words: Pcg32::seed_from_u64(1),
         call: 0,
-    })
+    }
 }
 
 /// The outcomes of one insert of a document over a link with this reply.
 fn outcomes_over(
+    rt: &impl Abort,
     alloc: Global,
     reply: &[u8],
     document: Document,
-) -> Result<List<Outcome>, AllocError> {
-    let calls = [insert(alloc, document)?];
-    let mut outside = new_outside(alloc, reply)?;
+) -> List<Outcome> {
+    let calls = [insert(rt, alloc, document)];
+    let mut outside = new_outside(rt, alloc, reply);
     let mut client = new_client(alloc);
-    run_calls(alloc, &mut client, &mut outside, &calls)
+    run_calls(alloc, &mut client, &mut outside, &calls).made(rt)
 }
 
 /// Two inserts of `{x: 1}`.
-fn two_inserts(alloc: Global) -> Result<List<Call>, AllocError> {
-    let mut calls = List::with_capacity(alloc, 2)?;
-    calls.push(small_insert(alloc)?)?;
-    calls.push(small_insert(alloc)?)?;
-    Ok(calls)
+fn two_inserts(rt: &impl Abort, alloc: Global) -> List<Call> {
+    let mut calls = List::with_capacity(alloc, 2).made(rt);
+    calls.push(small_insert(rt, alloc)).made(rt);
+    calls.push(small_insert(rt, alloc)).made(rt);
+    calls
 }
 
 /// The outcomes of two inserts that are made as one list.
-fn outcomes_at_once(alloc: Global) -> Result<List<Outcome>, AllocError> {
-    let mut outside = new_outside(alloc, DONE)?;
+fn outcomes_at_once(rt: &impl Abort, alloc: Global) -> List<Outcome> {
+    let mut outside = new_outside(rt, alloc, DONE);
     let mut client = new_client(alloc);
-    let calls = two_inserts(alloc)?;
+    let calls = two_inserts(rt, alloc);
     let outcomes = run_calls(alloc, &mut client, &mut outside, calls.as_slice());
     drop(calls);
-    outcomes
+    outcomes.made(rt)
 }
 
 /// The outcomes of the same inserts, the second of which comes into the list once the first was made.
-fn outcomes_one_by_one(alloc: Global) -> Result<List<Outcome>, AllocError> {
-    let mut calls = Vec::with_capacity(alloc, 2)?;
-    let first = small_insert(alloc)?;
-    let second = small_insert(alloc)?;
-    let mut outside = new_outside(alloc, DONE)?;
+fn outcomes_one_by_one(rt: &impl Abort, alloc: Global) -> List<Outcome> {
+    let mut calls = Vec::with_capacity(alloc, 2).made(rt);
+    let first = small_insert(rt, alloc);
+    let second = small_insert(rt, alloc);
+    let mut outside = new_outside(rt, alloc, DONE);
     let mut client = new_client(alloc);
-    let mut run = CallRun::begin(alloc, 2)?;
+    let mut run = CallRun::begin(alloc, 2).made(rt);
     calls.push_reserved(first);
     run.make(alloc, &mut client, &mut outside, calls.as_slice());
     calls.push_reserved(second);
     run.make(alloc, &mut client, &mut outside, calls.as_slice());
-    Ok(run.finish(&mut client, &mut outside, calls.as_slice()))
+    run.finish(&mut client, &mut outside, calls.as_slice())
 }
 
 /// The last byte of the object id that an outcome tells.
@@ -278,82 +277,87 @@ fn is_taken(outcomes: &List<Outcome>) -> Option<bool> {
 }
 
 /// Whether an insert is Ok over a link with this reply, or else an invalid response.
-fn taken_over(alloc: Global, reply: &[u8]) -> Result<Option<bool>, AllocError> {
-    let outcomes = outcomes_over(alloc, reply, small(alloc)?)?;
+fn taken_over(rt: &impl Abort, alloc: Global, reply: &[u8]) -> Option<bool> {
+    let outcomes = outcomes_over(rt, alloc, reply, small(rt, alloc));
     let taken = is_taken(&outcomes);
     drop(outcomes);
-    Ok(taken)
+    taken
 }
 
 /// Whether the insert of a document of so many levels is refused as too deep, or else is Ok.
-fn too_deep_at(alloc: Global, levels: usize) -> Result<Option<bool>, AllocError> {
-    let outcomes = outcomes_over(alloc, DONE, nested(alloc, levels)?)?;
+fn too_deep_at(rt: &impl Abort, alloc: Global, levels: usize) -> Option<bool> {
+    let outcomes = outcomes_over(rt, alloc, DONE, nested(rt, alloc, levels));
     let refused = is_too_deep(&outcomes);
     drop(outcomes);
-    Ok(refused)
+    refused
 }
 
+/// Replies by what they are, and whether an insert is Ok after each.
+const REPLIES: &[(&str, &[u8], bool)] = &[
+    ("{ok: 1, n: 1}", DONE, true),
+    (
+        "the same as int64s",
+        b"\x1c\0\0\0\x12ok\0\x01\0\0\0\0\0\0\0\x12n\0\x01\0\0\0\0\0\0\0\0",
+        true,
+    ),
+    (
+        "the same as doubles",
+        b"\x1c\0\0\0\x01ok\0\0\0\0\0\0\0\xf0\x3f\x01n\0\0\0\0\0\0\0\xf0\x3f\0",
+        true,
+    ),
+    (
+        "{ok: 1, n: 0}",
+        b"\x14\0\0\0\x10ok\0\x01\0\0\0\x10n\0\0\0\0\0\0",
+        false,
+    ),
+    (
+        "{ok: 0, n: 1}",
+        b"\x14\0\0\0\x10ok\0\0\0\0\0\x10n\0\x01\0\0\0\0",
+        false,
+    ),
+    ("{ok: 1}", b"\x0d\0\0\0\x10ok\0\x01\0\0\0\0", false),
+    ("no bytes", b"", false),
+    ("no document", b"nonsense", false),
+];
+
 #[test]
-fn an_insert_is_ok_only_after_a_reply_that_says_so(rt: HostRuntime) -> Result<(), Fail> {
+fn an_insert_is_ok_only_after_a_reply_that_says_so(rt: HostRuntime) {
     let alloc = rt.alloc();
-    let table: [(&str, &[u8], bool); 8] = [
-        ("{ok: 1, n: 1}", DONE, true),
-        (
-            "the same as int64s",
-            b"\x1c\0\0\0\x12ok\0\x01\0\0\0\0\0\0\0\x12n\0\x01\0\0\0\0\0\0\0\0",
-            true,
-        ),
-        (
-            "the same as doubles",
-            b"\x1c\0\0\0\x01ok\0\0\0\0\0\0\0\xf0\x3f\x01n\0\0\0\0\0\0\0\xf0\x3f\0",
-            true,
-        ),
-        (
-            "{ok: 1, n: 0}",
-            b"\x14\0\0\0\x10ok\0\x01\0\0\0\x10n\0\0\0\0\0\0",
-            false,
-        ),
-        (
-            "{ok: 0, n: 1}",
-            b"\x14\0\0\0\x10ok\0\0\0\0\0\x10n\0\x01\0\0\0\0",
-            false,
-        ),
-        ("{ok: 1}", b"\x0d\0\0\0\x10ok\0\x01\0\0\0\0", false),
-        ("no bytes", b"", false),
-        ("no document", b"nonsense", false),
-    ];
-    for (text, reply, taken) in table {
-        let found = taken_over(alloc, reply)?;
-        assert_eq!(rt; found, Some(taken), "of {text}");
+    for (text, reply, taken) in REPLIES {
+        alike(&rt, taken_over(&rt, alloc, reply), Some(*taken), text);
     }
-    Ok(())
 }
 
+/// How many levels a document nests, and whether it is refused for them.
+const LEVELS: &[(usize, bool)] = &[(1, false), (96, false), (97, true), (101, true)];
+
 #[test]
-fn a_callers_document_nests_at_most_96_levels(rt: HostRuntime) -> Result<(), Fail> {
+fn a_callers_document_nests_at_most_96_levels(rt: HostRuntime) {
     let alloc = rt.alloc();
-    for (levels, refused) in [(1, false), (96, false), (97, true), (101, true)] {
-        let found = too_deep_at(alloc, levels)?;
-        assert_eq!(rt; found, Some(refused), "of {levels} levels");
+    for (levels, refused) in LEVELS {
+        alike(
+            &rt,
+            (*levels, too_deep_at(&rt, alloc, *levels)),
+            (*levels, Some(*refused)),
+            "how many levels a document nests, and whether it is refused",
+        );
     }
-    Ok(())
 }
 
 #[test]
-fn calls_may_come_into_the_list_between_two(rt: HostRuntime) -> Result<(), Fail> {
-    let at_once = outcomes_at_once(rt.alloc())?;
-    let one_by_one = outcomes_one_by_one(rt.alloc())?;
+fn calls_may_come_into_the_list_between_two(rt: HostRuntime) {
+    let at_once = outcomes_at_once(&rt, rt.alloc());
+    let one_by_one = outcomes_one_by_one(&rt, rt.alloc());
     let same = are_same(&at_once, &one_by_one);
-    assert!(rt; same);
-    Ok(())
+    holds(&rt, same, "the same outcomes at once and one by one");
 }
 
 /// The error of a fault that came with one label.
-fn labelled_fault(alloc: Global) -> Result<Error, AllocError> {
+fn labelled_fault(rt: &impl Abort, alloc: Global) -> Error {
     let mut labels = List::new(alloc);
-    labels.push(Text::from_str(alloc, "told")?)?;
+    labels.push(Text::from_str(alloc, "told").made(rt)).made(rt);
     let fault = LinkFault::Io(IoKind::BrokenPipe);
-    Ok(Error::from(LinkError::Fault { fault, labels }))
+    Error::from(LinkError::Fault { fault, labels })
 }
 
 /// Whether it is the error of that fault, with that label and not the one of a retryable write.
@@ -364,10 +368,9 @@ fn is_labelled(error: &Error) -> bool {
 }
 
 #[test]
-fn a_fault_becomes_an_error_with_its_labels(rt: HostRuntime) -> Result<(), Fail> {
-    let error = labelled_fault(rt.alloc())?;
+fn a_fault_becomes_an_error_with_its_labels(rt: HostRuntime) {
+    let error = labelled_fault(&rt, rt.alloc());
     let labelled = is_labelled(&error);
     drop(error);
-    assert!(rt; labelled);
-    Ok(())
+    holds(&rt, labelled, "the error of a fault with one label");
 }

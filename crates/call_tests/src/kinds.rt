@@ -3,9 +3,10 @@
 //! the entry that tells its answer, and a send without a number goes out once at most. Behind its items a schedule
 //! serves, so the shorter schedules are among these; and two that differ only in items that no send meets are one
 //! run.
-ghost use Rattle.std.specs.Prelude.{IfOk};
 ghost use Rattle.driver_link.specs.WellFormed.{IsWellFormed};
 
+use crate::asserting;
+use crate::asserting::Made;
 use crate::meeting::{Meets, items};
 use crate::schedules::{deliver, order, orders, times};
 use bson_lite::{Bson, Document, List, Text};
@@ -20,7 +21,8 @@ use memory_links::{CountingIds, MemClock};
 use model_server::{ModelServer, USUAL_SETUP};
 use rand_core::SeedableRng;
 use rand_pcg::Pcg32;
-use std::alloc::{AllocError, Global};
+use std::alloc::Global;
+use std::process::Abort;
 use test_parts::writes::{Concern, KINDS, Kind, number, operators, usual, write_of};
 
 /// So many schedules of three items there are, each with a code of three digits.
@@ -51,22 +53,22 @@ fn meets(digit: u64) -> Meets {
 }
 
 /// The schedule of a code, whose first digit is what the first exchange meets.
-fn schedule(alloc: Global, tried: Tried) -> Result<Schedule, AllocError>
-    ensures { IfOk result IsWellFormed }
+fn schedule(rt: &impl Abort, alloc: Global, tried: Tried) -> Schedule
+    ensures { IsWellFormed result }
 {
     let met = [
         meets(tried.code / 100 % 10),
         meets(tried.code / 10 % 10),
         meets(tried.code % 10),
     ];
-    Ok(Schedule {
-        items: items(alloc, &met)?,
+    Schedule {
+        items: items(rt, alloc, &met),
         selects: List::new(alloc),
         check_outs: List::new(alloc),
         overloaded_check_outs: List::new(alloc),
         reauthentications: List::new(alloc),
         supports: List::new(alloc),
-    })
+    }
 }
 
 /// The options of the client: writes are sent again where that is not forbidden.
@@ -80,17 +82,17 @@ fn options(tried: Tried) -> ClientOptions {
 }
 
 /// The one call of the kind.
-fn calls(alloc: Global, kind: Kind) -> Result<List<Call>, AllocError> {
-    let mut calls = List::with_capacity(alloc, 1)?;
-    let write = write_of(alloc, usual(kind), Concern::Unset)?;
-    calls.push(Call::Single { write })?;
-    Ok(calls)
+fn calls(rt: &impl Abort, alloc: Global, kind: Kind) -> List<Call> {
+    let mut calls = List::with_capacity(alloc, 1).made(rt);
+    let write = write_of(alloc, usual(kind), Concern::Unset).made(rt);
+    calls.push(Call::Single { write }).made(rt);
+    calls
 }
 
 /// The outcomes of the call, and the server after it.
-fn run(alloc: Global, tried: Tried) -> Result<(List<Outcome>, ModelServer), AllocError> {
-    let calls = calls(alloc, tried.kind)?;
-    let schedule = schedule(alloc, tried)?;
+fn run(rt: &impl Abort, alloc: Global, tried: Tried) -> (List<Outcome>, ModelServer) {
+    let calls = calls(rt, alloc, tried.kind);
+    let schedule = schedule(rt, alloc, tried);
     let mut client = Client::new(options(tried), PlainStore::new(alloc, CountingIds::new()));
     let mut outside = Outside {
         link: ModelServer::new(alloc, USUAL_SETUP, schedule),
@@ -107,64 +109,64 @@ fn run(alloc: Global, tried: Tried) -> Result<(List<Outcome>, ModelServer), Allo
         words: _,
         call: _,
     } = outside;
-    match ran {
-        Ok(outcomes) => Ok((outcomes, link)),
-        Err(AllocError) => {
-            drop(link);
-            Err(AllocError)
-        }
-    }
+    (ran.made(rt), link)
 }
 
 /// The statement of an update: `{q: {x: 1}, u: CHANGE}`, and `multi: true` where it changes all.
-fn update_statement(alloc: Global, change: Document, multi: bool) -> Result<Document, AllocError> {
+fn update_statement(rt: &impl Abort, alloc: Global, change: Document, multi: bool) -> Document {
     let mut statement = Document::new(alloc);
-    statement.push("q", Bson::Document(number(alloc, "x", 1)?))?;
-    statement.push("u", Bson::Document(change))?;
+    statement
+        .push("q", Bson::Document(number(alloc, "x", 1).made(rt)))
+        .made(rt);
+    statement.push("u", Bson::Document(change)).made(rt);
     if multi {
-        statement.push("multi", Bson::Boolean(true))?;
+        statement.push("multi", Bson::Boolean(true)).made(rt);
     }
-    Ok(statement)
+    statement
 }
 
 /// The statement of a delete: `{q: {x: 1}, limit: LIMIT}`.
-fn delete_statement(alloc: Global, limit: i32) -> Result<Document, AllocError> {
+fn delete_statement(rt: &impl Abort, alloc: Global, limit: i32) -> Document {
     let mut statement = Document::new(alloc);
-    statement.push("q", Bson::Document(number(alloc, "x", 1)?))?;
-    statement.push("limit", Bson::Int32(limit))?;
-    Ok(statement)
+    statement
+        .push("q", Bson::Document(number(alloc, "x", 1).made(rt)))
+        .made(rt);
+    statement.push("limit", Bson::Int32(limit)).made(rt);
+    statement
 }
 
 /// The body of a findAndModify: `{findAndModify: "items", query: {x: 1}, update: CHANGE}`, or `remove: true` where
 /// there is no change.
-fn find_body(alloc: Global, change: Option<Document>) -> Result<Document, AllocError> {
+fn find_body(rt: &impl Abort, alloc: Global, change: Option<Document>) -> Document {
     let mut body = Document::new(alloc);
     body.push(
         "findAndModify",
-        Bson::String(Text::from_str(alloc, "items")?),
-    )?;
-    body.push("query", Bson::Document(number(alloc, "x", 1)?))?;
+        Bson::String(Text::from_str(alloc, "items").made(rt)),
+    )
+    .made(rt);
+    body.push("query", Bson::Document(number(alloc, "x", 1).made(rt)))
+        .made(rt);
     match change {
-        Some(change) => body.push("update", Bson::Document(change))?,
-        None => body.push("remove", Bson::Boolean(true))?,
+        Some(change) => body.push("update", Bson::Document(change)).made(rt),
+        None => body.push("remove", Bson::Boolean(true)).made(rt),
     }
-    Ok(body)
+    body
 }
 
 /// What a server is given of a kind: its statement, the body of a findAndModify, or the caller's document, which has
 /// no id yet.
-fn given(alloc: Global, kind: Kind) -> Result<Document, AllocError> {
-    let set = number(alloc, "y", 2)?;
+fn given(rt: &impl Abort, alloc: Global, kind: Kind) -> Document {
+    let set = number(alloc, "y", 2).made(rt);
     match kind {
-        Kind::InsertOne => Ok(set),
-        Kind::UpdateOne => update_statement(alloc, operators(alloc, set)?, false),
-        Kind::UpdateMany => update_statement(alloc, operators(alloc, set)?, true),
-        Kind::ReplaceOne => update_statement(alloc, set, false),
-        Kind::DeleteOne => delete_statement(alloc, 1),
-        Kind::DeleteMany => delete_statement(alloc, 0),
-        Kind::FindOneAndDelete => find_body(alloc, None),
-        Kind::FindOneAndUpdate => find_body(alloc, Some(operators(alloc, set)?)),
-        Kind::FindOneAndReplace => find_body(alloc, Some(set)),
+        Kind::InsertOne => set,
+        Kind::UpdateOne => update_statement(rt, alloc, operators(alloc, set).made(rt), false),
+        Kind::UpdateMany => update_statement(rt, alloc, operators(alloc, set).made(rt), true),
+        Kind::ReplaceOne => update_statement(rt, alloc, set, false),
+        Kind::DeleteOne => delete_statement(rt, alloc, 1),
+        Kind::DeleteMany => delete_statement(rt, alloc, 0),
+        Kind::FindOneAndDelete => find_body(rt, alloc, None),
+        Kind::FindOneAndUpdate => find_body(rt, alloc, Some(operators(alloc, set).made(rt))),
+        Kind::FindOneAndReplace => find_body(rt, alloc, Some(set)),
     }
 }
 
@@ -328,27 +330,18 @@ fn is_sent(trace: &[Send], numbered: bool) -> bool {
 
 /// Whether a server and the outcomes hold what a write is to keep.
 fn holds(
+    rt: &impl Abort,
     alloc: Global,
     server: &Server,
     tried: Tried,
     outcomes: &[Outcome],
-) -> Result<bool, AllocError> {
-    let given = given(alloc, tried.kind)?;
+) -> bool {
+    let given = given(rt, alloc, tried.kind);
     let sound = is_sound(server.log.as_slice(), tried.kind, &given);
     drop(given);
-    Ok(
-        sound
-            && has_ended(server.log.as_slice(), tried, outcomes)
-            && is_sent(server.trace.as_slice(), is_numbered(tried)),
-    )
-}
-
-/// The same, or false where there is no memory.
-fn is_well(alloc: Global, server: &Server, tried: Tried, outcomes: &[Outcome]) -> bool {
-    match holds(alloc, server, tried, outcomes) {
-        Ok(well) => well,
-        Err(AllocError) => false,
-    }
+    sound
+        && has_ended(server.log.as_slice(), tried, outcomes)
+        && is_sent(server.trace.as_slice(), is_numbered(tried))
 }
 
 /// How many sends a write made, and how many of them wait.
@@ -359,11 +352,9 @@ struct Sends {
 }
 
 /// The sends of a schedule that holds before late deliveries.
-fn first_sends(alloc: Global, tried: Tried) -> Option<Sends> {
-    let Ok((outcomes, server)) = run(alloc, tried) else {
-        return None;
-    };
-    let well = is_well(alloc, server.server(), tried, outcomes.as_slice());
+fn first_sends(rt: &impl Abort, alloc: Global, tried: Tried) -> Option<Sends> {
+    let (outcomes, server) = run(rt, alloc, tried);
+    let well = holds(rt, alloc, server.server(), tried, outcomes.as_slice());
     let sends = Sends {
         made: server.server().trace.len() as u64,
         waiting: server.server().waiting.len() as u64,
@@ -374,27 +365,23 @@ fn first_sends(alloc: Global, tried: Tried) -> Option<Sends> {
 }
 
 /// Whether a schedule holds after the late deliveries of an order.
-fn order_holds(alloc: Global, tried: Tried, picks: &[u64]) -> bool {
-    let Ok((outcomes, mut server)) = run(alloc, tried) else {
-        return false;
-    };
+fn order_holds(rt: &impl Abort, alloc: Global, tried: Tried, picks: &[u64]) -> bool {
+    let (outcomes, mut server) = run(rt, alloc, tried);
     let well = deliver(&mut server, alloc, picks)
-        && is_well(alloc, server.server(), tried, outcomes.as_slice());
+        && holds(rt, alloc, server.server(), tried, outcomes.as_slice());
     drop(outcomes);
     drop(server);
     well
 }
 
 /// Whether a schedule holds after each order of so many late deliveries.
-fn orders_hold(alloc: Global, tried: Tried, waiting: u64) -> bool {
+fn orders_hold(rt: &impl Abort, alloc: Global, tried: Tried, waiting: u64) -> bool {
     let Some(orders) = orders(waiting) else {
         return false;
     };
     for number in 0..orders {
-        let Ok(picks) = order(alloc, number, waiting) else {
-            return false;
-        };
-        if !order_holds(alloc, tried, picks.as_slice()) {
+        let picks = order(rt, alloc, number, waiting);
+        if !order_holds(rt, alloc, tried, picks.as_slice()) {
             return false;
         }
     }
@@ -402,9 +389,9 @@ fn orders_hold(alloc: Global, tried: Tried, waiting: u64) -> bool {
 }
 
 /// How many sends a schedule makes that holds before late deliveries and after each order of them.
-fn sends_held(alloc: Global, tried: Tried) -> Option<u64> {
-    let sends = first_sends(alloc, tried)?;
-    if sends.waiting == 0 || orders_hold(alloc, tried, sends.waiting) {
+fn sends_held(rt: &impl Abort, alloc: Global, tried: Tried) -> Option<u64> {
+    let sends = first_sends(rt, alloc, tried)?;
+    if sends.waiting == 0 || orders_hold(rt, alloc, tried, sends.waiting) {
         return Some(sends.made);
     }
     None
@@ -422,7 +409,7 @@ fn alike(sends: u64) -> u64 {
 
 /// The number of the first schedule that does not hold. After a run the next one is the first whose items differ
 /// where that run met them.
-fn first_wrong(alloc: Global, kind: Kind, retries: bool) -> Option<u64> {
+fn first_wrong(rt: &impl Abort, alloc: Global, kind: Kind, retries: bool) -> Option<u64> {
     let mut next = 0;
     for code in 0..SCHEDULES {
         if code < next {
@@ -433,7 +420,7 @@ fn first_wrong(alloc: Global, kind: Kind, retries: bool) -> Option<u64> {
             retries,
             code,
         };
-        let Some(sends) = sends_held(alloc, tried) else {
+        let Some(sends) = sends_held(rt, alloc, tried) else {
             return Some(code);
         };
         next = code.saturating_add(alike(sends));
@@ -444,13 +431,23 @@ fn first_wrong(alloc: Global, kind: Kind, retries: bool) -> Option<u64> {
 #[test]
 fn a_write_of_each_kind_stands_once(rt: HostRuntime) {
     for kind in KINDS {
-        assert_eq!(rt; first_wrong(rt.alloc(), *kind, true), None, "{kind:?}");
+        asserting::alike(
+            &rt,
+            (*kind, first_wrong(&rt, rt.alloc(), *kind, true)),
+            (*kind, None),
+            "a kind that may be sent again, and the first schedule that does not hold",
+        );
     }
 }
 
 #[test]
 fn a_write_that_may_not_be_sent_again_goes_out_once(rt: HostRuntime) {
     for kind in KINDS {
-        assert_eq!(rt; first_wrong(rt.alloc(), *kind, false), None, "{kind:?}");
+        asserting::alike(
+            &rt,
+            (*kind, first_wrong(&rt, rt.alloc(), *kind, false)),
+            (*kind, None),
+            "a kind that may not be sent again, and the first schedule that does not hold",
+        );
     }
 }

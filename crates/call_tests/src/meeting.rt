@@ -1,11 +1,13 @@
 //! What the exchanges of a row meet at a model server, as the items of a schedule.
-ghost use Rattle.std.specs.Prelude.{All, IfOk};
+ghost use Rattle.std.specs.Prelude.{All};
 ghost use Rattle.driver_link.specs.WellFormed.{IsItem};
 
+use crate::asserting::Made;
 use bson_lite::{List, Text};
 use driver_error::{NO_WRITES_PERFORMED, RETRYABLE_WRITE_ERROR};
 use driver_link::{Item, Scheduled};
-use std::alloc::{AllocError, Global};
+use std::alloc::Global;
+use std::process::Abort;
 
 /// An item of a schedule.
 #[derive(Clone, Copy)]
@@ -35,23 +37,23 @@ pub(crate) enum Meets {
 }
 
 /// A list of labels.
-fn labels(alloc: Global, texts: &[&str]) -> Result<List<Text>, AllocError> {
+fn labels(rt: &impl Abort, alloc: Global, texts: &[&str]) -> List<Text> {
     let mut labels = List::new(alloc);
     for text in texts {
-        labels.push(Text::from_str(alloc, text)?)?;
+        labels.push(Text::from_str(alloc, text).made(rt)).made(rt);
     }
-    Ok(labels)
+    labels
 }
 
 /// The labels of what an exchange meets.
-fn labels_of(alloc: Global, meets: Meets) -> Result<List<Text>, AllocError> {
+fn labels_of(rt: &impl Abort, alloc: Global, meets: Meets) -> List<Text> {
     match meets {
         Meets::InterruptedAfterOne
         | Meets::InterruptedBefore
         | Meets::InterruptedAtOnce
-        | Meets::RefusedForNow => labels(alloc, &[RETRYABLE_WRITE_ERROR]),
-        Meets::RefusedUnwritten => labels(alloc, &[RETRYABLE_WRITE_ERROR, NO_WRITES_PERFORMED]),
-        _ => Ok(List::new(alloc)),
+        | Meets::RefusedForNow => labels(rt, alloc, &[RETRYABLE_WRITE_ERROR]),
+        Meets::RefusedUnwritten => labels(rt, alloc, &[RETRYABLE_WRITE_ERROR, NO_WRITES_PERFORMED]),
+        _ => List::new(alloc),
     }
 }
 
@@ -79,11 +81,11 @@ fn interrupted(after: u64, labels: List<Text>) -> Item
 }
 
 /// The item of what an exchange meets.
-fn item(alloc: Global, meets: Meets) -> Result<Item, AllocError>
-    ensures { IfOk result IsItem }
+fn item(rt: &impl Abort, alloc: Global, meets: Meets) -> Item
+    ensures { IsItem result }
 {
-    let labels = labels_of(alloc, meets)?;
-    Ok(match meets {
+    let labels = labels_of(rt, alloc, meets);
+    match meets {
         Meets::Served => served(alloc),
         Meets::Lost => Item::Lost,
         Meets::Late => Item::Late,
@@ -104,19 +106,21 @@ fn item(alloc: Global, meets: Meets) -> Result<Item, AllocError>
             code: 10107,
             labels,
         },
-    })
+    }
 }
 
 /// The items of what exchanges meet, one after the other.
-pub(crate) fn items(alloc: Global, meets: &[Meets]) -> Result<List<Scheduled>, AllocError>
-    ensures { IfOk result (λ steps. All (λ step. IsItem step.item) steps) }
+pub(crate) fn items(rt: &impl Abort, alloc: Global, meets: &[Meets]) -> List<Scheduled>
+    ensures { All (λ step. IsItem step.item) result }
 {
     let mut steps = List::new(alloc);
     'items: for one in meets {
-        steps.push(Scheduled {
-            deliver: List::new(alloc),
-            item: item(alloc, *one)?,
-        })?;
+        steps
+            .push(Scheduled {
+                deliver: List::new(alloc),
+                item: item(rt, alloc, *one),
+            })
+            .made(rt);
     }
-    Ok(steps)
+    steps
 }

@@ -1,10 +1,11 @@
 //! Single writes over a link that would answer each one: what is refused for its input or for its concern, before
 //! anything is sent and without labels, and what is sent beside it.
+use crate::asserting::{Made, holds, holds_at};
 use crate::calling::id_of;
 use bson_lite::List;
 use driver_inputs::{Call, Outcome};
-use std::alloc::{AllocError, Global};
-use std::test::Fail;
+use std::alloc::Global;
+use std::process::Abort;
 use test_parts::faking::{ALIKE, ANY_DONE, DONE, Given, fake_link, outcomes_over};
 use test_parts::inserting::{Ended, answered_under, how_ended, label_count, seen_end};
 use test_parts::writes::{
@@ -260,106 +261,105 @@ const CONCERNS: &[(Concern, Concern, Ended)] = &[
 /// Whether a write under its own concern and its client's ends so, without labels: it is sent once where it is
 /// done, and else not at all.
 fn ends(
+    rt: &impl Abort,
     alloc: Global,
     asked: Asked,
     own: Concern,
     client: Concern,
     ended: Ended,
-) -> Result<bool, AllocError> {
-    let link = fake_link(alloc, ALIKE, &[Given::Reply(ANY_DONE)])?;
-    let write = write_of(alloc, asked, own)?;
+) -> bool {
+    let link = fake_link(alloc, ALIKE, &[Given::Reply(ANY_DONE)]).made(rt);
+    let write = write_of(alloc, asked, own).made(rt);
     let (result, link) = answered_under(alloc, link, &write, write_concern(client));
     drop(write);
     let sent = link.frames().len();
     drop(link);
     let wanted = if ended == Ended::Done { 1 } else { 0 };
     match seen_end(alloc, result) {
-        Some(seen) => Ok(seen.ended == ended && seen.labels == 0 && sent == wanted),
-        None => Ok(false),
+        Some(seen) => seen.ended == ended && seen.labels == 0 && sent == wanted,
+        None => false,
     }
 }
 
 /// The same without a concern.
-fn ends_without(alloc: Global, asked: Asked, ended: Ended) -> Result<bool, AllocError> {
-    ends(alloc, asked, Concern::Unset, Concern::Unset, ended)
+fn ends_without(rt: &impl Abort, alloc: Global, asked: Asked, ended: Ended) -> bool {
+    ends(rt, alloc, asked, Concern::Unset, Concern::Unset, ended)
 }
 
 /// Whether a write with a dot in its database's name is refused for it.
-fn refuses_the_name(alloc: Global, kind: Kind) -> Result<bool, AllocError> {
+fn refuses_the_name(rt: &impl Abort, alloc: Global, kind: Kind) -> bool {
     let asked = Asked {
         dotted: true,
         ..usual(kind)
     };
-    ends_without(alloc, asked, Ended::Dotted)
+    ends_without(rt, alloc, asked, Ended::Dotted)
 }
 
 /// Whether a write with this change ends so.
-fn change_ends(
-    alloc: Global,
-    kind: Kind,
-    change: Change,
-    ended: Ended,
-) -> Result<bool, AllocError> {
+fn change_ends(rt: &impl Abort, alloc: Global, kind: Kind, change: Change, ended: Ended) -> bool {
     let asked = Asked {
         change,
         ..usual(kind)
     };
-    ends_without(alloc, asked, ended)
+    ends_without(rt, alloc, asked, ended)
 }
 
 /// Whether a write with a flaw in a part ends so.
 fn flaw_ends(
+    rt: &impl Abort,
     alloc: Global,
     row: (Kind, Change, Part),
     flaw: Flaw,
     ended: Ended,
-) -> Result<bool, AllocError> {
+) -> bool {
     let (kind, change, part) = row;
     let asked = Asked {
         change,
         odd: Some(Odd { part, flaw }),
         ..usual(kind)
     };
-    ends_without(alloc, asked, ended)
+    ends_without(rt, alloc, asked, ended)
 }
 
 /// The first part of the table that does not end so with a flaw.
 fn wrong_part(
+    rt: &impl Abort,
     alloc: Global,
     flaw: Flaw,
     ended: Ended,
-) -> Result<Option<(Kind, Change, Part)>, AllocError> {
+) -> Option<(Kind, Change, Part)> {
     for row in PARTS {
-        if !flaw_ends(alloc, *row, flaw, ended)? {
-            return Ok(Some(*row));
+        if !flaw_ends(rt, alloc, *row, flaw, ended) {
+            return Some(*row);
         }
     }
-    Ok(None)
+    None
 }
 
 /// The first kind that does not end so under these concerns.
 fn wrong_kind(
+    rt: &impl Abort,
     alloc: Global,
     own: Concern,
     client: Concern,
     ended: Ended,
-) -> Result<Option<Kind>, AllocError> {
+) -> Option<Kind> {
     for kind in KINDS {
-        if !ends(alloc, usual(*kind), own, client, ended)? {
-            return Ok(Some(*kind));
+        if !ends(rt, alloc, usual(*kind), own, client, ended) {
+            return Some(*kind);
         }
     }
-    Ok(None)
+    None
 }
 
 /// An insert that nobody acknowledges, and one that asks for nothing.
-fn two_inserts(alloc: Global) -> Result<List<Call>, AllocError> {
-    let mut calls = List::with_capacity(alloc, 2)?;
-    let write = write_of(alloc, usual(Kind::InsertOne), Concern::Nodes(0))?;
-    calls.push(Call::Single { write })?;
-    let write = write_of(alloc, usual(Kind::InsertOne), Concern::Unset)?;
-    calls.push(Call::Single { write })?;
-    Ok(calls)
+fn two_inserts(rt: &impl Abort, alloc: Global) -> List<Call> {
+    let mut calls = List::with_capacity(alloc, 2).made(rt);
+    let write = write_of(alloc, usual(Kind::InsertOne), Concern::Nodes(0)).made(rt);
+    calls.push(Call::Single { write }).made(rt);
+    let write = write_of(alloc, usual(Kind::InsertOne), Concern::Unset).made(rt);
+    calls.push(Call::Single { write }).made(rt);
+    calls
 }
 
 /// Whether an outcome is the refusal of a write that nobody acknowledges, without labels.
@@ -382,75 +382,80 @@ fn skips_one_id(alloc: Global, outcomes: &[Outcome]) -> bool {
 
 /// Whether the object id of an insert that is refused for its concern stays drawn, and the next insert alone is
 /// sent, with the next id.
-fn keeps_the_id_drawn(alloc: Global) -> Result<bool, AllocError> {
-    let link = fake_link(alloc, ALIKE, &[Given::Reply(DONE)])?;
-    let calls = two_inserts(alloc)?;
-    let (outcomes, sent) = outcomes_over(alloc, link, calls.as_slice())?;
+fn keeps_the_id_drawn(rt: &impl Abort, alloc: Global) -> bool {
+    let link = fake_link(alloc, ALIKE, &[Given::Reply(DONE)]).made(rt);
+    let calls = two_inserts(rt, alloc);
+    let (outcomes, sent) = outcomes_over(alloc, link, calls.as_slice()).made(rt);
     drop(calls);
     let skips = skips_one_id(alloc, outcomes.as_slice());
     drop(outcomes);
-    Ok(skips && sent == 1)
+    skips && sent == 1
 }
 
 #[test]
-fn a_database_with_a_dot_is_refused(rt: HostRuntime) -> Result<(), Fail> {
-    for kind in KINDS {
-        let refused = refuses_the_name(rt.alloc(), *kind)?;
-        assert!(rt; refused, "{kind:?}");
+fn a_database_with_a_dot_is_refused(rt: HostRuntime) {
+    for (at, kind) in KINDS.iter().enumerate() {
+        let refused = refuses_the_name(&rt, rt.alloc(), *kind);
+        holds_at(
+            &rt,
+            refused,
+            "a write of each kind is refused for its name",
+            at,
+        );
     }
-    Ok(())
 }
 
 #[test]
-fn an_update_begins_with_an_operator_and_a_replacement_does_not(
-    rt: HostRuntime,
-) -> Result<(), Fail> {
-    for (kind, change, ended) in CHANGES {
-        let ends = change_ends(rt.alloc(), *kind, *change, *ended)?;
-        assert!(rt; ends, "{kind:?} by {change:?} to end {ended:?}");
+fn an_update_begins_with_an_operator_and_a_replacement_does_not(rt: HostRuntime) {
+    for (at, (kind, change, ended)) in CHANGES.iter().enumerate() {
+        let ends = change_ends(&rt, rt.alloc(), *kind, *change, *ended);
+        holds_at(
+            &rt,
+            ends,
+            "how an update or a replacement ends by its change",
+            at,
+        );
     }
-    Ok(())
 }
 
 #[test]
-fn each_part_nests_at_most_96_levels_and_holds_no_zero_byte(rt: HostRuntime) -> Result<(), Fail> {
-    for (flaw, ended) in FLAWS {
-        let wrong = wrong_part(rt.alloc(), *flaw, *ended)?;
-        assert!(rt; wrong.is_none(), "{wrong:?} with {flaw:?} to end {ended:?}");
+fn each_part_nests_at_most_96_levels_and_holds_no_zero_byte(rt: HostRuntime) {
+    for (at, (flaw, ended)) in FLAWS.iter().enumerate() {
+        let wrong = wrong_part(&rt, rt.alloc(), *flaw, *ended);
+        holds_at(&rt, wrong.is_none(), "how each part with a flaw ends", at);
     }
-    Ok(())
 }
 
 #[test]
-fn faults_are_found_in_their_order(rt: HostRuntime) -> Result<(), Fail> {
-    for (asked, ended) in FIRST {
+fn faults_are_found_in_their_order(rt: HostRuntime) {
+    for (at, (asked, ended)) in FIRST.iter().enumerate() {
         let ends = ends(
+            &rt,
             rt.alloc(),
             *asked,
             Concern::Nodes(0),
             Concern::Unset,
             *ended,
-        )?;
-        assert!(rt; ends, "{asked:?} to end {ended:?}");
+        );
+        holds_at(&rt, ends, "which of two faults is told", at);
     }
-    Ok(())
 }
 
 #[test]
-fn a_writes_own_concern_counts_before_its_clients(rt: HostRuntime) -> Result<(), Fail> {
-    for (own, client, ended) in CONCERNS {
-        let wrong = wrong_kind(rt.alloc(), *own, *client, *ended)?;
-        assert!(rt;
+fn a_writes_own_concern_counts_before_its_clients(rt: HostRuntime) {
+    for (at, (own, client, ended)) in CONCERNS.iter().enumerate() {
+        let wrong = wrong_kind(&rt, rt.alloc(), *own, *client, *ended);
+        holds_at(
+            &rt,
             wrong.is_none(),
-            "{wrong:?} under {own:?} and {client:?} to end {ended:?}"
+            "how each kind ends under two concerns",
+            at,
         );
     }
-    Ok(())
 }
 
 #[test]
-fn an_id_that_was_drawn_for_a_refused_insert_stays_drawn(rt: HostRuntime) -> Result<(), Fail> {
-    let keeps = keeps_the_id_drawn(rt.alloc())?;
-    assert!(rt; keeps);
-    Ok(())
+fn an_id_that_was_drawn_for_a_refused_insert_stays_drawn(rt: HostRuntime) {
+    let keeps = keeps_the_id_drawn(&rt, rt.alloc());
+    holds(&rt, keeps, "the id of a refused insert stays drawn");
 }

@@ -1,13 +1,14 @@
 //! One insert over a model server, by what its schedule says.
-ghost use Rattle.std.specs.Prelude.{IfOk};
 ghost use Rattle.driver_link.specs.WellFormed.{IsWellFormed};
 
+use crate::asserting::{Made, alike};
 use crate::meeting::{Meets, items};
 use bson_lite::List;
 use driver_error::IoKind;
 use driver_link::{Schedule, Server};
 use model_server::{ModelServer, USUAL_SETUP};
-use std::alloc::{AllocError, Global};
+use std::alloc::Global;
+use std::process::Abort;
 use test_parts::inserting::{Ended, Seen, insert};
 
 /// What a row shows, its schedule, how the insert ends, whether its error has the label of a retryable write alone
@@ -106,25 +107,25 @@ const ROWS: [Row; 8] = [
     },
 ];
 
-fn numbers(alloc: Global, numbers: &[u64]) -> Result<List<u64>, AllocError> {
+fn numbers(rt: &impl Abort, alloc: Global, numbers: &[u64]) -> List<u64> {
     let mut list = List::new(alloc);
     for number in numbers {
-        list.push(*number)?;
+        list.push(*number).made(rt);
     }
-    Ok(list)
+    list
 }
 
-fn schedule(alloc: Global, row: &Row) -> Result<Schedule, AllocError>
-    ensures { IfOk result IsWellFormed }
+fn schedule(rt: &impl Abort, alloc: Global, row: &Row) -> Schedule
+    ensures { IsWellFormed result }
 {
-    Ok(Schedule {
-        items: items(alloc, row.meets)?,
-        selects: numbers(alloc, row.selects)?,
-        check_outs: numbers(alloc, row.check_outs)?,
+    Schedule {
+        items: items(rt, alloc, row.meets),
+        selects: numbers(rt, alloc, row.selects),
+        check_outs: numbers(rt, alloc, row.check_outs),
         overloaded_check_outs: List::new(alloc),
         reauthentications: List::new(alloc),
         supports: List::new(alloc),
-    })
+    }
 }
 
 /// Whether an insert ended as a row says.
@@ -152,19 +153,9 @@ fn is_left(server: &Server, row: &Row) -> bool {
     server.trace.len() == row.sends && server.log.len() == row.entries && is_resent(server)
 }
 
-/// The link of a row, or none where there is no memory.
-fn link(alloc: Global, row: &Row) -> Option<ModelServer> {
-    match schedule(alloc, row) {
-        Ok(schedule) => Some(ModelServer::new(alloc, USUAL_SETUP, schedule)),
-        Err(_refused) => None,
-    }
-}
-
 /// Whether the row's insert was made, and comes to what it says.
-fn shows(alloc: Global, row: &Row) -> bool {
-    let Some(link) = link(alloc, row) else {
-        return false;
-    };
+fn shows(rt: &impl Abort, alloc: Global, row: &Row) -> bool {
+    let link = ModelServer::new(alloc, USUAL_SETUP, schedule(rt, alloc, row));
     match insert(alloc, link) {
         Some((seen, link)) => is_ended(seen, row) && is_left(link.server(), row),
         None => false,
@@ -172,9 +163,9 @@ fn shows(alloc: Global, row: &Row) -> bool {
 }
 
 /// What the first row shows that is not as it says.
-fn first_wrong(alloc: Global, rows: &[Row]) -> Option<&'static str> {
+fn first_wrong(rt: &impl Abort, alloc: Global, rows: &[Row]) -> Option<&'static str> {
     for row in rows {
-        if !shows(alloc, row) {
+        if !shows(rt, alloc, row) {
             return Some(row.shows);
         }
     }
@@ -183,5 +174,10 @@ fn first_wrong(alloc: Global, rows: &[Row]) -> Option<&'static str> {
 
 #[test]
 fn an_insert_ends_as_its_schedule_says(rt: HostRuntime) {
-    assert_eq!(rt; first_wrong(rt.alloc(), &ROWS), None);
+    alike(
+        &rt,
+        first_wrong(&rt, rt.alloc(), &ROWS),
+        None,
+        "what the first row shows that is not as it says",
+    );
 }

@@ -1,8 +1,9 @@
 //! Every short schedule over a few inserts, with every order of late deliveries: no place stands twice, every
 //! entry is the caller's own, each Ok is done, and each error is that of a connection that was reset.
-ghost use Rattle.std.specs.Prelude.{All, IfOk};
+ghost use Rattle.std.specs.Prelude.{All};
 ghost use Rattle.driver_link.specs.WellFormed.{IsItem, IsWellFormed};
 
+use crate::asserting::{Made, alike};
 use bson_lite::{Bson, Document, List, Namespace, Text};
 use call_runs::run_calls;
 use driver_attempt::{Client, Outside};
@@ -15,7 +16,8 @@ use memory_links::{CountingIds, MemClock};
 use model_server::{ModelServer, USUAL_SETUP};
 use rand_core::SeedableRng;
 use rand_pcg::Pcg32;
-use std::alloc::{AllocError, Global};
+use std::alloc::Global;
+use std::process::Abort;
 
 /// So many items a schedule has, and so many schedules of that length there are.
 const LENGTHS: [(u64, u64); 5] = [(0, 1), (1, 4), (2, 16), (3, 64), (4, 256)];
@@ -38,68 +40,71 @@ fn item(alloc: Global, digit: u64) -> Item
 }
 
 /// The items of a number in base four, its last digit first.
-fn items(alloc: Global, code: u64, length: u64) -> Result<List<Scheduled>, AllocError>
-    ensures { IfOk result (λ steps. All (λ step. IsItem step.item) steps) }
+fn items(rt: &impl Abort, alloc: Global, code: u64, length: u64) -> List<Scheduled>
+    ensures { All (λ step. IsItem step.item) result }
 {
     let mut steps = List::new(alloc);
     let mut rest = code;
     'items: for _ in 0..length {
-        steps.push(Scheduled {
-            deliver: List::new(alloc),
-            item: item(alloc, rest % 4),
-        })?;
+        steps
+            .push(Scheduled {
+                deliver: List::new(alloc),
+                item: item(alloc, rest % 4),
+            })
+            .made(rt);
         rest /= 4;
     }
-    Ok(steps)
+    steps
 }
 
-fn schedule(alloc: Global, code: u64, length: u64) -> Result<Schedule, AllocError>
-    ensures { IfOk result IsWellFormed }
+fn schedule(rt: &impl Abort, alloc: Global, code: u64, length: u64) -> Schedule
+    ensures { IsWellFormed result }
 {
-    Ok(Schedule {
-        items: items(alloc, code, length)?,
+    Schedule {
+        items: items(rt, alloc, code, length),
         selects: List::new(alloc),
         check_outs: List::new(alloc),
         overloaded_check_outs: List::new(alloc),
         reauthentications: List::new(alloc),
         supports: List::new(alloc),
-    })
+    }
 }
 
 /// The insert of `{x: number}`.
-fn call(alloc: Global, number: i32) -> Result<Call, AllocError> {
+fn call(rt: &impl Abort, alloc: Global, number: i32) -> Call {
     let mut document = Document::new(alloc);
-    document.push("x", Bson::Int32(number))?;
+    document.push("x", Bson::Int32(number)).made(rt);
     let namespace = Namespace {
-        db: Text::from_str(alloc, "shop")?,
-        coll: Text::from_str(alloc, "items")?,
+        db: Text::from_str(alloc, "shop").made(rt),
+        coll: Text::from_str(alloc, "items").made(rt),
     };
-    Ok(Call::Single {
+    Call::Single {
         write: SingleWrite::InsertOne {
             namespace,
             document,
             options: InsertManyOptions::default(),
         },
-    })
+    }
 }
 
-pub(crate) fn calls(alloc: Global, count: i32) -> Result<List<Call>, AllocError> {
+pub(crate) fn calls(rt: &impl Abort, alloc: Global, count: i32) -> List<Call> {
     let mut calls = List::new(alloc);
     for number in 0..count {
-        calls.push(call(alloc, number)?)?;
+        calls.push(call(rt, alloc, number)).made(rt);
     }
-    Ok(calls)
+    calls
 }
 
 /// The outcomes of so many inserts under a schedule, and the server after them.
 fn run(
+    rt: &impl Abort,
     alloc: Global,
     count: i32,
     code: u64,
     length: u64,
-) -> Result<(List<Outcome>, ModelServer), AllocError> {
-    let calls = calls(alloc, count)?;
-    let schedule = schedule(alloc, code, length)?;
+) -> (List<Outcome>, ModelServer) {
+    let calls = calls(rt, alloc, count);
+    let schedule = schedule(rt, alloc, code, length);
     let options = ClientOptions {
         client_number: 1,
         retry_writes: None,
@@ -122,13 +127,7 @@ fn run(
         words: _,
         call: _,
     } = outside;
-    match ran {
-        Ok(outcomes) => Ok((outcomes, link)),
-        Err(AllocError) => {
-            drop(link);
-            Err(AllocError)
-        }
-    }
+    (ran.made(rt), link)
 }
 
 /// Whether two entries have one place.
@@ -257,16 +256,16 @@ fn unused(numbers: &[u64], count: u64, at: u64) -> u64 {
 }
 
 /// The order of a number of all numbers below a count.
-pub(crate) fn order(alloc: Global, code: u64, count: u64) -> Result<List<u64>, AllocError> {
+pub(crate) fn order(rt: &impl Abort, alloc: Global, code: u64, count: u64) -> List<u64> {
     let mut order = List::new(alloc);
     let mut rest = code;
     for used in 0..count {
         let left = count - used;
         let next = unused(order.as_slice(), count, rest % left);
-        order.push(next)?;
+        order.push(next).made(rt);
         rest /= left;
     }
-    Ok(order)
+    order
 }
 
 /// How many orders so many numbers have, for five at most.
@@ -311,10 +310,8 @@ fn holds(server: &Server, outcomes: &[Outcome], count: i32) -> bool {
 }
 
 /// Whether a schedule holds before late deliveries, and how many sends wait.
-fn waiting(alloc: Global, count: i32, code: u64, length: u64) -> Option<u64> {
-    let Ok((outcomes, server)) = run(alloc, count, code, length) else {
-        return None;
-    };
+fn waiting(rt: &impl Abort, alloc: Global, count: i32, code: u64, length: u64) -> Option<u64> {
+    let (outcomes, server) = run(rt, alloc, count, code, length);
     let well = holds(server.server(), outcomes.as_slice(), count);
     let waiting = server.server().waiting.len() as u64;
     drop(outcomes);
@@ -323,10 +320,15 @@ fn waiting(alloc: Global, count: i32, code: u64, length: u64) -> Option<u64> {
 }
 
 /// Whether a schedule holds after the late deliveries of an order.
-fn order_holds(alloc: Global, count: i32, code: u64, length: u64, picks: &[u64]) -> bool {
-    let Ok((outcomes, mut server)) = run(alloc, count, code, length) else {
-        return false;
-    };
+fn order_holds(
+    rt: &impl Abort,
+    alloc: Global,
+    count: i32,
+    code: u64,
+    length: u64,
+    picks: &[u64],
+) -> bool {
+    let (outcomes, mut server) = run(rt, alloc, count, code, length);
     let well = deliver(&mut server, alloc, picks)
         && holds(server.server(), outcomes.as_slice(), count);
     drop(outcomes);
@@ -335,18 +337,16 @@ fn order_holds(alloc: Global, count: i32, code: u64, length: u64, picks: &[u64])
 }
 
 /// Whether a schedule holds before late deliveries and after each order of them.
-fn schedule_holds(alloc: Global, count: i32, code: u64, length: u64) -> bool {
-    let Some(waiting) = waiting(alloc, count, code, length) else {
+fn schedule_holds(rt: &impl Abort, alloc: Global, count: i32, code: u64, length: u64) -> bool {
+    let Some(waiting) = waiting(rt, alloc, count, code, length) else {
         return false;
     };
     let Some(orders) = orders(waiting) else {
         return false;
     };
     for number in 0..orders {
-        let Ok(picks) = order(alloc, number, waiting) else {
-            return false;
-        };
-        if !order_holds(alloc, count, code, length, picks.as_slice()) {
+        let picks = order(rt, alloc, number, waiting);
+        if !order_holds(rt, alloc, count, code, length, picks.as_slice()) {
             return false;
         }
     }
@@ -354,9 +354,15 @@ fn schedule_holds(alloc: Global, count: i32, code: u64, length: u64) -> bool {
 }
 
 /// The number of the first schedule of a length that does not hold.
-fn wrong_of_length(alloc: Global, count: i32, length: u64, schedules: u64) -> Option<u64> {
+fn wrong_of_length(
+    rt: &impl Abort,
+    alloc: Global,
+    count: i32,
+    length: u64,
+    schedules: u64,
+) -> Option<u64> {
     for code in 0..schedules {
-        if !schedule_holds(alloc, count, code, length) {
+        if !schedule_holds(rt, alloc, count, code, length) {
             return Some(code);
         }
     }
@@ -364,9 +370,9 @@ fn wrong_of_length(alloc: Global, count: i32, length: u64, schedules: u64) -> Op
 }
 
 /// The length and the number of the first schedule of up to four items that does not hold.
-fn first_wrong(alloc: Global, count: i32) -> Option<(u64, u64)> {
+fn first_wrong(rt: &impl Abort, alloc: Global, count: i32) -> Option<(u64, u64)> {
     for (length, schedules) in LENGTHS {
-        if let Some(code) = wrong_of_length(alloc, count, length, schedules) {
+        if let Some(code) = wrong_of_length(rt, alloc, count, length, schedules) {
             return Some((length, code));
         }
     }
@@ -375,15 +381,30 @@ fn first_wrong(alloc: Global, count: i32) -> Option<(u64, u64)> {
 
 #[test]
 fn one_insert_stands_once(rt: HostRuntime) {
-    assert_eq!(rt; first_wrong(rt.alloc(), 1), None);
+    alike(
+        &rt,
+        first_wrong(&rt, rt.alloc(), 1),
+        None,
+        "the first schedule of one insert that does not hold",
+    );
 }
 
 #[test]
 fn two_inserts_stand_once(rt: HostRuntime) {
-    assert_eq!(rt; first_wrong(rt.alloc(), 2), None);
+    alike(
+        &rt,
+        first_wrong(&rt, rt.alloc(), 2),
+        None,
+        "the first schedule of two inserts that does not hold",
+    );
 }
 
 #[test]
 fn three_inserts_stand_once(rt: HostRuntime) {
-    assert_eq!(rt; first_wrong(rt.alloc(), 3), None);
+    alike(
+        &rt,
+        first_wrong(&rt, rt.alloc(), 3),
+        None,
+        "the first schedule of three inserts that does not hold",
+    );
 }

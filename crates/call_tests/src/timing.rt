@@ -1,5 +1,6 @@
 //! A run of one insert with a clock that goes on by a step at each reading: when the call starts and ends, and
 //! when its session is lent and comes back.
+use crate::asserting::{Made, alike};
 use crate::schedules::calls;
 use call_runs::run_calls;
 use driver_attempt::{Client, Outside};
@@ -9,7 +10,8 @@ use driver_session::{PlainStore, StoreEvent};
 use memory_links::{CountingIds, FakeLink, MemClock};
 use rand_core::SeedableRng;
 use rand_pcg::Pcg32;
-use std::alloc::{AllocError, Global};
+use std::alloc::Global;
+use std::process::Abort;
 use test_parts::faking::{ALIKE, DONE, Given, fake_link};
 
 /// When the one call started and ended.
@@ -40,7 +42,12 @@ fn both(one: Option<(u64, u64)>, other: Option<(u64, u64)>) -> Option<((u64, u64
 }
 
 /// The times of a run, and those of its lending, with a clock that reads 100 first and 7 more each time.
-fn timed(alloc: Global, link: FakeLink, calls: &[Call]) -> Option<((u64, u64), (u64, u64))> {
+fn timed(
+    rt: &impl Abort,
+    alloc: Global,
+    link: FakeLink,
+    calls: &[Call],
+) -> Option<((u64, u64), (u64, u64))> {
     let options = ClientOptions {
         client_number: 1,
         retry_writes: None,
@@ -58,28 +65,25 @@ fn timed(alloc: Global, link: FakeLink, calls: &[Call]) -> Option<((u64, u64), (
     let lent = lending(client.store().history());
     drop(client);
     drop(outside);
-    match ran {
-        Ok(outcomes) => {
-            let times = times(outcomes.as_slice());
-            drop(outcomes);
-            both(times, lent)
-        }
-        Err(AllocError) => None,
-    }
+    let outcomes = ran.made(rt);
+    let times = times(outcomes.as_slice());
+    drop(outcomes);
+    both(times, lent)
 }
 
 /// The same of one insert over a link that answers its exchange.
-fn timed_insert(alloc: Global) -> Option<((u64, u64), (u64, u64))> {
-    match (
-        fake_link(alloc, ALIKE, &[Given::Reply(DONE)]),
-        calls(alloc, 1),
-    ) {
-        (Ok(link), Ok(calls)) => timed(alloc, link, calls.as_slice()),
-        _ => None,
-    }
+fn timed_insert(rt: &impl Abort, alloc: Global) -> Option<((u64, u64), (u64, u64))> {
+    let link = fake_link(alloc, ALIKE, &[Given::Reply(DONE)]).made(rt);
+    let calls = calls(rt, alloc, 1);
+    timed(rt, alloc, link, calls.as_slice())
 }
 
 #[test]
 fn a_session_is_lent_and_comes_back_between_start_and_end(rt: HostRuntime) {
-    assert_eq!(rt; timed_insert(rt.alloc()), Some(((100, 121), (107, 114))));
+    alike(
+        &rt,
+        timed_insert(&rt, rt.alloc()),
+        Some(((100, 121), (107, 114))),
+        "the times of a call and of its lending",
+    );
 }

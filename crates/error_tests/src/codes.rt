@@ -1,7 +1,7 @@
 //! The codes by which errors are judged.
+use crate::asserting::{alike, holds};
 use crate::errors::{command_failed, held};
 use driver_error::{Error, ErrorKind, IoKind};
-use std::test::Fail;
 
 /// What an error says by its code.
 #[derive(Clone, Copy, Debug, PartialEq, Eq)]
@@ -192,7 +192,7 @@ const NOTHING: Says = Says {
     has_no_namespace: false,
 };
 
-const CODES: [Row; 21] = [
+const CODES: &[Row] = &[
     Row {
         code: 11600,
         says: SHUTS_DOWN,
@@ -279,79 +279,34 @@ const CODES: [Row; 21] = [
     },
 ];
 
-fn rows() -> &'static [Row] {
-    &CODES
-}
-
-fn may_read_again(error: &Error) -> bool {
-    error.is_read_retryable()
-}
-
-fn recovers(error: &Error) -> bool {
-    error.is_recovering()
-}
-
-fn takes_no_writes(error: &Error) -> bool {
-    error.is_notwritableprimary()
-}
-
-fn changes_its_state(error: &Error) -> bool {
-    error.is_state_change_error()
-}
-
-fn shuts_down(error: &Error) -> bool {
-    error.is_shutting_down()
-}
-
-fn is_out_of_time(error: &Error) -> bool {
-    error.is_max_time_ms_expired_error()
-}
-
-fn asks_who(error: &Error) -> bool {
-    error.is_reauthentication_required()
-}
-
-fn leaves_commit_unknown(error: &Error) -> bool {
-    error.should_add_unknown_transaction_commit_result_label()
-}
-
-fn may_resume(error: &Error) -> bool {
-    error.is_resumable()
-}
-
-fn has_no_namespace(error: &Error) -> bool {
-    error.is_ns_not_found()
-}
-
+/// What an error says.
 fn said(error: &Error) -> Says {
     Says {
-        may_read_again: may_read_again(error),
-        recovers: recovers(error),
-        takes_no_writes: takes_no_writes(error),
-        changes_its_state: changes_its_state(error),
-        shuts_down: shuts_down(error),
-        is_out_of_time: is_out_of_time(error),
-        asks_who: asks_who(error),
-        leaves_commit_unknown: leaves_commit_unknown(error),
-        may_resume: may_resume(error),
-        has_no_namespace: has_no_namespace(error),
+        may_read_again: error.is_read_retryable(),
+        recovers: error.is_recovering(),
+        takes_no_writes: error.is_notwritableprimary(),
+        changes_its_state: error.is_state_change_error(),
+        shuts_down: error.is_shutting_down(),
+        is_out_of_time: error.is_max_time_ms_expired_error(),
+        asks_who: error.is_reauthentication_required(),
+        leaves_commit_unknown: error.should_add_unknown_transaction_commit_result_label(),
+        may_resume: error.is_resumable(),
+        has_no_namespace: error.is_ns_not_found(),
     }
-}
-
-/// Whether an error is judged by this code.
-fn is_of(error: &Error, code: i32) -> bool {
-    error.sdam_code() == Some(code)
 }
 
 #[test]
-fn each_code_says_what_the_table_says(rt: HostRuntime) -> Result<(), Fail> {
-    for row in rows() {
+fn each_code_says_what_the_table_says(rt: HostRuntime) {
+    for row in CODES {
         let code = row.code;
-        let error = held(rt.alloc(), command_failed(rt.alloc(), code)?)?;
-        assert!(rt; is_of(error.get(), code), "code {code}");
-        assert_eq!(rt; said(error.get()), row.says, "code {code}");
+        let error = held(&rt, rt.alloc(), command_failed(&rt, rt.alloc(), code));
+        alike(
+            &rt,
+            (error.get().sdam_code(), said(error.get())),
+            (Some(code), row.says),
+            "the code of an error, and what it says",
+        );
     }
-    Ok(())
 }
 
 /// Whether the network took too long, so that a write may be tried again.
@@ -363,10 +318,13 @@ fn is_lost_in_time(error: &Error) -> bool {
 }
 
 #[test]
-fn a_lost_connection_is_a_network_error(rt: HostRuntime) -> Result<(), Fail> {
-    let error = held(rt.alloc(), Error::from(IoKind::TimedOut))?;
-    assert!(rt; is_lost_in_time(error.get()));
-    Ok(())
+fn a_lost_connection_is_a_network_error(rt: HostRuntime) {
+    let error = held(&rt, rt.alloc(), Error::from(IoKind::TimedOut));
+    holds(
+        &rt,
+        is_lost_in_time(error.get()),
+        "a network that took too long",
+    );
 }
 
 /// Whether a change stream may go on, since neither the network nor a server failed.
@@ -375,8 +333,11 @@ fn is_of_the_driver(error: &Error) -> bool {
 }
 
 #[test]
-fn a_shutdown_is_no_network_error(rt: HostRuntime) -> Result<(), Fail> {
-    let error = held(rt.alloc(), Error::from_kind(ErrorKind::Shutdown))?;
-    assert!(rt; is_of_the_driver(error.get()));
-    Ok(())
+fn a_shutdown_is_no_network_error(rt: HostRuntime) {
+    let error = held(&rt, rt.alloc(), Error::from_kind(ErrorKind::Shutdown));
+    holds(
+        &rt,
+        is_of_the_driver(error.get()),
+        "a failure of neither the network nor a server",
+    );
 }

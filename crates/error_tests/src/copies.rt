@@ -1,4 +1,5 @@
 //! Copies and conversions with ample memory.
+use crate::asserting::{Made, alike, holds};
 use crate::errors::{
     command, has_redacted_reply, held, over, printed, redact, redacted, reset, text_list,
 };
@@ -7,104 +8,104 @@ use driver_error::{
     CommandErrorBody, Error, ErrorKind, IndexedWriteError, InsertManyError, WriteConcernError,
     WriteFailure, convert_insert_many_error,
 };
-use std::alloc::{AllocError, Global};
-use std::test::Fail;
+use std::alloc::Global;
+use std::process::Abort;
 
-pub(crate) fn write_errors(alloc: Global) -> Result<List<IndexedWriteError>, AllocError> {
+pub(crate) fn write_errors(rt: &impl Abort, alloc: Global) -> List<IndexedWriteError> {
     let mut errors = List::new(alloc);
     for index in [3, 1] {
-        errors.push(IndexedWriteError {
-            index,
-            code: 11000,
-            code_name: None,
-            message: Text::from_str(alloc, "duplicate")?,
-            details: None,
-        })?;
+        errors
+            .push(IndexedWriteError {
+                index,
+                code: 11000,
+                code_name: None,
+                message: Text::from_str(alloc, "duplicate").made(rt),
+                details: None,
+            })
+            .made(rt);
     }
-    Ok(errors)
+    errors
 }
 
-pub(crate) fn concern(alloc: Global) -> Result<WriteConcernError, AllocError> {
-    Ok(WriteConcernError {
+pub(crate) fn concern(rt: &impl Abort, alloc: Global) -> WriteConcernError {
+    WriteConcernError {
         code: 64,
-        code_name: Text::from_str(alloc, "WriteConcernFailed")?,
-        message: Text::from_str(alloc, "waited")?,
+        code_name: Text::from_str(alloc, "WriteConcernFailed").made(rt),
+        message: Text::from_str(alloc, "waited").made(rt),
         details: None,
-        labels: text_list(alloc, &["inner"])?,
-    })
+        labels: text_list(rt, alloc, &["inner"]),
+    }
 }
 
 fn many(
+    rt: &impl Abort,
     alloc: Global,
     write_errors: Option<List<IndexedWriteError>>,
     write_concern_error: Option<WriteConcernError>,
-) -> Result<Error, AllocError> {
+) -> Error {
     let mut inserted_ids = ByIndex::new(alloc);
-    inserted_ids.insert(0, Bson::Int32(1))?;
-    let labels = text_list(alloc, &["outer"])?;
+    inserted_ids.insert(0, Bson::Int32(1)).made(rt);
+    let labels = text_list(rt, alloc, &["outer"]);
     let failures = InsertManyError {
         write_errors,
         write_concern_error,
         inserted_ids,
     };
-    let kind = ErrorKind::InsertMany(Boxed::new(alloc, failures)?);
-    Ok(Error::new(alloc, kind, labels.as_slice()))
+    let kind = ErrorKind::InsertMany(Boxed::new(alloc, failures).made(rt));
+    Error::new(alloc, kind, labels.as_slice())
 }
 
-fn same_text(alloc: Global, a: &Error, b: &Error) -> Result<bool, AllocError> {
-    Ok(a.to_string(alloc)?.as_str() == b.to_string(alloc)?.as_str())
+fn same_text(rt: &impl Abort, alloc: Global, a: &Error, b: &Error) -> bool {
+    a.to_string(alloc).made(rt).as_str() == b.to_string(alloc).made(rt).as_str()
 }
 
-fn with_source(alloc: Global) -> Result<Error, AllocError> {
-    let errors = write_errors(alloc)?;
-    let concern = concern(alloc)?;
-    let error = many(alloc, Some(errors), Some(concern))?;
-    over(alloc, error, reset(alloc, &["a"]))
+fn with_source(rt: &impl Abort, alloc: Global) -> Error {
+    let errors = write_errors(rt, alloc);
+    let concern = concern(rt, alloc);
+    let error = many(rt, alloc, Some(errors), Some(concern));
+    over(rt, alloc, error, reset(rt, alloc, &["a"]))
 }
 
-fn copy(alloc: Global, error: &Error) -> Result<Error, AllocError> {
-    error.try_clone(alloc)
+fn copy(rt: &impl Abort, alloc: Global, error: &Error) -> Error {
+    error.try_clone(alloc).made(rt)
 }
 
 #[test]
-fn a_copy_prints_alike(rt: HostRuntime) -> Result<(), Fail> {
-    assert!(rt; prints_as_its_copy(rt.alloc(), with_source(rt.alloc())?)?);
-    Ok(())
+fn a_copy_prints_alike(rt: HostRuntime) {
+    holds(
+        &rt,
+        prints_as_its_copy(&rt, rt.alloc(), with_source(&rt, rt.alloc())),
+        "the text of a copy",
+    );
 }
 
 /// Whether a copy prints as the error, and no more once the error is redacted.
-fn prints_as_its_copy(alloc: Global, error: Error) -> Result<bool, AllocError> {
-    let error = held(alloc, error)?;
-    let copy = held(alloc, copy(alloc, error.get())?)?;
-    let alike = same_text(alloc, error.get(), copy.get())?;
-    let redacted = held(alloc, redact(alloc, error.into_inner())?)?;
-    Ok(alike && !same_text(alloc, redacted.get(), copy.get())?)
+fn prints_as_its_copy(rt: &impl Abort, alloc: Global, error: Error) -> bool {
+    let error = held(rt, alloc, error);
+    let copy = held(rt, alloc, copy(rt, alloc, error.get()));
+    let same = same_text(rt, alloc, error.get(), copy.get());
+    let redacted = held(rt, alloc, redact(rt, alloc, error.into_inner()));
+    same && !same_text(rt, alloc, redacted.get(), copy.get())
 }
 
-fn redacted_copy(alloc: Global) -> Result<Error, AllocError> {
-    let error = redacted(alloc)?;
-    let copy = copy(alloc, &error);
+fn redacted_copy(rt: &impl Abort, alloc: Global) -> Error {
+    let error = redacted(rt, alloc);
+    let copy = copy(rt, alloc, &error);
     drop(error);
     copy
 }
 
 #[test]
-fn a_copy_of_a_redacted_error_has_its_reply(rt: HostRuntime) -> Result<(), Fail> {
-    let copy = held(rt.alloc(), redacted_copy(rt.alloc())?)?;
-    assert!(rt; has_redacted_reply(copy.get()));
-    Ok(())
+fn a_copy_of_a_redacted_error_has_its_reply(rt: HostRuntime) {
+    let copy = held(&rt, rt.alloc(), redacted_copy(&rt, rt.alloc()));
+    holds(&rt, has_redacted_reply(copy.get()), "the reply of the copy");
 }
 
 #[test]
-fn a_copy_of_a_redacted_error_prints_alike(rt: HostRuntime) -> Result<(), Fail> {
-    assert!(rt; redacted_copy_prints_alike(rt.alloc())?);
-    Ok(())
-}
-
-fn redacted_copy_prints_alike(alloc: Global) -> Result<bool, AllocError> {
-    let text = printed(alloc, redacted(alloc)?)?;
-    let copied = printed(alloc, redacted_copy(alloc)?)?;
-    Ok(text.as_str() == copied.as_str())
+fn a_copy_of_a_redacted_error_prints_alike(rt: HostRuntime) {
+    let text = printed(&rt, rt.alloc(), redacted(&rt, rt.alloc()));
+    let copied = printed(&rt, rt.alloc(), redacted_copy(&rt, rt.alloc()));
+    alike(&rt, copied.as_str(), text.as_str(), "the text of the copy");
 }
 
 fn write_code(error: &Error) -> Option<i32> {
@@ -116,17 +117,20 @@ fn write_code(error: &Error) -> Option<i32> {
 }
 
 #[test]
-fn the_write_error_comes_before_the_write_concern_error(rt: HostRuntime) -> Result<(), Fail> {
-    let error = of_both(rt.alloc())?;
-    assert!(rt; is_of_the_write_error(error.get()));
-    Ok(())
+fn the_write_error_comes_before_the_write_concern_error(rt: HostRuntime) {
+    let error = of_both(&rt, rt.alloc());
+    holds(
+        &rt,
+        is_of_the_write_error(error.get()),
+        "the write error with the labels of both",
+    );
 }
 
 /// What an insert of one document answers for write errors and a write concern error.
-fn of_both(alloc: Global) -> Result<Boxed<Error>, AllocError> {
-    let errors = write_errors(alloc)?;
-    let concern = concern(alloc)?;
-    held(alloc, converted(alloc, Some(errors), Some(concern))?)
+fn of_both(rt: &impl Abort, alloc: Global) -> Boxed<Error> {
+    let errors = write_errors(rt, alloc);
+    let concern = concern(rt, alloc);
+    held(rt, alloc, converted(rt, alloc, Some(errors), Some(concern)))
 }
 
 /// Whether the first write error stands in the error, with the labels of both and no code to judge by.
@@ -146,58 +150,71 @@ fn has_label(error: &Error, label: &str) -> bool {
 }
 
 fn converted(
+    rt: &impl Abort,
     alloc: Global,
     write_errors: Option<List<IndexedWriteError>>,
     concern: Option<WriteConcernError>,
-) -> Result<Error, AllocError> {
-    let error = many(alloc, write_errors, concern)?;
-    Ok(convert_insert_many_error(alloc, error))
+) -> Error {
+    let error = many(rt, alloc, write_errors, concern);
+    convert_insert_many_error(alloc, error)
 }
 
 #[test]
-fn an_empty_list_of_write_errors_is_none(rt: HostRuntime) -> Result<(), Fail> {
-    let error = of_concern(rt.alloc())?;
-    assert_eq!(rt; write_code(error.get()), Some(64));
-    Ok(())
+fn an_empty_list_of_write_errors_is_none(rt: HostRuntime) {
+    let error = of_concern(&rt, rt.alloc());
+    alike(
+        &rt,
+        write_code(error.get()),
+        Some(64),
+        "the code of the write concern error",
+    );
 }
 
 /// What an insert of one document answers for no write error and a write concern error.
-fn of_concern(alloc: Global) -> Result<Boxed<Error>, AllocError> {
+fn of_concern(rt: &impl Abort, alloc: Global) -> Boxed<Error> {
     let none = List::new(alloc);
-    let concern = concern(alloc)?;
-    held(alloc, converted(alloc, Some(none), Some(concern))?)
+    let concern = concern(rt, alloc);
+    held(rt, alloc, converted(rt, alloc, Some(none), Some(concern)))
 }
 
 #[test]
-fn no_failure_is_an_invalid_response(rt: HostRuntime) -> Result<(), Fail> {
-    let text = printed(rt.alloc(), converted(rt.alloc(), None, None)?)?;
-    assert_eq!(rt;
+fn no_failure_is_an_invalid_response(rt: HostRuntime) {
+    let text = printed(&rt, rt.alloc(), converted(&rt, rt.alloc(), None, None));
+    alike(
+        &rt,
         text.as_str(),
-        "Kind: The server returned an invalid reply to a database operation: error missing write errors and write concern errors, labels: -, source: None"
+        "Kind: The server returned an invalid reply to a database operation: error missing write errors and write concern errors, labels: -, source: None",
+        "the text where there is no failure",
     );
-    Ok(())
 }
 
-fn body(alloc: Global) -> Result<CommandErrorBody, AllocError> {
-    Ok(CommandErrorBody {
-        error_labels: text_list(alloc, &["told"])?,
-        command_error: command(alloc, 5, "Name", "x")?,
-    })
-}
-
-#[test]
-fn a_body_becomes_an_error(rt: HostRuntime) -> Result<(), Fail> {
-    let error = held(rt.alloc(), Error::from(body(rt.alloc())?))?;
-    assert!(rt; has_label(error.get(), "told"));
-    assert_eq!(rt; code(error.get()), Some(5));
-    Ok(())
+fn body(rt: &impl Abort, alloc: Global) -> CommandErrorBody {
+    CommandErrorBody {
+        error_labels: text_list(rt, alloc, &["told"]),
+        command_error: command(rt, alloc, 5, "Name", "x"),
+    }
 }
 
 #[test]
-fn a_kind_becomes_an_error(rt: HostRuntime) -> Result<(), Fail> {
-    let failure = WriteFailure::WriteConcernError(concern(rt.alloc())?);
-    let error = held(rt.alloc(), Error::from(ErrorKind::Write(failure)))?;
-    assert!(rt; has_label(error.get(), "inner"));
-    assert_eq!(rt; write_code(error.get()), Some(64));
-    Ok(())
+fn a_body_becomes_an_error(rt: HostRuntime) {
+    let error = held(&rt, rt.alloc(), Error::from(body(&rt, rt.alloc())));
+    holds(&rt, has_label(error.get(), "told"), "the label of the body");
+    alike(&rt, code(error.get()), Some(5), "the code of the body");
+}
+
+#[test]
+fn a_kind_becomes_an_error(rt: HostRuntime) {
+    let failure = WriteFailure::WriteConcernError(concern(&rt, rt.alloc()));
+    let error = held(&rt, rt.alloc(), Error::from(ErrorKind::Write(failure)));
+    holds(
+        &rt,
+        has_label(error.get(), "inner"),
+        "the label of the write concern error",
+    );
+    alike(
+        &rt,
+        write_code(error.get()),
+        Some(64),
+        "the code of the write concern error",
+    );
 }

@@ -1,11 +1,12 @@
 //! Errors as plain data: what a row says of one, made into an error and found in one.
-ghost use Rattle.std.specs.Prelude.{◌≡◌, None, Some, IfOk};
+ghost use Rattle.std.specs.Prelude.{◌≡◌, None, Some};
 ghost use Rattle.driver_error.specs.declared.kind.ErrorKind.TheVariants.{BulkWrite};
 ghost use Rattle.server_answers.specs.declared.results.PartialBulkWriteResult.TheVariants.{Summary, Verbose};
 ghost use Rattle.driver_error.specs.BulkErrors.{AreAlike, failures_in};
 ghost use Rattle.bulk_outcomes.specs.BulkResults.{no_counts, no_writes};
 ghost use Rattle.driver_error.specs.Error.{kind_of, source_of};
 
+use crate::asserting::Made;
 use crate::errors::command;
 use bson_lite::{Boxed, Bson, ByIndex, Document, List, RawDocumentBuf, Text};
 use driver_error::{
@@ -13,7 +14,8 @@ use driver_error::{
     PartialBulkWriteResult, SummaryBulkWriteResult, UpdateResult, VerboseBulkWriteResult,
     WriteConcernError, WriteError,
 };
-use std::alloc::{AllocError, Global};
+use std::alloc::Global;
+use std::process::Abort;
 
 /// How many documents were inserted, matched, modified, upserted and deleted.
 pub(crate) type Counts = [i64; 5];
@@ -119,16 +121,18 @@ pub(crate) fn are_counts(found: &SummaryBulkWriteResult, counts: Counts) -> bool
     found == counts
 }
 
-fn inserts(alloc: Global, rows: &[(usize, i32)]) -> Result<ByIndex<InsertOneResult>, AllocError> {
+fn inserts(rt: &impl Abort, alloc: Global, rows: &[(usize, i32)]) -> ByIndex<InsertOneResult> {
     let mut results = ByIndex::new(alloc);
     for (index, id) in rows {
         let inserted_id = Bson::Int32(*id);
-        results.insert(*index, InsertOneResult { inserted_id })?;
+        results
+            .insert(*index, InsertOneResult { inserted_id })
+            .made(rt);
     }
-    Ok(results)
+    results
 }
 
-fn updates(alloc: Global, rows: &[(usize, u64)]) -> Result<ByIndex<UpdateResult>, AllocError> {
+fn updates(rt: &impl Abort, alloc: Global, rows: &[(usize, u64)]) -> ByIndex<UpdateResult> {
     let mut results = ByIndex::new(alloc);
     for (index, matched) in rows {
         let updated = UpdateResult {
@@ -136,33 +140,32 @@ fn updates(alloc: Global, rows: &[(usize, u64)]) -> Result<ByIndex<UpdateResult>
             modified_count: 0,
             upserted_id: None,
         };
-        results.insert(*index, updated)?;
+        results.insert(*index, updated).made(rt);
     }
-    Ok(results)
+    results
 }
 
-fn deletes(alloc: Global, rows: &[(usize, u64)]) -> Result<ByIndex<DeleteResult>, AllocError> {
+fn deletes(rt: &impl Abort, alloc: Global, rows: &[(usize, u64)]) -> ByIndex<DeleteResult> {
     let mut results = ByIndex::new(alloc);
     for (index, deleted) in rows {
         let deleted_count = *deleted;
-        results.insert(*index, DeleteResult { deleted_count })?;
+        results
+            .insert(*index, DeleteResult { deleted_count })
+            .made(rt);
     }
-    Ok(results)
+    results
 }
 
-pub(crate) fn verbose(
-    alloc: Global,
-    results: &Results,
-) -> Result<VerboseBulkWriteResult, AllocError> {
-    let insert_results = inserts(alloc, results.inserts)?;
-    let update_results = updates(alloc, results.updates)?;
-    let delete_results = deletes(alloc, results.deletes)?;
-    Ok(VerboseBulkWriteResult {
+pub(crate) fn verbose(rt: &impl Abort, alloc: Global, results: &Results) -> VerboseBulkWriteResult {
+    let insert_results = inserts(rt, alloc, results.inserts);
+    let update_results = updates(rt, alloc, results.updates);
+    let delete_results = deletes(rt, alloc, results.deletes);
+    VerboseBulkWriteResult {
         summary: summary(results.counts),
         insert_results,
         update_results,
         delete_results,
-    })
+    }
 }
 
 fn are_inserts(found: &[(usize, InsertOneResult)], rows: &[(usize, i32)]) -> bool {
@@ -220,21 +223,23 @@ pub(crate) fn are_results(found: &VerboseBulkWriteResult, results: &Results) -> 
         && are_deletes(found.delete_results.entries(), results.deletes)
 }
 
-fn concerns(alloc: Global, codes: &[i32]) -> Result<List<WriteConcernError>, AllocError> {
+fn concerns(rt: &impl Abort, alloc: Global, codes: &[i32]) -> List<WriteConcernError> {
     let mut errors = List::new(alloc);
     for code in codes {
-        errors.push(WriteConcernError {
-            code: *code,
-            code_name: Text::new(alloc),
-            message: Text::new(alloc),
-            details: None,
-            labels: List::new(alloc),
-        })?;
+        errors
+            .push(WriteConcernError {
+                code: *code,
+                code_name: Text::new(alloc),
+                message: Text::new(alloc),
+                details: None,
+                labels: List::new(alloc),
+            })
+            .made(rt);
     }
-    Ok(errors)
+    errors
 }
 
-fn writes(alloc: Global, rows: &[(usize, i32)]) -> Result<ByIndex<WriteError>, AllocError> {
+fn writes(rt: &impl Abort, alloc: Global, rows: &[(usize, i32)]) -> ByIndex<WriteError> {
     let mut errors = ByIndex::new(alloc);
     for (index, code) in rows {
         let error = WriteError {
@@ -243,26 +248,27 @@ fn writes(alloc: Global, rows: &[(usize, i32)]) -> Result<ByIndex<WriteError>, A
             message: Text::new(alloc),
             details: None,
         };
-        errors.insert(*index, error)?;
+        errors.insert(*index, error).made(rt);
     }
-    Ok(errors)
+    errors
 }
 
 /// The failures of a row, with this in place of its result.
 fn failures_with(
+    rt: &impl Abort,
     alloc: Global,
     failed: &Failed,
     partial_result: Option<PartialBulkWriteResult>,
-) -> Result<BulkWriteError, AllocError>
-    ensures { IfOk result (λ failures. failures.partial_result ≡ partial_result) }
+) -> BulkWriteError
+    ensures { result.partial_result ≡ partial_result }
 {
-    let write_concern_errors = concerns(alloc, failed.concerns)?;
-    let write_errors = writes(alloc, failed.writes)?;
-    Ok(BulkWriteError {
+    let write_concern_errors = concerns(rt, alloc, failed.concerns);
+    let write_errors = writes(rt, alloc, failed.writes);
+    BulkWriteError {
         write_concern_errors,
         write_errors,
         partial_result,
-    })
+    }
 }
 
 /// The result of a row.
@@ -276,22 +282,24 @@ fn partial(counts: Option<Counts>) -> Option<PartialBulkWriteResult>
 }
 
 /// The failures of a row.
-pub(crate) fn failures(alloc: Global, failed: &Failed) -> Result<BulkWriteError, AllocError>
-    ensures { IfOk result (λ failures. AreAlike (Some (Summary no_counts)) failures.partial_result) }
+pub(crate) fn failures(rt: &impl Abort, alloc: Global, failed: &Failed) -> BulkWriteError
+    ensures { AreAlike (Some (Summary no_counts)) result.partial_result }
 {
-    failures_with(alloc, failed, partial(failed.partial))
+    failures_with(rt, alloc, failed, partial(failed.partial))
 }
 
 /// The errors of a row, with a verbose result.
 pub(crate) fn verbose_failures(
+    rt: &impl Abort,
     alloc: Global,
     failed: &Failed,
     results: &Results,
-) -> Result<BulkWriteError, AllocError>
-    ensures { IfOk result (λ failures. AreAlike (Some (Verbose no_writes)) failures.partial_result) }
+) -> BulkWriteError
+    ensures { AreAlike (Some (Verbose no_writes)) result.partial_result }
 {
-    let results = verbose(alloc, results)?;
+    let results = verbose(rt, alloc, results);
     failures_with(
+        rt,
         alloc,
         failed,
         Some(PartialBulkWriteResult::Verbose(results)),
@@ -358,13 +366,11 @@ pub(crate) fn are_verbose_failures(
     }
 }
 
-/// The reply `{n: ..}`, or none where there is no memory.
-fn reply(alloc: Global, number: i32) -> Option<RawDocumentBuf> {
+/// The reply `{n: ..}`.
+fn reply(rt: &impl Abort, alloc: Global, number: i32) -> RawDocumentBuf {
     let mut document = Document::new(alloc);
-    match document.push("n", Bson::Int32(number)) {
-        Ok(()) => RawDocumentBuf::from_document(alloc, &document).ok(),
-        Err(_refused) => None,
-    }
+    document.push("n", Bson::Int32(number)).made(rt);
+    RawDocumentBuf::from_document(alloc, &document).made(rt)
 }
 
 /// The spellings of the documents `{n: 1}`, `{n: 2}` and `{n: 3}`.
@@ -376,36 +382,32 @@ const REPLY_3: &[u8; 12] = b"\x0c\x00\x00\x00\x10n\x00\x03\x00\x00\x00\x00";
 
 /// The error with a label, a wire version and a reply.
 fn with_label(
+    rt: &impl Abort,
     alloc: Global,
     error: Error,
     label: &str,
     version: i32,
     number: i32,
-) -> Result<Error, AllocError>
-    ensures kind { IfOk result (λ now. kind_of now ≡ kind_of error) }
-    ensures source { IfOk result (λ now. source_of now ≡ source_of error) }
+) -> Error
+    ensures kind { kind_of result ≡ kind_of error }
+    ensures source { source_of result ≡ source_of error }
 {
     let error = error.with_wire_version(Some(version));
-    let mut error = error.with_server_response(reply(alloc, number));
-    match error.add_label(alloc, label) {
-        Ok(()) => Ok(error),
-        Err(refused) => {
-            drop(error);
-            Err(refused)
-        }
-    }
+    let mut error = error.with_server_response(Some(reply(rt, alloc, number)));
+    error.add_label(alloc, label).made(rt);
+    error
 }
 
 /// The error with a mark.
-pub(crate) fn marked(alloc: Global, error: Error, mark: Mark) -> Result<Error, AllocError>
-    ensures kind { IfOk result (λ now. kind_of now ≡ kind_of error) }
-    ensures source { IfOk result (λ now. source_of now ≡ source_of error) }
+pub(crate) fn marked(rt: &impl Abort, alloc: Global, error: Error, mark: Mark) -> Error
+    ensures kind { kind_of result ≡ kind_of error }
+    ensures source { source_of result ≡ source_of error }
 {
     match mark {
-        Mark::Bare => Ok(error),
-        Mark::First => with_label(alloc, error, "first", 21, 1),
-        Mark::Later => with_label(alloc, error, "later", 25, 2),
-        Mark::Cause => with_label(alloc, error, "cause", 17, 3),
+        Mark::Bare => error,
+        Mark::First => with_label(rt, alloc, error, "first", 21, 1),
+        Mark::Later => with_label(rt, alloc, error, "later", 25, 2),
+        Mark::Cause => with_label(rt, alloc, error, "cause", 17, 3),
     }
 }
 
@@ -445,53 +447,46 @@ fn is_marked(alloc: Global, error: &Error, label: &str, version: i32, reply: &[u
 }
 
 /// An error of the bulk write with a mark, and without a source.
-pub(crate) fn bulk(alloc: Global, failures: BulkWriteError, mark: Mark) -> Result<Error, AllocError>
-    ensures kind { IfOk result (λ error. kind_of error ≡ BulkWrite failures) }
-    ensures source { IfOk result (λ error. source_of error ≡ None) }
+pub(crate) fn bulk(rt: &impl Abort, alloc: Global, failures: BulkWriteError, mark: Mark) -> Error
+    ensures kind { kind_of result ≡ BulkWrite failures }
+    ensures source { source_of result ≡ None }
 {
-    let kind = ErrorKind::BulkWrite(Boxed::new(alloc, failures)?);
-    marked(alloc, Error::from_kind(kind), mark)
+    let kind = ErrorKind::BulkWrite(Boxed::new(alloc, failures).made(rt));
+    marked(rt, alloc, Error::from_kind(kind), mark)
 }
 
 /// An error of a kind that tells of no failures of a bulk write.
-fn unmarked(alloc: Global, cause: Cause) -> Result<Error, AllocError>
-    ensures { IfOk result (λ error. failures_in (kind_of error) ≡ None) }
+fn unmarked(rt: &impl Abort, alloc: Global, cause: Cause) -> Error
+    ensures { failures_in (kind_of result) ≡ None }
 {
     match cause {
-        Cause::Io => Ok(Error::from_kind(ErrorKind::Io(IoKind::ConnectionReset))),
+        Cause::Io => Error::from_kind(ErrorKind::Io(IoKind::ConnectionReset)),
         Cause::Command => {
-            let error = command(alloc, 5, "Name", "x")?;
-            Ok(Error::from_kind(ErrorKind::Command(error)))
+            let error = command(rt, alloc, 5, "Name", "x");
+            Error::from_kind(ErrorKind::Command(error))
         }
-        Cause::Memory => Ok(Error::from_kind(ErrorKind::Memory)),
+        Cause::Memory => Error::from_kind(ErrorKind::Memory),
     }
 }
 
 /// Such an error with its mark.
-pub(crate) fn other(alloc: Global, cause: Cause) -> Result<Error, AllocError>
-    ensures { IfOk result (λ error. failures_in (kind_of error) ≡ None) }
+pub(crate) fn other(rt: &impl Abort, alloc: Global, cause: Cause) -> Error
+    ensures { failures_in (kind_of result) ≡ None }
 {
-    let error = unmarked(alloc, cause)?;
-    marked(alloc, error, Mark::Cause)
+    let error = unmarked(rt, alloc, cause);
+    marked(rt, alloc, error, Mark::Cause)
 }
 
 /// The error over the source of a row, where it has one.
-pub(crate) fn sourced(
-    alloc: Global,
-    error: Error,
-    source: Option<Cause>,
-) -> Result<Error, AllocError>
-    ensures { IfOk result (λ now. kind_of now ≡ kind_of error) }
+pub(crate) fn sourced(rt: &impl Abort, alloc: Global, error: Error, source: Option<Cause>) -> Error
+    ensures { kind_of result ≡ kind_of error }
 {
     match source {
-        None => Ok(error),
-        Some(cause) => match other(alloc, cause) {
-            Ok(source) => error.with_source(alloc, Some(source)),
-            Err(refused) => {
-                drop(error);
-                Err(refused)
-            }
-        },
+        None => error,
+        Some(cause) => {
+            let source = other(rt, alloc, cause);
+            error.with_source(alloc, Some(source)).made(rt)
+        }
     }
 }
 

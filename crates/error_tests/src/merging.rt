@@ -1,9 +1,10 @@
 //! Results and failures of two parts of a bulk write, merged: the calls that need no batches.
-ghost use Rattle.std.specs.Prelude.{◌≡◌, IfOk};
+ghost use Rattle.std.specs.Prelude.{◌≡◌};
 ghost use Rattle.driver_error.specs.declared.kind.ErrorKind.TheVariants.{BulkWrite};
 ghost use Rattle.driver_error.specs.BulkErrors.{AreAlike};
 ghost use Rattle.driver_error.specs.Error.{kind_of};
 
+use crate::asserting::{Made, alike, holds};
 use crate::failures::{
     A, B, Cause, Counts, EARLIER, Failed, LATER, MERGED, MOST, Mark, ONE, Results, SUMS,
     are_counts, are_failures, are_results, are_verbose_failures, bulk, failures, is_bulk, is_other,
@@ -11,7 +12,8 @@ use crate::failures::{
 };
 use bulk_outcomes::BulkWriteResult;
 use driver_error::{BulkWriteError, Error, Result};
-use std::alloc::{AllocError, Global};
+use std::alloc::Global;
+use std::process::Abort;
 
 /// Counts of two parts, and their sums, or none where one leaves 64 bits.
 struct Adding {
@@ -157,7 +159,12 @@ fn first_wrong_sum(alloc: Global) -> Option<&'static str> {
 
 #[test]
 fn counts_are_added_or_refused(rt: HostRuntime) {
-    assert_eq!(rt; first_wrong_sum(rt.alloc()), None);
+    alike(
+        &rt,
+        first_wrong_sum(rt.alloc()),
+        None,
+        "the first wrong sum of counts",
+    );
 }
 
 /// The result of no write.
@@ -232,20 +239,20 @@ const UNITING: &[Uniting] = &[
 ];
 
 /// What is there once a later result came to an earlier one, or was refused.
-fn united(alloc: Global, row: &Uniting) -> std::result::Result<bool, AllocError> {
-    let later = verbose(alloc, &row.later)?;
-    let mut results = verbose(alloc, &row.earlier)?;
+fn united(rt: &impl Abort, alloc: Global, row: &Uniting) -> bool {
+    let later = verbose(rt, alloc, &row.later);
+    let mut results = verbose(rt, alloc, &row.earlier);
     let end = results.merge(alloc, later);
-    Ok(match &row.merged {
+    match &row.merged {
         Some(merged) => is_done(end) && are_results(&results, merged),
         None => is_refused(alloc, end) && are_results(&results, &row.earlier),
-    })
+    }
 }
 
 /// What the first row shows that is not as it says.
-fn first_wrong_union(alloc: Global) -> Option<&'static str> {
+fn first_wrong_union(rt: &impl Abort, alloc: Global) -> Option<&'static str> {
     for row in UNITING {
-        if united(alloc, row) != Ok(true) {
+        if !united(rt, alloc, row) {
             return Some(row.shows);
         }
     }
@@ -254,7 +261,12 @@ fn first_wrong_union(alloc: Global) -> Option<&'static str> {
 
 #[test]
 fn verbose_results_stand_under_their_indexes(rt: HostRuntime) {
-    assert_eq!(rt; first_wrong_union(rt.alloc()), None);
+    alike(
+        &rt,
+        first_wrong_union(&rt, rt.alloc()),
+        None,
+        "the first wrong union of results",
+    );
 }
 
 const JOINING: &[Joining] = &[
@@ -383,17 +395,12 @@ const JOINING: &[Joining] = &[
 ];
 
 /// The failures of a row.
-fn parts(alloc: Global, row: &Joining) -> std::result::Result<TwoParts, AllocError>
-    ensures { IfOk result (λ parts. AreAlike parts.earlier.partial_result parts.later.partial_result) }
+fn parts(rt: &impl Abort, alloc: Global, row: &Joining) -> TwoParts
+    ensures { AreAlike result.earlier.partial_result result.later.partial_result }
 {
-    let earlier = failures(alloc, &row.earlier)?;
-    match failures(alloc, &row.later) {
-        Ok(later) => Ok(TwoParts { earlier, later }),
-        Err(refused) => {
-            drop(earlier);
-            Err(refused)
-        }
-    }
+    let earlier = failures(rt, alloc, &row.earlier);
+    let later = failures(rt, alloc, &row.later);
+    TwoParts { earlier, later }
 }
 
 /// Whether failures come to the row's, or are refused and stay as they were.
@@ -411,17 +418,10 @@ fn merge(alloc: Global, parts: TwoParts, row: &Joining) -> bool
     right
 }
 
-fn merges(alloc: Global, row: &Joining) -> bool {
-    match parts(alloc, row) {
-        Ok(parts) => merge(alloc, parts, row),
-        Err(_refused) => false,
-    }
-}
-
 /// What the first row shows that is not as it says.
-fn first_wrong_merge(alloc: Global) -> Option<&'static str> {
+fn first_wrong_merge(rt: &impl Abort, alloc: Global) -> Option<&'static str> {
     for row in JOINING {
-        if !merges(alloc, row) {
+        if !merge(alloc, parts(rt, alloc, row), row) {
             return Some(row.shows);
         }
     }
@@ -430,7 +430,12 @@ fn first_wrong_merge(alloc: Global) -> Option<&'static str> {
 
 #[test]
 fn failures_of_two_parts_are_merged_or_refused(rt: HostRuntime) {
-    assert_eq!(rt; first_wrong_merge(rt.alloc()), None);
+    alike(
+        &rt,
+        first_wrong_merge(&rt, rt.alloc()),
+        None,
+        "the first wrong merge of failures",
+    );
 }
 
 /// The failures of the merged verbose results.
@@ -453,17 +458,12 @@ const BOTH_FAILED: Failed = Failed {
 };
 
 /// The failures of both parts of a row.
-fn verbose_parts(alloc: Global, row: &Uniting) -> std::result::Result<TwoParts, AllocError>
-    ensures { IfOk result (λ parts. AreAlike parts.earlier.partial_result parts.later.partial_result) }
+fn verbose_parts(rt: &impl Abort, alloc: Global, row: &Uniting) -> TwoParts
+    ensures { AreAlike result.earlier.partial_result result.later.partial_result }
 {
-    let earlier = verbose_failures(alloc, &FIRST_FAILED, &row.earlier)?;
-    match verbose_failures(alloc, &LATER_FAILED, &row.later) {
-        Ok(later) => Ok(TwoParts { earlier, later }),
-        Err(refused) => {
-            drop(earlier);
-            Err(refused)
-        }
-    }
+    let earlier = verbose_failures(rt, alloc, &FIRST_FAILED, &row.earlier);
+    let later = verbose_failures(rt, alloc, &LATER_FAILED, &row.later);
+    TwoParts { earlier, later }
 }
 
 /// Whether failures come to those of both parts with the row's results, or are refused and stay as they were.
@@ -483,17 +483,10 @@ fn merge_verbosely(alloc: Global, parts: TwoParts, row: &Uniting) -> bool
     right
 }
 
-fn merges_verbosely(alloc: Global, row: &Uniting) -> bool {
-    match verbose_parts(alloc, row) {
-        Ok(parts) => merge_verbosely(alloc, parts, row),
-        Err(_refused) => false,
-    }
-}
-
 /// What the first row shows that is not so beside failures.
-fn first_wrong_verbose_merge(alloc: Global) -> Option<&'static str> {
+fn first_wrong_verbose_merge(rt: &impl Abort, alloc: Global) -> Option<&'static str> {
     for row in UNITING {
-        if !merges_verbosely(alloc, row) {
+        if !merge_verbosely(alloc, verbose_parts(rt, alloc, row), row) {
             return Some(row.shows);
         }
     }
@@ -502,50 +495,43 @@ fn first_wrong_verbose_merge(alloc: Global) -> Option<&'static str> {
 
 #[test]
 fn verbose_results_are_merged_beside_failures(rt: HostRuntime) {
-    assert_eq!(rt; first_wrong_verbose_merge(rt.alloc()), None);
+    alike(
+        &rt,
+        first_wrong_verbose_merge(&rt, rt.alloc()),
+        None,
+        "the first wrong merge beside failures",
+    );
 }
 
 /// An error of these failures with the first mark over a source.
-fn standing(alloc: Global, failures: BulkWriteError) -> std::result::Result<Error, AllocError>
-    ensures { IfOk result (λ error. kind_of error ≡ BulkWrite failures) }
+fn standing(rt: &impl Abort, alloc: Global, failures: BulkWriteError) -> Error
+    ensures { kind_of result ≡ BulkWrite failures }
 {
-    let error = bulk(alloc, failures, Mark::First)?;
-    sourced(alloc, error, Some(Cause::Io))
+    let error = bulk(rt, alloc, failures, Mark::First);
+    sourced(rt, alloc, error, Some(Cause::Io))
 }
 
 /// The error of the earlier part with what the later one failed with.
-fn with_later(alloc: Global, parts: TwoParts) -> Result<Error>
+fn with_later(rt: &impl Abort, alloc: Global, parts: TwoParts) -> Result<Error>
     requires { AreAlike parts.earlier.partial_result parts.later.partial_result }
 {
     let TwoParts { earlier, later } = parts;
-    match standing(alloc, earlier) {
-        Ok(error) => error.with_later(alloc, later),
-        Err(refused) => {
-            drop(later);
-            Err(Error::from(refused))
-        }
-    }
+    standing(rt, alloc, earlier).with_later(alloc, later)
 }
 
 /// The error of the later part with what the earlier one failed with.
-fn with_earlier(alloc: Global, parts: TwoParts) -> Result<Error>
+fn with_earlier(rt: &impl Abort, alloc: Global, parts: TwoParts) -> Result<Error>
     requires { AreAlike parts.earlier.partial_result parts.later.partial_result }
 {
     let TwoParts { earlier, later } = parts;
-    match standing(alloc, later) {
-        Ok(error) => error.with_earlier(alloc, earlier),
-        Err(refused) => {
-            drop(earlier);
-            Err(Error::from(refused))
-        }
-    }
+    standing(rt, alloc, later).with_earlier(alloc, earlier)
 }
 
-fn with_part(alloc: Global, row: &Joining, side: Side) -> Result<Error> {
-    let parts = parts(alloc, row)?;
+fn with_part(rt: &impl Abort, alloc: Global, row: &Joining, side: Side) -> Result<Error> {
+    let parts = parts(rt, alloc, row);
     match side {
-        Side::Behind => with_later(alloc, parts),
-        Side::Before => with_earlier(alloc, parts),
+        Side::Behind => with_later(rt, alloc, parts),
+        Side::Before => with_earlier(rt, alloc, parts),
     }
 }
 
@@ -557,8 +543,8 @@ fn is_joined(alloc: Global, error: &Error, row: &Joining) -> bool {
 }
 
 /// Whether failures that come to an error on this side make the row's, and all else of the error stays.
-fn joins(alloc: Global, row: &Joining, side: Side) -> bool {
-    match with_part(alloc, row, side) {
+fn joins(rt: &impl Abort, alloc: Global, row: &Joining, side: Side) -> bool {
+    match with_part(rt, alloc, row, side) {
         Ok(error) => {
             let right = is_joined(alloc, &error, row);
             drop(error);
@@ -573,9 +559,9 @@ fn joins(alloc: Global, row: &Joining, side: Side) -> bool {
 }
 
 /// What the first row shows that is not so where the failures are those of errors.
-fn first_wrong_joint(alloc: Global, side: Side) -> Option<&'static str> {
+fn first_wrong_joint(rt: &impl Abort, alloc: Global, side: Side) -> Option<&'static str> {
     for row in JOINING {
-        if !joins(alloc, row, side) {
+        if !joins(rt, alloc, row, side) {
             return Some(row.shows);
         }
     }
@@ -584,12 +570,22 @@ fn first_wrong_joint(alloc: Global, side: Side) -> Option<&'static str> {
 
 #[test]
 fn an_error_takes_later_failures_and_keeps_the_rest(rt: HostRuntime) {
-    assert_eq!(rt; first_wrong_joint(rt.alloc(), Side::Behind), None);
+    alike(
+        &rt,
+        first_wrong_joint(&rt, rt.alloc(), Side::Behind),
+        None,
+        "the first wrong error with later failures",
+    );
 }
 
 #[test]
 fn an_error_takes_earlier_failures_and_keeps_the_rest(rt: HostRuntime) {
-    assert_eq!(rt; first_wrong_joint(rt.alloc(), Side::Before), None);
+    alike(
+        &rt,
+        first_wrong_joint(&rt, rt.alloc(), Side::Before),
+        None,
+        "the first wrong error with earlier failures",
+    );
 }
 
 /// The failures of both parts beside a result.
@@ -600,54 +596,39 @@ const BOTH_WITH_A: Failed = Failed {
 };
 
 /// An error of another kind to which failures come.
-fn other_with(alloc: Global, cause: Cause, side: Side) -> Result<Error> {
-    let more = failures(alloc, &BOTH_WITH_A)?;
-    match other(alloc, cause) {
-        Ok(error) => match side {
-            Side::Behind => error.with_later(alloc, more),
-            Side::Before => error.with_earlier(alloc, more),
-        },
-        Err(refused) => {
-            drop(more);
-            Err(Error::from(refused))
-        }
+fn other_with(rt: &impl Abort, alloc: Global, cause: Cause, side: Side) -> Error {
+    let more = failures(rt, alloc, &BOTH_WITH_A);
+    let error = other(rt, alloc, cause);
+    match side {
+        Side::Behind => error.with_later(alloc, more).made(rt),
+        Side::Before => error.with_earlier(alloc, more).made(rt),
     }
 }
 
 /// Whether an error of another kind stays as it is.
-fn stays(alloc: Global, cause: Cause, side: Side) -> bool {
-    match other_with(alloc, cause, side) {
-        Ok(error) => {
-            let right = is_other(alloc, &error, cause);
-            drop(error);
-            right
-        }
-        Err(refused) => {
-            drop(refused);
-            false
-        }
-    }
+fn stays(rt: &impl Abort, alloc: Global, cause: Cause, side: Side) -> bool {
+    let error = other_with(rt, alloc, cause, side);
+    let right = is_other(alloc, &error, cause);
+    drop(error);
+    right
 }
+
+/// The errors that tell of no failures of a bulk write, and of no want of memory.
+const OTHERS: &[(&str, Cause)] = &[("io", Cause::Io), ("command", Cause::Command)];
 
 #[test]
 fn an_error_of_another_kind_takes_no_failures(rt: HostRuntime) {
-    for (name, cause) in [("io", Cause::Io), ("command", Cause::Command)] {
-        assert!(rt;
-            stays(rt.alloc(), cause, Side::Behind),
-            "{name}, later ones"
-        );
-        assert!(rt;
-            stays(rt.alloc(), cause, Side::Before),
-            "{name}, earlier ones"
-        );
+    for (name, cause) in OTHERS {
+        holds(&rt, stays(&rt, rt.alloc(), *cause, Side::Behind), *name);
+        holds(&rt, stays(&rt, rt.alloc(), *cause, Side::Before), *name);
     }
 }
 
 /// An error of a bulk write with or without a source.
-fn whole(alloc: Global, source: Option<Cause>) -> std::result::Result<Error, AllocError> {
-    let failures = failures(alloc, &BOTH_WITH_A)?;
-    let error = bulk(alloc, failures, Mark::First)?;
-    sourced(alloc, error, source)
+fn whole(rt: &impl Abort, alloc: Global, source: Option<Cause>) -> Error {
+    let failures = failures(rt, alloc, &BOTH_WITH_A);
+    let error = bulk(rt, alloc, failures, Mark::First);
+    sourced(rt, alloc, error, source)
 }
 
 /// Whether these are its failures and its source.
@@ -660,11 +641,8 @@ fn are_parts(alloc: Global, parts: (BulkWriteError, Option<Error>), source: Opti
 }
 
 /// Whether such an error is taken apart into its failures and its source.
-fn comes_apart(alloc: Global, source: Option<Cause>) -> bool {
-    let Ok(error) = whole(alloc, source) else {
-        return false;
-    };
-    match error.into_bulk_write() {
+fn comes_apart(rt: &impl Abort, alloc: Global, source: Option<Cause>) -> bool {
+    match whole(rt, alloc, source).into_bulk_write() {
         Ok(parts) => are_parts(alloc, parts, source),
         Err(error) => {
             drop(error);
@@ -675,19 +653,17 @@ fn comes_apart(alloc: Global, source: Option<Cause>) -> bool {
 
 #[test]
 fn an_error_of_a_bulk_write_is_failures_and_source(rt: HostRuntime) {
-    assert!(rt;
-        comes_apart(rt.alloc(), Some(Cause::Command)),
-        "with a source"
+    holds(
+        &rt,
+        comes_apart(&rt, rt.alloc(), Some(Cause::Command)),
+        "with a source",
     );
-    assert!(rt; comes_apart(rt.alloc(), None), "without a source");
+    holds(&rt, comes_apart(&rt, rt.alloc(), None), "without a source");
 }
 
 /// Whether an error of another kind is handed back.
-fn is_handed_back(alloc: Global, cause: Cause) -> bool {
-    let Ok(error) = other(alloc, cause) else {
-        return false;
-    };
-    match error.into_bulk_write() {
+fn is_handed_back(rt: &impl Abort, alloc: Global, cause: Cause) -> bool {
+    match other(rt, alloc, cause).into_bulk_write() {
         Ok(parts) => {
             drop(parts);
             false
@@ -700,13 +676,16 @@ fn is_handed_back(alloc: Global, cause: Cause) -> bool {
     }
 }
 
+/// All errors that tell of no failures of a bulk write.
+const ALL_OTHERS: &[(&str, Cause)] = &[
+    ("io", Cause::Io),
+    ("command", Cause::Command),
+    ("memory", Cause::Memory),
+];
+
 #[test]
 fn an_error_of_another_kind_is_handed_back(rt: HostRuntime) {
-    for (name, cause) in [
-        ("io", Cause::Io),
-        ("command", Cause::Command),
-        ("memory", Cause::Memory),
-    ] {
-        assert!(rt; is_handed_back(rt.alloc(), cause), "{name}");
+    for (name, cause) in ALL_OTHERS {
+        holds(&rt, is_handed_back(&rt, rt.alloc(), *cause), *name);
     }
 }

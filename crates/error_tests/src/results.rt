@@ -1,4 +1,5 @@
 //! Copies of what stands beside an error, with ample memory: each prints as its original.
+use crate::asserting::{Made, holds};
 use crate::errors::text_list;
 use bson_lite::{Binary, Bson, ByIndex, Bytes, Document, Text, TryClone};
 use driver_error::{
@@ -6,32 +7,33 @@ use driver_error::{
     CreateIndexesResult, DatabaseSpecification, DeleteResult, InsertManyResult, InsertOneResult,
     PartialBulkWriteResult, SummaryBulkWriteResult, UpdateResult, VerboseBulkWriteResult,
 };
-use std::alloc::{AllocError, Global};
+use std::alloc::Global;
 use std::fmt::Debug;
-use std::test::Fail;
+use std::process::Abort;
 
 /// Whether a copy prints as the value.
 pub(crate) fn copies_alike<T: TryClone + Debug + Drop>(
+    rt: &impl Abort,
     alloc: Global,
     value: T,
-) -> Result<bool, AllocError> {
-    let copy = value.try_clone(alloc)?;
-    let one = format!(in alloc; "{value:?}")?;
-    let other = format!(in alloc; "{copy:?}")?;
-    Ok(one.as_str() == other.as_str())
+) -> bool {
+    let copy = value.try_clone(alloc).made(rt);
+    let one = format!(in alloc; "{value:?}").made(rt);
+    let other = format!(in alloc; "{copy:?}").made(rt);
+    one.as_str() == other.as_str()
 }
 
-fn inserted(alloc: Global) -> Result<InsertOneResult, AllocError> {
-    let inserted_id = Bson::String(Text::from_str(alloc, "a")?);
-    Ok(InsertOneResult { inserted_id })
+fn inserted(rt: &impl Abort, alloc: Global) -> InsertOneResult {
+    let inserted_id = Bson::String(Text::from_str(alloc, "a").made(rt));
+    InsertOneResult { inserted_id }
 }
 
-fn updated(alloc: Global) -> Result<UpdateResult, AllocError> {
-    Ok(UpdateResult {
+fn updated(rt: &impl Abort, alloc: Global) -> UpdateResult {
+    UpdateResult {
         matched_count: 3,
         modified_count: 2,
-        upserted_id: Some(Bson::String(Text::from_str(alloc, "b")?)),
-    })
+        upserted_id: Some(Bson::String(Text::from_str(alloc, "b").made(rt))),
+    }
 }
 
 pub(crate) fn counts() -> SummaryBulkWriteResult {
@@ -44,97 +46,151 @@ pub(crate) fn counts() -> SummaryBulkWriteResult {
     }
 }
 
-fn verbose(alloc: Global) -> Result<VerboseBulkWriteResult, AllocError> {
+fn verbose(rt: &impl Abort, alloc: Global) -> VerboseBulkWriteResult {
     let mut insert_results = ByIndex::new(alloc);
-    insert_results.insert(0, inserted(alloc)?)?;
+    insert_results.insert(0, inserted(rt, alloc)).made(rt);
     let mut update_results = ByIndex::new(alloc);
-    update_results.insert(1, updated(alloc)?)?;
+    update_results.insert(1, updated(rt, alloc)).made(rt);
     let mut delete_results = ByIndex::new(alloc);
-    delete_results.insert(2, DeleteResult { deleted_count: 7 })?;
-    Ok(VerboseBulkWriteResult {
+    delete_results
+        .insert(2, DeleteResult { deleted_count: 7 })
+        .made(rt);
+    VerboseBulkWriteResult {
         summary: counts(),
         insert_results,
         update_results,
         delete_results,
-    })
+    }
 }
 
-fn many(alloc: Global) -> Result<InsertManyResult, AllocError> {
+fn many(rt: &impl Abort, alloc: Global) -> InsertManyResult {
     let mut inserted_ids = ByIndex::new(alloc);
-    inserted_ids.insert(4, Bson::Int32(9))?;
-    Ok(InsertManyResult { inserted_ids })
+    inserted_ids.insert(4, Bson::Int32(9)).made(rt);
+    InsertManyResult { inserted_ids }
 }
 
 #[test]
-fn results_are_copied(rt: HostRuntime) -> Result<(), Fail> {
+fn results_are_copied(rt: HostRuntime) {
     let alloc = rt.alloc();
-    assert!(rt; copies_alike(alloc, inserted(alloc)?)?);
-    assert!(rt; copies_alike(alloc, many(alloc)?)?);
-    assert!(rt; copies_alike(alloc, updated(alloc)?)?);
-    assert!(rt; copies_alike(alloc, DeleteResult { deleted_count: 7 })?);
-    assert!(rt; copies_alike(alloc, counts())?);
-    Ok(())
+    holds(
+        &rt,
+        copies_alike(&rt, alloc, inserted(&rt, alloc)),
+        "the result of an insert",
+    );
+    holds(
+        &rt,
+        copies_alike(&rt, alloc, many(&rt, alloc)),
+        "the result of an insert of many",
+    );
+    holds(
+        &rt,
+        copies_alike(&rt, alloc, updated(&rt, alloc)),
+        "the result of an update",
+    );
+    holds(
+        &rt,
+        copies_alike(&rt, alloc, DeleteResult { deleted_count: 7 }),
+        "the result of a delete",
+    );
+    holds(
+        &rt,
+        copies_alike(&rt, alloc, counts()),
+        "the counts of a bulk write",
+    );
 }
 
 #[test]
-fn results_of_bulk_writes_are_copied(rt: HostRuntime) -> Result<(), Fail> {
+fn results_of_bulk_writes_are_copied(rt: HostRuntime) {
     let alloc = rt.alloc();
-    assert!(rt; copies_alike(alloc, verbose(alloc)?)?);
-    let partial = PartialBulkWriteResult::Verbose(verbose(alloc)?);
-    assert!(rt; copies_alike(alloc, partial)?);
-    assert!(rt; copies_alike(alloc, PartialBulkWriteResult::Summary(counts()))?);
-    Ok(())
+    holds(
+        &rt,
+        copies_alike(&rt, alloc, verbose(&rt, alloc)),
+        "the results of a bulk write",
+    );
+    let partial = PartialBulkWriteResult::Verbose(verbose(&rt, alloc));
+    holds(
+        &rt,
+        copies_alike(&rt, alloc, partial),
+        "results that stand beside failures",
+    );
+    holds(
+        &rt,
+        copies_alike(&rt, alloc, PartialBulkWriteResult::Summary(counts())),
+        "counts that stand beside failures",
+    );
 }
 
 #[test]
-fn results_of_indexes_are_copied(rt: HostRuntime) -> Result<(), Fail> {
+fn results_of_indexes_are_copied(rt: HostRuntime) {
     let alloc = rt.alloc();
-    let index_name = Text::from_str(alloc, "a_1")?;
-    assert!(rt; copies_alike(alloc, CreateIndexResult { index_name })?);
-    let index_names = text_list(alloc, &["a_1", "b_1"])?;
-    assert!(rt; copies_alike(alloc, CreateIndexesResult { index_names })?);
-    Ok(())
+    let index_name = Text::from_str(alloc, "a_1").made(&rt);
+    holds(
+        &rt,
+        copies_alike(&rt, alloc, CreateIndexResult { index_name }),
+        "the result of an index",
+    );
+    let index_names = text_list(&rt, alloc, &["a_1", "b_1"]);
+    holds(
+        &rt,
+        copies_alike(&rt, alloc, CreateIndexesResult { index_names }),
+        "the result of two indexes",
+    );
 }
 
-fn options(alloc: Global) -> Result<Document, AllocError> {
+fn options(rt: &impl Abort, alloc: Global) -> Document {
     let mut options = Document::new(alloc);
-    options.push("capped", Bson::Boolean(true))?;
-    Ok(options)
+    options.push("capped", Bson::Boolean(true)).made(rt);
+    options
 }
 
-fn info(alloc: Global) -> Result<CollectionSpecificationInfo, AllocError> {
-    let bytes = Bytes::from_slice(alloc, b"uuid")?;
-    Ok(CollectionSpecificationInfo {
+fn info(rt: &impl Abort, alloc: Global) -> CollectionSpecificationInfo {
+    let bytes = Bytes::from_slice(alloc, b"uuid").made(rt);
+    CollectionSpecificationInfo {
         read_only: true,
         uuid: Some(Binary { subtype: 4, bytes }),
-    })
+    }
 }
 
-fn collection(alloc: Global) -> Result<CollectionSpecification, AllocError> {
-    Ok(CollectionSpecification {
-        name: Text::from_str(alloc, "items")?,
+fn collection(rt: &impl Abort, alloc: Global) -> CollectionSpecification {
+    CollectionSpecification {
+        name: Text::from_str(alloc, "items").made(rt),
         collection_type: CollectionType::Timeseries,
-        options: options(alloc)?,
-        info: info(alloc)?,
-        id_index: Some(options(alloc)?),
-    })
+        options: options(rt, alloc),
+        info: info(rt, alloc),
+        id_index: Some(options(rt, alloc)),
+    }
 }
 
-fn database(alloc: Global) -> Result<DatabaseSpecification, AllocError> {
-    Ok(DatabaseSpecification {
-        name: Text::from_str(alloc, "shop")?,
+fn database(rt: &impl Abort, alloc: Global) -> DatabaseSpecification {
+    DatabaseSpecification {
+        name: Text::from_str(alloc, "shop").made(rt),
         size_on_disk: 8192,
         empty: false,
-        shards: Some(options(alloc)?),
-    })
+        shards: Some(options(rt, alloc)),
+    }
 }
 
 #[test]
-fn specifications_are_copied(rt: HostRuntime) -> Result<(), Fail> {
+fn specifications_are_copied(rt: HostRuntime) {
     let alloc = rt.alloc();
-    assert!(rt; copies_alike(alloc, collection(alloc)?)?);
-    assert!(rt; copies_alike(alloc, info(alloc)?)?);
-    assert!(rt; copies_alike(alloc, CollectionType::Timeseries)?);
-    assert!(rt; copies_alike(alloc, database(alloc)?)?);
-    Ok(())
+    holds(
+        &rt,
+        copies_alike(&rt, alloc, collection(&rt, alloc)),
+        "a collection",
+    );
+    holds(
+        &rt,
+        copies_alike(&rt, alloc, info(&rt, alloc)),
+        "the info of a collection",
+    );
+    holds(
+        &rt,
+        copies_alike(&rt, alloc, CollectionType::Timeseries),
+        "the type of a collection",
+    );
+    holds(
+        &rt,
+        copies_alike(&rt, alloc, database(&rt, alloc)),
+        "a database",
+    );
 }

@@ -1,11 +1,11 @@
 //! What the batches of a bulk write came to so far: what a batch more makes of it, and whether the next one
 //! is made.
-ghost use Rattle.std.specs.Prelude.{IfOk};
 ghost use Rattle.driver_error.specs.BulkErrors.{failures_in};
 ghost use Rattle.bulk_outcomes.specs.BulkResults.{summary_spec, verbose_spec};
 ghost use Rattle.driver_error.specs.Error.{kind_of, source_of};
 ghost use Rattle.bulk_outcomes.specs.Status.{IsBulkOfKind, IsOpen, Stands};
 
+use crate::asserting::{Made, alike};
 use crate::failures::{
     A, B, Cause, Counts, EARLIER, Failed, LATER as LATER_RESULTS, MERGED, MOST, Mark, ONE, Results,
     SUMS, are_counts, are_results, are_verbose_failures, bulk, failures, failures_of, is_bulk,
@@ -13,7 +13,8 @@ use crate::failures::{
 };
 use bulk_outcomes::ExecutionStatus;
 use driver_error::{Error, Result, SummaryBulkWriteResult, VerboseBulkWriteResult};
-use std::alloc::{AllocError, Global};
+use std::alloc::Global;
+use std::process::Abort;
 
 /// What stood before a batch: the failures have the first mark, and no source.
 #[derive(Clone, Copy)]
@@ -350,48 +351,38 @@ const OTHERS_BEHIND_FAILURES: &[Failing] = &[
 ];
 
 /// The failures of a row as an error with the first mark.
-fn standing(alloc: Global, failed: &Failed) -> std::result::Result<Error, AllocError>
-    ensures { IfOk result (λ error. IsOpen summary_spec (failures_in (kind_of error)) (source_of error)) }
+fn standing(rt: &impl Abort, alloc: Global, failed: &Failed) -> Error
+    ensures { IsOpen summary_spec (failures_in (kind_of result)) (source_of result) }
 {
-    let failures = failures(alloc, failed)?;
-    bulk(alloc, failures, Mark::First)
+    let failures = failures(rt, alloc, failed);
+    bulk(rt, alloc, failures, Mark::First)
 }
 
-fn before(
-    alloc: Global,
-    before: &Stood,
-) -> std::result::Result<ExecutionStatus<SummaryBulkWriteResult>, AllocError>
-    ensures { IfOk result (Stands summary_spec) }
+fn before(rt: &impl Abort, alloc: Global, before: &Stood) -> ExecutionStatus<SummaryBulkWriteResult>
+    ensures { Stands summary_spec result }
 {
     match before {
-        Stood::Nothing => Ok(ExecutionStatus::None),
-        Stood::Success(counts) => Ok(ExecutionStatus::Success(summary(*counts))),
-        Stood::Failed(failed) => match standing(alloc, failed) {
-            Ok(error) => Ok(ExecutionStatus::Error(error)),
-            Err(refused) => Err(refused),
-        },
+        Stood::Nothing => ExecutionStatus::None,
+        Stood::Success(counts) => ExecutionStatus::Success(summary(*counts)),
+        Stood::Failed(failed) => ExecutionStatus::Error(standing(rt, alloc, failed)),
     }
 }
 
 /// Failures with the later mark over their source.
-fn later(
-    alloc: Global,
-    failed: &Failed,
-    source: Option<Cause>,
-) -> std::result::Result<Error, AllocError>
-    ensures { IfOk result (λ error. IsBulkOfKind summary_spec (failures_in (kind_of error))) }
+fn later(rt: &impl Abort, alloc: Global, failed: &Failed, source: Option<Cause>) -> Error
+    ensures { IsBulkOfKind summary_spec (failures_in (kind_of result)) }
 {
-    let failures = failures(alloc, failed)?;
-    let error = bulk(alloc, failures, Mark::Later)?;
-    sourced(alloc, error, source)
+    let failures = failures(rt, alloc, failed);
+    let error = bulk(rt, alloc, failures, Mark::Later);
+    sourced(rt, alloc, error, source)
 }
 
-fn comes(alloc: Global, comes: &Failure) -> std::result::Result<Error, AllocError>
-    ensures { IfOk result (λ error. IsBulkOfKind summary_spec (failures_in (kind_of error))) }
+fn comes(rt: &impl Abort, alloc: Global, comes: &Failure) -> Error
+    ensures { IsBulkOfKind summary_spec (failures_in (kind_of result)) }
 {
     match comes {
-        Failure::Failed(failed, source) => later(alloc, failed, *source),
-        Failure::Other(cause) => other(alloc, *cause),
+        Failure::Failed(failed, source) => later(rt, alloc, failed, *source),
+        Failure::Other(cause) => other(rt, alloc, *cause),
     }
 }
 
@@ -442,25 +433,27 @@ fn ends(
     }
 }
 
-fn succeed(alloc: Global, row: &Succeeded) -> Result<ExecutionStatus<SummaryBulkWriteResult>> {
-    before(alloc, &row.before)?.with_success(alloc, summary(row.found))
+fn succeed(
+    rt: &impl Abort,
+    alloc: Global,
+    row: &Succeeded,
+) -> Result<ExecutionStatus<SummaryBulkWriteResult>> {
+    before(rt, alloc, &row.before).with_success(alloc, summary(row.found))
 }
 
-fn fail(alloc: Global, row: &Failing) -> Result<ExecutionStatus<SummaryBulkWriteResult>> {
-    let error = comes(alloc, &row.comes)?;
-    match before(alloc, &row.before) {
-        Ok(before) => before.with_failure(alloc, error),
-        Err(refused) => {
-            drop(error);
-            Err(Error::from(refused))
-        }
-    }
+fn fail(
+    rt: &impl Abort,
+    alloc: Global,
+    row: &Failing,
+) -> Result<ExecutionStatus<SummaryBulkWriteResult>> {
+    let error = comes(rt, alloc, &row.comes);
+    before(rt, alloc, &row.before).with_failure(alloc, error)
 }
 
 /// What the first row shows that is not as it says.
-fn first_wrong_success(alloc: Global) -> Option<&'static str> {
+fn first_wrong_success(rt: &impl Abort, alloc: Global) -> Option<&'static str> {
     for row in SUCCEEDED {
-        if !ends(alloc, succeed(alloc, row), &row.after) {
+        if !ends(alloc, succeed(rt, alloc, row), &row.after) {
             return Some(row.shows);
         }
     }
@@ -469,13 +462,18 @@ fn first_wrong_success(alloc: Global) -> Option<&'static str> {
 
 #[test]
 fn a_success_is_merged_into_what_stands(rt: HostRuntime) {
-    assert_eq!(rt; first_wrong_success(rt.alloc()), None);
+    alike(
+        &rt,
+        first_wrong_success(&rt, rt.alloc()),
+        None,
+        "the first wrong success",
+    );
 }
 
 /// What the first of these rows shows that is not as it says.
-fn first_wrong_failure(alloc: Global, rows: &[Failing]) -> Option<&'static str> {
+fn first_wrong_failure(rt: &impl Abort, alloc: Global, rows: &[Failing]) -> Option<&'static str> {
     for row in rows {
-        if !ends(alloc, fail(alloc, row), &row.after) {
+        if !ends(alloc, fail(rt, alloc, row), &row.after) {
             return Some(row.shows);
         }
     }
@@ -484,17 +482,23 @@ fn first_wrong_failure(alloc: Global, rows: &[Failing]) -> Option<&'static str> 
 
 #[test]
 fn a_failure_is_merged_into_what_stands_or_is_its_source(rt: HostRuntime) {
-    assert_eq!(rt;
-        first_wrong_failure(rt.alloc(), FIRST_OR_BEHIND_SUCCESS),
-        None
+    alike(
+        &rt,
+        first_wrong_failure(&rt, rt.alloc(), FIRST_OR_BEHIND_SUCCESS),
+        None,
+        "the first wrong failure that is first or behind a success",
     );
-    assert_eq!(rt;
-        first_wrong_failure(rt.alloc(), FAILURES_BEHIND_FAILURES),
-        None
+    alike(
+        &rt,
+        first_wrong_failure(&rt, rt.alloc(), FAILURES_BEHIND_FAILURES),
+        None,
+        "the first wrong failure behind failures",
     );
-    assert_eq!(rt;
-        first_wrong_failure(rt.alloc(), OTHERS_BEHIND_FAILURES),
-        None
+    alike(
+        &rt,
+        first_wrong_failure(&rt, rt.alloc(), OTHERS_BEHIND_FAILURES),
+        None,
+        "the first wrong error behind failures",
     );
 }
 
@@ -573,34 +577,27 @@ const GOING: &[Going] = &[
     },
 ];
 
-fn stands(
-    alloc: Global,
-    now: &Now,
-) -> std::result::Result<ExecutionStatus<SummaryBulkWriteResult>, AllocError> {
+fn stands(rt: &impl Abort, alloc: Global, now: &Now) -> ExecutionStatus<SummaryBulkWriteResult> {
     match now {
-        Now::Nothing => Ok(ExecutionStatus::None),
-        Now::Success => Ok(ExecutionStatus::Success(summary(A))),
-        Now::Error(error) => Ok(ExecutionStatus::Error(comes(alloc, error)?)),
+        Now::Nothing => ExecutionStatus::None,
+        Now::Success => ExecutionStatus::Success(summary(A)),
+        Now::Error(error) => ExecutionStatus::Error(comes(rt, alloc, error)),
     }
 }
 
 /// Whether the next batch is made as the row says.
-fn goes_on(alloc: Global, row: &Going) -> bool {
-    match stands(alloc, &row.now) {
-        Ok(now) => {
-            let unordered = now.should_continue(false);
-            let ordered = now.should_continue(true);
-            drop(now);
-            unordered == row.unordered && ordered == row.ordered
-        }
-        Err(_refused) => false,
-    }
+fn goes_on(rt: &impl Abort, alloc: Global, row: &Going) -> bool {
+    let now = stands(rt, alloc, &row.now);
+    let unordered = now.should_continue(false);
+    let ordered = now.should_continue(true);
+    drop(now);
+    unordered == row.unordered && ordered == row.ordered
 }
 
 /// What stands in the first row behind which a batch is made, or not, other than it says.
-fn first_wrong_turn(alloc: Global) -> Option<&'static str> {
+fn first_wrong_turn(rt: &impl Abort, alloc: Global) -> Option<&'static str> {
     for row in GOING {
-        if !goes_on(alloc, row) {
+        if !goes_on(rt, alloc, row) {
             return Some(row.shows);
         }
     }
@@ -609,7 +606,12 @@ fn first_wrong_turn(alloc: Global) -> Option<&'static str> {
 
 #[test]
 fn a_source_or_another_error_stops_all_batches_and_a_write_error_ordered_ones(rt: HostRuntime) {
-    assert_eq!(rt; first_wrong_turn(rt.alloc()), None);
+    alike(
+        &rt,
+        first_wrong_turn(&rt, rt.alloc()),
+        None,
+        "the first wrong turn",
+    );
 }
 
 const VERBOSELY: &[Verbosely] = &[
@@ -641,71 +643,64 @@ const VERBOSELY: &[Verbosely] = &[
 
 /// Failures with a verbose result as an error with a mark.
 fn verbose_error(
+    rt: &impl Abort,
     alloc: Global,
     failed: &Failed,
     results: &Results,
     mark: Mark,
-) -> std::result::Result<Error, AllocError>
-    ensures { IfOk result (λ error. IsOpen verbose_spec (failures_in (kind_of error)) (source_of error)) }
+) -> Error
+    ensures { IsOpen verbose_spec (failures_in (kind_of result)) (source_of result) }
 {
-    let failures = verbose_failures(alloc, failed, results)?;
-    bulk(alloc, failures, mark)
+    let failures = verbose_failures(rt, alloc, failed, results);
+    bulk(rt, alloc, failures, mark)
 }
 
 fn verbose_before(
+    rt: &impl Abort,
     alloc: Global,
     before: &Option<Failed>,
-) -> std::result::Result<ExecutionStatus<VerboseBulkWriteResult>, AllocError>
-    ensures { IfOk result (Stands verbose_spec) }
+) -> ExecutionStatus<VerboseBulkWriteResult>
+    ensures { Stands verbose_spec result }
 {
     match before {
-        None => match verbose(alloc, &EARLIER) {
-            Ok(results) => Ok(ExecutionStatus::Success(results)),
-            Err(refused) => Err(refused),
-        },
-        Some(failed) => match verbose_error(alloc, failed, &EARLIER, Mark::First) {
-            Ok(error) => Ok(ExecutionStatus::Error(error)),
-            Err(refused) => Err(refused),
-        },
+        None => ExecutionStatus::Success(verbose(rt, alloc, &EARLIER)),
+        Some(failed) => {
+            ExecutionStatus::Error(verbose_error(rt, alloc, failed, &EARLIER, Mark::First))
+        }
     }
 }
 
 fn succeed_verbosely(
+    rt: &impl Abort,
     alloc: Global,
     row: &Verbosely,
-) -> Result<ExecutionStatus<VerboseBulkWriteResult>> {
-    let found = verbose(alloc, &LATER_RESULTS)?;
-    match verbose_before(alloc, &row.before) {
-        Ok(before) => before.with_success(alloc, found),
-        Err(refused) => {
-            drop(found);
-            Err(Error::from(refused))
-        }
-    }
+) -> ExecutionStatus<VerboseBulkWriteResult> {
+    let found = verbose(rt, alloc, &LATER_RESULTS);
+    verbose_before(rt, alloc, &row.before)
+        .with_success(alloc, found)
+        .made(rt)
 }
 
 fn fail_verbosely(
+    rt: &impl Abort,
     alloc: Global,
     row: &Verbosely,
     failed: &Failed,
-) -> Result<ExecutionStatus<VerboseBulkWriteResult>> {
-    let error = verbose_error(alloc, failed, &LATER_RESULTS, Mark::Later)?;
-    match verbose_before(alloc, &row.before) {
-        Ok(before) => before.with_failure(alloc, error),
-        Err(refused) => {
-            drop(error);
-            Err(Error::from(refused))
-        }
-    }
+) -> ExecutionStatus<VerboseBulkWriteResult> {
+    let error = verbose_error(rt, alloc, failed, &LATER_RESULTS, Mark::Later);
+    verbose_before(rt, alloc, &row.before)
+        .with_failure(alloc, error)
+        .made(rt)
 }
 
 fn end_verbosely(
+    rt: &impl Abort,
     alloc: Global,
     row: &Verbosely,
-) -> Result<ExecutionStatus<VerboseBulkWriteResult>> {
+) -> ExecutionStatus<VerboseBulkWriteResult> {
     match &row.comes {
-        None => succeed_verbosely(alloc, row),
-        Some(failed) => fail_verbosely(alloc, row, failed),
+        None => succeed_verbosely(rt, alloc, row),
+        Some(failed) => fail_verbosely(rt, alloc, row, failed),
     }
 }
 
@@ -725,24 +720,17 @@ fn is_merged_error(error: &Error, after: &Option<Failed>) -> bool {
     }
 }
 
-fn merges_verbosely(alloc: Global, row: &Verbosely) -> bool {
-    match end_verbosely(alloc, row) {
-        Ok(now) => {
-            let right = is_merged(&now, &row.after);
-            drop(now);
-            right
-        }
-        Err(refused) => {
-            drop(refused);
-            false
-        }
-    }
+fn merges_verbosely(rt: &impl Abort, alloc: Global, row: &Verbosely) -> bool {
+    let now = end_verbosely(rt, alloc, row);
+    let right = is_merged(&now, &row.after);
+    drop(now);
+    right
 }
 
 /// The first row whose results are not those of both batches.
-fn first_wrong_results(alloc: Global) -> Option<&'static str> {
+fn first_wrong_results(rt: &impl Abort, alloc: Global) -> Option<&'static str> {
     for row in VERBOSELY {
-        if !merges_verbosely(alloc, row) {
+        if !merges_verbosely(rt, alloc, row) {
             return Some(row.shows);
         }
     }
@@ -751,5 +739,10 @@ fn first_wrong_results(alloc: Global) -> Option<&'static str> {
 
 #[test]
 fn each_index_keeps_the_result_of_the_later_batch(rt: HostRuntime) {
-    assert_eq!(rt; first_wrong_results(rt.alloc()), None);
+    alike(
+        &rt,
+        first_wrong_results(&rt, rt.alloc()),
+        None,
+        "the first wrong results",
+    );
 }

@@ -1,12 +1,13 @@
 //! The texts of errors.
+use crate::asserting::{Made, alike, holds};
 use crate::errors::{command, command_failed, held, printed, redact, reset};
 use bson_lite::{Boxed, ByIndex, EncodeFault, List, Text};
 use driver_error::{
     BulkWriteError, Error, ErrorKind, GridFsErrorKind, InsertManyError, IoKind, WriteError,
     WriteFailure,
 };
-use std::alloc::{AllocError, Global};
-use std::test::Fail;
+use std::alloc::Global;
+use std::process::Abort;
 
 const TEXTS: [&str; 22] = [
     "An invalid argument was provided: m",
@@ -37,20 +38,16 @@ pub(crate) fn texts() -> &'static [&'static str] {
     &TEXTS
 }
 
-fn text_of(alloc: Global, at: usize) -> Result<String, AllocError> {
-    printed(alloc, kind(alloc, at)?)
-}
-
-pub(crate) fn kind(alloc: Global, at: usize) -> Result<ErrorKind, AllocError> {
-    let message = Text::from_str(alloc, "m")?;
-    Ok(match at {
+pub(crate) fn kind(rt: &impl Abort, alloc: Global, at: usize) -> ErrorKind {
+    let message = Text::from_str(alloc, "m").made(rt);
+    match at {
         0 => ErrorKind::InvalidArgument { message },
         1 => ErrorKind::InvalidResponse { message },
         2 => ErrorKind::IncompatibleServer { message },
         3 => ErrorKind::DnsResolve { message },
         4 => ErrorKind::Internal { message },
         5 => ErrorKind::Io(IoKind::BrokenPipe),
-        6 => ErrorKind::Command(command(alloc, 11600, "InterruptedAtShutdown", "x")?),
+        6 => ErrorKind::Command(command(rt, alloc, 11600, "InterruptedAtShutdown", "x")),
         7 => ErrorKind::Authentication { message },
         8 => ErrorKind::ConnectionPoolCleared { message },
         9 => ErrorKind::ServerSelection { message },
@@ -66,79 +63,94 @@ pub(crate) fn kind(alloc: Global, at: usize) -> Result<ErrorKind, AllocError> {
         19 => ErrorKind::GridFs(GridFsErrorKind::MissingChunk { n: 3 }),
         20 => ErrorKind::BsonDeserialization(message),
         _ => ErrorKind::GridFs(GridFsErrorKind::WriteInProgress),
-    })
+    }
 }
 
 #[test]
-fn kinds_print_their_texts(rt: HostRuntime) -> Result<(), Fail> {
+fn kinds_print_their_texts(rt: HostRuntime) {
     for (at, text) in texts().iter().enumerate() {
-        let printed = text_of(rt.alloc(), at)?;
-        assert_eq!(rt; printed.as_str(), *text, "row {at}");
+        let printed = printed(&rt, rt.alloc(), kind(&rt, rt.alloc(), at));
+        alike(&rt, printed.as_str(), *text, *text);
     }
-    Ok(())
 }
+
+/// The failures of the network, and what each prints.
+const NETWORK: &[(IoKind, &str)] = &[
+    (IoKind::TimedOut, "TimedOut"),
+    (IoKind::ConnectionReset, "ConnectionReset"),
+    (IoKind::ConnectionRefused, "ConnectionRefused"),
+    (IoKind::BrokenPipe, "BrokenPipe"),
+    (IoKind::UnexpectedEof, "UnexpectedEof"),
+    (IoKind::Other, "Other"),
+];
 
 #[test]
-fn failures_of_the_network_print_their_names(rt: HostRuntime) -> Result<(), Fail> {
-    let table = [
-        (IoKind::TimedOut, "TimedOut"),
-        (IoKind::ConnectionReset, "ConnectionReset"),
-        (IoKind::ConnectionRefused, "ConnectionRefused"),
-        (IoKind::BrokenPipe, "BrokenPipe"),
-        (IoKind::UnexpectedEof, "UnexpectedEof"),
-        (IoKind::Other, "Other"),
-    ];
-    for (kind, name) in table {
-        assert_eq!(rt; kind.to_string(rt.alloc())?.as_str(), name);
+fn failures_of_the_network_print_their_names(rt: HostRuntime) {
+    for (kind, name) in NETWORK {
+        alike(
+            &rt,
+            kind.to_string(rt.alloc()).made(&rt).as_str(),
+            *name,
+            *name,
+        );
     }
-    Ok(())
 }
 
-fn interrupted(alloc: Global) -> Result<Error, AllocError> {
-    let error = command(alloc, 11600, "InterruptedAtShutdown", "x")?;
-    Ok(Error::from_kind(ErrorKind::Command(error)))
+fn interrupted(rt: &impl Abort, alloc: Global) -> Error {
+    let error = command(rt, alloc, 11600, "InterruptedAtShutdown", "x");
+    Error::from_kind(ErrorKind::Command(error))
 }
 
 /// Whether the command error in an error prints this text.
-fn prints(alloc: Global, error: &Error, text: &str) -> Result<bool, AllocError> {
+fn prints(rt: &impl Abort, alloc: Global, error: &Error, text: &str) -> bool {
     match error.kind() {
-        ErrorKind::Command(command) => Ok(command.to_string(alloc)?.as_str() == text),
-        _ => Ok(false),
+        ErrorKind::Command(command) => command.to_string(alloc).made(rt).as_str() == text,
+        _ => false,
     }
 }
 
 #[test]
-fn a_command_error_prints_its_code_name_and_message(rt: HostRuntime) -> Result<(), Fail> {
-    let error = held(rt.alloc(), interrupted(rt.alloc())?)?;
+fn a_command_error_prints_its_code_name_and_message(rt: HostRuntime) {
+    let error = held(&rt, rt.alloc(), interrupted(&rt, rt.alloc()));
     let text = "Error code 11600 (InterruptedAtShutdown): x";
-    assert!(rt; prints(rt.alloc(), error.get(), text)?);
-    Ok(())
+    holds(
+        &rt,
+        prints(&rt, rt.alloc(), error.get(), text),
+        "the text of a command error",
+    );
 }
 
 #[test]
-fn a_redacted_command_error_prints_its_code_and_name(rt: HostRuntime) -> Result<(), Fail> {
-    let error = held(rt.alloc(), redact(rt.alloc(), interrupted(rt.alloc())?)?)?;
+fn a_redacted_command_error_prints_its_code_and_name(rt: HostRuntime) {
+    let error = held(
+        &rt,
+        rt.alloc(),
+        redact(&rt, rt.alloc(), interrupted(&rt, rt.alloc())),
+    );
     let text = "Error code 11600 (InterruptedAtShutdown): REDACTED";
-    assert!(rt; prints(rt.alloc(), error.get(), text)?);
-    Ok(())
+    holds(
+        &rt,
+        prints(&rt, rt.alloc(), error.get(), text),
+        "the text of a redacted command error",
+    );
 }
 
-fn many(alloc: Global) -> Result<ErrorKind, AllocError> {
+fn many(rt: &impl Abort, alloc: Global) -> ErrorKind {
     let failures = InsertManyError {
         write_errors: None,
         write_concern_error: None,
         inserted_ids: ByIndex::new(alloc),
     };
-    Ok(ErrorKind::InsertMany(Boxed::new(alloc, failures)?))
+    ErrorKind::InsertMany(Boxed::new(alloc, failures).made(rt))
 }
 
-fn bulk(alloc: Global) -> Result<ErrorKind, AllocError> {
+fn bulk(rt: &impl Abort, alloc: Global) -> ErrorKind {
     let failures = BulkWriteError {
         write_concern_errors: List::new(alloc),
         write_errors: ByIndex::new(alloc),
         partial_result: None,
     };
-    Ok(ErrorKind::BulkWrite(Boxed::new(alloc, failures)?))
+    ErrorKind::BulkWrite(Boxed::new(alloc, failures).made(rt))
 }
 
 fn write(alloc: Global) -> ErrorKind {
@@ -151,44 +163,59 @@ fn write(alloc: Global) -> ErrorKind {
 }
 
 #[test]
-fn failures_of_writes_begin_with_their_texts(rt: HostRuntime) -> Result<(), Fail> {
+fn failures_of_writes_begin_with_their_texts(rt: HostRuntime) {
     let alloc = rt.alloc();
     let text = "An error occurred when trying to execute an insert_many operation: ";
-    assert!(rt; begins(alloc, many(alloc)?, text)?);
+    holds(
+        &rt,
+        begins(&rt, alloc, many(&rt, alloc), text),
+        "a failed insert of many",
+    );
     let text = "An error occurred when executing Client::bulk_write: ";
-    assert!(rt; begins(alloc, bulk(alloc)?, text)?);
+    holds(
+        &rt,
+        begins(&rt, alloc, bulk(&rt, alloc), text),
+        "a failed bulk write",
+    );
     let text = "An error occurred when trying to execute a write operation: ";
-    assert!(rt; begins(alloc, write(alloc), text)?);
-    Ok(())
+    holds(
+        &rt,
+        begins(&rt, alloc, write(alloc), text),
+        "a failed write",
+    );
 }
 
 /// Whether what the kind prints begins with this text.
-fn begins(alloc: Global, kind: ErrorKind, text: &str) -> Result<bool, AllocError> {
-    Ok(printed(alloc, kind)?.as_str().starts_with(text))
+fn begins(rt: &impl Abort, alloc: Global, kind: ErrorKind, text: &str) -> bool {
+    printed(rt, alloc, kind).as_str().starts_with(text)
 }
 
 #[test]
-fn an_error_prints_kind_labels_and_source(rt: HostRuntime) -> Result<(), Fail> {
-    let text = printed(rt.alloc(), shut_down(rt.alloc())?)?;
-    assert_eq!(rt;
+fn an_error_prints_kind_labels_and_source(rt: HostRuntime) {
+    let text = printed(&rt, rt.alloc(), shut_down(&rt, rt.alloc()));
+    alike(
+        &rt,
         text.as_str(),
-        "Kind: Client has been shut down, labels: -, source: Kind: I/O error: ConnectionReset, labels: B,a,b, source: None"
+        "Kind: Client has been shut down, labels: -, source: Kind: I/O error: ConnectionReset, labels: B,a,b, source: None",
+        "the text of an error over another",
     );
-    Ok(())
 }
 
 /// An error over one with labels.
-fn shut_down(alloc: Global) -> Result<Error, AllocError> {
-    let source = reset(alloc, &["b", "a", "B"])?;
-    Error::from_kind(ErrorKind::Shutdown).with_source(alloc, Some(source))
+fn shut_down(rt: &impl Abort, alloc: Global) -> Error {
+    let source = reset(rt, alloc, &["b", "a", "B"]);
+    Error::from_kind(ErrorKind::Shutdown)
+        .with_source(alloc, Some(source))
+        .made(rt)
 }
 
 #[test]
-fn an_error_without_source_prints_none(rt: HostRuntime) -> Result<(), Fail> {
-    let text = printed(rt.alloc(), command_failed(rt.alloc(), -1)?)?;
-    assert_eq!(rt;
+fn an_error_without_source_prints_none(rt: HostRuntime) {
+    let text = printed(&rt, rt.alloc(), command_failed(&rt, rt.alloc(), -1));
+    alike(
+        &rt,
         text.as_str(),
-        "Kind: Command failed: Error code -1 (Name): x, labels: -, source: None"
+        "Kind: Command failed: Error code -1 (Name): x, labels: -, source: None",
+        "the text of an error without a source",
     );
-    Ok(())
 }

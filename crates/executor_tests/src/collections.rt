@@ -2,6 +2,7 @@
 //! where the write has none, and before the client's.
 ghost use Rattle.std.specs.Prelude.{◌≡◌, ◌<◌};
 
+use crate::asserting::{Made, holds, holds_at};
 use crate::concerns::has_end;
 use bson_lite::{Document, TryClone};
 use driver_attempt::{Client, Outside, Steps};
@@ -17,10 +18,10 @@ use memory_links::{CountingIds, FakeLink, MemClock};
 use rand_core::SeedableRng;
 use rand_pcg::Pcg32;
 use statement_ops::FindAndModify;
-use std::alloc::{AllocError, Global};
+use std::alloc::Global;
 use std::marker::Brand;
+use std::process::Abort;
 use std::sync::ledger::{Blank, Ledger};
-use std::test::Fail;
 use test_parts::faking::{ALIKE, ANY_DONE, Given, fake_link};
 use test_parts::inserting::{Ended, how_ended};
 use test_parts::spelling::{FIRST_NUMBER, LAST, joined};
@@ -34,7 +35,7 @@ const BY_TWO: &[u8] = b"\x03writeConcern\0\x0c\0\0\0\x10w\0\x02\0\0\0\0";
 const BY_THREE: &[u8] = b"\x03writeConcern\0\x0c\0\0\0\x10w\0\x03\0\0\0\0";
 
 /// The concerns of a write, of its collection and of its client.
-#[derive(Clone, Copy, Debug)]
+#[derive(Clone, Copy)]
 struct Concerns {
     own: Concern,
     collection: Concern,
@@ -101,37 +102,34 @@ const REFUSED: Concerns = Concerns {
 };
 
 /// A replacement by `{y: 2}`, as a copy, which is the same.
-fn replacement(alloc: Global) -> std::result::Result<Modification, AllocError> {
-    let given = Modification::Update(UpdateOrReplace::Replacement(number(alloc, "y", 2)?));
-    let copy = given.try_clone(alloc);
+fn replacement(rt: &impl Abort, alloc: Global) -> Modification {
+    let given = Modification::Update(UpdateOrReplace::Replacement(number(alloc, "y", 2).made(rt)));
+    let copy = given.try_clone(alloc).made(rt);
     drop(given);
     copy
 }
 
 /// Options with this concern, as a copy, which is the same.
-fn options(
-    alloc: Global,
-    concern: Concern,
-) -> std::result::Result<FindAndModifyOptions, AllocError> {
+fn options(rt: &impl Abort, alloc: Global, concern: Concern) -> FindAndModifyOptions {
     let given = FindAndModifyOptions {
         write_concern: write_concern(concern),
         ..FindAndModifyOptions::default()
     };
-    let copy = given.try_clone(alloc);
+    let copy = given.try_clone(alloc).made(rt);
     drop(given);
     copy
 }
 
 /// The replacement of what the filter `{x: 1}` finds, with these concerns of its own and of its collection.
-fn find(alloc: Global, concerns: Concerns) -> std::result::Result<FindAndModify, AllocError> {
+fn find(rt: &impl Abort, alloc: Global, concerns: Concerns) -> FindAndModify {
     let collection = Collection {
-        namespace: namespace(alloc, "shop")?,
+        namespace: namespace(alloc, "shop").made(rt),
         write_concern: write_concern(concerns.collection),
     };
-    let filter = number(alloc, "x", 1)?;
-    let modification = replacement(alloc)?;
-    let options = options(alloc, concerns.own)?;
-    Ok(FindAndModify::new(collection, filter, modification, options))
+    let filter = number(alloc, "x", 1).made(rt);
+    let modification = replacement(rt, alloc);
+    let options = options(rt, alloc, concerns.own);
+    FindAndModify::new(collection, filter, modification, options)
 }
 
 /// What it comes to over a link for a client with this concern, and the link afterwards.
@@ -195,12 +193,9 @@ fn ended(end: Result<Option<Document>>) -> Ended {
 }
 
 /// How a write with these concerns ended, and the link afterwards.
-fn ended_under(
-    alloc: Global,
-    concerns: Concerns,
-) -> std::result::Result<(Ended, FakeLink), AllocError> {
-    let link = fake_link(alloc, ALIKE, &[Given::Reply(ANY_DONE)])?;
-    let find = find(alloc, concerns)?;
+fn ended_under(rt: &impl Abort, alloc: Global, concerns: Concerns) -> (Ended, FakeLink) {
+    let link = fake_link(alloc, ALIKE, &[Given::Reply(ANY_DONE)]).made(rt);
+    let find = find(rt, alloc, concerns);
     let blank = Blank::new(1);
     let (result, link) = executed::<Brand>(
         alloc,
@@ -209,42 +204,39 @@ fn ended_under(
         write_concern(concerns.client),
         blank,
     );
-    Ok((ended(result), link))
+    (ended(result), link)
 }
 
 /// Whether a write with these concerns is done after one send, with this between the number and the database.
-fn is_sent(
-    alloc: Global,
-    concerns: Concerns,
-    concern: &[u8],
-) -> std::result::Result<bool, AllocError> {
-    let end = joined(alloc, &[FIRST_NUMBER, concern, LAST])?;
-    let (ended, link) = ended_under(alloc, concerns)?;
+fn is_sent(rt: &impl Abort, alloc: Global, concerns: Concerns, concern: &[u8]) -> bool {
+    let end = joined(alloc, &[FIRST_NUMBER, concern, LAST]).made(rt);
+    let (ended, link) = ended_under(rt, alloc, concerns);
     let sent = match link.frames() {
         [frame] => has_end(frame.body(), end.as_slice()),
         _ => false,
     };
     drop(link);
-    Ok(sent && ended == Ended::Done)
+    sent && ended == Ended::Done
 }
 
 /// Whether a write with these concerns is refused as one that nobody acknowledges, and nothing is sent.
-fn is_refused(alloc: Global, concerns: Concerns) -> std::result::Result<bool, AllocError> {
-    let (ended, link) = ended_under(alloc, concerns)?;
+fn is_refused(rt: &impl Abort, alloc: Global, concerns: Concerns) -> bool {
+    let (ended, link) = ended_under(rt, alloc, concerns);
     let unsent = link.frames().len() == 0;
     drop(link);
-    Ok(unsent && ended == Ended::Unacknowledged)
+    unsent && ended == Ended::Unacknowledged
 }
 
 #[test]
-fn a_collections_own_concern_counts_between_its_writes_and_its_clients(
-    rt: HostRuntime,
-) -> std::result::Result<(), Fail> {
-    for (concerns, concern) in SENT {
-        let sent = is_sent(rt.alloc(), *concerns, concern)?;
-        assert!(rt; sent, "{concerns:?}");
+fn a_collections_own_concern_counts_between_its_writes_and_its_clients(rt: HostRuntime) {
+    for (at, (concerns, concern)) in SENT.iter().enumerate() {
+        let sent = is_sent(&rt, rt.alloc(), *concerns, concern);
+        holds_at(&rt, sent, "what goes out under the concerns of a row", at);
     }
-    let refused = is_refused(rt.alloc(), REFUSED)?;
-    assert!(rt; refused);
-    Ok(())
+    let refused = is_refused(&rt, rt.alloc(), REFUSED);
+    holds(
+        &rt,
+        refused,
+        "a write that its collection's concern refuses",
+    );
 }

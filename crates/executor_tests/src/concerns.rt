@@ -1,15 +1,16 @@
 //! Inserts of clients that have a write concern: what goes out with it, and which are refused before anything is sent.
+use crate::asserting::{Made, holds_at};
 use bson_lite::{Text, encode};
 use driver_ops::concern_document;
 use driver_options::{Acknowledgment, WriteConcern};
 use memory_links::FakeLink;
-use std::alloc::{AllocError, Global};
-use std::test::Fail;
+use std::alloc::Global;
+use std::process::Abort;
 use test_parts::faking::{ALIKE, DONE, Given, fake_link};
 use test_parts::inserting::{Ended, Seen, insert_under};
 
 /// What a row's concern says of the servers that acknowledge a write.
-#[derive(Clone, Copy, Debug)]
+#[derive(Clone, Copy)]
 enum Servers {
     Unset,
     Nodes(u32),
@@ -18,7 +19,7 @@ enum Servers {
 }
 
 /// A concern as a row spells it.
-#[derive(Clone, Copy, Debug)]
+#[derive(Clone, Copy)]
 struct Concern {
     w: Servers,
     w_timeout: Option<u32>,
@@ -157,38 +158,38 @@ const REFUSED: &[(Concern, Ended)] = &[
     ),
 ];
 
-fn acknowledgment(alloc: Global, w: Servers) -> Result<Option<Acknowledgment>, AllocError> {
-    Ok(match w {
+fn acknowledgment(rt: &impl Abort, alloc: Global, w: Servers) -> Option<Acknowledgment> {
+    match w {
         Servers::Unset => None,
         Servers::Nodes(nodes) => Some(Acknowledgment::Nodes(nodes)),
         Servers::Majority => Some(Acknowledgment::Majority),
-        Servers::Named(name) => Some(Acknowledgment::Custom(Text::from_str(alloc, name)?)),
-    })
+        Servers::Named(name) => Some(Acknowledgment::Custom(Text::from_str(alloc, name).made(rt))),
+    }
 }
 
-fn write_concern(alloc: Global, concern: Concern) -> Result<WriteConcern, AllocError> {
-    Ok(WriteConcern {
-        w: acknowledgment(alloc, concern.w)?,
+fn write_concern(rt: &impl Abort, alloc: Global, concern: Concern) -> WriteConcern {
+    WriteConcern {
+        w: acknowledgment(rt, alloc, concern.w),
         w_timeout: concern.w_timeout,
         journal: concern.journal,
-    })
+    }
 }
 
 /// Whether a concern as a document has these bytes.
-fn is_spelled(alloc: Global, concern: Concern, bytes: &[u8]) -> Result<bool, AllocError> {
-    let concern = write_concern(alloc, concern)?;
-    let document = concern_document(alloc, &concern)?;
+fn is_spelled(rt: &impl Abort, alloc: Global, concern: Concern, bytes: &[u8]) -> bool {
+    let concern = write_concern(rt, alloc, concern);
+    let document = concern_document(alloc, &concern).made(rt);
     match encode(alloc, &document) {
-        Ok(found) => Ok(found.as_slice() == bytes),
-        Err(_) => Ok(false),
+        Ok(found) => found.as_slice() == bytes,
+        Err(_) => false,
     }
 }
 
 /// The end of an insert of a client with this concern, and the link afterwards.
-fn seen_under(alloc: Global, concern: Concern) -> Result<Option<(Seen, FakeLink)>, AllocError> {
-    let concern = write_concern(alloc, concern)?;
-    let link = fake_link(alloc, ALIKE, &[Given::Reply(DONE)])?;
-    Ok(insert_under(alloc, link, Some(concern)))
+fn seen_under(rt: &impl Abort, alloc: Global, concern: Concern) -> Option<(Seen, FakeLink)> {
+    let concern = write_concern(rt, alloc, concern);
+    let link = fake_link(alloc, ALIKE, &[Given::Reply(DONE)]).made(rt);
+    insert_under(alloc, link, Some(concern))
 }
 
 /// Whether bytes end so.
@@ -201,51 +202,48 @@ pub(crate) fn has_end(bytes: &[u8], end: &[u8]) -> bool {
 }
 
 /// Whether an insert under a concern is done after one send, whose body ends so.
-fn is_sent(alloc: Global, concern: Concern, end: &[u8]) -> Result<bool, AllocError> {
-    let Some((seen, link)) = seen_under(alloc, concern)? else {
-        return Ok(false);
+fn is_sent(rt: &impl Abort, alloc: Global, concern: Concern, end: &[u8]) -> bool {
+    let Some((seen, link)) = seen_under(rt, alloc, concern) else {
+        return false;
     };
     let sent = match link.frames() {
         [frame] => has_end(frame.body(), end),
         _ => false,
     };
     drop(link);
-    Ok(sent && seen.ended == Ended::Done)
+    sent && seen.ended == Ended::Done
 }
 
 /// Whether it ends so without labels, and nothing is sent.
-fn is_refused(alloc: Global, concern: Concern, ended: Ended) -> Result<bool, AllocError> {
-    let Some((seen, link)) = seen_under(alloc, concern)? else {
-        return Ok(false);
+fn is_refused(rt: &impl Abort, alloc: Global, concern: Concern, ended: Ended) -> bool {
+    let Some((seen, link)) = seen_under(rt, alloc, concern) else {
+        return false;
     };
     let unsent = link.frames().len() == 0;
     drop(link);
-    Ok(unsent && seen.ended == ended && seen.labels == 0)
+    unsent && seen.ended == ended && seen.labels == 0
 }
 
 #[test]
-fn a_concern_is_spelled_by_its_fields_that_are_set(rt: HostRuntime) -> Result<(), Fail> {
-    for (concern, bytes) in SPELLED {
-        let spelled = is_spelled(rt.alloc(), *concern, bytes)?;
-        assert!(rt; spelled, "{concern:?}");
+fn a_concern_is_spelled_by_its_fields_that_are_set(rt: HostRuntime) {
+    for (at, (concern, bytes)) in SPELLED.iter().enumerate() {
+        let spelled = is_spelled(&rt, rt.alloc(), *concern, bytes);
+        holds_at(&rt, spelled, "the document of a concern", at);
     }
-    Ok(())
 }
 
 #[test]
-fn a_clients_concern_stands_between_number_and_database(rt: HostRuntime) -> Result<(), Fail> {
-    for (concern, end) in SENT {
-        let sent = is_sent(rt.alloc(), *concern, end)?;
-        assert!(rt; sent, "{concern:?}");
+fn a_clients_concern_stands_between_number_and_database(rt: HostRuntime) {
+    for (at, (concern, end)) in SENT.iter().enumerate() {
+        let sent = is_sent(&rt, rt.alloc(), *concern, end);
+        holds_at(&rt, sent, "the end of a body with a concern", at);
     }
-    Ok(())
 }
 
 #[test]
-fn a_concern_that_is_refused_sends_nothing(rt: HostRuntime) -> Result<(), Fail> {
-    for (concern, ended) in REFUSED {
-        let refused = is_refused(rt.alloc(), *concern, *ended)?;
-        assert!(rt; refused, "{concern:?}");
+fn a_concern_that_is_refused_sends_nothing(rt: HostRuntime) {
+    for (at, (concern, ended)) in REFUSED.iter().enumerate() {
+        let refused = is_refused(&rt, rt.alloc(), *concern, *ended);
+        holds_at(&rt, refused, "the refusal of a concern", at);
     }
-    Ok(())
 }

@@ -1,5 +1,6 @@
 //! The writes that answer a document, over a fake link, by the bytes that they send: which fields their command has,
 //! in which order, with every option and with none.
+use crate::asserting::{Made, holds_at};
 use crate::statements::{ENGLISH, Hinted, Said, Shared, VARIABLES, filters, sends, shared_options};
 use bson_lite::{Boxed, Document};
 use driver_inputs::SingleWrite;
@@ -7,8 +8,8 @@ use driver_options::{
     Acknowledgment, FindOneAndDeleteOptions, FindOneAndReplaceOptions, FindOneAndUpdateOptions,
     ReturnDocument, UpdateModifications, WriteConcern,
 };
-use std::alloc::{AllocError, Global};
-use std::test::Fail;
+use std::alloc::Global;
+use std::process::Abort;
 use test_parts::spelling::{FIRST_NUMBER, LAST, NOTE, ONE_NODE, SESSION, by_one_node};
 use test_parts::writes::{Concern, Kind, namespace, number, operators, text, two, usual, write_of};
 
@@ -121,7 +122,7 @@ const PIPED: &[&[u8]] = &[
 const DELETED: &[&[u8]] = &[b"\x7f\0\0\0", FIRST, REMOVED, SESSION, FIRST_NUMBER, LAST];
 
 /// A write whose bytes a row spells.
-#[derive(Clone, Copy, Debug)]
+#[derive(Clone, Copy)]
 enum Spelled {
     Update,
     Delete,
@@ -147,24 +148,24 @@ struct Sought {
 }
 
 /// `{x: -1}` and `{y: 1}`
-fn sought_by(alloc: Global) -> Result<Sought, AllocError> {
-    Ok(Sought {
-        sort: number(alloc, "x", -1)?,
-        projection: number(alloc, "y", 1)?,
-    })
+fn sought_by(rt: &impl Abort, alloc: Global) -> Sought {
+    Sought {
+        sort: number(alloc, "x", -1).made(rt),
+        projection: number(alloc, "y", 1).made(rt),
+    }
 }
 
 /// Every option of an update that answers a document.
-fn all_of_update(alloc: Global) -> Result<FindOneAndUpdateOptions, AllocError> {
-    let array_filters = filters(alloc)?;
-    let Sought { sort, projection } = sought_by(alloc)?;
+fn all_of_update(rt: &impl Abort, alloc: Global) -> FindOneAndUpdateOptions {
+    let array_filters = filters(rt, alloc);
+    let Sought { sort, projection } = sought_by(rt, alloc);
     let Shared {
         collation,
         let_vars,
         hint,
         comment,
-    } = shared_options(alloc, Hinted::ByName, Said::Note)?;
-    Ok(FindOneAndUpdateOptions {
+    } = shared_options(rt, alloc, Hinted::ByName, Said::Note);
+    FindOneAndUpdateOptions {
         sort: Some(sort),
         return_document: Some(ReturnDocument::After),
         upsert: Some(false),
@@ -177,29 +178,31 @@ fn all_of_update(alloc: Global) -> Result<FindOneAndUpdateOptions, AllocError> {
         let_vars: Some(let_vars),
         comment: Some(comment),
         write_concern: Some(by_one_node()),
-    })
+    }
 }
 
 /// The update with every option.
-fn update(alloc: Global) -> Result<SingleWrite, AllocError> {
-    Ok(SingleWrite::FindOneAndUpdate {
-        namespace: namespace(alloc, "shop")?,
-        filter: number(alloc, "x", 1)?,
-        update: UpdateModifications::Document(operators(alloc, number(alloc, "y", 2)?)?),
-        options: Boxed::new(alloc, all_of_update(alloc)?)?,
-    })
+fn update(rt: &impl Abort, alloc: Global) -> SingleWrite {
+    SingleWrite::FindOneAndUpdate {
+        namespace: namespace(alloc, "shop").made(rt),
+        filter: number(alloc, "x", 1).made(rt),
+        update: UpdateModifications::Document(operators(alloc, number(alloc, "y", 2).made(rt)).made(
+            rt,
+        )),
+        options: Boxed::new(alloc, all_of_update(rt, alloc)).made(rt),
+    }
 }
 
 /// Every option of a delete that answers a document.
-fn all_of_delete(alloc: Global) -> Result<FindOneAndDeleteOptions, AllocError> {
-    let Sought { sort, projection } = sought_by(alloc)?;
+fn all_of_delete(rt: &impl Abort, alloc: Global) -> FindOneAndDeleteOptions {
+    let Sought { sort, projection } = sought_by(rt, alloc);
     let Shared {
         collation,
         let_vars,
         hint,
         comment,
-    } = shared_options(alloc, Hinted::ByKeys, Said::Null)?;
-    Ok(FindOneAndDeleteOptions {
+    } = shared_options(rt, alloc, Hinted::ByKeys, Said::Null);
+    FindOneAndDeleteOptions {
         sort: Some(sort),
         max_time: Some(2_147_483_648),
         projection: Some(projection),
@@ -212,28 +215,28 @@ fn all_of_delete(alloc: Global) -> Result<FindOneAndDeleteOptions, AllocError> {
             w_timeout: None,
             journal: None,
         }),
-    })
+    }
 }
 
 /// The delete with every option.
-fn delete(alloc: Global) -> Result<SingleWrite, AllocError> {
-    Ok(SingleWrite::FindOneAndDelete {
-        namespace: namespace(alloc, "shop")?,
-        filter: number(alloc, "x", 1)?,
-        options: Boxed::new(alloc, all_of_delete(alloc)?)?,
-    })
+fn delete(rt: &impl Abort, alloc: Global) -> SingleWrite {
+    SingleWrite::FindOneAndDelete {
+        namespace: namespace(alloc, "shop").made(rt),
+        filter: number(alloc, "x", 1).made(rt),
+        options: Boxed::new(alloc, all_of_delete(rt, alloc)).made(rt),
+    }
 }
 
 /// Every option of a replacement that answers a document.
-fn all_of_replace(alloc: Global) -> Result<FindOneAndReplaceOptions, AllocError> {
-    let Sought { sort, projection } = sought_by(alloc)?;
+fn all_of_replace(rt: &impl Abort, alloc: Global) -> FindOneAndReplaceOptions {
+    let Sought { sort, projection } = sought_by(rt, alloc);
     let Shared {
         collation,
         let_vars,
         hint,
         comment,
-    } = shared_options(alloc, Hinted::ByKeys, Said::Note)?;
-    Ok(FindOneAndReplaceOptions {
+    } = shared_options(rt, alloc, Hinted::ByKeys, Said::Note);
+    FindOneAndReplaceOptions {
         sort: Some(sort),
         return_document: Some(ReturnDocument::Before),
         upsert: Some(true),
@@ -245,51 +248,53 @@ fn all_of_replace(alloc: Global) -> Result<FindOneAndReplaceOptions, AllocError>
         let_vars: Some(let_vars),
         comment: Some(comment),
         write_concern: Some(by_one_node()),
-    })
+    }
 }
 
 /// The replacement with every option.
-fn replacement(alloc: Global) -> Result<SingleWrite, AllocError> {
-    Ok(SingleWrite::FindOneAndReplace {
-        namespace: namespace(alloc, "shop")?,
-        filter: number(alloc, "x", 1)?,
-        replacement: number(alloc, "y", 2)?,
-        options: Boxed::new(alloc, all_of_replace(alloc)?)?,
-    })
+fn replacement(rt: &impl Abort, alloc: Global) -> SingleWrite {
+    SingleWrite::FindOneAndReplace {
+        namespace: namespace(alloc, "shop").made(rt),
+        filter: number(alloc, "x", 1).made(rt),
+        replacement: number(alloc, "y", 2).made(rt),
+        options: Boxed::new(alloc, all_of_replace(rt, alloc)).made(rt),
+    }
 }
 
 /// The update by a pipeline of two stages.
-fn piped_update(alloc: Global) -> Result<SingleWrite, AllocError> {
-    let set = operators(alloc, number(alloc, "y", 2)?)?;
-    let unset = text(alloc, "$unset", "z")?;
-    let stages = two(alloc, set, unset)?;
-    Ok(SingleWrite::FindOneAndUpdate {
-        namespace: namespace(alloc, "shop")?,
-        filter: number(alloc, "x", 1)?,
+fn piped_update(rt: &impl Abort, alloc: Global) -> SingleWrite {
+    let set = operators(alloc, number(alloc, "y", 2).made(rt)).made(rt);
+    let unset = text(alloc, "$unset", "z").made(rt);
+    let stages = two(alloc, set, unset).made(rt);
+    SingleWrite::FindOneAndUpdate {
+        namespace: namespace(alloc, "shop").made(rt),
+        filter: number(alloc, "x", 1).made(rt),
         update: UpdateModifications::Pipeline(stages),
-        options: Boxed::new(alloc, FindOneAndUpdateOptions::default())?,
-    })
+        options: Boxed::new(alloc, FindOneAndUpdateOptions::default()).made(rt),
+    }
 }
 
 /// The write of a row.
-fn write(alloc: Global, spelled: Spelled) -> Result<SingleWrite, AllocError> {
+fn write(rt: &impl Abort, alloc: Global, spelled: Spelled) -> SingleWrite {
     match spelled {
-        Spelled::Update => update(alloc),
-        Spelled::Delete => delete(alloc),
-        Spelled::Replacement => replacement(alloc),
-        Spelled::Pipeline => piped_update(alloc),
-        Spelled::Plain => write_of(alloc, usual(Kind::FindOneAndDelete), Concern::Unset),
+        Spelled::Update => update(rt, alloc),
+        Spelled::Delete => delete(rt, alloc),
+        Spelled::Replacement => replacement(rt, alloc),
+        Spelled::Pipeline => piped_update(rt, alloc),
+        Spelled::Plain => write_of(alloc, usual(Kind::FindOneAndDelete), Concern::Unset).made(rt),
     }
 }
 
 #[test]
-fn a_find_and_modify_has_the_fields_of_its_options_in_their_order(
-    rt: HostRuntime,
-) -> Result<(), Fail> {
-    for (spelled, parts) in ROWS {
-        let write = write(rt.alloc(), *spelled)?;
-        let sent = sends(rt.alloc(), write, parts, 0)?;
-        assert!(rt; sent, "{spelled:?}");
+fn a_find_and_modify_has_the_fields_of_its_options_in_their_order(rt: HostRuntime) {
+    for (at, (spelled, parts)) in ROWS.iter().enumerate() {
+        let write = write(&rt, rt.alloc(), *spelled);
+        let sent = sends(&rt, rt.alloc(), write, parts, 0);
+        holds_at(
+            &rt,
+            sent,
+            "the frame of a write that answers a document",
+            at,
+        );
     }
-    Ok(())
 }

@@ -1,4 +1,5 @@
 //! One insert over a fake link: what it sends, and the replies that it does not take.
+use crate::asserting::holds;
 use driver_error::IoKind;
 use driver_link::Frame;
 use memory_links::FakeLink;
@@ -75,43 +76,57 @@ fn an_error_has_the_wire_version_of_its_own_connection(rt: HostRuntime) {
         first: LATER,
         further: SERVER,
     };
-    assert!(rt; has_version(rt.alloc(), rising, 26));
-    assert!(rt; has_version(rt.alloc(), falling, 25));
+    holds(
+        &rt,
+        has_version(rt.alloc(), rising, 26),
+        "the later of two rising versions",
+    );
+    holds(
+        &rt,
+        has_version(rt.alloc(), falling, 25),
+        "the later of two falling versions",
+    );
 }
 
 #[test]
 fn another_message_of_that_code_is_left_as_it_is(rt: HostRuntime) {
-    assert!(rt;
+    holds(
+        &rt,
         ends_at_once(
             rt.alloc(),
             ALIKE,
             &[Given::Reply(OLD_NUMBER)],
-            Ended::Command(20)
-        )
+            Ended::Command(20),
+        ),
+        "another message of code 20",
     );
 }
 
 #[test]
 fn a_deployment_without_numbers_is_told_in_words(rt: HostRuntime) {
-    assert!(rt;
+    holds(
+        &rt,
         ends_at_once(
             rt.alloc(),
             ALIKE,
             &[Given::Reply(NO_NUMBERS)],
-            Ended::NoNumbers
-        )
+            Ended::NoNumbers,
+        ),
+        "a deployment without numbers",
     );
 }
 
 #[test]
 fn a_reply_that_is_no_document_is_not_sent_again(rt: HostRuntime) {
-    assert!(rt;
+    holds(
+        &rt,
         ends_at_once(
             rt.alloc(),
             ALIKE,
             &[Given::Reply(BROKEN), Given::Reply(DONE)],
-            Ended::InvalidResponse
-        )
+            Ended::InvalidResponse,
+        ),
+        "a reply that is no document",
     );
 }
 
@@ -121,13 +136,15 @@ fn nothing_is_sent_again_where_nothing_may_be_repeated(rt: HostRuntime) {
         first: SERVER,
         further: NO_REPEATS,
     };
-    assert!(rt;
+    holds(
+        &rt,
         ends_at_once(
             rt.alloc(),
             servers,
             LOST_ONCE,
-            Ended::Io(IoKind::ConnectionReset)
-        )
+            Ended::Io(IoKind::ConnectionReset),
+        ),
+        "nothing sent again where nothing may be repeated",
     );
 }
 
@@ -137,13 +154,15 @@ fn nothing_is_sent_again_to_a_server_without_retryable_writes(rt: HostRuntime) {
         first: NO_REPEATS,
         further: SERVER,
     };
-    assert!(rt;
+    holds(
+        &rt,
         ends_at_once(
             rt.alloc(),
             servers,
             LOST_ONCE,
-            Ended::Io(IoKind::ConnectionReset)
-        )
+            Ended::Io(IoKind::ConnectionReset),
+        ),
+        "nothing sent again without retryable writes",
     );
 }
 
@@ -153,13 +172,15 @@ fn nothing_is_sent_again_to_a_server_without_sessions(rt: HostRuntime) {
         first: NO_SESSIONS,
         further: SERVER,
     };
-    assert!(rt;
+    holds(
+        &rt,
         ends_at_once(
             rt.alloc(),
             servers,
             LOST_ONCE,
-            Ended::Io(IoKind::ConnectionReset)
-        )
+            Ended::Io(IoKind::ConnectionReset),
+        ),
+        "nothing sent again without sessions",
     );
 }
 
@@ -169,10 +190,18 @@ fn a_session_is_not_sent_to_a_server_without(rt: HostRuntime) {
         first: SERVER,
         further: NO_SESSIONS,
     };
-    assert!(rt; ends_at_once(rt.alloc(), servers, LOST_ONCE, Ended::NoSessions));
+    holds(
+        &rt,
+        ends_at_once(rt.alloc(), servers, LOST_ONCE, Ended::NoSessions),
+        "no session to a server without",
+    );
 }
 
 #[test]
 fn the_frames_of_a_resend_are_equal(rt: HostRuntime) {
-    assert!(rt; resend_is_the_same(rt.alloc()));
+    holds(
+        &rt,
+        resend_is_the_same(rt.alloc()),
+        "the frames of a resend",
+    );
 }

@@ -1,5 +1,6 @@
 //! One insert over a link whose selections answer one server after the other: the connection of each attempt is
 //! asked for the server that its selection answered.
+use crate::asserting::holds;
 use bson_lite::{Bytes, List, Text};
 use driver_error::Error;
 use driver_link::{Frame, Link, LinkError, Place};
@@ -106,5 +107,9 @@ fn asks_for_the_selected(alloc: Global) -> bool {
 
 #[test]
 fn a_connection_is_asked_for_the_server_that_was_selected(rt: HostRuntime) {
-    assert!(rt; asks_for_the_selected(rt.alloc()));
+    holds(
+        &rt,
+        asks_for_the_selected(rt.alloc()),
+        "the ports that were asked for",
+    );
 }

@@ -1,4 +1,5 @@
 //! One insert over a fake link: which servers its selections are asked to avoid.
+use crate::asserting::holds;
 use driver_options::{Address, Asked};
 use memory_links::FakeLink;
 use std::alloc::Global;
@@ -49,10 +50,18 @@ fn is_done(alloc: Global, servers: Servers, avoids: bool) -> bool {
 
 #[test]
 fn a_router_that_failed_is_avoided(rt: HostRuntime) {
-    assert!(rt; is_done(rt.alloc(), ROUTERS, true));
+    holds(
+        &rt,
+        is_done(rt.alloc(), ROUTERS, true),
+        "a router that failed",
+    );
 }
 
 #[test]
 fn a_member_of_a_replica_set_that_failed_is_not_avoided(rt: HostRuntime) {
-    assert!(rt; is_done(rt.alloc(), ALIKE, false));
+    holds(
+        &rt,
+        is_done(rt.alloc(), ALIKE, false),
+        "a member that failed",
+    );
 }

@@ -1,4 +1,5 @@
 //! What no clause shows of a store: that it lends, takes back and counts with ample memory.
+use crate::asserting::{alike, holds};
 use driver_error::Result;
 use driver_session::{PlainStore, ServerSession, SessionStore};
 use memory_links::CountingIds;
@@ -53,12 +54,22 @@ fn lends_in_turn(store: &mut PlainStore<CountingIds>, alloc: Global) -> bool {
 fn lends_the_front_first_and_no_dirty_one(rt: HostRuntime) {
     let mut store = PlainStore::new(rt.alloc(), CountingIds::new());
     let in_turn = lends_in_turn(&mut store, rt.alloc());
-    let told = (store.drawn_ids().len(), store.history().len());
+    let told = [store.drawn_ids().len(), store.history().len()];
     let id = store.object_id().bytes;
     drop(store);
-    assert!(rt; in_turn);
-    assert_eq!(rt; told, (2, 10));
-    assert_eq!(rt; id, [0, 0, 0, 0, 0, 0, 0, 0, 0, 0, 0, 1]);
+    holds(&rt, in_turn, "the ids of sessions that were lent");
+    alike(
+        &rt,
+        told,
+        [2, 10],
+        "how many ids were drawn, and the length of the history",
+    );
+    alike(
+        &rt,
+        id,
+        [0, 0, 0, 0, 0, 0, 0, 0, 0, 0, 0, 1],
+        "the object id",
+    );
 }
 
 #[test]
@@ -67,6 +78,6 @@ fn numbers_go_up_by_one(rt: HostRuntime) {
     let mut session = ServerSession::with_number([9; 16], 5, 41);
     let number = told(session.next_number(rt.alloc()));
     store.check_in(session, 6);
-    assert_eq!(rt; number, Some(42));
-    assert!(rt; store.history().is_empty());
+    alike(&rt, number, Some(42), "the next number");
+    holds(&rt, store.history().is_empty(), "the history of a number");
 }

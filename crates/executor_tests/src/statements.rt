@@ -1,13 +1,14 @@
 //! Updates and deletes over a fake link, by the bytes that they send: which fields their commands and statements
 //! have, in which order, with every option and with none.
+use crate::asserting::{Made, holds_at};
 use bson_lite::{Boxed, Bson, Document, List, Text};
 use driver_inputs::SingleWrite;
 use driver_options::{
     Acknowledgment, DeleteOptions, Hint, InsertManyOptions, UpdateModifications, UpdateOptions,
     WriteConcern,
 };
-use std::alloc::{AllocError, Global};
-use std::test::Fail;
+use std::alloc::Global;
+use std::process::Abort;
 use test_parts::faking::{ALIKE, ANY_DONE, Given, fake_link};
 use test_parts::inserting::{Ended, answered_under, seen_end};
 use test_parts::spelling::{
@@ -126,7 +127,7 @@ const ALL_DELETED: &[&[u8]] = &[
 ];
 
 /// A write whose bytes a row spells.
-#[derive(Clone, Copy, Debug)]
+#[derive(Clone, Copy)]
 enum Spelled {
     UpdateMany,
     DeleteOne,
@@ -171,50 +172,46 @@ pub(crate) struct Shared {
     pub(crate) comment: Bson,
 }
 
-fn hint_of(alloc: Global, hinted: Hinted) -> Result<Hint, AllocError> {
+fn hint_of(rt: &impl Abort, alloc: Global, hinted: Hinted) -> Hint {
     match hinted {
-        Hinted::ByName => Ok(Hint::Name(Text::from_str(alloc, "x_1")?)),
-        Hinted::ByKeys => Ok(Hint::Keys(number(alloc, "x", 1)?)),
+        Hinted::ByName => Hint::Name(Text::from_str(alloc, "x_1").made(rt)),
+        Hinted::ByKeys => Hint::Keys(number(alloc, "x", 1).made(rt)),
     }
 }
 
-fn comment_of(alloc: Global, said: Said) -> Result<Bson, AllocError> {
+fn comment_of(rt: &impl Abort, alloc: Global, said: Said) -> Bson {
     match said {
-        Said::Note => noted(alloc),
-        Said::Null => Ok(Bson::Null),
+        Said::Note => noted(alloc).made(rt),
+        Said::Null => Bson::Null,
     }
 }
 
-/// Those of a row. They are made apart, since each option that is there lengthens the proof of what may still fail.
-pub(crate) fn shared_options(
-    alloc: Global,
-    hinted: Hinted,
-    said: Said,
-) -> Result<Shared, AllocError> {
-    Ok(Shared {
-        collation: text(alloc, "locale", "en")?,
-        let_vars: number(alloc, "v", 5)?,
-        hint: hint_of(alloc, hinted)?,
-        comment: comment_of(alloc, said)?,
-    })
+/// Those of a row.
+pub(crate) fn shared_options(rt: &impl Abort, alloc: Global, hinted: Hinted, said: Said) -> Shared {
+    Shared {
+        collation: text(alloc, "locale", "en").made(rt),
+        let_vars: number(alloc, "v", 5).made(rt),
+        hint: hint_of(rt, alloc, hinted),
+        comment: comment_of(rt, alloc, said),
+    }
 }
 
 /// `[{e: 3}]`
-pub(crate) fn filters(alloc: Global) -> Result<List<Document>, AllocError> {
-    one(alloc, number(alloc, "e", 3)?)
+pub(crate) fn filters(rt: &impl Abort, alloc: Global) -> List<Document> {
+    one(alloc, number(alloc, "e", 3).made(rt)).made(rt)
 }
 
 /// Every option of an update.
-fn all_of_update(alloc: Global) -> Result<UpdateOptions, AllocError> {
-    let array_filters = filters(alloc)?;
-    let sort = number(alloc, "x", -1)?;
+fn all_of_update(rt: &impl Abort, alloc: Global) -> UpdateOptions {
+    let array_filters = filters(rt, alloc);
+    let sort = number(alloc, "x", -1).made(rt);
     let Shared {
         collation,
         let_vars,
         hint,
         comment,
-    } = shared_options(alloc, Hinted::ByKeys, Said::Note)?;
-    Ok(UpdateOptions {
+    } = shared_options(rt, alloc, Hinted::ByKeys, Said::Note);
+    UpdateOptions {
         upsert: Some(false),
         array_filters: Some(array_filters),
         hint: Some(hint),
@@ -224,28 +221,30 @@ fn all_of_update(alloc: Global) -> Result<UpdateOptions, AllocError> {
         comment: Some(comment),
         sort: Some(sort),
         write_concern: Some(by_one_node()),
-    })
+    }
 }
 
 /// The update of all with every option.
-fn update_of_all(alloc: Global) -> Result<SingleWrite, AllocError> {
-    Ok(SingleWrite::UpdateMany {
-        namespace: namespace(alloc, "shop")?,
-        filter: number(alloc, "x", 1)?,
-        update: UpdateModifications::Document(operators(alloc, number(alloc, "y", 2)?)?),
-        options: Boxed::new(alloc, all_of_update(alloc)?)?,
-    })
+fn update_of_all(rt: &impl Abort, alloc: Global) -> SingleWrite {
+    SingleWrite::UpdateMany {
+        namespace: namespace(alloc, "shop").made(rt),
+        filter: number(alloc, "x", 1).made(rt),
+        update: UpdateModifications::Document(operators(alloc, number(alloc, "y", 2).made(rt)).made(
+            rt,
+        )),
+        options: Boxed::new(alloc, all_of_update(rt, alloc)).made(rt),
+    }
 }
 
 /// Every option of a delete.
-fn all_of_delete(alloc: Global) -> Result<DeleteOptions, AllocError> {
+fn all_of_delete(rt: &impl Abort, alloc: Global) -> DeleteOptions {
     let Shared {
         collation,
         let_vars,
         hint,
         comment,
-    } = shared_options(alloc, Hinted::ByName, Said::Null)?;
-    Ok(DeleteOptions {
+    } = shared_options(rt, alloc, Hinted::ByName, Said::Null);
+    DeleteOptions {
         collation: Some(collation),
         hint: Some(hint),
         let_vars: Some(let_vars),
@@ -255,92 +254,82 @@ fn all_of_delete(alloc: Global) -> Result<DeleteOptions, AllocError> {
             w_timeout: None,
             journal: None,
         }),
-    })
+    }
 }
 
 /// The delete of one with every option.
-fn delete_of_one(alloc: Global) -> Result<SingleWrite, AllocError> {
-    Ok(SingleWrite::DeleteOne {
-        namespace: namespace(alloc, "shop")?,
-        filter: number(alloc, "x", 1)?,
-        options: Boxed::new(alloc, all_of_delete(alloc)?)?,
-    })
+fn delete_of_one(rt: &impl Abort, alloc: Global) -> SingleWrite {
+    SingleWrite::DeleteOne {
+        namespace: namespace(alloc, "shop").made(rt),
+        filter: number(alloc, "x", 1).made(rt),
+        options: Boxed::new(alloc, all_of_delete(rt, alloc)).made(rt),
+    }
 }
 
 /// The update by a pipeline of two stages.
-fn piped_update(alloc: Global) -> Result<SingleWrite, AllocError> {
-    let set = operators(alloc, number(alloc, "y", 2)?)?;
-    let unset = text(alloc, "$unset", "z")?;
-    let stages = two(alloc, set, unset)?;
-    Ok(SingleWrite::UpdateOne {
-        namespace: namespace(alloc, "shop")?,
-        filter: number(alloc, "x", 1)?,
+fn piped_update(rt: &impl Abort, alloc: Global) -> SingleWrite {
+    let set = operators(alloc, number(alloc, "y", 2).made(rt)).made(rt);
+    let unset = text(alloc, "$unset", "z").made(rt);
+    let stages = two(alloc, set, unset).made(rt);
+    SingleWrite::UpdateOne {
+        namespace: namespace(alloc, "shop").made(rt),
+        filter: number(alloc, "x", 1).made(rt),
         update: UpdateModifications::Pipeline(stages),
-        options: Boxed::new(alloc, UpdateOptions::default())?,
-    })
+        options: Boxed::new(alloc, UpdateOptions::default()).made(rt),
+    }
 }
 
 /// The insert with every option.
-fn insert_of_one(alloc: Global) -> Result<SingleWrite, AllocError> {
-    Ok(SingleWrite::InsertOne {
-        namespace: namespace(alloc, "shop")?,
-        document: number(alloc, "y", 2)?,
+fn insert_of_one(rt: &impl Abort, alloc: Global) -> SingleWrite {
+    SingleWrite::InsertOne {
+        namespace: namespace(alloc, "shop").made(rt),
+        document: number(alloc, "y", 2).made(rt),
         options: InsertManyOptions {
             ordered: Some(false),
             bypass_document_validation: Some(true),
-            comment: Some(noted(alloc)?),
+            comment: Some(noted(alloc).made(rt)),
             write_concern: Some(by_one_node()),
         },
-    })
+    }
 }
 
 /// The write of a row.
-fn write(alloc: Global, spelled: Spelled) -> Result<SingleWrite, AllocError> {
+fn write(rt: &impl Abort, alloc: Global, spelled: Spelled) -> SingleWrite {
     match spelled {
-        Spelled::UpdateMany => update_of_all(alloc),
-        Spelled::DeleteOne => delete_of_one(alloc),
-        Spelled::Pipeline => piped_update(alloc),
-        Spelled::Replacement => write_of(alloc, usual(Kind::ReplaceOne), Concern::Unset),
-        Spelled::DeleteMany => write_of(alloc, usual(Kind::DeleteMany), Concern::Unset),
-        Spelled::Insert => insert_of_one(alloc),
+        Spelled::UpdateMany => update_of_all(rt, alloc),
+        Spelled::DeleteOne => delete_of_one(rt, alloc),
+        Spelled::Pipeline => piped_update(rt, alloc),
+        Spelled::Replacement => write_of(alloc, usual(Kind::ReplaceOne), Concern::Unset).made(rt),
+        Spelled::DeleteMany => write_of(alloc, usual(Kind::DeleteMany), Concern::Unset).made(rt),
+        Spelled::Insert => insert_of_one(rt, alloc),
     }
 }
 
 /// Whether a write is done after one frame with this body and so many sequences.
 pub(crate) fn sends(
+    rt: &impl Abort,
     alloc: Global,
     write: SingleWrite,
     parts: &[&[u8]],
     sequences: usize,
-) -> Result<bool, AllocError> {
-    let body = joined(alloc, parts)?;
-    let link = fake_link(alloc, ALIKE, &[Given::Reply(ANY_DONE)])?;
+) -> bool {
+    let body = joined(alloc, parts).made(rt);
+    let link = fake_link(alloc, ALIKE, &[Given::Reply(ANY_DONE)]).made(rt);
     let (result, link) = answered_under(alloc, link, &write, None);
     drop(write);
     let sent = has_one_frame(&link, body.as_slice(), sequences);
     drop(link);
     match seen_end(alloc, result) {
-        Some(seen) => Ok(sent && seen.ended == Ended::Done),
-        None => Ok(false),
+        Some(seen) => sent && seen.ended == Ended::Done,
+        None => false,
     }
-}
-
-/// Whether the write of a row is.
-fn row_sends(
-    alloc: Global,
-    spelled: Spelled,
-    parts: &[&[u8]],
-    sequences: usize,
-) -> Result<bool, AllocError> {
-    let write = write(alloc, spelled)?;
-    sends(alloc, write, parts, sequences)
 }
 
 #[test]
-fn a_command_has_the_fields_of_its_options_in_their_order(rt: HostRuntime) -> Result<(), Fail> {
-    for (spelled, parts, sequences) in ROWS {
-        let sent = row_sends(rt.alloc(), *spelled, parts, *sequences)?;
-        assert!(rt; sent, "{spelled:?}");
+fn a_command_has_the_fields_of_its_options_in_their_order(rt: HostRuntime) {
+    for (at, (spelled, parts, sequences)) in ROWS.iter().enumerate() {
+        let write = write(&rt, rt.alloc(), *spelled);
+        let sent = sends(&rt, rt.alloc(), write, parts, *sequences);
+        holds_at(&rt, sent, "the frame of a write", at);
     }
-    Ok(())
 }

@@ -1,4 +1,5 @@
 //! Which bulk writes a script may have, and what is read of them.
+use crate::asserting::{Made, alike};
 use crate::forms::{AROUND_CALL, Around, first_wrong};
 use crate::parts::{are_shared, has_one, is_document, is_namespace, is_pipeline};
 use crate::schedules::script_in;
@@ -8,8 +9,8 @@ use driver_options::{
     UpdateManyModel, UpdateOneModel, WriteModel,
 };
 use driver_script::Script;
-use std::alloc::{AllocError, Global};
-use std::test::Fail;
+use std::alloc::Global;
+use std::process::Abort;
 
 /// Models, one or several behind one another.
 const MODELS: [&str; 15] = [
@@ -336,74 +337,91 @@ fn is_bulk_write(call: &Call, manner: &Manner) -> bool {
 }
 
 /// The script of the bulk write of the six models, made so.
-fn script_of(alloc: Global, manner: &Manner) -> Result<Option<Script>, AllocError> {
+fn script_of(rt: &impl Abort, alloc: Global, manner: &Manner) -> Option<Script> {
     let mut text = String::new(alloc);
-    text.push_str("{\"calls\":[{\"bulkWrite\":{\"models\":[")?;
-    text.push_str(SIX)?;
-    text.push_str("],\"writeConcern\":{\"w\":11},\"comment\":12")?;
-    text.push_str(manner.text)?;
-    text.push_str("}}]}")?;
-    script_in(alloc, text.as_str())
+    text.push_str("{\"calls\":[{\"bulkWrite\":{\"models\":[")
+        .made(rt);
+    text.push_str(SIX).made(rt);
+    text.push_str("],\"writeConcern\":{\"w\":11},\"comment\":12")
+        .made(rt);
+    text.push_str(manner.text).made(rt);
+    text.push_str("}}]}").made(rt);
+    script_in(rt, alloc, text.as_str())
 }
 
 /// Whether it is read with all its parts.
-fn is_read(alloc: Global, manner: &Manner) -> Result<bool, AllocError> {
-    match script_of(alloc, manner)? {
+fn is_read(rt: &impl Abort, alloc: Global, manner: &Manner) -> bool {
+    match script_of(rt, alloc, manner) {
         Some(script) => match script.calls.as_slice() {
-            [call] => Ok(is_bulk_write(call, manner)),
-            _ => Ok(false),
+            [call] => is_bulk_write(call, manner),
+            _ => false,
         },
-        None => Ok(false),
+        None => false,
     }
 }
 
 /// The first way to make it that is not read.
-fn first_unread(alloc: Global) -> Result<Option<&'static str>, AllocError> {
+fn first_unread(rt: &impl Abort, alloc: Global) -> Option<&'static str> {
     for manner in MANNERS.iter() {
-        if !is_read(alloc, manner)? {
-            return Ok(Some(manner.text));
+        if !is_read(rt, alloc, manner) {
+            return Some(manner.text);
         }
     }
-    Ok(None)
+    None
 }
 
 #[test]
-fn models_are_read(rt: HostRuntime) -> Result<(), Fail> {
-    let wrong = first_wrong(rt.alloc(), &MODELS, &AROUND_MODELS, true)?;
-    assert_eq!(rt; wrong, None);
-    Ok(())
+fn models_are_read(rt: HostRuntime) {
+    let wrong = first_wrong(&rt, rt.alloc(), &MODELS, &AROUND_MODELS, true);
+    alike(&rt, wrong, None, "a model that is not read");
 }
 
 #[test]
-fn other_models_are_refused(rt: HostRuntime) -> Result<(), Fail> {
-    let wrong = first_wrong(rt.alloc(), &NO_MODELS, &AROUND_MODELS, false)?;
-    assert_eq!(rt; wrong, None);
-    let wrong = first_wrong(rt.alloc(), &LACKING_MODELS, &AROUND_MODELS, false)?;
-    assert_eq!(rt; wrong, None);
-    let wrong = first_wrong(rt.alloc(), &OTHER_MODELS, &AROUND_MODELS, false)?;
-    assert_eq!(rt; wrong, None);
-    let wrong = first_wrong(rt.alloc(), &ODD_MODELS, &AROUND_MODELS, false)?;
-    assert_eq!(rt; wrong, None);
-    Ok(())
+fn other_models_are_refused(rt: HostRuntime) {
+    let wrong = first_wrong(&rt, rt.alloc(), &NO_MODELS, &AROUND_MODELS, false);
+    alike(&rt, wrong, None, "no model, and not refused");
+    let wrong = first_wrong(&rt, rt.alloc(), &LACKING_MODELS, &AROUND_MODELS, false);
+    alike(
+        &rt,
+        wrong,
+        None,
+        "a model that lacks a part, and not refused",
+    );
+    let wrong = first_wrong(&rt, rt.alloc(), &OTHER_MODELS, &AROUND_MODELS, false);
+    alike(
+        &rt,
+        wrong,
+        None,
+        "a model with a part of calls, and not refused",
+    );
+    let wrong = first_wrong(&rt, rt.alloc(), &ODD_MODELS, &AROUND_MODELS, false);
+    alike(
+        &rt,
+        wrong,
+        None,
+        "a model with an odd part, and not refused",
+    );
 }
 
 #[test]
-fn bulk_writes_are_read(rt: HostRuntime) -> Result<(), Fail> {
-    let wrong = first_wrong(rt.alloc(), &CALLS, &AROUND_CALL, true)?;
-    assert_eq!(rt; wrong, None);
-    Ok(())
+fn bulk_writes_are_read(rt: HostRuntime) {
+    let wrong = first_wrong(&rt, rt.alloc(), &CALLS, &AROUND_CALL, true);
+    alike(&rt, wrong, None, "a bulk write that is not read");
 }
 
 #[test]
-fn other_bulk_writes_are_refused(rt: HostRuntime) -> Result<(), Fail> {
-    let wrong = first_wrong(rt.alloc(), &NO_CALLS, &AROUND_CALL, false)?;
-    assert_eq!(rt; wrong, None);
-    Ok(())
+fn other_bulk_writes_are_refused(rt: HostRuntime) {
+    let wrong = first_wrong(&rt, rt.alloc(), &NO_CALLS, &AROUND_CALL, false);
+    alike(&rt, wrong, None, "no bulk write, and not refused");
 }
 
 #[test]
-fn the_parts_of_a_bulk_write_are_read(rt: HostRuntime) -> Result<(), Fail> {
-    let wrong = first_unread(rt.alloc())?;
-    assert_eq!(rt; wrong, None);
-    Ok(())
+fn the_parts_of_a_bulk_write_are_read(rt: HostRuntime) {
+    let wrong = first_unread(&rt, rt.alloc());
+    alike(
+        &rt,
+        wrong,
+        None,
+        "what stands beside models that are not read",
+    );
 }

@@ -1,7 +1,8 @@
 //! Which calls, options, limits and served steps a script may have.
+use crate::asserting::{Made, alike};
 use crate::schedules::is_told;
-use std::alloc::{AllocError, Global};
-use std::test::Fail;
+use std::alloc::Global;
+use std::process::Abort;
 
 const CALLS: [&str; 32] = [
     "{\"insertOne\":{\"doc\":[],\"ns\":\"a.b\"}}",
@@ -281,27 +282,28 @@ pub(crate) struct Around {
 }
 
 /// Whether the script of a form is read, or refused as a whole, as it should be.
-fn is_right(alloc: Global, form: &str, around: &Around, read: bool) -> Result<bool, AllocError> {
+fn is_right(rt: &impl Abort, alloc: Global, form: &str, around: &Around, read: bool) -> bool {
     let mut script = String::new(alloc);
-    script.push_str(around.before)?;
-    script.push_str(form)?;
-    script.push_str(around.behind)?;
-    is_told(alloc, script.as_str(), read)
+    script.push_str(around.before).made(rt);
+    script.push_str(form).made(rt);
+    script.push_str(around.behind).made(rt);
+    is_told(rt, alloc, script.as_str(), read)
 }
 
 /// The first form whose script is not read or refused as it should be.
 pub(crate) fn first_wrong(
+    rt: &impl Abort,
     alloc: Global,
     forms: &[&'static str],
     around: &Around,
     read: bool,
-) -> Result<Option<&'static str>, AllocError> {
+) -> Option<&'static str> {
     for form in forms {
-        if !is_right(alloc, form, around, read)? {
-            return Ok(Some(*form));
+        if !is_right(rt, alloc, form, around, read) {
+            return Some(*form);
         }
     }
-    Ok(None)
+    None
 }
 
 /// A script of one call, of options or limits alone, and of one served step.
@@ -326,63 +328,55 @@ const AROUND_SERVED: Around = Around {
 };
 
 #[test]
-fn calls_are_read(rt: HostRuntime) -> Result<(), Fail> {
-    let wrong = first_wrong(rt.alloc(), &CALLS, &AROUND_CALL, true)?;
-    assert_eq!(rt; wrong, None);
-    Ok(())
+fn calls_are_read(rt: HostRuntime) {
+    let wrong = first_wrong(&rt, rt.alloc(), &CALLS, &AROUND_CALL, true);
+    alike(&rt, wrong, None, "a call that is not read");
 }
 
 #[test]
-fn other_calls_are_refused(rt: HostRuntime) -> Result<(), Fail> {
-    let wrong = first_wrong(rt.alloc(), &NO_FINDS, &AROUND_CALL, false)?;
-    assert_eq!(rt; wrong, None);
-    let wrong = first_wrong(rt.alloc(), &NO_INSERTS_OF_MANY, &AROUND_CALL, false)?;
-    assert_eq!(rt; wrong, None);
-    let wrong = first_wrong(rt.alloc(), &NO_DELETES, &AROUND_CALL, false)?;
-    assert_eq!(rt; wrong, None);
-    let wrong = first_wrong(rt.alloc(), &NO_UPDATES, &AROUND_CALL, false)?;
-    assert_eq!(rt; wrong, None);
-    Ok(())
+fn other_calls_are_refused(rt: HostRuntime) {
+    let wrong = first_wrong(&rt, rt.alloc(), &NO_FINDS, &AROUND_CALL, false);
+    alike(&rt, wrong, None, "no call, and not refused");
+    let wrong = first_wrong(&rt, rt.alloc(), &NO_INSERTS_OF_MANY, &AROUND_CALL, false);
+    alike(&rt, wrong, None, "no insert of many, and not refused");
+    let wrong = first_wrong(&rt, rt.alloc(), &NO_DELETES, &AROUND_CALL, false);
+    alike(&rt, wrong, None, "no delete, and not refused");
+    let wrong = first_wrong(&rt, rt.alloc(), &NO_UPDATES, &AROUND_CALL, false);
+    alike(&rt, wrong, None, "no update, and not refused");
 }
 
 #[test]
-fn options_are_read(rt: HostRuntime) -> Result<(), Fail> {
-    let wrong = first_wrong(rt.alloc(), &OPTIONS, &AROUND_OPTIONS, true)?;
-    assert_eq!(rt; wrong, None);
-    Ok(())
+fn options_are_read(rt: HostRuntime) {
+    let wrong = first_wrong(&rt, rt.alloc(), &OPTIONS, &AROUND_OPTIONS, true);
+    alike(&rt, wrong, None, "options that are not read");
 }
 
 #[test]
-fn other_options_are_refused(rt: HostRuntime) -> Result<(), Fail> {
-    let wrong = first_wrong(rt.alloc(), &NO_OPTIONS, &AROUND_OPTIONS, false)?;
-    assert_eq!(rt; wrong, None);
-    Ok(())
+fn other_options_are_refused(rt: HostRuntime) {
+    let wrong = first_wrong(&rt, rt.alloc(), &NO_OPTIONS, &AROUND_OPTIONS, false);
+    alike(&rt, wrong, None, "no options, and not refused");
 }
 
 #[test]
-fn limits_are_read(rt: HostRuntime) -> Result<(), Fail> {
-    let wrong = first_wrong(rt.alloc(), &LIMITS, &AROUND_LIMITS, true)?;
-    assert_eq!(rt; wrong, None);
-    Ok(())
+fn limits_are_read(rt: HostRuntime) {
+    let wrong = first_wrong(&rt, rt.alloc(), &LIMITS, &AROUND_LIMITS, true);
+    alike(&rt, wrong, None, "limits that are not read");
 }
 
 #[test]
-fn other_limits_are_refused(rt: HostRuntime) -> Result<(), Fail> {
-    let wrong = first_wrong(rt.alloc(), &NO_LIMITS, &AROUND_LIMITS, false)?;
-    assert_eq!(rt; wrong, None);
-    Ok(())
+fn other_limits_are_refused(rt: HostRuntime) {
+    let wrong = first_wrong(&rt, rt.alloc(), &NO_LIMITS, &AROUND_LIMITS, false);
+    alike(&rt, wrong, None, "no limits, and not refused");
 }
 
 #[test]
-fn served_steps_are_read(rt: HostRuntime) -> Result<(), Fail> {
-    let wrong = first_wrong(rt.alloc(), &SERVED, &AROUND_SERVED, true)?;
-    assert_eq!(rt; wrong, None);
-    Ok(())
+fn served_steps_are_read(rt: HostRuntime) {
+    let wrong = first_wrong(&rt, rt.alloc(), &SERVED, &AROUND_SERVED, true);
+    alike(&rt, wrong, None, "a served step that is not read");
 }
 
 #[test]
-fn other_served_steps_are_refused(rt: HostRuntime) -> Result<(), Fail> {
-    let wrong = first_wrong(rt.alloc(), &NOT_SERVED, &AROUND_SERVED, false)?;
-    assert_eq!(rt; wrong, None);
-    Ok(())
+fn other_served_steps_are_refused(rt: HostRuntime) {
+    let wrong = first_wrong(&rt, rt.alloc(), &NOT_SERVED, &AROUND_SERVED, false);
+    alike(&rt, wrong, None, "no served step, and not refused");
 }

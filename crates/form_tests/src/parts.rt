@@ -1,4 +1,5 @@
 //! What is read of the options of a client, of the limits of a server, and of the parts of a call.
+use crate::asserting::{Made, alike};
 use crate::schedules::script_in;
 use bson_lite::{Bson, Document, List, Namespace};
 use driver_inputs::{Call, SingleWrite};
@@ -8,8 +9,8 @@ use driver_options::{
     UpdateModifications, UpdateOptions, WriteConcern,
 };
 use driver_script::Script;
-use std::alloc::{AllocError, Global};
-use std::test::Fail;
+use std::alloc::Global;
+use std::process::Abort;
 
 /// The calls as a script writes them, in the order in which `is_call` numbers them.
 const CALLS: [&str; 9] = [
@@ -385,33 +386,33 @@ fn is_insert_many(call: &Call, ordered: Option<bool>) -> bool {
 }
 
 /// The script of one call.
-fn script_of(alloc: Global, call: &str) -> Result<Option<Script>, AllocError> {
+fn script_of(rt: &impl Abort, alloc: Global, call: &str) -> Option<Script> {
     let mut text = String::new(alloc);
-    text.push_str("{\"calls\":[")?;
-    text.push_str(call)?;
-    text.push_str("]}")?;
-    script_in(alloc, text.as_str())
+    text.push_str("{\"calls\":[").made(rt);
+    text.push_str(call).made(rt);
+    text.push_str("]}").made(rt);
+    script_in(rt, alloc, text.as_str())
 }
 
 /// Whether the insert of a row is read with all its parts.
-fn is_insert_read(alloc: Global, row: &Inserts) -> Result<bool, AllocError> {
-    match script_of(alloc, row.call)? {
+fn is_insert_read(rt: &impl Abort, alloc: Global, row: &Inserts) -> bool {
+    match script_of(rt, alloc, row.call) {
         Some(script) => match script.calls.as_slice() {
-            [call] => Ok(is_insert_many(call, row.ordered)),
-            _ => Ok(false),
+            [call] => is_insert_many(call, row.ordered),
+            _ => false,
         },
-        None => Ok(false),
+        None => false,
     }
 }
 
 /// Whether this call, which has this number, is read with all its parts.
-fn is_read(alloc: Global, call: &str, number: usize) -> Result<bool, AllocError> {
-    match script_of(alloc, call)? {
+fn is_read(rt: &impl Abort, alloc: Global, call: &str, number: usize) -> bool {
+    match script_of(rt, alloc, call) {
         Some(script) => match script.calls.as_slice() {
-            [Call::Single { write }] => Ok(is_call(write, number)),
-            _ => Ok(false),
+            [Call::Single { write }] => is_call(write, number),
+            _ => false,
         },
-        None => Ok(false),
+        None => false,
     }
 }
 
@@ -444,16 +445,16 @@ fn are_options(options: &ClientOptions, level: &str) -> bool {
 }
 
 /// Whether the options of a client are read with this level of read concern.
-fn is_level_read(alloc: Global, level: &str) -> Result<bool, AllocError> {
+fn is_level_read(rt: &impl Abort, alloc: Global, level: &str) -> bool {
     let mut text = String::new(alloc);
-    text.push_str("{\"calls\":[],\"options\":{\"readConcern\":\"")?;
-    text.push_str(level)?;
-    text.push_str(
-        "\",\"writeConcern\":{\"j\":true,\"wtimeout\":8,\"w\":7},\"retryWrites\":false}}",
-    )?;
-    match script_in(alloc, text.as_str())? {
-        Some(script) => Ok(are_options(&script.options, level)),
-        None => Ok(false),
+    text.push_str("{\"calls\":[],\"options\":{\"readConcern\":\"")
+        .made(rt);
+    text.push_str(level).made(rt);
+    text.push_str("\",\"writeConcern\":{\"j\":true,\"wtimeout\":8,\"w\":7},\"retryWrites\":false}}")
+        .made(rt);
+    match script_in(rt, alloc, text.as_str()) {
+        Some(script) => are_options(&script.options, level),
+        None => false,
     }
 }
 
@@ -472,77 +473,73 @@ fn is_setup(setup: &Setup, row: &Limited) -> bool {
 }
 
 /// Whether the script of a row is read with its limits.
-fn is_limited(alloc: Global, row: &Limited) -> Result<bool, AllocError> {
-    match script_in(alloc, row.script)? {
-        Some(script) => Ok(is_setup(&script.setup, row)),
-        None => Ok(false),
+fn is_limited(rt: &impl Abort, alloc: Global, row: &Limited) -> bool {
+    match script_in(rt, alloc, row.script) {
+        Some(script) => is_setup(&script.setup, row),
+        None => false,
     }
 }
 
 /// The script of the first row whose limits are not read.
-fn first_unlimited(alloc: Global) -> Result<Option<&'static str>, AllocError> {
+fn first_unlimited(rt: &impl Abort, alloc: Global) -> Option<&'static str> {
     for row in LIMITS.iter() {
-        if !is_limited(alloc, row)? {
-            return Ok(Some(row.script));
+        if !is_limited(rt, alloc, row) {
+            return Some(row.script);
         }
     }
-    Ok(None)
+    None
 }
 
 /// The first level of a read concern that is not read.
-fn first_unread_level(alloc: Global) -> Result<Option<&'static str>, AllocError> {
+fn first_unread_level(rt: &impl Abort, alloc: Global) -> Option<&'static str> {
     for level in LEVELS.iter() {
-        if !is_level_read(alloc, level)? {
-            return Ok(Some(*level));
+        if !is_level_read(rt, alloc, level) {
+            return Some(*level);
         }
     }
-    Ok(None)
+    None
 }
 
 /// The first call that is not read as what it is.
-fn first_unread_call(alloc: Global) -> Result<Option<&'static str>, AllocError> {
+fn first_unread_call(rt: &impl Abort, alloc: Global) -> Option<&'static str> {
     for (number, call) in CALLS.iter().enumerate() {
-        if !is_read(alloc, call, number)? {
-            return Ok(Some(*call));
+        if !is_read(rt, alloc, call, number) {
+            return Some(*call);
         }
     }
-    Ok(None)
+    None
 }
 
 /// The first insert of many that is not read as its row says.
-fn first_unread_insert(alloc: Global) -> Result<Option<&'static str>, AllocError> {
+fn first_unread_insert(rt: &impl Abort, alloc: Global) -> Option<&'static str> {
     for row in INSERTS.iter() {
-        if !is_insert_read(alloc, row)? {
-            return Ok(Some(row.call));
+        if !is_insert_read(rt, alloc, row) {
+            return Some(row.call);
         }
     }
-    Ok(None)
+    None
 }
 
 #[test]
-fn the_parts_of_an_insert_of_many_are_read(rt: HostRuntime) -> Result<(), Fail> {
-    let wrong = first_unread_insert(rt.alloc())?;
-    assert_eq!(rt; wrong, None);
-    Ok(())
+fn the_parts_of_an_insert_of_many_are_read(rt: HostRuntime) {
+    let wrong = first_unread_insert(&rt, rt.alloc());
+    alike(&rt, wrong, None, "an insert of many that is not read");
 }
 
 #[test]
-fn the_parts_of_each_call_are_read(rt: HostRuntime) -> Result<(), Fail> {
-    let wrong = first_unread_call(rt.alloc())?;
-    assert_eq!(rt; wrong, None);
-    Ok(())
+fn the_parts_of_each_call_are_read(rt: HostRuntime) {
+    let wrong = first_unread_call(&rt, rt.alloc());
+    alike(&rt, wrong, None, "a call that is not read");
 }
 
 #[test]
-fn the_options_of_a_client_are_read(rt: HostRuntime) -> Result<(), Fail> {
-    let wrong = first_unread_level(rt.alloc())?;
-    assert_eq!(rt; wrong, None);
-    Ok(())
+fn the_options_of_a_client_are_read(rt: HostRuntime) {
+    let wrong = first_unread_level(&rt, rt.alloc());
+    alike(&rt, wrong, None, "a level that is not read");
 }
 
 #[test]
-fn the_limits_of_a_server_are_read(rt: HostRuntime) -> Result<(), Fail> {
-    let wrong = first_unlimited(rt.alloc())?;
-    assert_eq!(rt; wrong, None);
-    Ok(())
+fn the_limits_of_a_server_are_read(rt: HostRuntime) {
+    let wrong = first_unlimited(&rt, rt.alloc());
+    alike(&rt, wrong, None, "limits that are not read");
 }

@@ -1,7 +1,8 @@
 //! Scripts in which a key comes twice, of which the later counts, and numbers at the edges of 64 bits.
+use crate::asserting::alike;
 use crate::schedules::is_told;
-use std::alloc::{AllocError, Global};
-use std::test::Fail;
+use std::alloc::Global;
+use std::process::Abort;
 
 const SCRIPTS: [&str; 9] = [
     "{\"calls\":5,\"calls\":[]}",
@@ -32,28 +33,27 @@ const NO_SCRIPTS: [&str; 12] = [
 
 /// The first of these scripts that is not read or refused as it should be.
 fn first_wrong(
+    rt: &impl Abort,
     alloc: Global,
     scripts: &[&'static str],
     read: bool,
-) -> Result<Option<&'static str>, AllocError> {
+) -> Option<&'static str> {
     for script in scripts {
-        if !is_told(alloc, script, read)? {
-            return Ok(Some(*script));
+        if !is_told(rt, alloc, script, read) {
+            return Some(*script);
         }
     }
-    Ok(None)
+    None
 }
 
 #[test]
-fn the_later_of_two_keys_counts(rt: HostRuntime) -> Result<(), Fail> {
-    let wrong = first_wrong(rt.alloc(), &SCRIPTS, true)?;
-    assert_eq!(rt; wrong, None);
-    Ok(())
+fn the_later_of_two_keys_counts(rt: HostRuntime) {
+    let wrong = first_wrong(&rt, rt.alloc(), &SCRIPTS, true);
+    alike(&rt, wrong, None, "a script that is not read");
 }
 
 #[test]
-fn what_the_later_key_makes_no_script_is_refused(rt: HostRuntime) -> Result<(), Fail> {
-    let wrong = first_wrong(rt.alloc(), &NO_SCRIPTS, false)?;
-    assert_eq!(rt; wrong, None);
-    Ok(())
+fn what_the_later_key_makes_no_script_is_refused(rt: HostRuntime) {
+    let wrong = first_wrong(&rt, rt.alloc(), &NO_SCRIPTS, false);
+    alike(&rt, wrong, None, "no script, and not refused");
 }

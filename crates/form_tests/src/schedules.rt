@@ -1,9 +1,10 @@
 //! Which schedules, faults and late deliveries a script may have, and what is read of them.
+use crate::asserting::{Made, alike, holds};
 use bson_lite::Text;
 use driver_link::{Item, Scheduled};
 use driver_script::{Script, ScriptFault, read_script};
 use std::alloc::{AllocError, Global};
-use std::test::Fail;
+use std::process::Abort;
 
 /// A step as a script writes it, and what is read: the waiting sends before it, the name of its item, how many
 /// statements run first, and the code and labels of its reply.
@@ -181,31 +182,31 @@ const NO_SCRIPTS: [&str; 10] = [
 ];
 
 /// The script that a text is, and none where it is refused.
-pub(crate) fn script_in(alloc: Global, text: &str) -> Result<Option<Script>, AllocError> {
+pub(crate) fn script_in(rt: &impl Abort, alloc: Global, text: &str) -> Option<Script> {
     match read_script(alloc, text.as_bytes()) {
-        Ok(script) => Ok(Some(script)),
-        Err(ScriptFault::Memory) => Err(AllocError),
-        Err(_) => Ok(None),
+        Ok(script) => Some(script),
+        Err(ScriptFault::Memory) => Err(AllocError).made(rt),
+        Err(_) => None,
     }
 }
 
 /// Whether a text is read as a script where it should be, and else refused as a whole.
-pub(crate) fn is_told(alloc: Global, text: &str, read: bool) -> Result<bool, AllocError> {
+pub(crate) fn is_told(rt: &impl Abort, alloc: Global, text: &str, read: bool) -> bool {
     match read_script(alloc, text.as_bytes()) {
-        Ok(_) => Ok(read),
-        Err(ScriptFault::Memory) => Err(AllocError),
-        Err(ScriptFault::Wrong { path }) => Ok(!read && path.as_str() == "$"),
-        Err(_) => Ok(false),
+        Ok(_) => read,
+        Err(ScriptFault::Memory) => Err(AllocError).made(rt),
+        Err(ScriptFault::Wrong { path }) => !read && path.as_str() == "$",
+        Err(_) => false,
     }
 }
 
 /// The script whose schedule is one step.
-fn script_of_step(alloc: Global, step: &str) -> Result<Option<Script>, AllocError> {
+fn script_of_step(rt: &impl Abort, alloc: Global, step: &str) -> Option<Script> {
     let mut text = String::new(alloc);
-    text.push_str("{\"calls\":[],\"schedule\":[")?;
-    text.push_str(step)?;
-    text.push_str("]}")?;
-    script_in(alloc, text.as_str())
+    text.push_str("{\"calls\":[],\"schedule\":[").made(rt);
+    text.push_str(step).made(rt);
+    text.push_str("]}").made(rt);
+    script_in(rt, alloc, text.as_str())
 }
 
 /// Whether these are the labels of a row.
@@ -265,96 +266,97 @@ fn is_step(steps: &[Scheduled], row: &Row) -> bool {
 }
 
 /// Whether the step of a row is read as the row says.
-fn is_read(alloc: Global, row: &Row) -> Result<bool, AllocError> {
-    match script_of_step(alloc, row.text)? {
-        Some(script) => Ok(is_step(script.schedule.items.as_slice(), row)),
-        None => Ok(false),
+fn is_read(rt: &impl Abort, alloc: Global, row: &Row) -> bool {
+    match script_of_step(rt, alloc, row.text) {
+        Some(script) => is_step(script.schedule.items.as_slice(), row),
+        None => false,
     }
 }
 
 /// The step of the first row that is not read as the row says.
-fn first_unread(alloc: Global, rows: &[Row]) -> Result<Option<&'static str>, AllocError> {
+fn first_unread(rt: &impl Abort, alloc: Global, rows: &[Row]) -> Option<&'static str> {
     for row in rows {
-        if !is_read(alloc, row)? {
-            return Ok(Some(row.text));
+        if !is_read(rt, alloc, row) {
+            return Some(row.text);
         }
     }
-    Ok(None)
+    None
 }
 
 /// The first of these that is read as a step.
-fn first_step(alloc: Global, texts: &[&'static str]) -> Result<Option<&'static str>, AllocError> {
+fn first_step(rt: &impl Abort, alloc: Global, texts: &[&'static str]) -> Option<&'static str> {
     for text in texts {
-        if script_of_step(alloc, text)?.is_some() {
-            return Ok(Some(*text));
+        if script_of_step(rt, alloc, text).is_some() {
+            return Some(*text);
         }
     }
-    Ok(None)
+    None
 }
 
 /// The first of these that is read as a script.
-fn first_script(alloc: Global, texts: &[&'static str]) -> Result<Option<&'static str>, AllocError> {
+fn first_script(rt: &impl Abort, alloc: Global, texts: &[&'static str]) -> Option<&'static str> {
     for text in texts {
-        if script_in(alloc, text)?.is_some() {
-            return Ok(Some(*text));
+        if script_in(rt, alloc, text).is_some() {
+            return Some(*text);
         }
     }
-    Ok(None)
+    None
 }
 
 /// Whether a script lists these selections and check-outs to fail, no other call, and these late deliveries.
 fn lists(
+    rt: &impl Abort,
     alloc: Global,
     text: &str,
     selects: &[u64],
     check_outs: &[u64],
     late: &[u64],
-) -> Result<bool, AllocError> {
-    match script_in(alloc, text)? {
-        Some(script) => Ok(
+) -> bool {
+    match script_in(rt, alloc, text) {
+        Some(script) => {
             script.schedule.selects.as_slice() == selects
                 && script.schedule.check_outs.as_slice() == check_outs
                 && script.schedule.overloaded_check_outs.as_slice().is_empty()
                 && script.schedule.reauthentications.as_slice().is_empty()
                 && script.schedule.supports.as_slice().is_empty()
-                && script.late.as_slice() == late,
-        ),
-        None => Ok(false),
+                && script.late.as_slice() == late
+        }
+        None => false,
     }
 }
 
 #[test]
-fn steps_are_read(rt: HostRuntime) -> Result<(), Fail> {
-    let wrong = first_unread(rt.alloc(), &SERVED_OR_LOST)?;
-    assert_eq!(rt; wrong, None);
-    let wrong = first_unread(rt.alloc(), &INTERRUPTED_OR_REFUSED)?;
-    assert_eq!(rt; wrong, None);
-    Ok(())
+fn steps_are_read(rt: HostRuntime) {
+    let wrong = first_unread(&rt, rt.alloc(), &SERVED_OR_LOST);
+    alike(&rt, wrong, None, "a step that is not read");
+    let wrong = first_unread(&rt, rt.alloc(), &INTERRUPTED_OR_REFUSED);
+    alike(&rt, wrong, None, "a step with a code that is not read");
 }
 
 #[test]
-fn other_steps_are_refused(rt: HostRuntime) -> Result<(), Fail> {
-    let wrong = first_step(rt.alloc(), &NO_STEPS)?;
-    assert_eq!(rt; wrong, None);
-    Ok(())
+fn other_steps_are_refused(rt: HostRuntime) {
+    let wrong = first_step(&rt, rt.alloc(), &NO_STEPS);
+    alike(&rt, wrong, None, "no step, and not refused");
 }
 
 #[test]
-fn other_faults_and_late_deliveries_are_refused(rt: HostRuntime) -> Result<(), Fail> {
-    let wrong = first_script(rt.alloc(), &NO_SCRIPTS)?;
-    assert_eq!(rt; wrong, None);
-    Ok(())
+fn other_faults_and_late_deliveries_are_refused(rt: HostRuntime) {
+    let wrong = first_script(&rt, rt.alloc(), &NO_SCRIPTS);
+    alike(&rt, wrong, None, "no script, and not refused");
 }
 
 #[test]
-fn faults_and_late_deliveries_are_read(rt: HostRuntime) -> Result<(), Fail> {
+fn faults_and_late_deliveries_are_read(rt: HostRuntime) {
     let text = "{\"late\":[3,0,3],\"faults\":{\"checkOut\":[1],\"select\":[2,0]},\"calls\":[]}";
-    assert!(rt; lists(rt.alloc(), text, &[2, 0], &[1], &[3, 0, 3])?);
-    Ok(())
+    holds(
+        &rt,
+        lists(&rt, rt.alloc(), text, &[2, 0], &[1], &[3, 0, 3]),
+        text,
+    );
 }
 
 #[test]
-fn faults_and_late_deliveries_may_be_left_out(rt: HostRuntime) -> Result<(), Fail> {
-    assert!(rt; lists(rt.alloc(), "{\"calls\":[],\"faults\":{}}", &[], &[], &[])?);
-    Ok(())
+fn faults_and_late_deliveries_may_be_left_out(rt: HostRuntime) {
+    let text = "{\"calls\":[],\"faults\":{}}";
+    holds(&rt, lists(&rt, rt.alloc(), text, &[], &[], &[]), text);
 }

@@ -1,8 +1,9 @@
 //! Tests of the fake link, and of copies of concerns.
-ghost use Rattle.std.specs.Prelude.{◌≡◌, [], IfOk};
+ghost use Rattle.std.specs.Prelude.{◌≡◌, []};
 ghost use Rattle.driver_link.specs.Reads.{Reads};
 ghost use Rattle.link_tests.specs.AbortFrame.{abort_body as body_of_abort, abort_send};
 
+use crate::asserting::{Made, holds};
 use bson_lite::{Bson, Bytes, Document, List, Text, TryClone, encode};
 use driver_error::IoKind;
 use driver_link::{Answered, Frame, Link, LinkCall, LinkError, LinkFault};
@@ -11,7 +12,8 @@ use driver_options::{
     SelectionCriteria, WriteConcern,
 };
 use memory_links::{FakeLink, FakeStep, NotedConn};
-use std::alloc::{AllocError, Global};
+use std::alloc::Global;
+use std::process::Abort;
 use wire_keys::keys::{ABORT_TRANSACTION, ADMIN, DATABASE};
 
 /// `{ abortTransaction: 1, $db: "admin" }`.
@@ -31,22 +33,26 @@ fn described(version: i32, sharded: bool) -> Description {
 }
 
 /// A link with two descriptions and two steps: a reply and a fault.
-fn two_steps(alloc: Global) -> Result<FakeLink, AllocError> {
+fn two_steps(rt: &impl Abort, alloc: Global) -> FakeLink {
     let mut descriptions = List::new(alloc);
-    descriptions.push(described(17, true))?;
-    descriptions.push(described(25, false))?;
+    descriptions.push(described(17, true)).made(rt);
+    descriptions.push(described(25, false)).made(rt);
     let mut steps = List::new(alloc);
-    steps.push(FakeStep::Reply(Bytes::from_slice(alloc, b"reply")?))?;
-    steps.push(FakeStep::Fault(LinkFault::Io(IoKind::BrokenPipe)))?;
-    Ok(FakeLink::new(alloc, descriptions, steps))
+    steps
+        .push(FakeStep::Reply(Bytes::from_slice(alloc, b"reply").made(rt)))
+        .made(rt);
+    steps
+        .push(FakeStep::Fault(LinkFault::Io(IoKind::BrokenPipe)))
+        .made(rt);
+    FakeLink::new(alloc, descriptions, steps)
 }
 
 /// The address of the tests.
-fn there(alloc: Global) -> Result<Address, AllocError> {
-    Ok(Address {
-        host: Text::from_str(alloc, "there")?,
+fn there(rt: &impl Abort, alloc: Global) -> Address {
+    Address {
+        host: Text::from_str(alloc, "there").made(rt),
         port: 5,
-    })
+    }
 }
 
 /// Whether an address is this one.
@@ -56,67 +62,62 @@ fn is_at(address: &Address, host: &str, port: u16) -> bool {
 
 /// The body of a command that ends a transaction.
 #[tactic(auto, unfolding(crate::specs::AbortFrame::abort_body))]
-fn abort_body(alloc: Global) -> Result<Document, AllocError>
-    ensures { IfOk result (λ body. body ≡ body_of_abort) }
+fn abort_body(rt: &impl Abort, alloc: Global) -> Document
+    ensures { result ≡ body_of_abort }
 {
     let mut body = Document::new(alloc);
-    body.push(ABORT_TRANSACTION, Bson::Int32(1))?;
-    body.push(DATABASE, Bson::String(Text::from_str(alloc, ADMIN)?))?;
-    Ok(body)
+    body.push(ABORT_TRANSACTION, Bson::Int32(1)).made(rt);
+    body.push(
+        DATABASE,
+        Bson::String(Text::from_str(alloc, ADMIN).made(rt)),
+    )
+    .made(rt);
+    body
 }
 
 /// Its frame.
 #[tactic(auto, using(crate::proofs::AbortReads::abort_reads))]
-fn abort_frame(alloc: Global) -> Result<Frame, AllocError>
-    ensures { IfOk result (λ frame. Reads frame [] abort_send) }
+fn abort_frame(rt: &impl Abort, alloc: Global) -> Frame
+    ensures { Reads result [] abort_send }
 {
-    let body = abort_body(alloc)?;
-    match encode(alloc, &body) {
-        Ok(bytes) => Ok(Frame::new(Text::from_str(alloc, ADMIN)?, bytes, List::new(alloc))),
-        Err(_) => Err(AllocError),
-    }
+    let body = abort_body(rt, alloc);
+    let bytes = encode(alloc, &body).made(rt);
+    Frame::new(
+        Text::from_str(alloc, ADMIN).made(rt),
+        bytes,
+        List::new(alloc),
+    )
 }
 
 /// Selects with an address that is asked for, and one to be avoided.
-fn select_there(link: &mut FakeLink, alloc: Global) -> Result<Address, LinkError> {
-    let criteria = SelectionCriteria::Address(there(alloc)?);
-    let avoided = there(alloc)?;
-    link.select(alloc, Some(&criteria), &[avoided])
+fn select_there(rt: &impl Abort, link: &mut FakeLink, alloc: Global) -> Address {
+    let criteria = SelectionCriteria::Address(there(rt, alloc));
+    let avoided = there(rt, alloc);
+    link.select(alloc, Some(&criteria), &[avoided]).made(rt)
 }
 
 /// Selects without criteria.
-fn select_any(link: &mut FakeLink, alloc: Global) -> Result<Address, LinkError> {
-    link.select(alloc, None, &[])
+fn select_any(rt: &impl Abort, link: &mut FakeLink, alloc: Global) -> Address {
+    link.select(alloc, None, &[]).made(rt)
 }
 
 /// Checks a connection out, and answers its number and its wire version.
-fn check_out(link: &mut FakeLink, alloc: Global) -> Result<(u64, Option<i32>), LinkError> {
-    let address = there(alloc)?;
-    let conn = link.check_out(alloc, &address)?;
+fn check_out(rt: &impl Abort, link: &mut FakeLink, alloc: Global) -> (u64, Option<i32>) {
+    let address = there(rt, alloc);
+    let conn = link.check_out(alloc, &address).made(rt);
     let seen = (conn.number, conn.description.max_wire_version);
     link.check_in(conn);
-    Ok(seen)
+    seen
 }
 
 /// Sends one frame over a connection of its own.
-fn exchange(link: &mut FakeLink, alloc: Global) -> Result<Bytes, LinkError> {
-    let address = there(alloc)?;
-    let frame = abort_frame(alloc)?;
-    let conn = link.check_out(alloc, &address)?;
+fn exchange(rt: &impl Abort, link: &mut FakeLink, alloc: Global) -> Result<Bytes, LinkError> {
+    let address = there(rt, alloc);
+    let frame = abort_frame(rt, alloc);
+    let conn = link.check_out(alloc, &address).made(rt);
     let answer = link.exchange(alloc, &conn, &frame, &[]);
     link.check_in(conn);
     answer
-}
-
-/// Whether a check that may lack memory or meet a fault held.
-fn holds(checked: Result<bool, LinkError>) -> bool {
-    match checked {
-        Ok(held) => held,
-        Err(failure) => {
-            drop(failure);
-            false
-        }
-    }
 }
 
 /// Whether an exchange answered these bytes.
@@ -207,14 +208,14 @@ fn asked_any(asked: &[Asked], at: usize) -> bool {
 }
 
 /// Whether a selection with an address gives that one, and one without gives the usual one.
-fn selects(link: &mut FakeLink, alloc: Global) -> Result<bool, LinkError> {
-    let asked = select_there(link, alloc)?;
+fn selects(rt: &impl Abort, link: &mut FakeLink, alloc: Global) -> bool {
+    let asked = select_there(rt, link, alloc);
     if !is_at(&asked, "there", 5) {
-        return Ok(false);
+        return false;
     }
     drop(asked);
-    let any = select_any(link, alloc)?;
-    Ok(is_at(&any, "fake", 27017))
+    let any = select_any(rt, link, alloc);
+    is_at(&any, "fake", 27017)
 }
 
 /// Whether these two selections are told.
@@ -230,48 +231,53 @@ fn tells_selections(link: &FakeLink) -> bool {
 }
 
 #[test]
-fn selections_are_told(rt: HostRuntime) -> Result<(), AllocError> {
-    let mut link = two_steps(rt.alloc())?;
-    let done = holds(selects(&mut link, rt.alloc()));
+fn selections_are_told(rt: HostRuntime) {
+    let mut link = two_steps(&rt, rt.alloc());
+    let done = selects(&rt, &mut link, rt.alloc());
     let told = tells_selections(&link);
     drop(link);
-    assert!(rt; done && told);
-    Ok(())
+    holds(&rt, done && told, "two selections and what is told of them");
 }
 
 /// Whether three check-outs have the two descriptions in turn, and then the last one again.
-fn describes_in_turn(link: &mut FakeLink, alloc: Global) -> Result<bool, LinkError> {
-    let first = check_out(link, alloc)?;
-    let second = check_out(link, alloc)?;
-    let third = check_out(link, alloc)?;
-    Ok(first == (0, Some(17)) && second == (1, Some(25)) && third == (2, Some(25)))
+fn describes_in_turn(rt: &impl Abort, link: &mut FakeLink, alloc: Global) -> bool {
+    let first = check_out(rt, link, alloc);
+    let second = check_out(rt, link, alloc);
+    let third = check_out(rt, link, alloc);
+    first == (0, Some(17)) && second == (1, Some(25)) && third == (2, Some(25))
 }
 
 #[test]
-fn check_outs_give_the_descriptions_in_turn(rt: HostRuntime) -> Result<(), AllocError> {
-    let mut link = two_steps(rt.alloc())?;
-    assert!(rt; holds(describes_in_turn(&mut link, rt.alloc())));
-    Ok(())
+fn check_outs_give_the_descriptions_in_turn(rt: HostRuntime) {
+    let mut link = two_steps(&rt, rt.alloc());
+    holds(
+        &rt,
+        describes_in_turn(&rt, &mut link, rt.alloc()),
+        "the descriptions of three check-outs",
+    );
 }
 
 /// Whether exchanges do the steps in turn and then are reset, and each fault is counted.
-fn exchanges_in_turn(link: &mut FakeLink, alloc: Global) -> bool {
-    is_given(exchange(link, alloc), b"reply")
+fn exchanges_in_turn(rt: &impl Abort, link: &mut FakeLink, alloc: Global) -> bool {
+    is_given(exchange(rt, link, alloc), b"reply")
         && link.faults() == 0
-        && is_fault(exchange(link, alloc), IoKind::BrokenPipe)
+        && is_fault(exchange(rt, link, alloc), IoKind::BrokenPipe)
         && link.faults() == 1
-        && is_fault(exchange(link, alloc), IoKind::ConnectionReset)
-        && is_fault(exchange(link, alloc), IoKind::ConnectionReset)
+        && is_fault(exchange(rt, link, alloc), IoKind::ConnectionReset)
+        && is_fault(exchange(rt, link, alloc), IoKind::ConnectionReset)
         && link.faults() == 3
 }
 
 #[test]
-fn exchanges_do_the_steps_in_turn(rt: HostRuntime) -> Result<(), AllocError> {
-    let mut link = two_steps(rt.alloc())?;
-    let in_turn = exchanges_in_turn(&mut link, rt.alloc());
+fn exchanges_do_the_steps_in_turn(rt: HostRuntime) {
+    let mut link = two_steps(&rt, rt.alloc());
+    let in_turn = exchanges_in_turn(&rt, &mut link, rt.alloc());
     drop(link);
-    assert!(rt; in_turn);
-    Ok(())
+    holds(
+        &rt,
+        in_turn,
+        "four exchanges, and how many faults there were",
+    );
 }
 
 /// Whether the three exchanges are told, with their answers and the numbers of their connections.
@@ -287,45 +293,50 @@ fn tells_exchanges(link: &FakeLink) -> bool {
 }
 
 #[test]
-fn exchanges_are_told_with_their_connections(rt: HostRuntime) -> Result<(), AllocError> {
+fn exchanges_are_told_with_their_connections(rt: HostRuntime) {
     let alloc = rt.alloc();
-    let mut link = two_steps(alloc)?;
+    let mut link = two_steps(&rt, alloc);
     for _ in 0..3 {
-        drop(exchange(&mut link, alloc));
+        drop(exchange(&rt, &mut link, alloc));
     }
-    assert!(rt; tells_exchanges(&link));
-    Ok(())
+    holds(
+        &rt,
+        tells_exchanges(&link),
+        "what is told of three exchanges",
+    );
 }
 
 /// Whether the calls that take no step answer what they always do.
-fn answers_the_same(link: &mut FakeLink, alloc: Global) -> Result<bool, LinkError> {
-    let supports = link.transaction_support(alloc)?;
-    let address = there(alloc)?;
-    let conn = link.check_out(alloc, &address)?;
+fn answers_the_same(rt: &impl Abort, link: &mut FakeLink, alloc: Global) -> bool {
+    let supports = link.transaction_support(alloc).made(rt);
+    let address = there(rt, alloc);
+    let conn = link.check_out(alloc, &address).made(rt);
     let answer = link.reauthenticate(alloc, &conn);
     link.check_in(conn);
-    answer?;
-    Ok(supports && link.is_sharded() && link.session_timeout_ms().is_none())
+    answer.made(rt);
+    supports && link.is_sharded() && link.session_timeout_ms().is_none()
 }
 
 #[test]
-fn the_other_calls_answer_the_same_each_time(rt: HostRuntime) -> Result<(), AllocError> {
-    let mut link = two_steps(rt.alloc())?;
-    assert!(rt; holds(answers_the_same(&mut link, rt.alloc())));
-    Ok(())
+fn the_other_calls_answer_the_same_each_time(rt: HostRuntime) {
+    let mut link = two_steps(&rt, rt.alloc());
+    holds(
+        &rt,
+        answers_the_same(&rt, &mut link, rt.alloc()),
+        "the calls that take no step",
+    );
 }
 
 /// Checks a connection out that is never handed back.
-fn keep_out(link: &mut FakeLink, alloc: Global) -> Result<(), LinkError> {
-    let there = there(alloc)?;
-    let conn = link.check_out(alloc, &there)?;
+fn keep_out(rt: &impl Abort, link: &mut FakeLink, alloc: Global) {
+    let there = there(rt, alloc);
+    let conn = link.check_out(alloc, &there).made(rt);
     let Conn {
         address,
         description: _,
         number: _,
     } = conn;
     drop(address);
-    Ok(())
 }
 
 /// Whether a noted connection has this number and leads to the tests' address.
@@ -337,11 +348,10 @@ fn is_noted_as(conns: &[NotedConn], at: usize, number: u64) -> bool {
 }
 
 /// Three connections, of which the second is handed back.
-fn keeps_two_out(link: &mut FakeLink, alloc: Global) -> Result<bool, LinkError> {
-    keep_out(link, alloc)?;
-    check_out(link, alloc)?;
-    keep_out(link, alloc)?;
-    Ok(true)
+fn keeps_two_out(rt: &impl Abort, link: &mut FakeLink, alloc: Global) {
+    keep_out(rt, link, alloc);
+    check_out(rt, link, alloc);
+    keep_out(rt, link, alloc);
 }
 
 /// Whether these three are told, and that two are out.
@@ -358,24 +368,23 @@ fn tells_connections(link: &FakeLink) -> bool {
 }
 
 #[test]
-fn connections_are_told_and_those_that_are_out(rt: HostRuntime) -> Result<(), AllocError> {
-    let mut link = two_steps(rt.alloc())?;
-    let done = holds(keeps_two_out(&mut link, rt.alloc()));
+fn connections_are_told_and_those_that_are_out(rt: HostRuntime) {
+    let mut link = two_steps(&rt, rt.alloc());
+    keeps_two_out(&rt, &mut link, rt.alloc());
     let told = tells_connections(&link);
     drop(link);
-    assert!(rt; done && told);
-    Ok(())
+    holds(&rt, told, "three connections, and the two that are out");
 }
 
 /// Whether a copy of a concern has its fields.
-fn copies_concern(alloc: Global) -> Result<bool, AllocError> {
+fn copies_concern(rt: &impl Abort, alloc: Global) -> bool {
     let concern = WriteConcern {
         w: Some(Acknowledgment::Nodes(2)),
         w_timeout: Some(10_000),
         journal: Some(true),
     };
-    let copy = concern.try_clone(alloc)?;
-    Ok(asks_two_nodes(&copy))
+    let copy = concern.try_clone(alloc).made(rt);
+    asks_two_nodes(&copy)
 }
 
 /// Whether two servers are asked for, their journals and ten seconds.
@@ -388,20 +397,27 @@ fn asks_two_nodes(concern: &WriteConcern) -> bool {
 }
 
 /// Whether a copy of a read concern has its level.
-fn copies_level(alloc: Global) -> Result<bool, AllocError> {
+fn copies_level(rt: &impl Abort, alloc: Global) -> bool {
     let concern = ReadConcern {
-        level: ReadConcernLevel::Custom(Text::from_str(alloc, "mine")?),
+        level: ReadConcernLevel::Custom(Text::from_str(alloc, "mine").made(rt)),
     };
-    let copy = concern.try_clone(alloc)?;
-    Ok(match &copy.level {
+    let copy = concern.try_clone(alloc).made(rt);
+    match &copy.level {
         ReadConcernLevel::Custom(name) => name.as_str() == "mine",
         _ => false,
-    })
+    }
 }
 
 #[test]
-fn concerns_are_copied(rt: HostRuntime) -> Result<(), AllocError> {
-    assert!(rt; copies_concern(rt.alloc())?);
-    assert!(rt; copies_level(rt.alloc())?);
-    Ok(())
+fn concerns_are_copied(rt: HostRuntime) {
+    holds(
+        &rt,
+        copies_concern(&rt, rt.alloc()),
+        "the copy of a write concern",
+    );
+    holds(
+        &rt,
+        copies_level(&rt, rt.alloc()),
+        "the copy of a read concern",
+    );
 }

@@ -1,4 +1,5 @@
 //! Sends written by hand, and the bytes of their replies by the layout of BSON.
+use crate::asserting::{Made, alike, holds};
 use bson_lite::{Bson, Bytes, Document, List, Namespace, Text};
 use driver_error::{NO_WRITES_PERFORMED, SYSTEM_OVERLOADED_ERROR, TRANSIENT_TRANSACTION_ERROR};
 use driver_link::{
@@ -9,8 +10,8 @@ use model_effects::new_server;
 use model_server::delivery::deliver;
 use model_server::meeting::take;
 use rows::{CASES, COUNTS, HONESTY, INTERRUPTED_TRANSACTIONS, INTERRUPTED_WRITES, ITEMS, LATE};
-use std::alloc::{AllocError, Global};
-use std::test::Fail;
+use std::alloc::Global;
+use std::process::Abort;
 
 mod faulty;
 mod framed;
@@ -164,31 +165,34 @@ struct Row {
 
 /// Writes to one collection, each of a kind.
 fn writes_of(
+    rt: &impl Abort,
     alloc: Global,
     command: SendCommand,
     ordered: bool,
     kinds: &[WriteKind],
-) -> Result<SendBody, AllocError> {
+) -> SendBody {
     let mut writes = List::new(alloc);
     for kind in kinds {
         let index = writes.len() as u64;
-        let db = Text::from_str(alloc, "a")?;
-        let coll = Text::from_str(alloc, "c")?;
+        let db = Text::from_str(alloc, "a").made(rt);
+        let coll = Text::from_str(alloc, "c").made(rt);
         let written = Written {
             kind: *kind,
             namespace: Namespace { db, coll },
             document: Document::new(alloc),
         };
-        writes.push(PlacedWrite {
-            place: Place { call: 0, index },
-            written: Shared::new(alloc, written)?,
-        })?;
+        writes
+            .push(PlacedWrite {
+                place: Place { call: 0, index },
+                written: Shared::new(alloc, written).made(rt),
+            })
+            .made(rt);
     }
-    Ok(SendBody::Write {
+    SendBody::Write {
         command,
         ordered,
         writes,
-    })
+    }
 }
 
 /// Two inserts.
@@ -202,59 +206,68 @@ const MIXED: [WriteKind; 4] = [
     WriteKind::Delete,
 ];
 
-fn body_of(alloc: Global, asks: Asks) -> Result<SendBody, AllocError> {
+fn body_of(rt: &impl Abort, alloc: Global, asks: Asks) -> SendBody {
     match asks {
-        Asks::Insert => writes_of(alloc, SendCommand::Insert, true, &[WriteKind::Insert]),
-        Asks::InsertTwo => writes_of(alloc, SendCommand::Insert, true, &INSERTS),
-        Asks::TwoUnordered => writes_of(alloc, SendCommand::Insert, false, &INSERTS),
-        Asks::Update => writes_of(alloc, SendCommand::Update, true, &[WriteKind::Update]),
+        Asks::Insert => writes_of(rt, alloc, SendCommand::Insert, true, &[WriteKind::Insert]),
+        Asks::InsertTwo => writes_of(rt, alloc, SendCommand::Insert, true, &INSERTS),
+        Asks::TwoUnordered => writes_of(rt, alloc, SendCommand::Insert, false, &INSERTS),
+        Asks::Update => writes_of(rt, alloc, SendCommand::Update, true, &[WriteKind::Update]),
         Asks::Find => writes_of(
+            rt,
             alloc,
             SendCommand::FindAndModify,
             true,
             &[WriteKind::FindAndModify],
         ),
-        Asks::Bulk => writes_of(alloc, SendCommand::BulkWrite, true, &INSERTS),
-        Asks::BulkUnordered => writes_of(alloc, SendCommand::BulkWrite, false, &INSERTS),
-        Asks::Mixed => writes_of(alloc, SendCommand::BulkWrite, true, &MIXED),
-        Asks::Commit => Ok(SendBody::Commit),
-        Asks::Abort => Ok(SendBody::Abort),
-        Asks::More => Ok(SendBody::More { cursor: 1 }),
-        Asks::Kill => Ok(SendBody::Kill { cursor: 1 }),
+        Asks::Bulk => writes_of(rt, alloc, SendCommand::BulkWrite, true, &INSERTS),
+        Asks::BulkUnordered => writes_of(rt, alloc, SendCommand::BulkWrite, false, &INSERTS),
+        Asks::Mixed => writes_of(rt, alloc, SendCommand::BulkWrite, true, &MIXED),
+        Asks::Commit => SendBody::Commit,
+        Asks::Abort => SendBody::Abort,
+        Asks::More => SendBody::More { cursor: 1 },
+        Asks::Kill => SendBody::Kill { cursor: 1 },
     }
 }
 
-fn labels_of(alloc: Global, given: Given) -> Result<List<Text>, AllocError> {
+fn labels_of(rt: &impl Abort, alloc: Global, given: Given) -> List<Text> {
     let mut labels = List::new(alloc);
     match given {
         Given::Nothing => {}
         Given::NoWritesAndOverload => {
-            labels.push(Text::from_str(alloc, NO_WRITES_PERFORMED)?)?;
-            labels.push(Text::from_str(alloc, SYSTEM_OVERLOADED_ERROR)?)?;
+            labels
+                .push(Text::from_str(alloc, NO_WRITES_PERFORMED).made(rt))
+                .made(rt);
+            labels
+                .push(Text::from_str(alloc, SYSTEM_OVERLOADED_ERROR).made(rt))
+                .made(rt);
         }
-        Given::Transient => labels.push(Text::from_str(alloc, TRANSIENT_TRANSACTION_ERROR)?)?,
+        Given::Transient => labels
+            .push(Text::from_str(alloc, TRANSIENT_TRANSACTION_ERROR).made(rt))
+            .made(rt),
     }
-    Ok(labels)
+    labels
 }
 
 /// The first statement counts 3, the second fails, and the write concern is not met.
-fn planned(alloc: Global) -> Result<Item, AllocError> {
+fn planned(rt: &impl Abort, alloc: Global) -> Item {
     let mut results = List::new(alloc);
-    results.push(Planned {
-        n: Some(3),
-        modified: None,
-        upserted: None,
-        value: None,
-    })?;
+    results
+        .push(Planned {
+            n: Some(3),
+            modified: None,
+            upserted: None,
+            value: None,
+        })
+        .made(rt);
     let mut fail = List::new(alloc);
-    fail.push(Failing { at: 1, code: 11000 })?;
-    let message = Text::from_str(alloc, "slow")?;
-    Ok(Item::Serve {
+    fail.push(Failing { at: 1, code: 11000 }).made(rt);
+    let message = Text::from_str(alloc, "slow").made(rt);
+    Item::Serve {
         results,
         fail,
         write_concern_error: Some(PlannedConcern { code: 64, message }),
         page: None,
-    })
+    }
 }
 
 /// What a schedule says of a statement that counts so many documents.
@@ -288,181 +301,176 @@ fn served_with(alloc: Global, results: List<Planned>) -> Item {
 }
 
 /// The update inserts a document.
-fn an_upsert(alloc: Global) -> Result<Item, AllocError> {
+fn an_upsert(rt: &impl Abort, alloc: Global) -> Item {
     let mut results = List::new(alloc);
-    results.push(planned_upsert())?;
-    Ok(served_with(alloc, results))
+    results.push(planned_upsert()).made(rt);
+    served_with(alloc, results)
 }
 
 /// The document with `a` 1 is found.
-fn a_found_document(alloc: Global) -> Result<Item, AllocError> {
+fn a_found_document(rt: &impl Abort, alloc: Global) -> Item {
     let mut value = Document::new(alloc);
-    value.push("a", Bson::Int32(1))?;
+    value.push("a", Bson::Int32(1)).made(rt);
     let mut results = List::new(alloc);
-    results.push(Planned {
-        n: None,
-        modified: None,
-        upserted: None,
-        value: Some(value),
-    })?;
-    Ok(served_with(alloc, results))
+    results
+        .push(Planned {
+            n: None,
+            modified: None,
+            upserted: None,
+            value: Some(value),
+        })
+        .made(rt);
+    served_with(alloc, results)
 }
 
 /// The statements of a mixed bulk write count one, two, one and three documents.
-fn four_counts(alloc: Global) -> Result<Item, AllocError> {
+fn four_counts(rt: &impl Abort, alloc: Global) -> Item {
     let mut results = List::new(alloc);
-    results.push(planned_counts(None, None))?;
-    results.push(planned_counts(Some(2), Some(1)))?;
-    results.push(planned_upsert())?;
-    results.push(planned_counts(Some(3), None))?;
-    Ok(served_with(alloc, results))
+    results.push(planned_counts(None, None)).made(rt);
+    results.push(planned_counts(Some(2), Some(1))).made(rt);
+    results.push(planned_upsert()).made(rt);
+    results.push(planned_counts(Some(3), None)).made(rt);
+    served_with(alloc, results)
 }
 
 /// The statement at a position fails.
-fn failing_at(alloc: Global, at: u64) -> Result<Item, AllocError> {
+fn failing_at(rt: &impl Abort, alloc: Global, at: u64) -> Item {
     let mut fail = List::new(alloc);
-    fail.push(Failing { at, code: 11000 })?;
-    Ok(Item::Serve {
+    fail.push(Failing { at, code: 11000 }).made(rt);
+    Item::Serve {
         results: List::new(alloc),
         fail,
         write_concern_error: None,
         page: None,
-    })
+    }
 }
 
-fn item_of(alloc: Global, meets: Meets) -> Result<Item, AllocError> {
+fn item_of(rt: &impl Abort, alloc: Global, meets: Meets) -> Item {
     match meets {
-        Meets::Serve => Ok(Item::Serve {
+        Meets::Serve => Item::Serve {
             results: List::new(alloc),
             fail: List::new(alloc),
             write_concern_error: None,
             page: Some(1),
-        }),
-        Meets::Planned => planned(alloc),
-        Meets::Upserts => an_upsert(alloc),
-        Meets::Finds => a_found_document(alloc),
-        Meets::Counts => four_counts(alloc),
-        Meets::FailsFirst => failing_at(alloc, 0),
-        Meets::FailsSecond => failing_at(alloc, 1),
-        Meets::Lost => Ok(Item::Lost),
-        Meets::Late => Ok(Item::Late),
-        Meets::ReplyLost => Ok(Item::ReplyLost),
-        Meets::Interrupted(after, given) => Ok(Item::Interrupted {
+        },
+        Meets::Planned => planned(rt, alloc),
+        Meets::Upserts => an_upsert(rt, alloc),
+        Meets::Finds => a_found_document(rt, alloc),
+        Meets::Counts => four_counts(rt, alloc),
+        Meets::FailsFirst => failing_at(rt, alloc, 0),
+        Meets::FailsSecond => failing_at(rt, alloc, 1),
+        Meets::Lost => Item::Lost,
+        Meets::Late => Item::Late,
+        Meets::ReplyLost => Item::ReplyLost,
+        Meets::Interrupted(after, given) => Item::Interrupted {
             after,
             code: 91,
-            labels: labels_of(alloc, given)?,
-        }),
-        Meets::Refused(given) => Ok(Item::Refused {
+            labels: labels_of(rt, alloc, given),
+        },
+        Meets::Refused(given) => Item::Refused {
             code: 91,
-            labels: labels_of(alloc, given)?,
-        }),
-        Meets::Reauthenticate => Ok(Item::Reauthenticate),
+            labels: labels_of(rt, alloc, given),
+        },
+        Meets::Reauthenticate => Item::Reauthenticate,
     }
 }
 
 /// The bytes of the reply to a send, and no bytes where the connection is reset.
-fn answered(
-    server: &mut Server,
-    alloc: Global,
-    send: Send,
-    item: &Item,
-) -> Result<Bytes, AllocError> {
+fn answered(rt: &impl Abort, server: &mut Server, alloc: Global, send: Send, item: &Item) -> Bytes {
     let mut notes = List::new(alloc);
-    match take(server, &mut notes, alloc, send, item)? {
-        Some(bytes) => Ok(bytes),
-        None => Ok(Bytes::new(alloc)),
+    match take(server, &mut notes, alloc, send, item).made(rt) {
+        Some(bytes) => bytes,
+        None => Bytes::new(alloc),
     }
 }
 
 /// Serves the waiting sends that a row names, in their order.
-fn deliver_named(server: &mut Server, alloc: Global, late: &[u64]) -> Result<(), AllocError> {
+fn deliver_named(rt: &impl Abort, server: &mut Server, alloc: Global, late: &[u64]) {
     for at in late {
-        let _waited = deliver(server, alloc, *at)?;
+        let _waited = deliver(server, alloc, *at).made(rt);
     }
-    Ok(())
 }
 
 /// Whether a row's send is answered as it says.
-fn holds(server: &mut Server, alloc: Global, row: &Row) -> Result<bool, AllocError> {
-    deliver_named(server, alloc, row.late)?;
+fn is_answered(rt: &impl Abort, server: &mut Server, alloc: Global, row: &Row) -> bool {
+    deliver_named(rt, server, alloc, row.late);
     let send = Send {
         session: Some([7; 16]),
         number: row.number,
         start: row.start,
         in_transaction: row.inside,
-        body: body_of(alloc, row.asks)?,
+        body: body_of(rt, alloc, row.asks),
     };
-    let item = item_of(alloc, row.meets)?;
-    let bytes = answered(server, alloc, send, &item)?;
-    Ok(bytes.as_slice() == row.expected && server.log.len() == row.entries)
+    let item = item_of(rt, alloc, row.meets);
+    let bytes = answered(rt, server, alloc, send, &item);
+    bytes.as_slice() == row.expected && server.log.len() == row.entries
 }
 
 /// The name of the first row of a table that is not answered as it says, one after another by a server; no name where
 /// all are.
-fn wrong_on(server: &mut Server, alloc: Global, rows: &[Row]) -> Result<&'static str, AllocError> {
+fn wrong_on(rt: &impl Abort, server: &mut Server, alloc: Global, rows: &[Row]) -> &'static str {
     for row in rows {
-        if !holds(server, alloc, row)? {
-            return Ok(row.name);
+        if !is_answered(rt, server, alloc, row) {
+            return row.name;
         }
     }
-    Ok("")
+    ""
 }
 
 /// The same of a server that has seen nothing.
-fn wrong_row(alloc: Global, rows: &[Row]) -> Result<&'static str, AllocError> {
+fn wrong_row(rt: &impl Abort, alloc: Global, rows: &[Row]) -> &'static str {
     let mut server = new_server(alloc);
-    wrong_on(&mut server, alloc, rows)
+    wrong_on(rt, &mut server, alloc, rows)
 }
 
 /// The same of two tables, the second of which comes behind the first.
-fn wrong_in_two(alloc: Global, rows: &[Row], behind: &[Row]) -> Result<&'static str, AllocError> {
+fn wrong_in_two(rt: &impl Abort, alloc: Global, rows: &[Row], behind: &[Row]) -> &'static str {
     let mut server = new_server(alloc);
-    let wrong = wrong_on(&mut server, alloc, rows)?;
+    let wrong = wrong_on(rt, &mut server, alloc, rows);
     if wrong.is_empty() {
-        wrong_on(&mut server, alloc, behind)
+        wrong_on(rt, &mut server, alloc, behind)
     } else {
-        Ok(wrong)
+        wrong
     }
 }
 
 #[test]
-fn each_case_is_served(rt: HostRuntime) -> Result<(), Fail> {
-    let wrong = wrong_row(rt.alloc(), &CASES)?;
-    assert!(rt; wrong.is_empty(), "{wrong}");
-    Ok(())
+fn each_case_is_served(rt: HostRuntime) {
+    let wrong = wrong_row(&rt, rt.alloc(), &CASES);
+    holds(&rt, wrong.is_empty(), wrong);
 }
 
 #[test]
-fn each_item_is_met(rt: HostRuntime) -> Result<(), Fail> {
-    let wrong = wrong_row(rt.alloc(), &ITEMS)?;
-    assert!(rt; wrong.is_empty(), "{wrong}");
-    Ok(())
+fn each_item_is_met(rt: HostRuntime) {
+    let wrong = wrong_row(&rt, rt.alloc(), &ITEMS);
+    holds(&rt, wrong.is_empty(), wrong);
 }
 
 #[test]
-fn no_label_tells_a_lie(rt: HostRuntime) -> Result<(), Fail> {
-    let wrong = wrong_row(rt.alloc(), &HONESTY)?;
-    assert!(rt; wrong.is_empty(), "{wrong}");
-    Ok(())
+fn no_label_tells_a_lie(rt: HostRuntime) {
+    let wrong = wrong_row(&rt, rt.alloc(), &HONESTY);
+    holds(&rt, wrong.is_empty(), wrong);
 }
 
 #[test]
-fn each_count_is_told(rt: HostRuntime) -> Result<(), Fail> {
-    let wrong = wrong_row(rt.alloc(), &COUNTS)?;
-    assert!(rt; wrong.is_empty(), "{wrong}");
-    Ok(())
+fn each_count_is_told(rt: HostRuntime) {
+    let wrong = wrong_row(&rt, rt.alloc(), &COUNTS);
+    holds(&rt, wrong.is_empty(), wrong);
 }
 
 #[test]
-fn an_interruption_runs_no_more_than_it_says(rt: HostRuntime) -> Result<(), Fail> {
-    let wrong = wrong_in_two(rt.alloc(), &INTERRUPTED_TRANSACTIONS, &INTERRUPTED_WRITES)?;
-    assert!(rt; wrong.is_empty(), "{wrong}");
-    Ok(())
+fn an_interruption_runs_no_more_than_it_says(rt: HostRuntime) {
+    let wrong = wrong_in_two(
+        &rt,
+        rt.alloc(),
+        &INTERRUPTED_TRANSACTIONS,
+        &INTERRUPTED_WRITES,
+    );
+    holds(&rt, wrong.is_empty(), wrong);
 }
 
 #[test]
-fn late_sends_are_served_where_they_come(rt: HostRuntime) -> Result<(), Fail> {
-    let wrong = wrong_row(rt.alloc(), &LATE)?;
-    assert!(rt; wrong.is_empty(), "{wrong}");
-    Ok(())
+fn late_sends_are_served_where_they_come(rt: HostRuntime) {
+    let wrong = wrong_row(&rt, rt.alloc(), &LATE);
+    holds(&rt, wrong.is_empty(), wrong);
 }

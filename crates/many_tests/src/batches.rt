@@ -1,17 +1,18 @@
 //! An insert of three documents: under limits of the connection how many go out, or why none does, and what a reply
 //! tells of them; and one insert whose resend the next connection does not take.
+use crate::asserting::{Made, holds, holds_at};
 use bson_lite::{Bson, Document, List, Namespace, ObjectId, Text};
 use driver_error::{Error, ErrorKind, InsertManyError, IoKind};
 use driver_ops::{Collection, Command, CommandResponse, Operation, encode_document, read_response};
 use driver_options::{Description, InsertManyOptions};
-use std::alloc::{AllocError, Global};
-use std::test::Fail;
+use std::alloc::Global;
+use std::process::Abort;
 use test_parts::faking::{DONE, Given, Servers, inserted};
 use test_parts::inserting::{Ended, SERVER};
 use write_ops::{Insert, OwnDocument};
 
 /// The three limits of a connection.
-#[derive(Clone, Copy, Debug)]
+#[derive(Clone, Copy)]
 struct Sizes {
     bson: i64,
     message: i64,
@@ -19,7 +20,7 @@ struct Sizes {
 }
 
 /// What a build comes to.
-#[derive(Clone, Copy, Debug)]
+#[derive(Clone, Copy)]
 enum Built {
     Takes(usize),
     Refused(&'static str),
@@ -114,43 +115,37 @@ fn described(sizes: Sizes) -> Description {
     }
 }
 
-/// A document of 29 bytes as it is sent, or none where there is no memory.
-fn document(alloc: Global) -> Option<OwnDocument> {
+/// A document of 29 bytes as it is sent.
+fn document(rt: &impl Abort, alloc: Global) -> OwnDocument {
     let id = ObjectId { bytes: [7; 12] };
     let mut document = Document::new(alloc);
-    document.push("_id", Bson::ObjectId(id)).ok()?;
-    document.push("x", Bson::Int32(1)).ok()?;
-    let bytes = match encode_document(alloc, &document) {
-        Ok(bytes) => bytes,
-        Err(error) => {
-            drop(error);
-            return None;
-        }
-    };
-    Some(OwnDocument {
+    document.push("_id", Bson::ObjectId(id)).made(rt);
+    document.push("x", Bson::Int32(1)).made(rt);
+    let bytes = encode_document(alloc, &document).made(rt);
+    OwnDocument {
         bytes,
         id: Bson::ObjectId(id),
-    })
+    }
 }
 
 /// Three of them.
-fn documents(alloc: Global) -> Option<List<OwnDocument>> {
+fn documents(rt: &impl Abort, alloc: Global) -> List<OwnDocument> {
     let mut documents = List::new(alloc);
     for _ in 0..3 {
-        documents.push(document(alloc)?).ok()?;
+        documents.push(document(rt, alloc)).made(rt);
     }
-    Some(documents)
+    documents
 }
 
 /// The collection `shop.items`.
-fn items(alloc: Global) -> Result<Collection, AllocError> {
-    Ok(Collection {
+fn items(rt: &impl Abort, alloc: Global) -> Collection {
+    Collection {
         namespace: Namespace {
-            db: Text::from_str(alloc, "shop")?,
-            coll: Text::from_str(alloc, "items")?,
+            db: Text::from_str(alloc, "shop").made(rt),
+            coll: Text::from_str(alloc, "items").made(rt),
         },
         write_concern: None,
-    })
+    }
 }
 
 /// Whether an error refuses an argument with the text of a row.
@@ -193,12 +188,11 @@ fn builds(alloc: Global, insert: &mut Insert<'_>, sizes: Sizes, built: Built) ->
     }
 }
 
-/// The first of these that a build of one insert does not come to, one after the other; no answer where there is
-/// no memory.
-fn wrong_build(alloc: Global, rows: &[(Sizes, Built)]) -> Option<Option<(Sizes, Built)>> {
-    let documents = documents(alloc)?;
+/// The first of these that a build of one insert does not come to, one after the other.
+fn wrong_build(rt: &impl Abort, alloc: Global, rows: &[(Sizes, Built)]) -> Option<(Sizes, Built)> {
+    let documents = documents(rt, alloc);
     let options = InsertManyOptions::default();
-    let collection = items(alloc).ok()?;
+    let collection = items(rt, alloc);
     let mut insert = Insert::new(collection, 5, documents.as_slice(), &options);
     let mut wrong = None;
     for (sizes, built) in rows {
@@ -209,7 +203,7 @@ fn wrong_build(alloc: Global, rows: &[(Sizes, Built)]) -> Option<Option<(Sizes, 
     drop(insert);
     drop(options);
     drop(documents);
-    Some(wrong)
+    wrong
 }
 
 /// Later builds have as many documents as the first that was taken; where those do not fit they are refused.
@@ -282,18 +276,10 @@ const REPLIES: &[(bool, &[u8], Told)] = &[
     (true, TWO_WENT_IN, Told::Odd),
 ];
 
-/// The document of a reply, or none where there is no memory.
-fn reply_of(alloc: Global, bytes: &[u8]) -> Option<Document> {
-    match read_response(alloc, bytes) {
-        Ok(response) => {
-            let CommandResponse { ok: _, body } = response;
-            Some(body)
-        }
-        Err(error) => {
-            drop(error);
-            None
-        }
-    }
+/// The document of a reply.
+fn reply_of(rt: &impl Abort, alloc: Global, bytes: &[u8]) -> Document {
+    let CommandResponse { ok: _, body } = read_response(alloc, bytes).made(rt);
+    body
 }
 
 /// Whether the one write error is that of the second document.
@@ -347,10 +333,10 @@ fn reads(alloc: Global, insert: &mut Insert<'_>, reply: &Document, told: Told) -
 
 /// Whether the insert of three documents, ordered or not, goes out whole and reads this in a reply. The first of them
 /// is the caller's fifth from 0, and a reply counts them from 0.
-fn all_read(alloc: Global, ordered: bool, reply: &[u8], told: Told) -> Option<bool> {
-    let collection = items(alloc).ok()?;
-    let documents = documents(alloc)?;
-    let reply = reply_of(alloc, reply)?;
+fn all_read(rt: &impl Abort, alloc: Global, ordered: bool, reply: &[u8], told: Told) -> bool {
+    let collection = items(rt, alloc);
+    let documents = documents(rt, alloc);
+    let reply = reply_of(rt, alloc, reply);
     let options = InsertManyOptions {
         ordered: Some(ordered),
         ..InsertManyOptions::default()
@@ -367,37 +353,33 @@ fn all_read(alloc: Global, ordered: bool, reply: &[u8], told: Told) -> Option<bo
     drop(reply);
     drop(options);
     drop(documents);
-    Some(built && read)
+    built && read
 }
 
 #[test]
-fn a_first_build_takes_the_longest_front(rt: HostRuntime) -> Result<(), Fail> {
-    for row in BUILDS {
-        let same = matches!(wrong_build(rt.alloc(), &[*row]), Some(None));
-        assert!(rt; same, "{row:?}");
+fn a_first_build_takes_the_longest_front(rt: HostRuntime) {
+    for (at, row) in BUILDS.iter().enumerate() {
+        let wrong = wrong_build(&rt, rt.alloc(), &[*row]);
+        holds_at(&rt, wrong.is_none(), "what a first build takes", at);
     }
-    Ok(())
 }
 
 #[test]
-fn later_builds_take_as_many_documents(rt: HostRuntime) -> Result<(), Fail> {
-    let wrong = wrong_build(rt.alloc(), LATER);
-    assert!(rt; matches!(wrong, Some(None)), "{wrong:?}");
-    Ok(())
+fn later_builds_take_as_many_documents(rt: HostRuntime) {
+    let wrong = wrong_build(&rt, rt.alloc(), LATER);
+    holds(&rt, wrong.is_none(), "what later builds take");
 }
 
 #[test]
-fn a_reply_to_three_documents_lists_those_that_went_in(rt: HostRuntime) -> Result<(), Fail> {
-    for (ordered, reply, told) in REPLIES {
-        let same = all_read(rt.alloc(), *ordered, reply, *told) == Some(true);
-        let size = reply.len();
-        assert!(rt; same, "to a reply of {size} bytes, ordered {ordered:?}");
+fn a_reply_to_three_documents_lists_those_that_went_in(rt: HostRuntime) {
+    for (at, (ordered, reply, told)) in REPLIES.iter().enumerate() {
+        let same = all_read(&rt, rt.alloc(), *ordered, reply, *told);
+        holds_at(&rt, same, "what a reply to three documents tells", at);
     }
-    Ok(())
 }
 
 #[test]
-fn a_resend_that_does_not_fit_leaves_the_failure(rt: HostRuntime) -> Result<(), Fail> {
+fn a_resend_that_does_not_fit_leaves_the_failure(rt: HostRuntime) {
     let narrow = Servers {
         first: SERVER,
         further: described(Sizes {
@@ -412,6 +394,5 @@ fn a_resend_that_does_not_fit_leaves_the_failure(rt: HostRuntime) -> Result<(), 
         }
         _ => false,
     };
-    assert!(rt; kept);
-    Ok(())
+    holds(&rt, kept, "the failure before a resend that does not fit");
 }

@@ -1,11 +1,12 @@
 //! An insert of four documents in two batches, over a fake link that answers each batch with failures of its own: what
 //! the insert's error has of each, under the indexes of its list.
+use crate::asserting::{Made, holds};
 use bson_lite::{Bson, ByIndex, Document, List, Text};
 use driver_error::{Error, ErrorKind, IndexedWriteError, InsertManyError, WriteConcernError};
 use driver_inputs::{Call, Outcome};
 use driver_options::{Description, InsertManyOptions};
-use std::alloc::{AllocError, Global};
-use std::test::Fail;
+use std::alloc::Global;
+use std::process::Abort;
 use test_parts::faking::{Given, Servers, fake_link, outcomes_over};
 use test_parts::writes::{namespace, number};
 
@@ -72,28 +73,30 @@ const UNORDERED: Row = Row {
 };
 
 /// Four documents `{x: 1}`.
-fn documents(alloc: Global) -> Result<List<Document>, AllocError> {
-    let mut documents = List::with_capacity(alloc, 4)?;
+fn documents(rt: &impl Abort, alloc: Global) -> List<Document> {
+    let mut documents = List::with_capacity(alloc, 4).made(rt);
     for _ in 0..4 {
-        documents.push(number(alloc, "x", 1)?)?;
+        documents.push(number(alloc, "x", 1).made(rt)).made(rt);
     }
-    Ok(documents)
+    documents
 }
 
 /// Their insert as the one call of a list.
-fn calls(alloc: Global, ordered: Option<bool>) -> Result<List<Call>, AllocError> {
-    let mut calls = List::with_capacity(alloc, 1)?;
-    calls.push(Call::InsertMany {
-        namespace: namespace(alloc, "shop")?,
-        documents: documents(alloc)?,
-        options: InsertManyOptions {
-            ordered,
-            bypass_document_validation: None,
-            comment: None,
-            write_concern: None,
-        },
-    })?;
-    Ok(calls)
+fn calls(rt: &impl Abort, alloc: Global, ordered: Option<bool>) -> List<Call> {
+    let mut calls = List::with_capacity(alloc, 1).made(rt);
+    calls
+        .push(Call::InsertMany {
+            namespace: namespace(alloc, "shop").made(rt),
+            documents: documents(rt, alloc),
+            options: InsertManyOptions {
+                ordered,
+                bypass_document_validation: None,
+                comment: None,
+                write_concern: None,
+            },
+        })
+        .made(rt);
+    calls
 }
 
 /// Whether these are the labels of a row.
@@ -186,47 +189,43 @@ fn is_bare(error: &Error) -> bool {
 }
 
 /// Whether an error is that of a row, and has nothing else in it.
-fn is_error(alloc: Global, error: &Error, row: &Row) -> Result<bool, AllocError> {
-    let labels = error.labels().sorted(alloc)?;
+fn is_error(rt: &impl Abort, alloc: Global, error: &Error, row: &Row) -> bool {
+    let labels = error.labels().sorted(alloc).made(rt);
     let labelled = are_labels(labels.as_slice(), row.labels);
     drop(labels);
-    Ok(labelled && is_bare(error) && is_kind(error.kind(), row))
+    labelled && is_bare(error) && is_kind(error.kind(), row)
 }
 
 /// Whether an outcome has the error of a row.
-fn is_told(alloc: Global, outcome: &Outcome, row: &Row) -> Result<bool, AllocError> {
+fn is_told(rt: &impl Abort, alloc: Global, outcome: &Outcome, row: &Row) -> bool {
     match &outcome.result {
-        Ok(_) => Ok(false),
-        Err(error) => is_error(alloc, error, row),
+        Ok(_) => false,
+        Err(error) => is_error(rt, alloc, error, row),
     }
 }
 
 /// Whether the insert of a row ends as it says.
-fn ends(alloc: Global, row: &Row) -> Result<bool, AllocError> {
-    let link = fake_link(alloc, SMALL, &[Given::Reply(FIRST), Given::Reply(LAST)])?;
-    let calls = calls(alloc, row.ordered)?;
-    let (outcomes, sent) = outcomes_over(alloc, link, calls.as_slice())?;
+fn ends(rt: &impl Abort, alloc: Global, row: &Row) -> bool {
+    let link = fake_link(alloc, SMALL, &[Given::Reply(FIRST), Given::Reply(LAST)]).made(rt);
+    let calls = calls(rt, alloc, row.ordered);
+    let (outcomes, sent) = outcomes_over(alloc, link, calls.as_slice()).made(rt);
     drop(calls);
     let told = match outcomes.as_slice() {
-        [outcome] => is_told(alloc, outcome, row),
-        _ => Ok(false),
+        [outcome] => is_told(rt, alloc, outcome, row),
+        _ => false,
     };
     drop(outcomes);
-    Ok(told? && sent == row.sends)
+    told && sent == row.sends
 }
 
 #[test]
-fn an_unordered_insert_has_the_failures_of_all_its_batches(rt: HostRuntime) -> Result<(), Fail> {
-    let ends = ends(rt.alloc(), &UNORDERED)?;
-    assert!(rt; ends);
-    Ok(())
+fn an_unordered_insert_has_the_failures_of_all_its_batches(rt: HostRuntime) {
+    let ends = ends(&rt, rt.alloc(), &UNORDERED);
+    holds(&rt, ends, "the failures of both batches");
 }
 
 #[test]
-fn an_ordered_insert_has_the_failures_of_the_batch_that_ended_it(
-    rt: HostRuntime,
-) -> Result<(), Fail> {
-    let ends = ends(rt.alloc(), &ORDERED)?;
-    assert!(rt; ends);
-    Ok(())
+fn an_ordered_insert_has_the_failures_of_the_batch_that_ended_it(rt: HostRuntime) {
+    let ends = ends(&rt, rt.alloc(), &ORDERED);
+    holds(&rt, ends, "the failures of the first batch");
 }

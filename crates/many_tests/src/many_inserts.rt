@@ -2,6 +2,7 @@
 //! with ample memory, over a model server and over a fake link, and which options go out by its setters.
 ghost use Rattle.driver_link.specs.WellFormed.{IsWellFormed};
 
+use crate::asserting::{Made, holds, holds_at};
 use crate::many_failures::id_at;
 use bson_lite::{Bson, ByIndex, Document, List};
 use driver_attempt::{Client, Outside};
@@ -16,8 +17,8 @@ use memory_links::{CountingIds, MemClock};
 use model_server::{ModelServer, USUAL_SETUP};
 use rand_core::SeedableRng;
 use rand_pcg::Pcg32;
-use std::alloc::{AllocError, Global};
-use std::test::Fail;
+use std::alloc::Global;
+use std::process::Abort;
 use test_parts::faking::{ALIKE, DONE, Given, fake_link};
 use test_parts::spelling::{
     FIRST_NUMBER, INSERTED, LAST, NOTE, ONE_NODE, SESSION, by_one_node, has_one_frame, joined,
@@ -37,7 +38,7 @@ const ORDERED: &[u8] = b"\x08ordered\0\x01";
 const UNORDERED: &[u8] = b"\x08ordered\0\0";
 
 /// How the options of an insert are set.
-#[derive(Clone, Copy, Debug)]
+#[derive(Clone, Copy)]
 enum Way {
     Unset,
     Unordered,
@@ -109,86 +110,73 @@ const ROWS: &[(Way, &[&[u8]])] = &[
     (Way::Options, INSERTED),
 ];
 
-/// The collection `shop.items` with this concern.
-fn items(
-    alloc: Global,
-    concern: Option<WriteConcern>,
-) -> std::result::Result<Collection, AllocError> {
-    Ok(Collection {
-        namespace: namespace(alloc, "shop")?,
-        write_concern: concern,
-    })
-}
-
-/// The insert of documents into a collection with this concern, with no option set.
+/// The insert of documents into the collection `shop.items` with this concern, with no option set.
 fn insert_of(
+    rt: &impl Abort,
     alloc: Global,
     documents: &[Document],
     concern: Option<WriteConcern>,
-) -> std::result::Result<InsertMany, AllocError> {
-    let collection = items(alloc, concern)?;
-    let made = collection.insert_many(alloc, documents);
+) -> InsertMany {
+    let collection = Collection {
+        namespace: namespace(alloc, "shop").made(rt),
+        write_concern: concern,
+    };
+    let insert = collection.insert_many(alloc, documents).made(rt);
     drop(collection);
-    match made {
-        Ok(insert) => Ok(insert),
-        Err(error) => {
-            drop(error);
-            Err(AllocError)
-        }
-    }
+    insert
 }
 
 /// The insert of `{y: 2}` with no option set.
-fn unset(alloc: Global) -> std::result::Result<InsertMany, AllocError> {
-    let documents = one(alloc, number(alloc, "y", 2)?)?;
-    insert_of(alloc, documents.as_slice(), None)
+fn unset(rt: &impl Abort, alloc: Global) -> InsertMany {
+    let documents = one(alloc, number(alloc, "y", 2).made(rt)).made(rt);
+    insert_of(rt, alloc, documents.as_slice(), None)
 }
 
 /// The same into a collection with a write concern.
-fn of_collection(alloc: Global) -> std::result::Result<InsertMany, AllocError> {
-    let documents = one(alloc, number(alloc, "y", 2)?)?;
-    insert_of(alloc, documents.as_slice(), Some(by_one_node()))
+fn of_collection(rt: &impl Abort, alloc: Global) -> InsertMany {
+    let documents = one(alloc, number(alloc, "y", 2).made(rt)).made(rt);
+    insert_of(rt, alloc, documents.as_slice(), Some(by_one_node()))
 }
 
 /// The same with a comment.
-fn with_note(alloc: Global) -> std::result::Result<InsertMany, AllocError> {
-    let comment = noted(alloc)?;
-    let insert = unset(alloc)?;
-    Ok(insert.comment(comment))
+fn with_note(rt: &impl Abort, alloc: Global) -> InsertMany {
+    let comment = noted(alloc).made(rt);
+    let insert = unset(rt, alloc);
+    insert.comment(comment)
 }
 
 /// The same with each option by its setter.
-fn by_setters(alloc: Global) -> std::result::Result<InsertMany, AllocError> {
-    let insert = with_note(alloc)?;
+fn by_setters(rt: &impl Abort, alloc: Global) -> InsertMany {
+    let insert = with_note(rt, alloc);
     let insert = insert.write_concern(by_one_node());
     let insert = insert.bypass_document_validation(true);
-    Ok(insert.ordered(false))
+    insert.ordered(false)
 }
 
 /// The same with all options at once, which are not those that were set before.
-fn by_options(alloc: Global) -> std::result::Result<InsertMany, AllocError> {
-    let comment = noted(alloc)?;
-    let insert = unset(alloc)?;
+fn by_options(rt: &impl Abort, alloc: Global) -> InsertMany {
+    let comment = noted(alloc).made(rt);
+    let insert = unset(rt, alloc);
     let insert = insert.ordered(true);
-    Ok(insert.with_options(InsertManyOptions {
+    insert.with_options(InsertManyOptions {
         ordered: Some(false),
         bypass_document_validation: Some(true),
         comment: Some(comment),
         write_concern: Some(by_one_node()),
-    }))
+    })
 }
 
 /// The insert of a row.
-fn insert_by(alloc: Global, way: Way) -> std::result::Result<InsertMany, AllocError> {
+fn insert_by(rt: &impl Abort, alloc: Global, way: Way) -> InsertMany {
     match way {
-        Way::Unset => unset(alloc),
-        Way::Unordered => Ok(unset(alloc)?.ordered(false)),
-        Way::Unjudged => Ok(unset(alloc)?.bypass_document_validation(true)),
-        Way::Noted => with_note(alloc),
-        Way::Acknowledged => Ok(unset(alloc)?.write_concern(by_one_node())),
-        Way::OfCollection => of_collection(alloc),
-        Way::EachSetter => by_setters(alloc),
-        Way::Options => by_options(alloc),
+        Way::Unset => unset(rt, alloc),
+        Way::Unordered => unset(rt, alloc).ordered(false),
+        Way::Unjudged => unset(rt, alloc).bypass_document_validation(true),
+        Way::Noted => with_note(rt, alloc),
+        Way::Acknowledged => unset(rt, alloc).write_concern(by_one_node()),
+        Way::OfCollection => of_collection(rt, alloc),
+        Way::EachSetter => by_setters(rt, alloc),
+        Way::Options => by_options(rt, alloc),
     }
 }
 
@@ -242,23 +230,23 @@ fn has_first_id(end: Result<InsertManyResult>) -> bool {
 }
 
 /// Whether the insert of a row is done after one frame whose body has these parts.
-fn row_sends(alloc: Global, way: Way, parts: &[&[u8]]) -> std::result::Result<bool, AllocError> {
-    let body = joined(alloc, parts)?;
-    let link = fake_link(alloc, ALIKE, &[Given::Reply(DONE)])?;
-    let insert = insert_by(alloc, way)?;
+fn row_sends(rt: &impl Abort, alloc: Global, way: Way, parts: &[&[u8]]) -> bool {
+    let body = joined(alloc, parts).made(rt);
+    let link = fake_link(alloc, ALIKE, &[Given::Reply(DONE)]).made(rt);
+    let insert = insert_by(rt, alloc, way);
     let (result, link) = run_over(alloc, link, insert);
     let sent = has_one_frame(&link, body.as_slice(), 1);
     drop(link);
-    Ok(has_first_id(result) && sent)
+    has_first_id(result) && sent
 }
 
 /// `{x: 1}`, `{_id: 7}` and `{x: 1}`.
-fn three(alloc: Global) -> std::result::Result<List<Document>, AllocError> {
-    let mut documents = List::with_capacity(alloc, 3)?;
-    documents.push(number(alloc, "x", 1)?)?;
-    documents.push(number(alloc, "_id", 7)?)?;
-    documents.push(number(alloc, "x", 1)?)?;
-    Ok(documents)
+fn three(rt: &impl Abort, alloc: Global) -> List<Document> {
+    let mut documents = List::with_capacity(alloc, 3).made(rt);
+    documents.push(number(alloc, "x", 1).made(rt)).made(rt);
+    documents.push(number(alloc, "_id", 7).made(rt)).made(rt);
+    documents.push(number(alloc, "x", 1).made(rt)).made(rt);
+    documents
 }
 
 /// A schedule by which each exchange is served and no call fails.
@@ -346,45 +334,44 @@ fn has_three_entries(server: &Server) -> bool {
 
 /// Whether an insert of three documents over a model server that takes two a batch answers their ids, under which they
 /// stand in the log.
-fn stands(alloc: Global) -> std::result::Result<bool, AllocError> {
-    let documents = three(alloc)?;
-    let insert = insert_of(alloc, documents.as_slice(), None)?;
+fn stands(rt: &impl Abort, alloc: Global) -> bool {
+    let documents = three(rt, alloc);
+    let insert = insert_of(rt, alloc, documents.as_slice(), None);
     drop(documents);
     let (result, link) = run_over(alloc, two_a_batch(alloc), insert);
     let stand = has_three_entries(link.server());
     drop(link);
-    Ok(has_three_ids(result) && stand)
+    has_three_ids(result) && stand
 }
 
 /// Whether a document's document is itself.
-fn is_its_own(alloc: Global) -> std::result::Result<bool, AllocError> {
-    let document = number(alloc, "_id", 7)?;
-    let made = document.to_document(alloc)?;
+fn is_its_own(rt: &impl Abort, alloc: Global) -> bool {
+    let document = number(alloc, "_id", 7).made(rt);
+    let made = document.to_document(alloc).made(rt);
     drop(document);
-    Ok(made.len() == 1 && is_seven(made.get("_id")))
+    made.len() == 1 && is_seven(made.get("_id"))
 }
 
 #[test]
-fn an_insert_of_many_answers_the_ids_that_stand(rt: HostRuntime) -> std::result::Result<(), Fail> {
-    let stands = stands(rt.alloc())?;
-    assert!(rt; stands);
-    Ok(())
+fn an_insert_of_many_answers_the_ids_that_stand(rt: HostRuntime) {
+    let stands = stands(&rt, rt.alloc());
+    holds(
+        &rt,
+        stands,
+        "the ids that an insert answers stand in the log",
+    );
 }
 
 #[test]
-fn the_options_of_an_insert_of_many_go_out_as_they_were_set(
-    rt: HostRuntime,
-) -> std::result::Result<(), Fail> {
-    for (way, parts) in ROWS {
-        let sent = row_sends(rt.alloc(), *way, parts)?;
-        assert!(rt; sent, "{way:?}");
+fn the_options_of_an_insert_of_many_go_out_as_they_were_set(rt: HostRuntime) {
+    for (at, (way, parts)) in ROWS.iter().enumerate() {
+        let sent = row_sends(&rt, rt.alloc(), *way, parts);
+        holds_at(&rt, sent, "what goes out by each way to set options", at);
     }
-    Ok(())
 }
 
 #[test]
-fn a_document_is_written_as_itself(rt: HostRuntime) -> std::result::Result<(), Fail> {
-    let own = is_its_own(rt.alloc())?;
-    assert!(rt; own);
-    Ok(())
+fn a_document_is_written_as_itself(rt: HostRuntime) {
+    let own = is_its_own(&rt, rt.alloc());
+    holds(&rt, own, "a document is written as itself");
 }

@@ -1,11 +1,12 @@
 //! Inserts of many documents over a link that would answer each one: what is refused for its input before an id is
 //! drawn or anything sent, which fault is told first, and which ids are drawn.
+use crate::asserting::{Made, holds, holds_at};
 use bson_lite::{Bson, Document, List};
 use driver_error::InsertManyResult;
 use driver_inputs::{Answer, Call, Outcome};
 use driver_options::InsertManyOptions;
-use std::alloc::{AllocError, Global};
-use std::test::Fail;
+use std::alloc::Global;
+use std::process::Abort;
 use test_parts::faking::{ALIKE, Given, fake_link, outcomes_over};
 use test_parts::inserting::{Ended, how_ended, label_count};
 use test_parts::writes::{Flaw, flawed, namespace, number};
@@ -17,7 +18,7 @@ const TWO_DONE: &[u8] = b"\x14\0\0\0\x10ok\0\x01\0\0\0\x10n\0\x02\0\0\0\0";
 const THREE_DONE: &[u8] = b"\x14\0\0\0\x10ok\0\x01\0\0\0\x10n\0\x03\0\0\0\0";
 
 /// A document of a list.
-#[derive(Clone, Copy, Debug)]
+#[derive(Clone, Copy)]
 enum Item {
     /// `{x: 1}`
     Plain,
@@ -28,7 +29,7 @@ enum Item {
 
 /// An insert of a list: whether its database is `a.b` and not `shop`, its documents, the flaw of its comment, and how
 /// it ends.
-#[derive(Clone, Copy, Debug)]
+#[derive(Clone, Copy)]
 struct Row {
     dotted: bool,
     items: &'static [Item],
@@ -118,53 +119,53 @@ const MIXED: Row = Row {
 };
 
 /// A document of a list.
-fn document_of(alloc: Global, item: Item) -> Result<Document, AllocError> {
+fn document_of(rt: &impl Abort, alloc: Global, item: Item) -> Document {
     match item {
-        Item::Plain => number(alloc, "x", 1),
-        Item::Named => number(alloc, "_id", 1),
-        Item::Odd(flaw) => flawed(alloc, flaw),
+        Item::Plain => number(alloc, "x", 1).made(rt),
+        Item::Named => number(alloc, "_id", 1).made(rt),
+        Item::Odd(flaw) => flawed(alloc, flaw).made(rt),
     }
 }
 
 /// The documents of a list.
-fn documents_of(alloc: Global, items: &[Item]) -> Result<List<Document>, AllocError> {
-    let mut documents = List::with_capacity(alloc, items.len())?;
+fn documents_of(rt: &impl Abort, alloc: Global, items: &[Item]) -> List<Document> {
+    let mut documents = List::with_capacity(alloc, items.len()).made(rt);
     for item in items {
-        documents.push(document_of(alloc, *item)?)?;
+        documents.push(document_of(rt, alloc, *item)).made(rt);
     }
-    Ok(documents)
+    documents
 }
 
 /// The comment of a row.
-fn comment_of(alloc: Global, flaw: Option<Flaw>) -> Result<Option<Bson>, AllocError> {
+fn comment_of(rt: &impl Abort, alloc: Global, flaw: Option<Flaw>) -> Option<Bson> {
     match flaw {
-        Some(flaw) => Ok(Some(Bson::Document(flawed(alloc, flaw)?))),
-        None => Ok(None),
+        Some(flaw) => Some(Bson::Document(flawed(alloc, flaw).made(rt))),
+        None => None,
     }
 }
 
 /// The call of a row.
-fn call_of(alloc: Global, row: Row) -> Result<Call, AllocError> {
+fn call_of(rt: &impl Abort, alloc: Global, row: Row) -> Call {
     let db = if row.dotted { "a.b" } else { "shop" };
-    Ok(Call::InsertMany {
-        namespace: namespace(alloc, db)?,
-        documents: documents_of(alloc, row.items)?,
+    Call::InsertMany {
+        namespace: namespace(alloc, db).made(rt),
+        documents: documents_of(rt, alloc, row.items),
         options: InsertManyOptions {
             ordered: None,
             bypass_document_validation: None,
-            comment: comment_of(alloc, row.comment)?,
+            comment: comment_of(rt, alloc, row.comment),
             write_concern: None,
         },
-    })
+    }
 }
 
 /// The calls of rows.
-fn calls_of(alloc: Global, rows: &[Row]) -> Result<List<Call>, AllocError> {
-    let mut calls = List::with_capacity(alloc, rows.len())?;
+fn calls_of(rt: &impl Abort, alloc: Global, rows: &[Row]) -> List<Call> {
+    let mut calls = List::with_capacity(alloc, rows.len()).made(rt);
     for row in rows {
-        calls.push(call_of(alloc, *row)?)?;
+        calls.push(call_of(rt, alloc, *row)).made(rt);
     }
-    Ok(calls)
+    calls
 }
 
 /// Whether an outcome is an end without labels.
@@ -177,10 +178,10 @@ fn is_end(alloc: Global, outcome: &Outcome, ended: Ended) -> bool {
 
 /// Whether the insert of a row ends as it says, without labels: it is sent once where it is done, and else not at
 /// all.
-fn ends(alloc: Global, row: Row) -> Result<bool, AllocError> {
-    let link = fake_link(alloc, ALIKE, &[Given::Reply(TWO_DONE)])?;
-    let calls = calls_of(alloc, &[row])?;
-    let (outcomes, sent) = outcomes_over(alloc, link, calls.as_slice())?;
+fn ends(rt: &impl Abort, alloc: Global, row: Row) -> bool {
+    let link = fake_link(alloc, ALIKE, &[Given::Reply(TWO_DONE)]).made(rt);
+    let calls = calls_of(rt, alloc, &[row]);
+    let (outcomes, sent) = outcomes_over(alloc, link, calls.as_slice()).made(rt);
     drop(calls);
     let told = match outcomes.as_slice() {
         [outcome] => is_end(alloc, outcome, row.ended),
@@ -188,7 +189,7 @@ fn ends(alloc: Global, row: Row) -> Result<bool, AllocError> {
     };
     drop(outcomes);
     let wanted = if row.ended == Ended::Done { 1 } else { 0 };
-    Ok(told && sent == wanted)
+    told && sent == wanted
 }
 
 /// The last byte of the object id at an index, or none where there is another value.
@@ -213,31 +214,29 @@ fn has_its_ids(outcome: &Outcome) -> bool {
 }
 
 /// Whether a list that is refused draws no id, and the next one draws an id for each document without one, in order.
-fn draws_in_order(alloc: Global) -> Result<bool, AllocError> {
-    let link = fake_link(alloc, ALIKE, &[Given::Reply(THREE_DONE)])?;
-    let calls = calls_of(alloc, &[REFUSED, MIXED])?;
-    let (outcomes, sent) = outcomes_over(alloc, link, calls.as_slice())?;
+fn draws_in_order(rt: &impl Abort, alloc: Global) -> bool {
+    let link = fake_link(alloc, ALIKE, &[Given::Reply(THREE_DONE)]).made(rt);
+    let calls = calls_of(rt, alloc, &[REFUSED, MIXED]);
+    let (outcomes, sent) = outcomes_over(alloc, link, calls.as_slice()).made(rt);
     drop(calls);
     let drawn = match outcomes.as_slice() {
         [refused, done] => is_end(alloc, refused, Ended::ZeroByte) && has_its_ids(done),
         _ => false,
     };
     drop(outcomes);
-    Ok(drawn && sent == 1)
+    drawn && sent == 1
 }
 
 #[test]
-fn lists_are_refused_for_their_input_in_order(rt: HostRuntime) -> Result<(), Fail> {
-    for row in ROWS {
-        let ends = ends(rt.alloc(), *row)?;
-        assert!(rt; ends, "{row:?}");
+fn lists_are_refused_for_their_input_in_order(rt: HostRuntime) {
+    for (at, row) in ROWS.iter().enumerate() {
+        let ends = ends(&rt, rt.alloc(), *row);
+        holds_at(&rt, ends, "how the insert of each list ends", at);
     }
-    Ok(())
 }
 
 #[test]
-fn ids_are_drawn_in_order_for_documents_without_one(rt: HostRuntime) -> Result<(), Fail> {
-    let drawn = draws_in_order(rt.alloc())?;
-    assert!(rt; drawn);
-    Ok(())
+fn ids_are_drawn_in_order_for_documents_without_one(rt: HostRuntime) {
+    let drawn = draws_in_order(&rt, rt.alloc());
+    holds(&rt, drawn, "the ids of a list behind one that is refused");
 }

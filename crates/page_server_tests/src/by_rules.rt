@@ -1,7 +1,9 @@
 //! What one fault makes of a bulk write of ten writes in batches of three, by the rules of retries, of ordered and
 //! unordered writes and of pages: which commands go out, which writes stand, and what the call answers. The rules are
 //! written down here in plain numbers, without anything of the program but the forms in which a row tells its end.
-use std::alloc::{AllocError, Global};
+use crate::asserting::Made;
+use std::alloc::Global;
+use std::process::Abort;
 use test_parts::bulk_ends::{Ended, Failed, Source};
 
 /// How many writes there are, in how many batches, and how many a batch has at most.
@@ -299,32 +301,31 @@ fn results(row: Row, batch: usize) -> usize {
 }
 
 /// Puts the commands of a batch behind others.
-fn push_commands(sent: &mut Vec<Sent>, row: Row, batch: usize) -> Result<(), AllocError> {
+fn push_commands(rt: &impl Abort, sent: &mut Vec<Sent>, row: Row, batch: usize) {
     let session = session(row, batch);
     let first = batch.saturating_mul(IN_BATCH);
     let writes = Sent::Writes(first, length(batch), session, number(row, batch));
-    sent.push(writes)?;
+    sent.push(writes).made(rt);
     if goes_again(row, batch) {
-        sent.push(writes)?;
+        sent.push(writes).made(rt);
     }
     if !is_untold(row, batch) && results(row, batch) > row.page {
-        sent.push(Sent::More(session))?;
+        sent.push(Sent::More(session)).made(rt);
     }
     if page_fails(row, batch) && is_error(row.fault) {
-        sent.push(Sent::Kill)?;
+        sent.push(Sent::Kill).made(rt);
     }
-    Ok(())
 }
 
 /// The commands that go out.
-pub(crate) fn commands(alloc: Global, row: Row) -> Result<Vec<Sent>, AllocError> {
+pub(crate) fn commands(rt: &impl Abort, alloc: Global, row: Row) -> Vec<Sent> {
     let mut sent = Vec::new(alloc);
     for batch in 0..BATCHES {
         if goes_out(row, batch) {
-            push_commands(&mut sent, row, batch)?;
+            push_commands(rt, &mut sent, row, batch);
         }
     }
-    Ok(sent)
+    sent
 }
 
 /// Whether a batch or its next page ends the call with another error than a write's.

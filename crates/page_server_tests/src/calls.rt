@@ -1,4 +1,5 @@
 //! Bulk writes as calls, in batches over a model server: how they end, which commands go out, and which entries stand.
+use crate::asserting::{Made, alike};
 use crate::meeting::{Meets, schedule};
 use bulk_actions::{BulkWrite, BulkWrites};
 use driver_attempt::{Client, Outside};
@@ -10,8 +11,8 @@ use memory_links::{CountingIds, MemClock};
 use model_server::ModelServer;
 use rand_core::SeedableRng;
 use rand_pcg::Pcg32;
-use std::alloc::{AllocError, Global};
-use std::test::Fail;
+use std::alloc::Global;
+use std::process::Abort;
 use test_parts::bulk_ends::{Ended, Failed, Looked, Source, how_ended};
 use test_parts::bulk_runs::{Kind, models_of};
 
@@ -329,10 +330,10 @@ fn called<T: Looked>(
 }
 
 /// Whether a row is as it says.
-fn holds(alloc: Global, row: Row) -> Result<bool, AllocError> {
+fn holds(rt: &impl Abort, alloc: Global, row: Row) -> bool {
     let kinds = [Kind::Insert; 5];
-    let models = models_of(alloc, &kinds[..row.inserts.min(5)])?;
-    let link = ModelServer::new(alloc, TWO_AT_ONCE, schedule(alloc, row.meets)?);
+    let models = models_of(alloc, &kinds[..row.inserts.min(5)]).made(rt);
+    let link = ModelServer::new(alloc, TWO_AT_ONCE, schedule(rt, alloc, row.meets));
     let (end, link) = if row.verbose {
         called::<VerboseBulkWriteResult>(alloc, link, models.as_slice(), row.unordered)
     } else {
@@ -342,30 +343,29 @@ fn holds(alloc: Global, row: Row) -> Result<bool, AllocError> {
     let holds = end == row.ends && are_sent(server, row.sent) && server.log.len() == row.entries;
     drop(link);
     drop(models);
-    Ok(holds)
+    holds
 }
 
 /// The first row that is not as it says.
-fn first_that_fails(alloc: Global) -> Result<Option<&'static str>, AllocError> {
+fn first_that_fails(rt: &impl Abort, alloc: Global) -> Option<&'static str> {
     for row in ROWS {
-        if !holds(alloc, *row)? {
-            return Ok(Some(row.shows));
+        if !holds(rt, alloc, *row) {
+            return Some(row.shows);
         }
     }
-    Ok(None)
+    None
 }
 
 #[test]
-fn bulk_writes_end_as_their_schedules_say(rt: HostRuntime) -> Result<(), Fail> {
-    let failed = first_that_fails(rt.alloc())?;
-    assert_eq!(rt; failed, None);
-    Ok(())
+fn bulk_writes_end_as_their_schedules_say(rt: HostRuntime) {
+    let failed = first_that_fails(&rt, rt.alloc());
+    alike(&rt, failed, None, "a row that does not end as it says");
 }
 
 #[test]
-fn a_client_makes_bulk_writes_of_either_kind(rt: HostRuntime) -> Result<(), Fail> {
+fn a_client_makes_bulk_writes_of_either_kind(rt: HostRuntime) {
     let alloc = rt.alloc();
-    let models = models_of(alloc, &[Kind::Insert])?;
+    let models = models_of(alloc, &[Kind::Insert]).made(&rt);
     let mut client = Client::new(
         ClientOptions {
             client_number: 1,
@@ -374,7 +374,7 @@ fn a_client_makes_bulk_writes_of_either_kind(rt: HostRuntime) -> Result<(), Fail
         PlainStore::new(alloc, CountingIds::new()),
     );
     let mut outside = Outside {
-        link: ModelServer::new(alloc, TWO_AT_ONCE, schedule(alloc, &[])?),
+        link: ModelServer::new(alloc, TWO_AT_ONCE, schedule(&rt, alloc, &[])),
         clock: MemClock::new(0, 0),
         words: Pcg32::seed_from_u64(1),
         call: 0,
@@ -392,7 +392,14 @@ fn a_client_makes_bulk_writes_of_either_kind(rt: HostRuntime) -> Result<(), Fail
             .run(alloc, &mut outside),
     );
     drop(models);
-    assert!(rt; counts == Ended::Done([1, 0, 0, 0, 0], 0));
-    assert!(rt; all == Ended::Done([1, 0, 0, 0, 0], 1));
-    Ok(())
+    crate::asserting::holds(
+        &rt,
+        counts == Ended::Done([1, 0, 0, 0, 0], 0),
+        "counts alone",
+    );
+    crate::asserting::holds(
+        &rt,
+        all == Ended::Done([1, 0, 0, 0, 0], 1),
+        "the result of each",
+    );
 }

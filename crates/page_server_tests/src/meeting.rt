@@ -1,11 +1,13 @@
 //! What the exchanges of a row meet at a model server, as the items of a schedule.
-ghost use Rattle.std.specs.Prelude.{All, IfOk};
+ghost use Rattle.std.specs.Prelude.{All};
 ghost use Rattle.driver_link.specs.WellFormed.{IsItem, IsWellFormed};
 
+use crate::asserting::Made;
 use bson_lite::{List, Text};
 use driver_error::RETRYABLE_WRITE_ERROR;
 use driver_link::{Failing, Item, PlannedConcern, Schedule, Scheduled};
-use std::alloc::{AllocError, Global};
+use std::alloc::Global;
+use std::process::Abort;
 
 /// What an exchange meets.
 #[derive(Clone, Copy)]
@@ -37,24 +39,27 @@ pub(crate) enum Meets {
 }
 
 /// The list of the label of a retryable write.
-fn again(alloc: Global) -> Result<List<Text>, AllocError> {
-    let mut labels = List::with_capacity(alloc, 1)?;
-    labels.push(Text::from_str(alloc, RETRYABLE_WRITE_ERROR)?)?;
-    Ok(labels)
+fn again(rt: &impl Abort, alloc: Global) -> List<Text> {
+    let mut labels = List::with_capacity(alloc, 1).made(rt);
+    labels
+        .push(Text::from_str(alloc, RETRYABLE_WRITE_ERROR).made(rt))
+        .made(rt);
+    labels
 }
 
 /// A serving in which a statement may fail and the write concern may be unmet, with a first page of so many results.
 fn serve(
+    rt: &impl Abort,
     alloc: Global,
     failing: Option<u64>,
     unmet: bool,
     page: Option<u64>,
-) -> Result<Item, AllocError>
-    ensures { IfOk result IsItem }
+) -> Item
+    ensures { IsItem result }
 {
     let mut fail = List::new(alloc);
     if let Some(at) = failing {
-        fail.push(Failing { at, code: 11000 })?;
+        fail.push(Failing { at, code: 11000 }).made(rt);
     }
     let write_concern_error = if unmet {
         Some(PlannedConcern {
@@ -64,12 +69,12 @@ fn serve(
     } else {
         None
     };
-    Ok(Item::Serve {
+    Item::Serve {
         results: List::new(alloc),
         fail,
         write_concern_error,
         page,
-    })
+    }
 }
 
 /// So many statements run, then code 11600 with these labels.
@@ -84,60 +89,62 @@ fn interrupted(after: u64, labels: List<Text>) -> Item
 }
 
 /// The item of what an exchange meets.
-fn item(alloc: Global, meets: Meets) -> Result<Item, AllocError>
-    ensures { IfOk result IsItem }
+fn item(rt: &impl Abort, alloc: Global, meets: Meets) -> Item
+    ensures { IsItem result }
 {
     match meets {
-        Meets::Served => serve(alloc, None, false, None),
-        Meets::FailedAt(at) => serve(alloc, Some(at), false, None),
-        Meets::Concern => serve(alloc, None, true, None),
-        Meets::Page(page) => serve(alloc, None, false, Some(page)),
-        Meets::FailedOnPages(at, page) => serve(alloc, Some(at), false, Some(page)),
-        Meets::ConcernOnPages(page) => serve(alloc, None, true, Some(page)),
-        Meets::Lost => Ok(Item::Lost),
-        Meets::Late => Ok(Item::Late),
-        Meets::ReplyLost => Ok(Item::ReplyLost),
-        Meets::Interrupted(after) => Ok(interrupted(after, again(alloc)?)),
-        Meets::BareInterrupted(after) => Ok(interrupted(after, List::new(alloc))),
-        Meets::RefusedForNow => Ok(Item::Refused {
+        Meets::Served => serve(rt, alloc, None, false, None),
+        Meets::FailedAt(at) => serve(rt, alloc, Some(at), false, None),
+        Meets::Concern => serve(rt, alloc, None, true, None),
+        Meets::Page(page) => serve(rt, alloc, None, false, Some(page)),
+        Meets::FailedOnPages(at, page) => serve(rt, alloc, Some(at), false, Some(page)),
+        Meets::ConcernOnPages(page) => serve(rt, alloc, None, true, Some(page)),
+        Meets::Lost => Item::Lost,
+        Meets::Late => Item::Late,
+        Meets::ReplyLost => Item::ReplyLost,
+        Meets::Interrupted(after) => interrupted(after, again(rt, alloc)),
+        Meets::BareInterrupted(after) => interrupted(after, List::new(alloc)),
+        Meets::RefusedForNow => Item::Refused {
             code: 91,
-            labels: again(alloc)?,
-        }),
-        Meets::BareRefusedForNow => Ok(Item::Refused {
+            labels: again(rt, alloc),
+        },
+        Meets::BareRefusedForNow => Item::Refused {
             code: 91,
             labels: List::new(alloc),
-        }),
-        Meets::Refused => Ok(Item::Refused {
+        },
+        Meets::Refused => Item::Refused {
             code: 43,
             labels: List::new(alloc),
-        }),
+        },
     }
 }
 
 /// The items of what exchanges meet, one after the other.
-fn items(alloc: Global, meets: &[Meets]) -> Result<List<Scheduled>, AllocError>
-    ensures { IfOk result (λ steps. All (λ step. IsItem step.item) steps) }
+fn items(rt: &impl Abort, alloc: Global, meets: &[Meets]) -> List<Scheduled>
+    ensures { All (λ step. IsItem step.item) result }
 {
     let mut steps = List::new(alloc);
     'items: for one in meets {
-        steps.push(Scheduled {
-            deliver: List::new(alloc),
-            item: item(alloc, *one)?,
-        })?;
+        steps
+            .push(Scheduled {
+                deliver: List::new(alloc),
+                item: item(rt, alloc, *one),
+            })
+            .made(rt);
     }
-    Ok(steps)
+    steps
 }
 
 /// A schedule of these exchanges, behind which all is served.
-pub(crate) fn schedule(alloc: Global, meets: &[Meets]) -> Result<Schedule, AllocError>
-    ensures { IfOk result IsWellFormed }
+pub(crate) fn schedule(rt: &impl Abort, alloc: Global, meets: &[Meets]) -> Schedule
+    ensures { IsWellFormed result }
 {
-    Ok(Schedule {
-        items: items(alloc, meets)?,
+    Schedule {
+        items: items(rt, alloc, meets),
         selects: List::new(alloc),
         check_outs: List::new(alloc),
         overloaded_check_outs: List::new(alloc),
         reauthentications: List::new(alloc),
         supports: List::new(alloc),
-    })
+    }
 }

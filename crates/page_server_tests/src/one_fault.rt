@@ -1,6 +1,7 @@
 //! A bulk write of ten writes in batches of three over a model server, ordered and not, with and without the results of
 //! single writes, on first pages of each size, with one fault at each of its exchanges: which commands go out, which
 //! writes stand, and what the call answers, as the rules say.
+use crate::asserting::{Made, alike};
 use crate::by_rules::{
     Does, Fault, Row, Sent, Told, WRITES, commands, ended, is_again, number, runs, session,
     telling, work_of,
@@ -23,8 +24,8 @@ use memory_links::{CountingIds, MemClock};
 use model_server::ModelServer;
 use rand_core::SeedableRng;
 use rand_pcg::Pcg32;
-use std::alloc::{AllocError, Global};
-use std::test::Fail;
+use std::alloc::Global;
+use std::process::Abort;
 use test_parts::bulk_ends::{Looked, how_ended};
 
 /// Each fault, at a position or behind so many writes of a batch.
@@ -76,10 +77,10 @@ fn mark(index: usize) -> i32 {
 }
 
 /// `{key: number}`
-fn single(alloc: Global, key: &str, number: i32) -> std::result::Result<Document, AllocError> {
+fn single(rt: &impl Abort, alloc: Global, key: &str, number: i32) -> Document {
     let mut document = Document::new(alloc);
-    document.push(key, Bson::Int32(number))?;
-    Ok(document)
+    document.push(key, Bson::Int32(number)).made(rt);
+    document
 }
 
 /// The collection of the write at an index, one of two in turn.
@@ -88,63 +89,61 @@ fn collection(index: usize) -> &'static str {
 }
 
 /// The namespace of the write at an index.
-fn namespace(alloc: Global, index: usize) -> std::result::Result<Namespace, AllocError> {
-    Ok(Namespace {
-        db: Text::from_str(alloc, "shop")?,
-        coll: Text::from_str(alloc, collection(index))?,
-    })
+fn namespace(rt: &impl Abort, alloc: Global, index: usize) -> Namespace {
+    Namespace {
+        db: Text::from_str(alloc, "shop").made(rt),
+        coll: Text::from_str(alloc, collection(index)).made(rt),
+    }
 }
 
 /// `{$set: {y: 2}}`
-fn change(alloc: Global) -> std::result::Result<UpdateModifications, AllocError> {
+fn change(rt: &impl Abort, alloc: Global) -> UpdateModifications {
     let mut document = Document::new(alloc);
-    document.push("$set", Bson::Document(single(alloc, "y", 2)?))?;
-    Ok(UpdateModifications::from(document))
+    document
+        .push("$set", Bson::Document(single(rt, alloc, "y", 2)))
+        .made(rt);
+    UpdateModifications::from(document)
 }
 
 /// The update at an index, of one document or of many.
-fn update(alloc: Global, index: usize, many: bool) -> std::result::Result<WriteModel, AllocError> {
-    let to = namespace(alloc, index)?;
-    let filter = single(alloc, "x", mark(index))?;
-    let change = change(alloc)?;
+fn update(rt: &impl Abort, alloc: Global, index: usize, many: bool) -> WriteModel {
+    let to = namespace(rt, alloc, index);
+    let filter = single(rt, alloc, "x", mark(index));
+    let change = change(rt, alloc);
     if many {
-        Ok(WriteModel::from(UpdateManyModel::new(to, filter, change)))
+        WriteModel::from(UpdateManyModel::new(to, filter, change))
     } else {
-        Ok(WriteModel::from(UpdateOneModel::new(to, filter, change)))
+        WriteModel::from(UpdateOneModel::new(to, filter, change))
     }
 }
 
 /// The insert or the delete at an index.
-fn other(
-    alloc: Global,
-    index: usize,
-    inserts: bool,
-) -> std::result::Result<WriteModel, AllocError> {
-    let to = namespace(alloc, index)?;
-    let document = single(alloc, "x", mark(index))?;
+fn other(rt: &impl Abort, alloc: Global, index: usize, inserts: bool) -> WriteModel {
+    let to = namespace(rt, alloc, index);
+    let document = single(rt, alloc, "x", mark(index));
     if inserts {
-        Ok(WriteModel::from(InsertOneModel::new(to, document)))
+        WriteModel::from(InsertOneModel::new(to, document))
     } else {
-        Ok(WriteModel::from(DeleteOneModel::new(to, document)))
+        WriteModel::from(DeleteOneModel::new(to, document))
     }
 }
 
 /// The model at an index, where the fifth may be an update of many.
-fn model(alloc: Global, index: usize, many: bool) -> std::result::Result<WriteModel, AllocError> {
+fn model(rt: &impl Abort, alloc: Global, index: usize, many: bool) -> WriteModel {
     match work_of(index) {
-        Does::Inserts => other(alloc, index, true),
-        Does::Deletes => other(alloc, index, false),
-        Does::Updates => update(alloc, index, many && index == 4),
+        Does::Inserts => other(rt, alloc, index, true),
+        Does::Deletes => other(rt, alloc, index, false),
+        Does::Updates => update(rt, alloc, index, many && index == 4),
     }
 }
 
 /// All ten models.
-fn models(alloc: Global, many: bool) -> std::result::Result<List<WriteModel>, AllocError> {
-    let mut models = List::with_capacity(alloc, WRITES)?;
+fn models(rt: &impl Abort, alloc: Global, many: bool) -> List<WriteModel> {
+    let mut models = List::with_capacity(alloc, WRITES).made(rt);
     for index in 0..WRITES {
-        models.push(model(alloc, index, many)?)?;
+        models.push(model(rt, alloc, index, many)).made(rt);
     }
-    Ok(models)
+    models
 }
 
 /// What the exchange with the fault of a row meets.
@@ -482,12 +481,13 @@ fn says_again<T>(end: &Result<T>) -> bool {
 
 /// Whether a row with results of a kind is as the rules say.
 fn is_as_ruled<T: Results>(
+    rt: &impl Abort,
     alloc: Global,
     row: Row,
     models: &[WriteModel],
-) -> std::result::Result<bool, AllocError> {
-    let wanted = commands(alloc, row)?;
-    let schedule = schedule(alloc, &met_in_turn(row))?;
+) -> bool {
+    let wanted = commands(rt, alloc, row);
+    let schedule = schedule(rt, alloc, &met_in_turn(row));
     let link = ModelServer::new(alloc, THREE_AT_ONCE, schedule);
     let (end, mut link) = called::<T>(alloc, link, models, row.ordered);
     arrive(&mut link, alloc);
@@ -497,15 +497,15 @@ fn is_as_ruled<T: Results>(
     let same = told && stand(log, row) && are_sent(server, wanted.as_slice());
     drop(link);
     let found = how_ended(end);
-    Ok(same && found == ended(row))
+    same && found == ended(row)
 }
 
 /// Whether a row is as the rules say.
-fn holds(alloc: Global, row: Row, models: &[WriteModel]) -> std::result::Result<bool, AllocError> {
+fn holds(rt: &impl Abort, alloc: Global, row: Row, models: &[WriteModel]) -> bool {
     if row.verbose {
-        is_as_ruled::<VerboseBulkWriteResult>(alloc, row, models)
+        is_as_ruled::<VerboseBulkWriteResult>(rt, alloc, row, models)
     } else {
-        is_as_ruled::<SummaryBulkWriteResult>(alloc, row, models)
+        is_as_ruled::<SummaryBulkWriteResult>(rt, alloc, row, models)
     }
 }
 
@@ -515,49 +515,42 @@ fn most_exchanges(row: Row) -> usize {
 }
 
 /// The row with the first exchange that is not as the rules say. Behind the last exchange none is met.
-fn wrong_exchange(
-    alloc: Global,
-    row: Row,
-    models: &[WriteModel],
-) -> std::result::Result<Option<Row>, AllocError> {
+fn wrong_exchange(rt: &impl Abort, alloc: Global, row: Row, models: &[WriteModel]) -> Option<Row> {
     for at in 0..EXCHANGES {
         if at > most_exchanges(row) {
             break;
         }
         let row = Row { at, ..row };
-        if !holds(alloc, row, models)? {
-            return Ok(Some(row));
+        if !holds(rt, alloc, row, models) {
+            return Some(row);
         }
     }
-    Ok(None)
+    None
 }
 
 /// The first row with a fault of the table that is not.
-fn wrong_fault(
-    alloc: Global,
-    row: Row,
-    models: &[WriteModel],
-) -> std::result::Result<Option<Row>, AllocError> {
+fn wrong_fault(rt: &impl Abort, alloc: Global, row: Row, models: &[WriteModel]) -> Option<Row> {
     for fault in FAULTS {
         let row = Row {
             fault: *fault,
             ..row
         };
-        if let Some(wrong) = wrong_exchange(alloc, row, models)? {
-            return Ok(Some(wrong));
+        if let Some(wrong) = wrong_exchange(rt, alloc, row, models) {
+            return Some(wrong);
         }
     }
-    Ok(None)
+    None
 }
 
 /// The first row on a page of each size that is not.
 fn wrong_page(
+    rt: &impl Abort,
     alloc: Global,
     ordered: bool,
     verbose: bool,
     many: bool,
     models: &[WriteModel],
-) -> std::result::Result<Option<Row>, AllocError> {
+) -> Option<Row> {
     for page in PAGES {
         let row = Row {
             ordered,
@@ -567,84 +560,75 @@ fn wrong_page(
             at: 0,
             fault: Fault::Lost,
         };
-        if let Some(wrong) = wrong_fault(alloc, row, models)? {
-            return Ok(Some(wrong));
+        if let Some(wrong) = wrong_fault(rt, alloc, row, models) {
+            return Some(wrong);
         }
     }
-    Ok(None)
+    None
 }
 
 /// The first row that is not, of writes of one document each or with one of many.
 fn first_wrong(
+    rt: &impl Abort,
     alloc: Global,
     ordered: bool,
     verbose: bool,
     many: bool,
-) -> std::result::Result<Option<Row>, AllocError> {
-    let models = models(alloc, many)?;
-    let wrong = wrong_page(alloc, ordered, verbose, many, models.as_slice())?;
+) -> Option<Row> {
+    let models = models(rt, alloc, many);
+    let wrong = wrong_page(rt, alloc, ordered, verbose, many, models.as_slice());
     drop(models);
-    Ok(wrong)
+    wrong
 }
 
 #[test]
-fn an_ordered_bulk_write_ends_as_ruled(rt: HostRuntime) -> std::result::Result<(), Fail> {
-    let wrong = first_wrong(rt.alloc(), true, false, false)?;
-    assert!(rt; wrong == None, "{wrong:?}");
-    Ok(())
+fn an_ordered_bulk_write_ends_as_ruled(rt: HostRuntime) {
+    let wrong = first_wrong(&rt, rt.alloc(), true, false, false);
+    alike(&rt, wrong, None, "the first row that is not as ruled");
 }
 
 #[test]
-fn an_ordered_one_with_results_ends_as_ruled(rt: HostRuntime) -> std::result::Result<(), Fail> {
-    let wrong = first_wrong(rt.alloc(), true, true, false)?;
-    assert!(rt; wrong == None, "{wrong:?}");
-    Ok(())
+fn an_ordered_one_with_results_ends_as_ruled(rt: HostRuntime) {
+    let wrong = first_wrong(&rt, rt.alloc(), true, true, false);
+    alike(&rt, wrong, None, "the first row that is not as ruled");
 }
 
 #[test]
-fn an_unordered_one_ends_as_ruled(rt: HostRuntime) -> std::result::Result<(), Fail> {
-    let wrong = first_wrong(rt.alloc(), false, false, false)?;
-    assert!(rt; wrong == None, "{wrong:?}");
-    Ok(())
+fn an_unordered_one_ends_as_ruled(rt: HostRuntime) {
+    let wrong = first_wrong(&rt, rt.alloc(), false, false, false);
+    alike(&rt, wrong, None, "the first row that is not as ruled");
 }
 
 #[test]
-fn an_unordered_one_with_results_ends_as_ruled(rt: HostRuntime) -> std::result::Result<(), Fail> {
-    let wrong = first_wrong(rt.alloc(), false, true, false)?;
-    assert!(rt; wrong == None, "{wrong:?}");
-    Ok(())
+fn an_unordered_one_with_results_ends_as_ruled(rt: HostRuntime) {
+    let wrong = first_wrong(&rt, rt.alloc(), false, true, false);
+    alike(&rt, wrong, None, "the first row that is not as ruled");
 }
 
 #[test]
-fn an_ordered_one_with_a_write_of_many_ends_as_ruled(
-    rt: HostRuntime,
-) -> std::result::Result<(), Fail> {
-    let wrong = first_wrong(rt.alloc(), true, false, true)?;
-    assert!(rt; wrong == None, "{wrong:?}");
-    Ok(())
+fn an_ordered_one_with_a_write_of_many_ends_as_ruled(rt: HostRuntime) {
+    let wrong = first_wrong(&rt, rt.alloc(), true, false, true);
+    alike(&rt, wrong, None, "the first row that is not as ruled");
 }
 
 #[test]
-fn an_unordered_one_with_a_write_of_many_ends_as_ruled(
-    rt: HostRuntime,
-) -> std::result::Result<(), Fail> {
-    let wrong = first_wrong(rt.alloc(), false, true, true)?;
-    assert!(rt; wrong == None, "{wrong:?}");
-    Ok(())
+fn an_unordered_one_with_a_write_of_many_ends_as_ruled(rt: HostRuntime) {
+    let wrong = first_wrong(&rt, rt.alloc(), false, true, true);
+    alike(&rt, wrong, None, "the first row that is not as ruled");
 }
 
 /// The first row on a page of each size that is not as ruled, where the rules think of writes of one document each and a
 /// write is of many.
-fn first_misjudged(alloc: Global) -> std::result::Result<Option<Row>, AllocError> {
-    let models = models(alloc, true)?;
-    let wrong = wrong_page(alloc, true, false, false, models.as_slice())?;
+fn first_misjudged(rt: &impl Abort, alloc: Global) -> Option<Row> {
+    let models = models(rt, alloc, true);
+    let wrong = wrong_page(rt, alloc, true, false, false, models.as_slice());
     drop(models);
-    Ok(wrong)
+    wrong
 }
 
 #[test]
-fn the_first_row_that_is_not_as_ruled_is_named(rt: HostRuntime) -> std::result::Result<(), Fail> {
-    let named = first_misjudged(rt.alloc())?;
+fn the_first_row_that_is_not_as_ruled_is_named(rt: HostRuntime) {
+    let named = first_misjudged(&rt, rt.alloc());
     let wanted = Row {
         ordered: true,
         verbose: false,
@@ -653,6 +637,10 @@ fn the_first_row_that_is_not_as_ruled_is_named(rt: HostRuntime) -> std::result::
         at: 0,
         fault: Fault::Lost,
     };
-    assert!(rt; named == Some(wanted), "{named:?}");
-    Ok(())
+    alike(
+        &rt,
+        named,
+        Some(wanted),
+        "the first row that is not as ruled",
+    );
 }

@@ -1,10 +1,11 @@
 //! Bulk writes in pages over a model server: what it saw, and which entries stand.
+use crate::asserting::{Made, holds};
 use crate::meeting::{Meets, schedule};
 use driver_error::VerboseBulkWriteResult;
 use driver_link::{Send, SendBody, SendCommand, Server};
 use model_server::{ModelServer, USUAL_SETUP};
-use std::alloc::{AllocError, Global};
-use std::test::Fail;
+use std::alloc::Global;
+use std::process::Abort;
 use test_parts::bulk_ends::{Cause, Ended, Source, failed_page, how_ended};
 use test_parts::bulk_runs::{Kind, executed_as, models_of};
 
@@ -48,9 +49,9 @@ fn saw(server: &Server, refuses: bool) -> bool {
 }
 
 /// How two inserts end by a schedule, by which the next page is refused or not, if the server saw what it should.
-fn served(alloc: Global, meets: &[Meets], refuses: bool) -> Result<Ended, AllocError> {
-    let models = models_of(alloc, TWO)?;
-    let link = ModelServer::new(alloc, USUAL_SETUP, schedule(alloc, meets)?);
+fn served(rt: &impl Abort, alloc: Global, meets: &[Meets], refuses: bool) -> Ended {
+    let models = models_of(alloc, TWO).made(rt);
+    let link = ModelServer::new(alloc, USUAL_SETUP, schedule(rt, alloc, meets));
     let (end, link) = executed_as::<VerboseBulkWriteResult, ModelServer>(
         alloc,
         link,
@@ -62,22 +63,28 @@ fn served(alloc: Global, meets: &[Meets], refuses: bool) -> Result<Ended, AllocE
     drop(models);
     let found = how_ended(end);
     if saw {
-        Ok(found)
+        found
     } else {
-        Ok(Ended::Invalid(Cause::Other))
+        Ended::Invalid(Cause::Other)
     }
 }
 
 #[test]
-fn the_next_page_gives_the_other_result(rt: HostRuntime) -> Result<(), Fail> {
-    let found = served(rt.alloc(), &[Meets::Page(1)], false)?;
-    assert!(rt; found == Ended::Done([2, 0, 0, 0, 0], 2));
-    Ok(())
+fn the_next_page_gives_the_other_result(rt: HostRuntime) {
+    let found = served(&rt, rt.alloc(), &[Meets::Page(1)], false);
+    holds(
+        &rt,
+        found == Ended::Done([2, 0, 0, 0, 0], 2),
+        "the results of two pages",
+    );
 }
 
 #[test]
-fn a_page_that_is_refused_ends_its_cursor(rt: HostRuntime) -> Result<(), Fail> {
-    let found = served(rt.alloc(), &[Meets::Page(1), Meets::Refused], true)?;
-    assert!(rt; found == failed_page(Source::Command(43)));
-    Ok(())
+fn a_page_that_is_refused_ends_its_cursor(rt: HostRuntime) {
+    let found = served(&rt, rt.alloc(), &[Meets::Page(1), Meets::Refused], true);
+    holds(
+        &rt,
+        found == failed_page(Source::Command(43)),
+        "a page that is refused",
+    );
 }

@@ -1,12 +1,13 @@
 //! Bulk writes whose answers come in pages, by the executor over a fake link: what goes out behind the command, which
 //! rules a page may break, and what the error tells then.
+use crate::asserting::{Made, alike, holds, holds_at};
 use crate::replies::{Answer, First, Lack, Told, page_with, reply_bytes};
 use bson_lite::{Bson, Bytes, List};
 use driver_error::{IoKind, SummaryBulkWriteResult, VerboseBulkWriteResult};
 use driver_link::{Frame, LinkFault};
 use memory_links::{FakeLink, FakeStep};
 use std::alloc::{AllocError, Global};
-use std::test::Fail;
+use std::process::Abort;
 use test_parts::bulk_ends::{Cause, Ended, Failed, Source, counts, failed_page, how_ended, let_go};
 use test_parts::bulk_runs::{Kind, executed_as, models_of};
 use test_parts::inserting::SERVER;
@@ -434,17 +435,19 @@ const FAILED_PAGES: &[(Answer, Cause)] = &[
 ];
 
 /// A fake link whose exchanges answer so.
-fn link_of(alloc: Global, answers: &[Answer]) -> std::result::Result<FakeLink, AllocError> {
+fn link_of(rt: &impl Abort, alloc: Global, answers: &[Answer]) -> FakeLink {
     let mut descriptions = List::new(alloc);
-    descriptions.push(SERVER)?;
+    descriptions.push(SERVER).made(rt);
     let mut steps = List::new(alloc);
     for answer in answers {
-        steps.push(match reply_bytes(alloc, *answer)? {
-            Some(bytes) => FakeStep::Reply(bytes),
-            None => FakeStep::Fault(LinkFault::Io(IoKind::ConnectionReset)),
-        })?;
+        steps
+            .push(match reply_bytes(rt, alloc, *answer) {
+                Some(bytes) => FakeStep::Reply(bytes),
+                None => FakeStep::Fault(LinkFault::Io(IoKind::ConnectionReset)),
+            })
+            .made(rt);
     }
-    Ok(FakeLink::new(alloc, descriptions, steps))
+    FakeLink::new(alloc, descriptions, steps)
 }
 
 /// Whether a frame's command has this name: its first key stands behind a length and a type.
@@ -488,14 +491,15 @@ fn are_over_one(link: &FakeLink) -> bool {
 
 /// How a bulk write ends over a link, and the link.
 fn run(
+    rt: &impl Abort,
     alloc: Global,
     models: &[Kind],
     verbose: bool,
     unordered: bool,
     answers: &[Answer],
-) -> std::result::Result<(Ended, FakeLink), AllocError> {
-    let link = link_of(alloc, answers)?;
-    let models = models_of(alloc, models)?;
+) -> (Ended, FakeLink) {
+    let link = link_of(rt, alloc, answers);
+    let models = models_of(alloc, models).made(rt);
     let (found, link) = if verbose {
         let (end, link) = executed_as::<VerboseBulkWriteResult, FakeLink>(
             alloc,
@@ -514,41 +518,55 @@ fn run(
         (how_ended(end), link)
     };
     drop(models);
-    Ok((found, link))
+    (found, link)
 }
 
 /// Whether a row ends as it says.
-fn ends(alloc: Global, row: Row) -> std::result::Result<bool, AllocError> {
+fn ends(rt: &impl Abort, alloc: Global, row: Row) -> bool {
     let Row(models, verbose, unordered, answers, wanted, sent) = row;
-    let (found, link) = run(alloc, models, verbose, unordered, answers)?;
+    let (found, link) = run(rt, alloc, models, verbose, unordered, answers);
     let sent = are_sent(&link, sent);
     drop(link);
-    Ok(found == wanted && sent)
+    found == wanted && sent
 }
 
 /// The place of the first of these rows that does not end as it says.
-fn first_wrong(alloc: Global, rows: &[Row]) -> std::result::Result<Option<usize>, AllocError> {
+fn first_wrong(rt: &impl Abort, alloc: Global, rows: &[Row]) -> Option<usize> {
     for (at, row) in rows.iter().enumerate() {
-        if !ends(alloc, *row)? {
-            return Ok(Some(at));
+        if !ends(rt, alloc, *row) {
+            return Some(at);
         }
     }
-    Ok(None)
+    None
 }
 
 #[test]
-fn an_answer_in_pages_is_read_to_its_end(rt: HostRuntime) -> std::result::Result<(), Fail> {
-    let wrong = first_wrong(rt.alloc(), REFUSED_PAGES)?;
-    assert_eq!(rt; wrong, None, "of pages that are refused or lost");
-    let wrong = first_wrong(rt.alloc(), RESENT)?;
-    assert_eq!(rt; wrong, None, "of commands that are sent again");
-    let wrong = first_wrong(rt.alloc(), SEVERAL_PAGES)?;
-    assert_eq!(rt; wrong, None, "of several pages");
-    let wrong = first_wrong(rt.alloc(), ORDERED)?;
-    assert_eq!(rt; wrong, None, "of ordered bulk writes");
-    let wrong = first_wrong(rt.alloc(), ONE_PAGE)?;
-    assert_eq!(rt; wrong, None, "of one page");
-    Ok(())
+fn an_answer_in_pages_is_read_to_its_end(rt: HostRuntime) {
+    let wrong = first_wrong(&rt, rt.alloc(), REFUSED_PAGES);
+    alike(
+        &rt,
+        wrong,
+        None,
+        "the first wrong row of pages that are refused or lost",
+    );
+    let wrong = first_wrong(&rt, rt.alloc(), RESENT);
+    alike(
+        &rt,
+        wrong,
+        None,
+        "the first wrong row of commands that are sent again",
+    );
+    let wrong = first_wrong(&rt, rt.alloc(), SEVERAL_PAGES);
+    alike(&rt, wrong, None, "the first wrong row of several pages");
+    let wrong = first_wrong(&rt, rt.alloc(), ORDERED);
+    alike(
+        &rt,
+        wrong,
+        None,
+        "the first wrong row of ordered bulk writes",
+    );
+    let wrong = first_wrong(&rt, rt.alloc(), ONE_PAGE);
+    alike(&rt, wrong, None, "the first wrong row of one page");
 }
 
 /// Whether an update's result has the id of the document that it put in, and counts it as matched, as `n` does.
@@ -563,10 +581,10 @@ fn is_put_in(found: &VerboseBulkWriteResult) -> bool {
 }
 
 /// Whether a bulk write of one update ends with such a result, where the reply tells of it.
-fn tells_what_is_put_in(alloc: Global) -> std::result::Result<bool, AllocError> {
+fn tells_what_is_put_in(rt: &impl Abort, alloc: Global) -> bool {
     let reply = First(0, [0, 0, 0, 1, 0], 0, &[Told::PutIn(0, 1, 9)], None, None);
-    let link = link_of(alloc, &[Answer::First(reply)])?;
-    let models = models_of(alloc, &[Kind::UpdateOne])?;
+    let link = link_of(rt, alloc, &[Answer::First(reply)]);
+    let models = models_of(alloc, &[Kind::UpdateOne]).made(rt);
     let (end, link) = executed_as::<VerboseBulkWriteResult, FakeLink>(
         alloc,
         link,
@@ -576,104 +594,98 @@ fn tells_what_is_put_in(alloc: Global) -> std::result::Result<bool, AllocError> 
     drop(link);
     drop(models);
     match end {
-        Ok(found) => Ok(is_put_in(&found)),
+        Ok(found) => is_put_in(&found),
         Err(error) => {
             let_go(error);
-            Ok(false)
+            false
         }
     }
 }
 
 #[test]
-fn an_update_that_puts_in_tells_its_id_and_its_count(
-    rt: HostRuntime,
-) -> std::result::Result<(), Fail> {
-    let told = tells_what_is_put_in(rt.alloc())?;
-    assert!(rt; told);
-    Ok(())
+fn an_update_that_puts_in_tells_its_id_and_its_count(rt: HostRuntime) {
+    let told = tells_what_is_put_in(&rt, rt.alloc());
+    holds(&rt, told, "the id and the count of what an update puts in");
 }
 
 /// Whether a rule that is broken on the first page makes that an InvalidResponse alone, after which nothing goes out.
-fn is_refused_first(alloc: Global, broken: Broken) -> std::result::Result<bool, AllocError> {
+fn is_refused_first(rt: &impl Abort, alloc: Global, broken: Broken) -> bool {
     let Broken(unordered, errors, first, _next, cause) = broken;
     let answers = [Answer::First(First(errors, [2, 0, 0, 0, 0], 0, first, None, None))];
-    let (found, link) = run(alloc, TWO, true, unordered, &answers)?;
+    let (found, link) = run(rt, alloc, TWO, true, unordered, &answers);
     let refused = found == Ended::Invalid(cause) && are_sent(&link, &["bulkWrite"]);
     drop(link);
-    Ok(refused)
+    refused
 }
 
 /// Whether it makes a further page the source of the error, after which its cursor is ended.
-fn is_refused_behind(alloc: Global, broken: Broken) -> std::result::Result<bool, AllocError> {
+fn is_refused_behind(rt: &impl Abort, alloc: Global, broken: Broken) -> bool {
     let Broken(unordered, errors, _first, next, cause) = broken;
     let answers = [
         Answer::First(First(errors, [2, 0, 0, 0, 0], 7, ONE, None, None)),
         Answer::Next(0, next),
         Answer::Plain,
     ];
-    let (found, link) = run(alloc, TWO, true, unordered, &answers)?;
+    let (found, link) = run(rt, alloc, TWO, true, unordered, &answers);
     let refused = found == failed_page(Source::Invalid(cause))
         && are_sent(&link, &["bulkWrite", "getMore", "killCursors"]);
     drop(link);
-    Ok(refused)
+    refused
 }
 
 #[test]
-fn a_page_that_breaks_a_rule_is_refused(rt: HostRuntime) -> std::result::Result<(), Fail> {
+fn a_page_that_breaks_a_rule_is_refused(rt: HostRuntime) {
     for (at, broken) in BROKEN.iter().enumerate() {
-        let first = is_refused_first(rt.alloc(), *broken)?;
-        assert!(rt; first, "rule {at}, on the first page");
-        let behind = is_refused_behind(rt.alloc(), *broken)?;
-        assert!(rt; behind, "rule {at}, on a further page");
+        let first = is_refused_first(&rt, rt.alloc(), *broken);
+        holds_at(&rt, first, "a rule that is broken on the first page", at);
+        let behind = is_refused_behind(&rt, rt.alloc(), *broken);
+        holds_at(&rt, behind, "a rule that is broken on a further page", at);
     }
-    Ok(())
 }
 
 /// Whether a reply to two inserts breaks its form, after which nothing goes out.
-fn is_no_reply(alloc: Global, reply: Answer) -> std::result::Result<bool, AllocError> {
-    let (found, link) = run(alloc, TWO, true, false, &[reply])?;
+fn is_no_reply(rt: &impl Abort, alloc: Global, reply: Answer) -> bool {
+    let (found, link) = run(rt, alloc, TWO, true, false, &[reply]);
     let refused = found == Ended::Invalid(Cause::Reply) && are_sent(&link, &["bulkWrite"]);
     drop(link);
-    Ok(refused)
+    refused
 }
 
 #[test]
-fn a_reply_has_its_counts_and_its_cursor(rt: HostRuntime) -> std::result::Result<(), Fail> {
-    for counts in NEGATIVE {
+fn a_reply_has_its_counts_and_its_cursor(rt: HostRuntime) {
+    for (at, counts) in NEGATIVE.iter().enumerate() {
         let reply = Answer::First(First(0, *counts, 0, BOTH, None, None));
-        let refused = is_no_reply(rt.alloc(), reply)?;
-        assert!(rt; refused, "{counts:?}");
+        let refused = is_no_reply(&rt, rt.alloc(), reply);
+        holds_at(&rt, refused, "a reply with a negative count", at);
     }
-    for lack in LACKS {
-        let refused = is_no_reply(rt.alloc(), Answer::Lacking(*lack))?;
-        assert!(rt; refused, "{lack:?}");
+    for (at, lack) in LACKS.iter().enumerate() {
+        let refused = is_no_reply(&rt, rt.alloc(), Answer::Lacking(*lack));
+        holds_at(&rt, refused, "a reply whose cursor lacks something", at);
     }
-    Ok(())
 }
 
 /// Whether a page makes the error so, whatever the end of its cursor is answered.
-fn fails(alloc: Global, page: Answer, cause: Cause) -> std::result::Result<bool, AllocError> {
+fn fails(rt: &impl Abort, alloc: Global, page: Answer, cause: Cause) -> bool {
     let answers = [Answer::First(HALF), page, Answer::Reset];
-    let (found, link) = run(alloc, TWO, true, false, &answers)?;
+    let (found, link) = run(rt, alloc, TWO, true, false, &answers);
     let fails = found == failed_page(Source::Invalid(cause))
         && are_sent(&link, &["bulkWrite", "getMore", "killCursors"]);
     drop(link);
-    Ok(fails)
+    fails
 }
 
 #[test]
-fn a_page_that_does_not_do_ends_its_cursor(rt: HostRuntime) -> std::result::Result<(), Fail> {
+fn a_page_that_does_not_do_ends_its_cursor(rt: HostRuntime) {
     for (at, (page, cause)) in FAILED_PAGES.iter().enumerate() {
-        let fails = fails(rt.alloc(), *page, *cause)?;
-        assert!(rt; fails, "page {at}");
+        let fails = fails(&rt, rt.alloc(), *page, *cause);
+        holds_at(&rt, fails, "a page that does not do", at);
     }
-    Ok(())
 }
 
 /// Whether a results document of this form makes its page one that does not do.
-fn is_odd(alloc: Global, told: Told) -> std::result::Result<bool, AllocError> {
-    let link = odd_link(alloc, told)?;
-    let models = models_of(alloc, TWO)?;
+fn is_odd(rt: &impl Abort, alloc: Global, told: Told) -> bool {
+    let link = link_with(rt, alloc, &[Answer::First(HALF)], told);
+    let models = models_of(alloc, TWO).made(rt);
     let (end, link) = executed_as::<SummaryBulkWriteResult, FakeLink>(
         alloc,
         link,
@@ -684,58 +696,52 @@ fn is_odd(alloc: Global, told: Told) -> std::result::Result<bool, AllocError> {
         && are_sent(&link, &["bulkWrite", "getMore", "killCursors"]);
     drop(link);
     drop(models);
-    Ok(odd)
-}
-
-/// A link whose second page has it.
-fn odd_link(alloc: Global, told: Told) -> std::result::Result<FakeLink, AllocError> {
-    link_with(alloc, &[Answer::First(HALF)], told)
+    odd
 }
 
 /// Answers, and a page with one results document behind them.
-fn link_with(
-    alloc: Global,
-    answers: &[Answer],
-    told: Told,
-) -> std::result::Result<FakeLink, AllocError> {
+fn link_with(rt: &impl Abort, alloc: Global, answers: &[Answer], told: Told) -> FakeLink {
     let mut descriptions = List::new(alloc);
-    descriptions.push(SERVER)?;
+    descriptions.push(SERVER).made(rt);
     let mut steps = List::new(alloc);
     for answer in answers {
-        if let Some(bytes) = reply_bytes(alloc, *answer)? {
-            steps.push(FakeStep::Reply(bytes))?;
+        if let Some(bytes) = reply_bytes(rt, alloc, *answer) {
+            steps.push(FakeStep::Reply(bytes)).made(rt);
         }
     }
-    steps.push(FakeStep::Reply(page_with(alloc, told)?))?;
-    Ok(FakeLink::new(alloc, descriptions, steps))
+    steps
+        .push(FakeStep::Reply(page_with(rt, alloc, told)))
+        .made(rt);
+    FakeLink::new(alloc, descriptions, steps)
 }
 
 #[test]
-fn a_results_document_has_its_form(rt: HostRuntime) -> std::result::Result<(), Fail> {
+fn a_results_document_has_its_form(rt: HostRuntime) {
     for (at, told) in ODD.iter().enumerate() {
-        let odd = is_odd(rt.alloc(), *told)?;
-        assert!(rt; odd, "form {at}");
+        let odd = is_odd(&rt, rt.alloc(), *told);
+        holds_at(&rt, odd, "a results document of an odd form", at);
     }
-    Ok(())
 }
 
 /// The first bytes of another list.
-fn prefix(alloc: Global, bytes: &Bytes, count: usize) -> std::result::Result<Bytes, AllocError> {
-    let mut front = Vec::with_capacity(alloc, count)?;
+fn prefix(rt: &impl Abort, alloc: Global, bytes: &Bytes, count: usize) -> Bytes {
+    let mut front = Vec::with_capacity(alloc, count).made(rt);
     for byte in bytes.as_slice().iter().take(count) {
-        front.push(*byte)?;
+        front.push(*byte).made(rt);
     }
-    Ok(Bytes::from_vec(front))
+    Bytes::from_vec(front)
 }
 
 /// Whether a reply that is cut short is no document, after which nothing goes out.
-fn is_cut(alloc: Global, bytes: &Bytes, count: usize) -> std::result::Result<bool, AllocError> {
+fn is_cut(rt: &impl Abort, alloc: Global, bytes: &Bytes, count: usize) -> bool {
     let mut descriptions = List::new(alloc);
-    descriptions.push(SERVER)?;
+    descriptions.push(SERVER).made(rt);
     let mut steps = List::new(alloc);
-    steps.push(FakeStep::Reply(prefix(alloc, bytes, count)?))?;
+    steps
+        .push(FakeStep::Reply(prefix(rt, alloc, bytes, count)))
+        .made(rt);
     let link = FakeLink::new(alloc, descriptions, steps);
-    let models = models_of(alloc, TWO)?;
+    let models = models_of(alloc, TWO).made(rt);
     let (end, link) = executed_as::<VerboseBulkWriteResult, FakeLink>(
         alloc,
         link,
@@ -746,26 +752,18 @@ fn is_cut(alloc: Global, bytes: &Bytes, count: usize) -> std::result::Result<boo
         && are_sent(&link, &["bulkWrite"]);
     drop(link);
     drop(models);
-    Ok(cut)
-}
-
-/// The bytes of a whole reply.
-fn whole(alloc: Global) -> std::result::Result<Bytes, AllocError> {
-    match reply_bytes(alloc, Answer::First(WHOLE))? {
-        Some(bytes) => Ok(bytes),
-        None => Err(AllocError),
-    }
+    cut
 }
 
 #[test]
-fn each_front_of_a_reply_is_refused(rt: HostRuntime) -> std::result::Result<(), Fail> {
-    let bytes = whole(rt.alloc())?;
+fn each_front_of_a_reply_is_refused(rt: HostRuntime) {
+    let whole = reply_bytes(&rt, rt.alloc(), Answer::First(WHOLE));
+    let bytes = whole.ok_or(AllocError).made(&rt);
     for count in 0..bytes.len() {
-        let cut = is_cut(rt.alloc(), &bytes, count)?;
-        assert!(rt; cut, "the first {count} bytes");
+        let cut = is_cut(&rt, rt.alloc(), &bytes, count);
+        holds_at(&rt, cut, "a front of a reply is refused", count);
     }
     drop(bytes);
-    Ok(())
 }
 
 /// `{getMore: 7, collection: "coll.x", lsid: {id: 1}, $db: "db"}`
@@ -794,11 +792,10 @@ fn are_spelled(link: &FakeLink) -> bool {
 }
 
 #[test]
-fn commands_of_a_cursor_are_spelled_so(rt: HostRuntime) -> std::result::Result<(), Fail> {
+fn commands_of_a_cursor_are_spelled_so(rt: HostRuntime) {
     let answers = [Answer::First(HALF), Answer::Refused(43, None)];
-    let (_found, link) = run(rt.alloc(), TWO, true, false, &answers)?;
+    let (_found, link) = run(&rt, rt.alloc(), TWO, true, false, &answers);
     let spelled = are_spelled(&link);
     drop(link);
-    assert!(rt; spelled);
-    Ok(())
+    holds(&rt, spelled, "the question and the end of a cursor");
 }

@@ -1,6 +1,8 @@
 //! Replies and pages for the rows, as documents and as bytes.
+use crate::asserting::Made;
 use bson_lite::{Bson, Bytes, Document, List, Text, encode};
-use std::alloc::{AllocError, Global};
+use std::alloc::Global;
+use std::process::Abort;
 
 /// A results document.
 #[derive(Clone, Copy)]
@@ -38,7 +40,7 @@ pub(crate) struct First(
 );
 
 /// What the cursor of a reply lacks.
-#[derive(Clone, Copy, Debug, PartialEq, Eq)]
+#[derive(Clone, Copy, PartialEq, Eq)]
 pub(crate) enum Lack {
     /// There is none.
     Cursor,
@@ -69,69 +71,73 @@ pub(crate) enum Answer {
 }
 
 /// A text as a value.
-fn text(alloc: Global, text: &str) -> Result<Bson, AllocError> {
-    Ok(Bson::String(Text::from_str(alloc, text)?))
+fn text(rt: &impl Abort, alloc: Global, text: &str) -> Bson {
+    Bson::String(Text::from_str(alloc, text).made(rt))
 }
 
 /// A results document as a value.
-fn told_value(alloc: Global, told: Told) -> Result<Bson, AllocError> {
+fn told_value(rt: &impl Abort, alloc: Global, told: Told) -> Bson {
     let mut document = Document::new(alloc);
     match told {
         Told::Counted(index, n) => {
-            document.push("idx", Bson::Int32(index))?;
-            document.push("n", Bson::Int32(n))?;
+            document.push("idx", Bson::Int32(index)).made(rt);
+            document.push("n", Bson::Int32(n)).made(rt);
         }
         Told::Changed(index, n, modified) => {
-            document.push("idx", Bson::Int32(index))?;
-            document.push("n", Bson::Int32(n))?;
-            document.push("nModified", Bson::Int32(modified))?;
+            document.push("idx", Bson::Int32(index)).made(rt);
+            document.push("n", Bson::Int32(n)).made(rt);
+            document.push("nModified", Bson::Int32(modified)).made(rt);
         }
         Told::PutIn(index, n, id) => {
-            document.push("idx", Bson::Int32(index))?;
-            document.push("n", Bson::Int32(n))?;
-            document.push("nModified", Bson::Int32(0))?;
+            document.push("idx", Bson::Int32(index)).made(rt);
+            document.push("n", Bson::Int32(n)).made(rt);
+            document.push("nModified", Bson::Int32(0)).made(rt);
             let mut upserted = Document::new(alloc);
-            upserted.push("_id", Bson::Int32(id))?;
-            document.push("upserted", Bson::Document(upserted))?;
+            upserted.push("_id", Bson::Int32(id)).made(rt);
+            document.push("upserted", Bson::Document(upserted)).made(rt);
         }
         Told::PutInNothing(index, n) => {
-            document.push("idx", Bson::Int32(index))?;
-            document.push("n", Bson::Int32(n))?;
-            document.push("upserted", Bson::Document(Document::new(alloc)))?;
+            document.push("idx", Bson::Int32(index)).made(rt);
+            document.push("n", Bson::Int32(n)).made(rt);
+            document
+                .push("upserted", Bson::Document(Document::new(alloc)))
+                .made(rt);
         }
         Told::Failed(index, code) => {
-            document.push("idx", Bson::Int32(index))?;
-            document.push("code", Bson::Int32(code))?;
-            document.push("errmsg", text(alloc, "duplicate")?)?;
+            document.push("idx", Bson::Int32(index)).made(rt);
+            document.push("code", Bson::Int32(code)).made(rt);
+            document
+                .push("errmsg", text(rt, alloc, "duplicate"))
+                .made(rt);
         }
         Told::FailedCounted(index, code, n) => {
-            document.push("idx", Bson::Int32(index))?;
-            document.push("code", Bson::Int32(code))?;
-            document.push("n", Bson::Int32(n))?;
+            document.push("idx", Bson::Int32(index)).made(rt);
+            document.push("code", Bson::Int32(code)).made(rt);
+            document.push("n", Bson::Int32(n)).made(rt);
         }
-        Told::Nowhere => document.push("n", Bson::Int32(1))?,
-        Told::Nothing(index) => document.push("idx", Bson::Int32(index))?,
-        Told::Text => return text(alloc, "no document"),
+        Told::Nowhere => document.push("n", Bson::Int32(1)).made(rt),
+        Told::Nothing(index) => document.push("idx", Bson::Int32(index)).made(rt),
+        Told::Text => return text(rt, alloc, "no document"),
     }
-    Ok(Bson::Document(document))
+    Bson::Document(document)
 }
 
 /// Results documents as an array.
-fn all_told(alloc: Global, all: &[Told]) -> Result<Bson, AllocError> {
+fn all_told(rt: &impl Abort, alloc: Global, all: &[Told]) -> Bson {
     let mut values = List::new(alloc);
     for one in all {
-        values.push(told_value(alloc, *one)?)?;
+        values.push(told_value(rt, alloc, *one)).made(rt);
     }
-    Ok(Bson::Array(values))
+    Bson::Array(values)
 }
 
 /// `{id, ns: "db.coll.x", batch: [..]}`
-fn cursor(alloc: Global, batch: &str, id: i64, all: &[Told]) -> Result<Bson, AllocError> {
+fn cursor(rt: &impl Abort, alloc: Global, batch: &str, id: i64, all: &[Told]) -> Bson {
     let mut document = Document::new(alloc);
-    document.push("id", Bson::Int64(id))?;
-    document.push("ns", text(alloc, "db.coll.x")?)?;
-    document.push(batch, all_told(alloc, all)?)?;
-    Ok(Bson::Document(document))
+    document.push("id", Bson::Int64(id)).made(rt);
+    document.push("ns", text(rt, alloc, "db.coll.x")).made(rt);
+    document.push(batch, all_told(rt, alloc, all)).made(rt);
+    Bson::Document(document)
 }
 
 /// The names of the five counts, in their order.
@@ -144,142 +150,142 @@ const COUNTS: [&str; 5] = [
 ];
 
 /// The one label of a reply.
-fn push_label(
-    alloc: Global,
-    document: &mut Document,
-    label: Option<&str>,
-) -> Result<(), AllocError> {
+fn push_label(rt: &impl Abort, alloc: Global, document: &mut Document, label: Option<&str>) {
     let Some(label) = label else {
-        return Ok(());
+        return;
     };
     let mut labels = List::new(alloc);
-    labels.push(text(alloc, label)?)?;
-    document.push("errorLabels", Bson::Array(labels))
+    labels.push(text(rt, alloc, label)).made(rt);
+    document.push("errorLabels", Bson::Array(labels)).made(rt);
 }
 
 /// The five counts of a reply.
-fn push_counts(document: &mut Document, counts: [i32; 5]) -> Result<(), AllocError> {
+fn push_counts(rt: &impl Abort, document: &mut Document, counts: [i32; 5]) {
     for (at, name) in COUNTS.iter().enumerate() {
         let count = counts.get(at).copied().unwrap_or(0);
-        document.push(name, Bson::Int32(count))?;
+        document.push(name, Bson::Int32(count)).made(rt);
     }
-    Ok(())
 }
 
 /// A cursor that lacks something.
-fn lacking_cursor(alloc: Global, lack: Lack) -> Result<Bson, AllocError> {
+fn lacking_cursor(rt: &impl Abort, alloc: Global, lack: Lack) -> Bson {
     let mut document = Document::new(alloc);
     if lack != Lack::Id {
-        document.push("id", Bson::Int64(0))?;
+        document.push("id", Bson::Int64(0)).made(rt);
     }
     if lack != Lack::Namespace {
         let namespace = if lack == Lack::Dot { "db" } else { "db.coll.x" };
-        document.push("ns", text(alloc, namespace)?)?;
+        document.push("ns", text(rt, alloc, namespace)).made(rt);
     }
     if lack != Lack::Batch {
-        document.push(
-            "firstBatch",
-            all_told(alloc, &[Told::Counted(0, 1), Told::Counted(1, 1)])?,
-        )?;
+        document
+            .push(
+                "firstBatch",
+                all_told(rt, alloc, &[Told::Counted(0, 1), Told::Counted(1, 1)]),
+            )
+            .made(rt);
     }
-    Ok(Bson::Document(document))
+    Bson::Document(document)
 }
 
 /// The reply to two inserts, whose cursor lacks something.
-fn lacking(alloc: Global, lack: Lack) -> Result<Document, AllocError> {
+fn lacking(rt: &impl Abort, alloc: Global, lack: Lack) -> Document {
     let mut document = Document::new(alloc);
-    document.push("ok", Bson::Int32(1))?;
-    document.push("nErrors", Bson::Int32(0))?;
-    push_counts(&mut document, [2, 0, 0, 0, 0])?;
+    document.push("ok", Bson::Int32(1)).made(rt);
+    document.push("nErrors", Bson::Int32(0)).made(rt);
+    push_counts(rt, &mut document, [2, 0, 0, 0, 0]);
     if lack != Lack::Cursor {
-        document.push("cursor", lacking_cursor(alloc, lack)?)?;
+        document
+            .push("cursor", lacking_cursor(rt, alloc, lack))
+            .made(rt);
     }
-    Ok(document)
+    document
 }
 
 /// The reply to a bulk write.
-fn first_reply(alloc: Global, given: First) -> Result<Document, AllocError> {
+fn first_reply(rt: &impl Abort, alloc: Global, given: First) -> Document {
     let First(errors, counts, id, told, label, concern) = given;
     let mut document = Document::new(alloc);
-    document.push("ok", Bson::Int32(1))?;
-    document.push("nErrors", Bson::Int32(errors))?;
-    push_counts(&mut document, counts)?;
-    document.push("cursor", cursor(alloc, "firstBatch", id, told)?)?;
-    push_label(alloc, &mut document, label)?;
+    document.push("ok", Bson::Int32(1)).made(rt);
+    document.push("nErrors", Bson::Int32(errors)).made(rt);
+    push_counts(rt, &mut document, counts);
+    document
+        .push("cursor", cursor(rt, alloc, "firstBatch", id, told))
+        .made(rt);
+    push_label(rt, alloc, &mut document, label);
     if let Some(code) = concern {
         let mut concern = Document::new(alloc);
-        concern.push("code", Bson::Int32(code))?;
-        document.push("writeConcernError", Bson::Document(concern))?;
+        concern.push("code", Bson::Int32(code)).made(rt);
+        document
+            .push("writeConcernError", Bson::Document(concern))
+            .made(rt);
     }
-    Ok(document)
+    document
 }
 
 /// `{ok: 1, cursor: {id: 0, nextBatch: []}}`
-fn unnamed(alloc: Global) -> Result<Document, AllocError> {
+fn unnamed(rt: &impl Abort, alloc: Global) -> Document {
     let mut page = Document::new(alloc);
-    page.push("id", Bson::Int32(0))?;
-    page.push("nextBatch", Bson::Array(List::new(alloc)))?;
+    page.push("id", Bson::Int32(0)).made(rt);
+    page.push("nextBatch", Bson::Array(List::new(alloc)))
+        .made(rt);
     let mut document = Document::new(alloc);
-    document.push("ok", Bson::Int32(1))?;
-    document.push("cursor", Bson::Document(page))?;
-    Ok(document)
+    document.push("ok", Bson::Int32(1)).made(rt);
+    document.push("cursor", Bson::Document(page)).made(rt);
+    document
 }
 
 /// A reply as a document, where the answer is one.
-fn document(alloc: Global, answer: Answer) -> Result<Option<Document>, AllocError> {
-    Ok(Some(match answer {
-        Answer::First(given) => first_reply(alloc, given)?,
-        Answer::Lacking(lack) => lacking(alloc, lack)?,
+fn document(rt: &impl Abort, alloc: Global, answer: Answer) -> Option<Document> {
+    Some(match answer {
+        Answer::First(given) => first_reply(rt, alloc, given),
+        Answer::Lacking(lack) => lacking(rt, alloc, lack),
         Answer::Next(id, all) => {
             let mut document = Document::new(alloc);
-            document.push("ok", Bson::Int32(1))?;
-            document.push("cursor", cursor(alloc, "nextBatch", id, all)?)?;
+            document.push("ok", Bson::Int32(1)).made(rt);
+            document
+                .push("cursor", cursor(rt, alloc, "nextBatch", id, all))
+                .made(rt);
             document
         }
-        Answer::Unnamed => unnamed(alloc)?,
+        Answer::Unnamed => unnamed(rt, alloc),
         Answer::Refused(code, label) => {
             let mut document = Document::new(alloc);
-            document.push("ok", Bson::Int32(0))?;
-            document.push("code", Bson::Int32(code))?;
-            push_label(alloc, &mut document, label)?;
+            document.push("ok", Bson::Int32(0)).made(rt);
+            document.push("code", Bson::Int32(code)).made(rt);
+            push_label(rt, alloc, &mut document, label);
             document
         }
         Answer::Plain => {
             let mut document = Document::new(alloc);
-            document.push("ok", Bson::Int32(1))?;
+            document.push("ok", Bson::Int32(1)).made(rt);
             document
         }
-        Answer::Bytes(_) | Answer::Reset => return Ok(None),
-    }))
+        Answer::Bytes(_) | Answer::Reset => return None,
+    })
 }
 
 /// A reply in bytes, where the answer is one.
-pub(crate) fn reply_bytes(alloc: Global, answer: Answer) -> Result<Option<Bytes>, AllocError> {
+pub(crate) fn reply_bytes(rt: &impl Abort, alloc: Global, answer: Answer) -> Option<Bytes> {
     if let Answer::Bytes(bytes) = answer {
-        return Ok(Some(Bytes::from_slice(alloc, bytes)?));
+        return Some(Bytes::from_slice(alloc, bytes).made(rt));
     }
-    match document(alloc, answer)? {
-        Some(document) => match encode(alloc, &document) {
-            Ok(bytes) => Ok(Some(bytes)),
-            Err(_fault) => Ok(None),
-        },
-        None => Ok(None),
+    match document(rt, alloc, answer) {
+        Some(document) => Some(encode(alloc, &document).made(rt)),
+        None => None,
     }
 }
 
 /// The last page with one results document, in bytes.
-pub(crate) fn page_with(alloc: Global, one: Told) -> Result<Bytes, AllocError> {
+pub(crate) fn page_with(rt: &impl Abort, alloc: Global, one: Told) -> Bytes {
     let mut values = List::new(alloc);
-    values.push(told_value(alloc, one)?)?;
+    values.push(told_value(rt, alloc, one)).made(rt);
     let mut page = Document::new(alloc);
-    page.push("id", Bson::Int64(0))?;
-    page.push("ns", text(alloc, "db.coll.x")?)?;
-    page.push("nextBatch", Bson::Array(values))?;
+    page.push("id", Bson::Int64(0)).made(rt);
+    page.push("ns", text(rt, alloc, "db.coll.x")).made(rt);
+    page.push("nextBatch", Bson::Array(values)).made(rt);
     let mut document = Document::new(alloc);
-    document.push("ok", Bson::Int32(1))?;
-    document.push("cursor", Bson::Document(page))?;
-    match encode(alloc, &document) {
-        Ok(bytes) => Ok(bytes),
-        Err(_fault) => Err(AllocError),
-    }
+    document.push("ok", Bson::Int32(1)).made(rt);
+    document.push("cursor", Bson::Document(page)).made(rt);
+    encode(alloc, &document).made(rt)
 }

@@ -1,7 +1,7 @@
 //! Replies to findAndModify over a fake link: the document that they tell, or none, the failures, and the forms that
 //! are refused.
+use crate::asserting::alike;
 use crate::write_replies::{BARE, FoundDocument, REFUSED, Row, Told, told_of};
-use std::test::Fail;
 use test_parts::inserting::Ended;
 use test_parts::writes::Kind;
 
@@ -183,13 +183,9 @@ const REPLIES: &[Row] = &[
 ];
 
 #[test]
-fn a_find_and_modify_tells_the_document_of_its_reply(
-    rt: HostRuntime,
-) -> std::result::Result<(), Fail> {
+fn a_find_and_modify_tells_the_document_of_its_reply(rt: HostRuntime) {
     for row in REPLIES {
-        let (kind, name) = (row.kind, row.name);
-        let found = told_of(rt.alloc(), kind, row.reply)?;
-        assert_eq!(rt; found, Some(row.told), "{kind:?} of {name}");
+        let found = told_of(&rt, rt.alloc(), row.kind, row.reply);
+        alike(&rt, found, Some(row.told), row.name);
     }
-    Ok(())
 }

@@ -1,4 +1,5 @@
 //! What no clause shows: that replies are read with ample memory, by bytes of the BSON layout.
+use crate::asserting::holds;
 use driver_error::{Error, ErrorKind, Result};
 use driver_ops::{CommandResponse, read_response};
 use std::alloc::Global;
@@ -122,28 +123,44 @@ fn fails(alloc: Global, bytes: &[u8], code: i32, text: &str) -> bool {
 
 #[test]
 fn a_done_command_is_read(rt: HostRuntime) {
-    assert!(rt; is_done(rt.alloc(), DONE));
+    holds(&rt, is_done(rt.alloc(), DONE), "{ok: 1} as done");
 }
 
 #[test]
 fn a_reply_without_ok_is_refused(rt: HostRuntime) {
-    assert!(rt; breaks(rt.alloc(), EMPTY, "missing 'ok' value in response"));
+    holds(
+        &rt,
+        breaks(rt.alloc(), EMPTY, "missing 'ok' value in response"),
+        "the fault of an empty reply",
+    );
 }
 
 #[test]
 fn an_ok_that_is_no_number_is_refused(rt: HostRuntime) {
-    assert!(rt; breaks(rt.alloc(), ODD, "expected ok value to be a number"));
+    holds(
+        &rt,
+        breaks(rt.alloc(), ODD, "expected ok value to be a number"),
+        "the fault of {ok: text}",
+    );
 }
 
 #[test]
 fn a_failed_command_needs_a_code(rt: HostRuntime) {
-    assert!(rt; !is_done(rt.alloc(), BARE));
-    assert!(rt; !fails(rt.alloc(), BARE, 0, ""));
+    holds(&rt, !is_done(rt.alloc(), BARE), "{ok: 0} as not done");
+    holds(
+        &rt,
+        !fails(rt.alloc(), BARE, 0, ""),
+        "{ok: 0} as no command error",
+    );
 }
 
 #[test]
 fn a_failed_command_spells_its_error(rt: HostRuntime) {
-    assert!(rt; fails(rt.alloc(), FAILED, 13, "x"));
+    holds(
+        &rt,
+        fails(rt.alloc(), FAILED, 13, "x"),
+        "the code and the message of a failed command",
+    );
 }
 
 /// The message about a cluster time of another form.
@@ -151,25 +168,51 @@ const ODD_TIME: &str = "the reply has a $clusterTime of another form";
 
 #[test]
 fn a_cluster_time_of_its_form_is_taken(rt: HostRuntime) {
-    assert!(rt; is_done(rt.alloc(), TIMED));
+    holds(
+        &rt,
+        is_done(rt.alloc(), TIMED),
+        "a reply with a cluster time as done",
+    );
 }
 
 #[test]
 fn a_cluster_time_of_another_form_is_refused(rt: HostRuntime) {
-    assert!(rt; breaks(rt.alloc(), NUMBER_FOR_TIME, ODD_TIME));
-    assert!(rt; breaks(rt.alloc(), TIME_OF_A_NUMBER, ODD_TIME));
-    assert!(rt; breaks(rt.alloc(), UNSIGNED_TIME, ODD_TIME));
-    assert!(rt; breaks(rt.alloc(), SIGNED_BY_A_NUMBER, ODD_TIME));
+    holds(
+        &rt,
+        breaks(rt.alloc(), NUMBER_FOR_TIME, ODD_TIME),
+        "the fault of a number for a cluster time",
+    );
+    holds(
+        &rt,
+        breaks(rt.alloc(), TIME_OF_A_NUMBER, ODD_TIME),
+        "the fault of a cluster time of a number",
+    );
+    holds(
+        &rt,
+        breaks(rt.alloc(), UNSIGNED_TIME, ODD_TIME),
+        "the fault of a cluster time without a signature",
+    );
+    holds(
+        &rt,
+        breaks(rt.alloc(), SIGNED_BY_A_NUMBER, ODD_TIME),
+        "the fault of a cluster time signed by a number",
+    );
 }
 
 #[test]
 fn a_cluster_time_is_judged_behind_the_form_of_ok_and_before_its_number(rt: HostRuntime) {
-    assert!(rt; breaks(rt.alloc(), FAILED_AT_ODD_TIME, ODD_TIME));
-    assert!(rt;
+    holds(
+        &rt,
+        breaks(rt.alloc(), FAILED_AT_ODD_TIME, ODD_TIME),
+        "the fault of {ok: 0} with an odd cluster time",
+    );
+    holds(
+        &rt,
         breaks(
             rt.alloc(),
             ODD_AT_ODD_TIME,
-            "expected ok value to be a number"
-        )
+            "expected ok value to be a number",
+        ),
+        "the fault of {ok: text} with an odd cluster time",
     );
 }

@@ -1,12 +1,13 @@
 //! Replies to updates, deletes and an unordered insert over a fake link: the counts and the failures that they
 //! tell, and the forms that are refused.
+use crate::asserting::{Made, alike};
 use bson_lite::{Bson, Document};
 use driver_error::{Error, Result, UpdateResult};
 use driver_inputs::{SingleAnswer, SingleWrite};
 use driver_options::InsertManyOptions;
 use memory_links::FakeLink;
-use std::alloc::{AllocError, Global};
-use std::test::Fail;
+use std::alloc::Global;
+use std::process::Abort;
 use test_parts::faking::{ALIKE, CHANGED, DONE, Given, fake_link};
 use test_parts::inserting::{Ended, answered_under, how_ended};
 use test_parts::writes::{Concern, Kind, namespace, number, usual, write_of};
@@ -573,69 +574,54 @@ fn told_over(alloc: Global, link: FakeLink, write: SingleWrite) -> Option<Told> 
 
 /// What the usual write of a kind tells of a reply.
 pub(crate) fn told_of(
+    rt: &impl Abort,
     alloc: Global,
     kind: Kind,
     reply: &'static [u8],
-) -> std::result::Result<Option<Told>, AllocError> {
-    let link = fake_link(alloc, ALIKE, &[Given::Reply(reply)])?;
-    let write = write_of(alloc, usual(kind), Concern::Unset)?;
-    Ok(told_over(alloc, link, write))
+) -> Option<Told> {
+    let link = fake_link(alloc, ALIKE, &[Given::Reply(reply)]).made(rt);
+    let write = write_of(alloc, usual(kind), Concern::Unset).made(rt);
+    told_over(alloc, link, write)
 }
 
 /// The insert of a document whose failure stops no other.
-fn unordered_insert(alloc: Global) -> std::result::Result<SingleWrite, AllocError> {
-    Ok(SingleWrite::InsertOne {
-        namespace: namespace(alloc, "shop")?,
-        document: number(alloc, "y", 2)?,
+fn unordered_insert(rt: &impl Abort, alloc: Global) -> SingleWrite {
+    SingleWrite::InsertOne {
+        namespace: namespace(alloc, "shop").made(rt),
+        document: number(alloc, "y", 2).made(rt),
         options: InsertManyOptions {
             ordered: Some(false),
             ..InsertManyOptions::default()
         },
-    })
-}
-
-/// What it tells of a reply.
-fn told_unordered(
-    alloc: Global,
-    reply: &'static [u8],
-) -> std::result::Result<Option<Told>, AllocError> {
-    let link = fake_link(alloc, ALIKE, &[Given::Reply(reply)])?;
-    let write = unordered_insert(alloc)?;
-    Ok(told_over(alloc, link, write))
+    }
 }
 
 /// The kind and the name of the first of these rows whose write tells something else.
-fn first_wrong(
-    alloc: Global,
-    rows: &[Row],
-) -> std::result::Result<Option<(Kind, &'static str)>, AllocError> {
+fn first_wrong(rt: &impl Abort, alloc: Global, rows: &[Row]) -> Option<(Kind, &'static str)> {
     for row in rows {
-        if told_of(alloc, row.kind, row.reply)? != Some(row.told) {
-            return Ok(Some((row.kind, row.name)));
+        if told_of(rt, alloc, row.kind, row.reply) != Some(row.told) {
+            return Some((row.kind, row.name));
         }
     }
-    Ok(None)
+    None
 }
 
 #[test]
-fn updates_and_deletes_tell_what_their_replies_count(
-    rt: HostRuntime,
-) -> std::result::Result<(), Fail> {
-    let wrong = first_wrong(rt.alloc(), UPDATES_COUNTED)?;
-    assert_eq!(rt; wrong, None);
-    let wrong = first_wrong(rt.alloc(), UPDATES_FAILED)?;
-    assert_eq!(rt; wrong, None);
-    let wrong = first_wrong(rt.alloc(), DELETES)?;
-    assert_eq!(rt; wrong, None);
-    Ok(())
+fn updates_and_deletes_tell_what_their_replies_count(rt: HostRuntime) {
+    let wrong = first_wrong(&rt, rt.alloc(), UPDATES_COUNTED);
+    alike(&rt, wrong, None, "the first wrong update that is counted");
+    let wrong = first_wrong(&rt, rt.alloc(), UPDATES_FAILED);
+    alike(&rt, wrong, None, "the first wrong update that failed");
+    let wrong = first_wrong(&rt, rt.alloc(), DELETES);
+    alike(&rt, wrong, None, "the first wrong delete");
 }
 
 #[test]
-fn an_unordered_insert_reads_its_reply_too(rt: HostRuntime) -> std::result::Result<(), Fail> {
+fn an_unordered_insert_reads_its_reply_too(rt: HostRuntime) {
+    let alloc = rt.alloc();
     for row in UNORDERED {
-        let name = row.name;
-        let found = told_unordered(rt.alloc(), row.reply)?;
-        assert_eq!(rt; found, Some(row.told), "of {name}");
+        let link = fake_link(alloc, ALIKE, &[Given::Reply(row.reply)]).made(&rt);
+        let found = told_over(alloc, link, unordered_insert(&rt, alloc));
+        alike(&rt, found, Some(row.told), row.name);
     }
-    Ok(())
 }

@@ -4,6 +4,8 @@
 #![tactic(auto)]
 
 #[cfg(test)]
+mod asserting;
+#[cfg(test)]
 mod listed;
 #[cfg(test)]
 mod long_bulk_writes;

@@ -1,13 +1,14 @@
 //! Which documents of five in batches of two the answer of their insert lists as inserted, ordered and not, behind each
 //! failure of a document or of a write concern: these indexes, each with the id under which it stands in the log.
+use crate::asserting::{Made, alike};
 use crate::runs::run_of;
 use bson_lite::{Bson, ByIndex};
 use driver_error::{Error, ErrorKind};
 use driver_inputs::{Answer, Outcome};
 use driver_link::Entry;
 use script_run::Run;
-use std::alloc::{AllocError, Global};
-use std::test::Fail;
+use std::alloc::Global;
+use std::process::Abort;
 
 /// The insert, ordered and not.
 const FIVE: &str =
@@ -146,59 +147,70 @@ fn run_lists(run: &Run, wanted: &[usize]) -> bool {
 }
 
 /// A script of one call, whose server takes two documents a batch, with this schedule.
-fn script_of(alloc: Global, call: &str, schedule: &str) -> Result<String, AllocError> {
+fn script_of(rt: &impl Abort, alloc: Global, call: &str, schedule: &str) -> String {
     let mut script = String::new(alloc);
-    script.push_str("{\"calls\":[")?;
-    script.push_str(call)?;
-    script.push_str("],\"limits\":{\"batch\":2},\"schedule\":[")?;
-    script.push_str(schedule)?;
-    script.push_str("],\"late\":[0]}")?;
-    Ok(script)
+    script.push_str("{\"calls\":[").made(rt);
+    script.push_str(call).made(rt);
+    script
+        .push_str("],\"limits\":{\"batch\":2},\"schedule\":[")
+        .made(rt);
+    script.push_str(schedule).made(rt);
+    script.push_str("],\"late\":[0]}").made(rt);
+    script
 }
 
 /// Whether a call under a schedule lists these.
 fn call_lists(
+    rt: &impl Abort,
     alloc: Global,
     call: &str,
     schedule: &str,
     wanted: &[usize],
-) -> Result<bool, AllocError> {
-    let script = script_of(alloc, call, schedule)?;
-    let run = run_of(alloc, script.as_str(), 1000)?;
+) -> bool {
+    let script = script_of(rt, alloc, call, schedule);
+    let run = run_of(rt, alloc, script.as_str(), 1000);
     let lists = run_lists(&run, wanted);
     drop(run);
-    Ok(lists)
+    lists
 }
 
 /// Whether an insert under the schedule of a row lists what the row says.
-fn row_lists(alloc: Global, row: &Row, ordered: bool) -> Result<bool, AllocError> {
+fn row_lists(rt: &impl Abort, alloc: Global, row: &Row, ordered: bool) -> bool {
     if ordered {
-        call_lists(alloc, FIVE, row.schedule, row.ordered)
+        call_lists(rt, alloc, FIVE, row.schedule, row.ordered)
     } else {
-        call_lists(alloc, FIVE_UNORDERED, row.schedule, row.unordered)
+        call_lists(rt, alloc, FIVE_UNORDERED, row.schedule, row.unordered)
     }
 }
 
 /// The schedule of the first row by which an insert lists something else.
-fn first_wrong(alloc: Global, ordered: bool) -> Result<Option<&'static str>, AllocError> {
+fn first_wrong(rt: &impl Abort, alloc: Global, ordered: bool) -> Option<&'static str> {
     for row in ROWS.iter() {
-        if !row_lists(alloc, row, ordered)? {
-            return Ok(Some(row.schedule));
+        if !row_lists(rt, alloc, row, ordered) {
+            return Some(row.schedule);
         }
     }
-    Ok(None)
+    None
 }
 
 #[test]
-fn an_ordered_insert_lists_the_documents_before_a_failure(rt: HostRuntime) -> Result<(), Fail> {
-    let wrong = first_wrong(rt.alloc(), true)?;
-    assert_eq!(rt; wrong, None);
-    Ok(())
+fn an_ordered_insert_lists_the_documents_before_a_failure(rt: HostRuntime) {
+    let wrong = first_wrong(&rt, rt.alloc(), true);
+    alike(
+        &rt,
+        wrong,
+        None,
+        "the schedule of an ordered insert that lists something else",
+    );
 }
 
 #[test]
-fn an_unordered_insert_lists_all_documents_that_did_not_fail(rt: HostRuntime) -> Result<(), Fail> {
-    let wrong = first_wrong(rt.alloc(), false)?;
-    assert_eq!(rt; wrong, None);
-    Ok(())
+fn an_unordered_insert_lists_all_documents_that_did_not_fail(rt: HostRuntime) {
+    let wrong = first_wrong(&rt, rt.alloc(), false);
+    alike(
+        &rt,
+        wrong,
+        None,
+        "the schedule of an unordered insert that lists something else",
+    );
 }

@@ -1,4 +1,5 @@
 //! Scripts run from a source to a sink: statuses and texts.
+use crate::asserting::{Made, alike, holds};
 use crate::runs::ran;
 use bson_lite::{Bytes, EncodeFault, List, Text, encode};
 use driver_inputs::{Call, SingleWrite};
@@ -7,8 +8,8 @@ use memory_links::{MemSink, MemSource};
 use script_run::{Run, top};
 use serde_json::Value;
 use std::alloc::{AllocError, Global};
+use std::process::Abort;
 use std::sync::Wait;
-use std::test::Fail;
 use std::thread::Threads;
 
 const INSERT: &str =
@@ -68,24 +69,24 @@ totals: calls=1 ok=1 sends=1 entries=1
 ";
 
 /// The words of a command.
-fn words_of(alloc: Global, texts: &[&str]) -> Result<Vec<Text>, AllocError> {
+fn words_of(rt: &impl Abort, alloc: Global, texts: &[&str]) -> Vec<Text> {
     let mut words = Vec::new(alloc);
     for text in texts {
-        words.push(Text::from_str(alloc, text)?)?;
+        words.push(Text::from_str(alloc, text).made(rt)).made(rt);
     }
-    Ok(words)
+    words
 }
 
 /// The program's status on words and an input, and what was written.
-fn program<T: Wait + Threads>(
+fn program<T: Wait + Threads + Abort>(
     rt: &T,
     alloc: Global,
     texts: &[&str],
     input: Bytes,
-) -> Result<(u8, Bytes), AllocError> {
-    let words = words_of(alloc, texts)?;
+) -> (u8, Bytes) {
+    let words = words_of(rt, alloc, texts);
     let mut source = MemSource::new(input, List::new(alloc));
-    let mut sink = MemSink::new(alloc, 1000, List::new(alloc))?;
+    let mut sink = MemSink::new(alloc, 1000, List::new(alloc)).made(rt);
     let mut run = Run::new();
     let status = top(
         rt,
@@ -98,216 +99,247 @@ fn program<T: Wait + Threads>(
     drop(run);
     drop(source);
     drop(words);
-    written(alloc, status, sink)
+    written(rt, alloc, status, sink)
 }
 
 /// The status with what was written.
-fn written(alloc: Global, status: u8, sink: MemSink) -> Result<(u8, Bytes), AllocError> {
-    let bytes = Bytes::from_slice(alloc, sink.contents())?;
-    Ok((status, bytes))
+fn written(rt: &impl Abort, alloc: Global, status: u8, sink: MemSink) -> (u8, Bytes) {
+    let bytes = Bytes::from_slice(alloc, sink.contents()).made(rt);
+    (status, bytes)
 }
 
 /// An input of so many spaces.
-fn spaces(alloc: Global, count: usize) -> Result<Bytes, AllocError> {
-    Ok(Bytes::from_vec(vec![in alloc; b' '; count]?))
+fn spaces(rt: &impl Abort, alloc: Global, count: usize) -> Bytes {
+    Bytes::from_vec(vec![in alloc; b' '; count].made(rt))
 }
 
 /// A script of so many inserts.
-fn inserts(alloc: Global, count: usize) -> Result<Bytes, AllocError> {
+fn inserts(rt: &impl Abort, alloc: Global, count: usize) -> Bytes {
     let mut script = String::new(alloc);
-    script.push_str("{\"calls\":[")?;
+    script.push_str("{\"calls\":[").made(rt);
     for at in 0..count {
         if at > 0 {
-            script.push_str(",")?;
+            script.push_str(",").made(rt);
         }
-        script.push_str("{\"insertOne\":{\"ns\":\"a.b\",\"doc\":[]}}")?;
+        script
+            .push_str("{\"insertOne\":{\"ns\":\"a.b\",\"doc\":[]}}")
+            .made(rt);
     }
-    script.push_str("]}")?;
-    Ok(Bytes::from_vec(script.into_bytes()))
+    script.push_str("]}").made(rt);
+    Bytes::from_vec(script.into_bytes())
 }
 
 /// A script of one insert of a document.
-fn insert_of(alloc: Global, document: &str) -> Result<String, AllocError> {
+fn insert_of(rt: &impl Abort, alloc: Global, document: &str) -> String {
     let mut script = String::new(alloc);
-    script.push_str("{\"calls\":[{\"insertOne\":{\"ns\":\"a.b\",\"doc\":")?;
-    script.push_str(document)?;
-    script.push_str("}}]}")?;
-    Ok(script)
+    script
+        .push_str("{\"calls\":[{\"insertOne\":{\"ns\":\"a.b\",\"doc\":")
+        .made(rt);
+    script.push_str(document).made(rt);
+    script.push_str("}}]}").made(rt);
+    script
 }
 
 /// The bytes of the document of a call, and none where it has no spelling.
-fn spelled(alloc: Global, call: &Call) -> Result<Option<Bytes>, AllocError> {
+fn spelled(rt: &impl Abort, alloc: Global, call: &Call) -> Option<Bytes> {
     let Call::Single {
         write: SingleWrite::InsertOne { document, .. },
     } = call
     else {
-        return Ok(None);
+        return None;
     };
     match encode(alloc, document) {
-        Ok(bytes) => Ok(Some(bytes)),
-        Err(EncodeFault::Memory) => Err(AllocError),
-        Err(_) => Ok(None),
+        Ok(bytes) => Some(bytes),
+        Err(EncodeFault::Memory) => Err(AllocError).made(rt),
+        Err(_) => None,
     }
 }
 
 /// The bytes of a document that a script writes so, and none where it is refused. The text is JSON.
-fn encoded(alloc: Global, text: &str) -> Result<Option<Bytes>, AllocError> {
-    let Ok(value) = Value::from_slice(alloc, text.as_bytes()) else {
-        return Err(AllocError);
-    };
-    drop(value);
-    let script = insert_of(alloc, text)?;
+fn encoded(rt: &impl Abort, alloc: Global, text: &str) -> Option<Bytes> {
+    drop(Value::from_slice(alloc, text.as_bytes()).made(rt));
+    let script = insert_of(rt, alloc, text);
     match read_script(alloc, script.as_bytes()) {
         Ok(read) => match read.calls.get(0) {
-            Some(call) => spelled(alloc, call),
-            None => Ok(None),
+            Some(call) => spelled(rt, alloc, call),
+            None => None,
         },
-        Err(ScriptFault::Memory) => Err(AllocError),
-        Err(_) => Ok(None),
+        Err(ScriptFault::Memory) => Err(AllocError).made(rt),
+        Err(_) => None,
     }
 }
 
+/// Documents, and their bytes by the BSON standard's grammar: a length, the elements, a zero byte.
+const DOCUMENTS: &[(&str, &str)] = &[
+    ("[]", "\x05\0\0\0\0"),
+    (
+        "[[\"a\",{\"doc\":[[\"b\",1]]}]]",
+        "\x14\0\0\0\x03a\0\x0c\0\0\0\x10b\0\x01\0\0\0\0\0",
+    ),
+    (
+        "[[\"c\",{\"array\":[true,\"x\",{\"doc\":[]}]}]]",
+        "\x22\0\0\0\x04c\0\x1a\0\0\0\x080\0\x01\x021\0\x02\0\0\0x\0\x032\0\x05\0\0\0\0\0\0",
+    ),
+];
+
 #[test]
-fn documents_and_arrays_are_read(rt: HostRuntime) -> Result<(), Fail> {
-    // The bytes are those of the BSON standard's grammar: a length, the elements, a zero byte.
-    let rows = [
-        ("[]", "\x05\0\0\0\0"),
-        (
-            "[[\"a\",{\"doc\":[[\"b\",1]]}]]",
-            "\x14\0\0\0\x03a\0\x0c\0\0\0\x10b\0\x01\0\0\0\0\0",
-        ),
-        (
-            "[[\"c\",{\"array\":[true,\"x\",{\"doc\":[]}]}]]",
-            "\x22\0\0\0\x04c\0\x1a\0\0\0\x080\0\x01\x021\0\x02\0\0\0x\0\x032\0\x05\0\0\0\0\0\0",
-        ),
-    ];
-    for (text, bytes) in rows {
-        let found = encoded(rt.alloc(), text)?;
+fn documents_and_arrays_are_read(rt: HostRuntime) {
+    for (text, bytes) in DOCUMENTS {
+        let found = encoded(&rt, rt.alloc(), text);
         let same = matches!(&found, Some(read) if read.as_slice() == bytes.as_bytes());
-        assert!(rt; same, "of {text}");
+        holds(&rt, same, text);
     }
-    Ok(())
 }
 
-#[test]
-fn broken_documents_and_arrays_are_refused(rt: HostRuntime) -> Result<(), Fail> {
-    for text in [
-        "{}",
-        "[[]]",
-        "[[\"a\"]]",
-        "[[\"a\",1,2]]",
-        "[[1,\"a\"]]",
-        "[[\"a\",[1]]]",
-        "[[\"a\",{\"doc\":{}}]]",
-        "[[\"a\",{\"array\":1}]]",
-        "[[\"a\",{\"array\":[1.5]}]]",
-        "[[\"a\",{\"array\":[],\"doc\":[]}]]",
-    ] {
-        let refused = encoded(rt.alloc(), text)?.is_none();
-        assert!(rt; refused, "of {text}");
-    }
-    Ok(())
-}
+/// Documents and arrays that are broken.
+const BROKEN: &[&str] = &[
+    "{}",
+    "[[]]",
+    "[[\"a\"]]",
+    "[[\"a\",1,2]]",
+    "[[1,\"a\"]]",
+    "[[\"a\",[1]]]",
+    "[[\"a\",{\"doc\":{}}]]",
+    "[[\"a\",{\"array\":1}]]",
+    "[[\"a\",{\"array\":[1.5]}]]",
+    "[[\"a\",{\"array\":[],\"doc\":[]}]]",
+];
 
 #[test]
-fn refused_scripts_and_failing_streams(rt: HostRuntime) -> Result<(), Fail> {
-    let undotted = "{\"calls\":[{\"insertOne\":{\"ns\":\"ab\",\"doc\":[]}}]}";
-    let fraction = "{\"calls\":[{\"insertOne\":{\"ns\":\"a.b\",\"doc\":[[\"x\",1.5]]}}]}";
-    let unknown = "{\"calls\":[{\"insertOne\":{\"ns\":\"a.b\",\"doc\":[]}}],\"seed\":1}";
-    let rows = [
-        (UPDATE, None, 100, 3, "script refused at $\n"),
-        (undotted, None, 100, 3, "script refused at $\n"),
-        (fraction, None, 100, 3, "script refused at $\n"),
-        (unknown, None, 100, 3, "script refused at $\n"),
-        (
-            "{\"calls\":[],\"schedule\":[\"Lost\"]}",
-            None,
-            100,
-            3,
-            "script refused at $\n",
-        ),
-        (
-            "{\"calls\":[],\"schedule\":\"lost\"}",
-            None,
-            100,
-            3,
-            "script refused at $\n",
-        ),
-        ("{\"schedule\":[]}", None, 100, 3, "script refused at $\n"),
-        ("   ", None, 100, 3, "script refused at $\n"),
-        (INSERT, Some(0), 100, 4, "read failed\n"),
-        (INSERT, Some(1), 100, 4, "read failed\n"),
-        (UPDATE, None, 0, 3, ""),
-        (INSERT, Some(1), 4, 4, "read"),
-    ];
-    for (script, fails, room, status, text) in rows {
-        let (found, bytes) = ran(rt.alloc(), script, fails, room)?;
-        assert_eq!(rt; found, status, "of {script}");
-        assert_eq!(rt; bytes.as_slice(), text.as_bytes(), "of {script}");
+fn broken_documents_and_arrays_are_refused(rt: HostRuntime) {
+    for text in BROKEN {
+        let refused = encoded(&rt, rt.alloc(), text).is_none();
+        holds(&rt, refused, text);
     }
-    Ok(())
 }
 
+/// Scripts that are refused, or whose source fails at a call, with the room of the output: statuses and texts.
+const REFUSED: &[(&str, Option<u64>, usize, u8, &str)] = &[
+    (UPDATE, None, 100, 3, "script refused at $\n"),
+    (
+        "{\"calls\":[{\"insertOne\":{\"ns\":\"ab\",\"doc\":[]}}]}",
+        None,
+        100,
+        3,
+        "script refused at $\n",
+    ),
+    (
+        "{\"calls\":[{\"insertOne\":{\"ns\":\"a.b\",\"doc\":[[\"x\",1.5]]}}]}",
+        None,
+        100,
+        3,
+        "script refused at $\n",
+    ),
+    (
+        "{\"calls\":[{\"insertOne\":{\"ns\":\"a.b\",\"doc\":[]}}],\"seed\":1}",
+        None,
+        100,
+        3,
+        "script refused at $\n",
+    ),
+    (
+        "{\"calls\":[],\"schedule\":[\"Lost\"]}",
+        None,
+        100,
+        3,
+        "script refused at $\n",
+    ),
+    (
+        "{\"calls\":[],\"schedule\":\"lost\"}",
+        None,
+        100,
+        3,
+        "script refused at $\n",
+    ),
+    ("{\"schedule\":[]}", None, 100, 3, "script refused at $\n"),
+    ("   ", None, 100, 3, "script refused at $\n"),
+    (INSERT, Some(0), 100, 4, "read failed\n"),
+    (INSERT, Some(1), 100, 4, "read failed\n"),
+    (UPDATE, None, 0, 3, ""),
+    (INSERT, Some(1), 4, 4, "read"),
+];
+
 #[test]
-fn runs_are_reported(rt: HostRuntime) -> Result<(), Fail> {
-    let rows = [
-        (INSERT, REPORT),
-        (LOST, REPORT_OF_LOST),
-        (DOTTED, REPORT_OF_DOTTED),
-        (ZERO, REPORT_OF_ZERO),
-        ("{\"calls\":[]}", REPORT_OF_NOTHING),
-        (
-            "{\"calls\":[],\"schedule\":[\"serve\",\"lost\"]}",
-            REPORT_OF_NOTHING,
-        ),
-    ];
-    for (script, report) in rows {
-        for (room, status) in [(1000, 0), (16, 5)] {
-            let (found, bytes) = ran(rt.alloc(), script, None, room)?;
-            let text = &report.as_bytes()[..room.min(report.len())];
-            assert_eq!(rt; found, status, "of {script} at room {room}");
-            assert_eq!(rt; bytes.as_slice(), text, "of {script} at room {room}");
+fn refused_scripts_and_failing_streams(rt: HostRuntime) {
+    for (script, fails, room, status, text) in REFUSED {
+        let (found, bytes) = ran(&rt, rt.alloc(), script, *fails, *room);
+        alike(&rt, found, *status, script);
+        alike(&rt, bytes.as_slice(), text.as_bytes(), script);
+    }
+}
+
+/// Scripts and their reports.
+const REPORTS: &[(&str, &str)] = &[
+    (INSERT, REPORT),
+    (LOST, REPORT_OF_LOST),
+    (DOTTED, REPORT_OF_DOTTED),
+    (ZERO, REPORT_OF_ZERO),
+    ("{\"calls\":[]}", REPORT_OF_NOTHING),
+    (
+        "{\"calls\":[],\"schedule\":[\"serve\",\"lost\"]}",
+        REPORT_OF_NOTHING,
+    ),
+];
+
+/// Rooms of the output, one of them too small, and the statuses of a run.
+const ROOMS: &[(usize, u8)] = &[(1000, 0), (16, 5)];
+
+#[test]
+fn runs_are_reported(rt: HostRuntime) {
+    for (script, report) in REPORTS {
+        for (room, status) in ROOMS {
+            let (found, bytes) = ran(&rt, rt.alloc(), script, None, *room);
+            let text = &report.as_bytes()[..(*room).min(report.len())];
+            alike(&rt, found, *status, script);
+            alike(&rt, bytes.as_slice(), text, script);
         }
     }
-    Ok(())
 }
 
+/// Words that are no command, by what they are.
+const OTHER_WORDS: &[(&str, &[&str])] = &[
+    ("no word", &[]),
+    ("a word too many", &["run", "x"]),
+    ("a capital letter", &["Run"]),
+    ("an option", &["--help"]),
+];
+
 #[test]
-fn other_words_are_answered_by_their_usage(rt: HostRuntime) -> Result<(), Fail> {
+fn other_words_are_answered_by_their_usage(rt: HostRuntime) {
     let usage = "usage: run | race N | generate SEED N\n";
-    let empty: [&str; 0] = [];
-    for texts in [&empty[..], &["run", "x"], &["Run"], &["--help"]] {
-        let (status, text) = program(&rt, rt.alloc(), texts, Bytes::new(rt.alloc()))?;
-        assert_eq!(rt; status, 2, "of {texts:?}");
-        assert_eq!(rt; text.as_slice(), usage.as_bytes(), "of {texts:?}");
+    for (name, texts) in OTHER_WORDS {
+        let (status, text) = program(&rt, rt.alloc(), texts, Bytes::new(rt.alloc()));
+        alike(&rt, status, 2, name);
+        alike(&rt, text.as_slice(), usage.as_bytes(), name);
     }
-    Ok(())
 }
 
-#[test]
-fn the_length_of_an_input_is_bounded(rt: HostRuntime) -> Result<(), Fail> {
-    let rows = [
-        (16_777_216, 3, "script refused at $\n"),
-        (16_777_217, 7, TOO_LARGE),
-    ];
-    for (count, status, text) in rows {
-        let input = spaces(rt.alloc(), count)?;
-        let (found, bytes) = program(&rt, rt.alloc(), &["run"], input)?;
-        assert_eq!(rt; found, status, "of {count} bytes");
-        assert_eq!(rt; bytes.as_slice(), text.as_bytes(), "of {count} bytes");
-    }
-    Ok(())
-}
+/// Inputs of so many spaces, with the statuses and texts.
+const LENGTHS: &[(&str, usize, u8, &str)] = &[
+    ("16777216 bytes", 16_777_216, 3, "script refused at $\n"),
+    ("16777217 bytes", 16_777_217, 7, TOO_LARGE),
+];
 
 #[test]
-fn the_number_of_calls_is_bounded(rt: HostRuntime) -> Result<(), Fail> {
-    // The report of 10000 calls is longer than the room of the output.
-    for (count, status) in [(10_000, 5), (10_001, 7)] {
-        let input = inserts(rt.alloc(), count)?;
-        let (found, bytes) = program(&rt, rt.alloc(), &["run"], input)?;
-        assert_eq!(rt; found, status, "of {count} calls");
+fn the_length_of_an_input_is_bounded(rt: HostRuntime) {
+    for (name, count, status, text) in LENGTHS {
+        let input = spaces(&rt, rt.alloc(), *count);
+        let (found, bytes) = program(&rt, rt.alloc(), &["run"], input);
+        alike(&rt, found, *status, name);
+        alike(&rt, bytes.as_slice(), text.as_bytes(), name);
+    }
+}
+
+/// Scripts of so many calls, with the statuses. The report of 10000 calls is longer than the room of the output.
+const COUNTS: &[(&str, usize, u8)] = &[("10000 calls", 10_000, 5), ("10001 calls", 10_001, 7)];
+
+#[test]
+fn the_number_of_calls_is_bounded(rt: HostRuntime) {
+    for (name, count, status) in COUNTS {
+        let input = inserts(&rt, rt.alloc(), *count);
+        let (found, bytes) = program(&rt, rt.alloc(), &["run"], input);
+        alike(&rt, found, *status, name);
         let refused = bytes.as_slice() == TOO_LARGE.as_bytes();
-        assert_eq!(rt; refused, status == 7, "of {count} calls");
+        alike(&rt, refused, *status == 7, name);
     }
-    Ok(())
 }

@@ -1,5 +1,5 @@
 //! Each call that a schedule fails.
-ghost use Rattle.std.specs.Prelude.{◌≡◌, [], IfOk};
+ghost use Rattle.std.specs.Prelude.{◌≡◌, []};
 
 use super::*;
 use driver_link::{Link, Schedule};
@@ -7,31 +7,31 @@ use driver_options::{Address, Conn};
 use model_server::{ModelServer, USUAL_SETUP};
 
 /// A list of one number.
-fn one(alloc: Global, number: u64) -> Result<List<u64>, AllocError> {
+fn one(rt: &impl Abort, alloc: Global, number: u64) -> List<u64> {
     let mut list = List::new(alloc);
-    list.push(number)?;
-    Ok(list)
+    list.push(number).made(rt);
+    list
 }
 
 /// The first call of each kind fails, of check-outs the first two.
-fn first_calls_fail(alloc: Global) -> Result<Schedule, AllocError>
-    ensures { IfOk result (λ schedule. schedule.items ≡ []) }
+fn first_calls_fail(rt: &impl Abort, alloc: Global) -> Schedule
+    ensures { result.items ≡ [] }
 {
-    Ok(Schedule {
+    Schedule {
         items: List::new(alloc),
-        selects: one(alloc, 0)?,
-        check_outs: one(alloc, 1)?,
-        overloaded_check_outs: one(alloc, 0)?,
-        reauthentications: one(alloc, 0)?,
-        supports: one(alloc, 0)?,
-    })
+        selects: one(rt, alloc, 0),
+        check_outs: one(rt, alloc, 1),
+        overloaded_check_outs: one(rt, alloc, 0),
+        reauthentications: one(rt, alloc, 0),
+        supports: one(rt, alloc, 0),
+    }
 }
 
-fn address(alloc: Global) -> Result<Address, AllocError> {
-    Ok(Address {
-        host: Text::from_str(alloc, "model")?,
+fn address(rt: &impl Abort, alloc: Global) -> Address {
+    Address {
+        host: Text::from_str(alloc, "model").made(rt),
         port: 27017,
-    })
+    }
 }
 
 fn selects(model: &mut ModelServer, alloc: Global) -> bool {
@@ -42,8 +42,8 @@ fn tells_support(model: &mut ModelServer, alloc: Global) -> bool {
     model.transaction_support(alloc).is_ok()
 }
 
-fn conn_of(model: &mut ModelServer, alloc: Global) -> Result<Option<Conn>, AllocError> {
-    Ok(model.check_out(alloc, &address(alloc)?).ok())
+fn conn_of(rt: &impl Abort, model: &mut ModelServer, alloc: Global) -> Option<Conn> {
+    model.check_out(alloc, &address(rt, alloc)).ok()
 }
 
 fn authenticates(model: &mut ModelServer, alloc: Global, conn: &Conn) -> bool {
@@ -88,50 +88,50 @@ const ROUNDS: [Answers; 4] = [
 ];
 
 /// Which calls answer in a round.
-fn answers_of(model: &mut ModelServer, alloc: Global) -> Result<Answers, AllocError> {
+fn answers_of(rt: &impl Abort, model: &mut ModelServer, alloc: Global) -> Answers {
     let selects = selects(model, alloc);
     let tells_support = tells_support(model, alloc);
-    let Some(conn) = conn_of(model, alloc)? else {
-        return Ok(Answers {
+    let Some(conn) = conn_of(rt, model, alloc) else {
+        return Answers {
             selects,
             tells_support,
             checks_out: false,
             authenticates: false,
-        });
+        };
     };
     let authenticates = authenticates(model, alloc, &conn);
     model.check_in(conn);
-    Ok(Answers {
+    Answers {
         selects,
         tells_support,
         checks_out: true,
         authenticates,
-    })
+    }
 }
 
 /// The first round whose calls answer otherwise, with what answered.
 fn wrong_round(
+    rt: &impl Abort,
     alloc: Global,
     model: &mut ModelServer,
     rounds: &[Answers],
-) -> Result<Option<(usize, Answers)>, AllocError> {
+) -> Option<(usize, Answers)> {
     for (at, round) in rounds.iter().enumerate() {
-        let answers = answers_of(model, alloc)?;
+        let answers = answers_of(rt, model, alloc);
         if answers != *round {
-            return Ok(Some((at, answers)));
+            return Some((at, answers));
         }
     }
-    Ok(None)
+    None
 }
 
 #[test]
-fn listed_calls_fail(rt: HostRuntime) -> Result<(), Fail> {
+fn listed_calls_fail(rt: HostRuntime) {
     let alloc = rt.alloc();
-    let mut model = ModelServer::new(alloc, USUAL_SETUP, first_calls_fail(alloc)?);
-    let wrong = wrong_round(alloc, &mut model, &ROUNDS);
+    let mut model = ModelServer::new(alloc, USUAL_SETUP, first_calls_fail(&rt, alloc));
+    let wrong = wrong_round(&rt, alloc, &mut model, &ROUNDS);
     let answered = model.answered().len();
     drop(model);
-    assert_eq!(rt; wrong?, None);
-    assert_eq!(rt; answered, 5);
-    Ok(())
+    alike(&rt, wrong, None, "the round whose calls answer otherwise");
+    alike(&rt, answered, 5, "how many answers are told");
 }

@@ -111,54 +111,57 @@ const OTHER_FRAMES: [Spelled; 4] = [
 ];
 
 fn sequences_of(
+    rt: &impl Abort,
     alloc: Global,
     written: &[(&'static str, &'static [u8])],
-) -> Result<List<Sequence>, AllocError> {
+) -> List<Sequence> {
     let mut sequences = List::new(alloc);
     for (name, document) in written {
         let mut documents = List::new(alloc);
-        documents.push(Bytes::from_slice(alloc, document)?)?;
-        let name = Text::from_str(alloc, name)?;
-        sequences.push(Sequence { name, documents })?;
+        documents
+            .push(Bytes::from_slice(alloc, document).made(rt))
+            .made(rt);
+        let name = Text::from_str(alloc, name).made(rt);
+        sequences.push(Sequence { name, documents }).made(rt);
     }
-    Ok(sequences)
+    sequences
 }
 
 /// The reply to a frame on a server that has seen nothing.
-fn reply_to(alloc: Global, spelled: &Spelled) -> Result<Bytes, AllocError> {
-    let database = Text::from_str(alloc, spelled.database)?;
-    let body = Bytes::from_slice(alloc, spelled.body)?;
-    let frame = Frame::new(database, body, sequences_of(alloc, spelled.sequences)?);
+fn reply_to(rt: &impl Abort, alloc: Global, spelled: &Spelled) -> Bytes {
+    let database = Text::from_str(alloc, spelled.database).made(rt);
+    let body = Bytes::from_slice(alloc, spelled.body).made(rt);
+    let frame = Frame::new(database, body, sequences_of(rt, alloc, spelled.sequences));
     let mut places = Vec::new(alloc);
     for index in 0..spelled.writes {
-        places.push(Place { call: 0, index })?;
+        places.push(Place { call: 0, index }).made(rt);
     }
-    match read_send(alloc, &frame, places.as_slice())? {
+    match read_send(alloc, &frame, places.as_slice()).made(rt) {
         Some(send) => answered(
+            rt,
             &mut new_server(alloc),
             alloc,
             send,
-            &item_of(alloc, Meets::Serve)?,
+            &item_of(rt, alloc, Meets::Serve),
         ),
-        None => Ok(Bytes::new(alloc)),
+        None => Bytes::new(alloc),
     }
 }
 
 /// The name of the first command that is not answered as its frame says; no name where all are.
-fn wrong_frame(alloc: Global, frames: &[Spelled]) -> Result<&'static str, AllocError> {
+fn wrong_frame(rt: &impl Abort, alloc: Global, frames: &[Spelled]) -> &'static str {
     for spelled in frames {
-        if reply_to(alloc, spelled)?.as_slice() != spelled.expected {
-            return Ok(spelled.name);
+        if reply_to(rt, alloc, spelled).as_slice() != spelled.expected {
+            return spelled.name;
         }
     }
-    Ok("")
+    ""
 }
 
 #[test]
-fn each_command_is_read(rt: HostRuntime) -> Result<(), Fail> {
-    let wrong = wrong_frame(rt.alloc(), &WRITE_FRAMES)?;
-    assert!(rt; wrong.is_empty(), "{wrong}");
-    let wrong = wrong_frame(rt.alloc(), &OTHER_FRAMES)?;
-    assert!(rt; wrong.is_empty(), "{wrong}");
-    Ok(())
+fn each_command_is_read(rt: HostRuntime) {
+    let wrong = wrong_frame(&rt, rt.alloc(), &WRITE_FRAMES);
+    holds(&rt, wrong.is_empty(), wrong);
+    let wrong = wrong_frame(&rt, rt.alloc(), &OTHER_FRAMES);
+    holds(&rt, wrong.is_empty(), wrong);
 }

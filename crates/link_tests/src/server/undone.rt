@@ -39,7 +39,7 @@ const WAITING: [Waiting; 4] = [
 ];
 
 /// A server that has seen nothing, and on which these sends wait.
-fn waited(alloc: Global, sends: &[Waiting]) -> Result<Server, AllocError> {
+fn waited(rt: &impl Abort, alloc: Global, sends: &[Waiting]) -> Server {
     let mut server = new_server(alloc);
     for waiting in sends {
         let send = Send {
@@ -47,11 +47,11 @@ fn waited(alloc: Global, sends: &[Waiting]) -> Result<Server, AllocError> {
             number: Some(waiting.number),
             start: waiting.start,
             in_transaction: waiting.inside,
-            body: body_of(alloc, waiting.asks)?,
+            body: body_of(rt, alloc, waiting.asks),
         };
-        server.waiting.push(Some(send))?;
+        server.waiting.push(Some(send)).made(rt);
     }
-    Ok(server)
+    server
 }
 
 /// Whether each place holds a waiting send, or none does.
@@ -67,21 +67,25 @@ fn all_wait(server: &Server, wait: bool) -> bool {
 /// Whether the log has so many entries once sends were served late, and the server is as it was once that
 /// is undone.
 fn is_undone(
+    rt: &impl Abort,
     alloc: Global,
     sends: &[Waiting],
     picks: &[u64],
     entries: usize,
-) -> Result<bool, AllocError> {
-    let mut server = waited(alloc, sends)?;
-    let lates = deliver_each(&mut server, alloc, picks)?;
+) -> bool {
+    let mut server = waited(rt, alloc, sends);
+    let lates = deliver_each(&mut server, alloc, picks).made(rt);
     let served = server.log.len() == entries && all_wait(&server, false);
     undo_each(&mut server, alloc, lates);
     let back = server.log.is_empty() && server.sessions.len() == 0;
-    Ok(served && back && all_wait(&server, true))
+    served && back && all_wait(&server, true)
 }
 
 #[test]
-fn what_was_served_late_is_undone(rt: HostRuntime) -> Result<(), Fail> {
-    assert!(rt; is_undone(rt.alloc(), &WAITING, &[0, 1, 2, 3], 3)?);
-    Ok(())
+fn what_was_served_late_is_undone(rt: HostRuntime) {
+    holds(
+        &rt,
+        is_undone(&rt, rt.alloc(), &WAITING, &[0, 1, 2, 3], 3),
+        "four sends that were served late, and undone",
+    );
 }

@@ -2,6 +2,7 @@
 use Rattle.std.proofs.Common.{[], ◌∷◌, subst, sym}
 use Rattle.std.specs.List.{All}
 use Rattle.std.proofs.lemmas.List.Elements.{All-append, All-cons, All-nil}
+use Rattle.std.proofs.lemmas.Result.{IfOk-at_ok}
 use Rattle.driver_link.specs.declared.machine.Scheduled.{Scheduled}
 use Rattle.driver_link.specs.WellFormed.{IsItem}
 use Rattle.call_tests.proofs.schedules.items.Goals as goal
@@ -15,4 +16,4 @@ items-init c = subst (All IsStep) (sym c.new-steps.ensures) (All-nil IsStep)
 
 pub items-preserved : goal.items-preserved
 items-preserved c =
-    subst (All IsStep) (sym c.in_ok-push.ensures.ok) (All-append IsStep c.items.steps (_ ∷ []) c.items.invariant (All-cons IsStep _ [] c.item.ensures (All-nil IsStep)))
+    subst (All IsStep) (sym (IfOk-at_ok _ c.made.ensures c.push.ensures.ok)) (All-append IsStep c.items.steps (_ ∷ []) c.items.invariant (All-cons IsStep _ [] c.item.ensures (All-nil IsStep)))

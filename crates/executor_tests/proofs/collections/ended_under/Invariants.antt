@@ -2,4 +2,4 @@
 use Rattle.executor_tests.proofs.collections.ended_under.Given as goal
 
 abbrev pub ghosts-executed : goal.ghosts-executed
-ghosts-executed a = record { name = a.blank.name; parts = a.blank.parts }
+ghosts-executed g a = record { name = a.blank.name; parts = a.blank.parts }
