@@ -18,6 +18,19 @@ KIT = os.path.dirname(os.path.dirname(os.path.realpath(shutil.which("rt"))))
 sys.path.insert(0, os.path.join(KIT, "bin"))
 import rtlib
 
+SUMS = {}
+TAKE_SUM = rtlib.Crate.stamp
+
+
+def sum_of(crate):
+    """The sum of a crate's text and of all below it, taken once a folder: the tool takes those below anew at each crate, minutes where there are many."""
+    if crate.folder not in SUMS:
+        SUMS[crate.folder] = TAKE_SUM(crate)
+    return SUMS[crate.folder]
+
+
+rtlib.Crate.stamp = sum_of
+
 
 def last_kept(name):
     """The folder of the last proof of a crate that was kept, or none."""
@@ -51,7 +64,7 @@ def needs_of(clone):
     """What each crate of the tree names in crates.txt, in the order of that file."""
     with open(os.path.join(clone, "crates.txt"), encoding="utf8") as lines:
         parts = [line.strip().partition(":") for line in lines if line.strip() and not line.startswith("#")]
-    return {name: needs.split() for name, _colon, needs in parts}
+    return {head.split()[0]: needs.split() for head, _colon, needs in parts}
 
 
 def below(clone, names):
