@@ -1,8 +1,7 @@
 -- One step more, whose item a model server takes.
-use Rattle.std.proofs.Common.{[], ◌∷◌, subst, sym}
+use Rattle.std.proofs.Common.{◌≡◌, [], ◌∷◌, Ok, OnOk, Result, subst, sym}
 use Rattle.std.specs.List.{All}
 use Rattle.std.proofs.lemmas.List.Elements.{All-append, All-cons, All-nil}
-use Rattle.std.proofs.lemmas.Result.{IfOk-at_ok}
 use Rattle.driver_link.specs.declared.machine.Scheduled.{Scheduled}
 use Rattle.driver_link.specs.WellFormed.{IsItem}
 use Rattle.call_tests.proofs.meeting.items.Goals as goal
@@ -11,9 +10,13 @@ use Rattle.call_tests.proofs.meeting.items.Goals as goal
 abbrev IsStep : Scheduled → Type 0
 IsStep step = IsItem step.item
 
+-- what a result says where it is fine holds, where it is
+said : {X E : Type 0} (A : Type 0) (r : Result X E) (x : X) → r ≡ Ok x → OnOk r A → A
+said A r x is given = subst (λ r. OnOk r A) is given
+
 pub items-init : goal.items-init
-items-init c = subst (All IsStep) (sym c.new-steps.ensures) (All-nil IsStep)
+items-init g c = subst (All IsStep) (sym c.new-steps.ensures) (All-nil IsStep)
 
 pub items-preserved : goal.items-preserved
-items-preserved c =
-    subst (All IsStep) (sym (IfOk-at_ok _ c.made.ensures c.push.ensures.ok)) (All-append IsStep c.items.steps (_ ∷ []) c.items.invariant (All-cons IsStep _ [] c.item.ensures (All-nil IsStep)))
+items-preserved g c =
+    subst (All IsStep) (sym (said _ _ _ c.made.ensures c.push.ensures.ok)) (All-append IsStep c.items.steps (_ ∷ []) c.items.invariant (All-cons IsStep _ [] c.item.ensures (All-nil IsStep)))

@@ -4,4 +4,4 @@ use Rattle.driver_link.specs.WellFormed.{IsItem}
 use Rattle.page_server_tests.proofs.meeting.items.Given as goal
 
 abbrev pub invariant-items : goal.invariant-items
-invariant-items l = All (λ step. IsItem step.item) l.steps
+invariant-items g l = All (λ step. IsItem step.item) l.steps
