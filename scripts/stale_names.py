@@ -20,7 +20,7 @@ ROOT = os.path.dirname(os.path.dirname(os.path.abspath(__file__)))
 FOREIGN = set("""
 rattle RT_JOBS must_fail oantt out/ out/rlib cannot-infer-type impl-not-in-scope match-options-6 Proof.antt FUNCTION_spec
 src/tiny.rt tiny_a
-Arc FinSet IntoIterator
+Arc FinSet IntoIterator assert_eq
 mongodb ClientSession add_labels_and_update_pin operationTime
 setsid nice renice awk
 """.split())
