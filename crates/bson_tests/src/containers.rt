@@ -4,7 +4,7 @@ use crate::documents::{copied, one, read, spelled};
 use bson_lite::{
     Boxed, Bson, ByIndex, Bytes, Document, Key, List, Namespace, ObjectId, Pair, Text, Timestamp,
 };
-use std::alloc::{AllocError, Global};
+use std::alloc::Global;
 use std::fmt::Write;
 use std::process::Abort;
 

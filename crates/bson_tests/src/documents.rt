@@ -8,7 +8,7 @@ use bson_lite::{
     update_document_check,
 };
 use bson_reading::decode;
-use std::alloc::{AllocError, Global};
+use std::alloc::Global;
 use std::process::Abort;
 
 const X_IS_1: [u8; 12] = [12, 0, 0, 0, 16, b'x', 0, 1, 0, 0, 0, 0];
@@ -102,7 +102,7 @@ fn worked_documents(rt: HostRuntime) {
         &rt,
         bytes.as_bytes(),
         WITH_ID.as_slice(),
-        "the bytes behind an id",
+        "the bytes with an id in front",
     );
     alike(&rt, encoded_len(&document), 29, "their length");
     alike(&rt, number_at(&document, "x"), Some(1), "the number at x");
@@ -131,7 +131,7 @@ fn documents_behind_an_id(rt: HostRuntime) {
 }
 
 /// Bytes that are no document: what is broken, the bytes, and where the first broken item begins.
-const BROKEN: &[(&str, &[u8], usize)] = &[
+const BROKEN: &[(&str, &[u8], usize); 8] = &[
     (
         "a byte is missing",
         &[12, 0, 0, 0, 16, b'x', 0, 1, 0, 0, 0],

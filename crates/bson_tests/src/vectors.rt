@@ -2,7 +2,7 @@
 use crate::asserting::{Made, alike, holds};
 use crate::documents::{b_text, copied, one, read, spelled};
 use bson_lite::{Binary, Boxed, Bson, Bytes, List, ObjectId, Regex, Text, Timestamp};
-use std::alloc::{AllocError, Global};
+use std::alloc::Global;
 use std::process::Abort;
 
 /// An object id of the public standard's examples.
@@ -120,7 +120,7 @@ fn both_ways(rt: &impl Abort, alloc: Global, key: &str, held: Held, bytes: &[u8]
 }
 
 /// Values of the public standard that take no memory: the name, the key, the value, and the bytes of its document.
-const PLAIN_VALUES: &[(&str, &str, Plain, &[u8])] = &[
+const PLAIN_VALUES: &[(&str, &str, Plain, &[u8]); 13] = &[
     (
         "double",
         "d",
@@ -194,7 +194,7 @@ fn standard_plain_values(rt: HostRuntime) {
 }
 
 /// The same of values that take memory.
-const VALUES_OF_MEMORY: &[(&str, &str, InMemory, &[u8])] = &[
+const VALUES_OF_MEMORY: &[(&str, &str, InMemory, &[u8]); 7] = &[
     (
         "text",
         "a",
@@ -243,11 +243,14 @@ const VALUES_OF_MEMORY: &[(&str, &str, InMemory, &[u8])] = &[
 fn standard_values_of_memory(rt: HostRuntime) {
     let alloc = rt.alloc();
     for (name, key, held, bytes) in VALUES_OF_MEMORY {
-        holds(&rt, is_copied(&rt, alloc, Held::InMemory(*held)), name);
-        holds(
+        let copied = is_copied(&rt, alloc, Held::InMemory(*held));
+        alike(&rt, (*name, copied), (*name, true), "a copy");
+        let read = both_ways(&rt, alloc, key, Held::InMemory(*held), bytes);
+        alike(
             &rt,
-            both_ways(&rt, alloc, key, Held::InMemory(*held), bytes),
-            name,
+            (*name, read),
+            (*name, true),
+            "a spelling, read and written",
         );
     }
 }
@@ -264,7 +267,7 @@ fn is_read_and_spelled(alloc: Global, bytes: &[u8]) -> bool {
 }
 
 /// The bytes of documents of the public standard, by name.
-const VECTORS: &[(&str, &[u8])] = &[
+const VECTORS: &[(&str, &[u8]); 19] = &[
     ("empty", b"\x05\0\0\0\0"),
     ("double", b"\x10\0\0\0\x01d\0\0\0\0\0\0\0\xf0\x3f\0"),
     ("text", b"\x0e\0\0\0\x02a\0\x02\0\0\0b\0\0"),

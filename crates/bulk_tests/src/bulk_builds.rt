@@ -1,6 +1,6 @@
 //! Bulk writes as they are built: under limits of the connection how many ops go out, or why none does; the bytes of a
 //! command with all six models; and how a batch of these numbers its namespaces.
-use crate::asserting::{Made, holds, holds_at};
+use crate::asserting::{Made, alike, holds, holds_at};
 use bson_lite::{Bson, Document, List, ObjectId, Text, TryClone};
 use bulk_actions::bulk_ops;
 use bulk_ops::BulkWriteOp;
@@ -414,21 +414,17 @@ fn builds(alloc: Global, op: &mut Summed<'_>, row: Row, built: Built) -> bool {
     }
 }
 
-/// The first of these that a build of one bulk write does not come to, one after the other; no answer where the
-/// ops are not spelled.
-fn wrong_build(
-    rt: &impl Abort,
-    alloc: Global,
-    rows: &[(Row, Built)],
-) -> Option<Option<(Row, Built)>> {
+/// The place of the first of these that a build of one bulk write does not come to, one after the other; no answer
+/// where the ops are not spelled.
+fn wrong_build(rt: &impl Abort, alloc: Global, rows: &[(Row, Built)]) -> Option<Option<usize>> {
     let models = eight(rt, alloc);
     let ops = ops_of(alloc, &models)?;
     let options = BulkWriteOptions::default();
     let mut op: Summed<'_> = BulkWriteOp::new(alloc, ops.as_slice(), 5, &options).made(rt);
     let mut wrong = None;
-    for (row, built) in rows {
+    for (at, (row, built)) in rows.iter().enumerate() {
         if !builds(alloc, &mut op, *row, *built) && wrong.is_none() {
-            wrong = Some((*row, *built));
+            wrong = Some(at);
         }
     }
     drop(op);
@@ -617,7 +613,7 @@ fn batch_is_numbered(rt: &impl Abort, alloc: Global, batch: Batch) -> Option<boo
 fn a_first_build_takes_the_longest_front(rt: HostRuntime) {
     for (at, row) in BUILDS.iter().enumerate() {
         let same = matches!(wrong_build(&rt, rt.alloc(), &[*row]), Some(None));
-        holds_at(&rt, same, "a first build", at);
+        holds_at(&rt, same, "the front that a first build takes", at);
     }
 }
 
@@ -632,14 +628,19 @@ fn one_insert_goes_out_where_a_message_has_room(rt: HostRuntime) {
     holds(
         &rt,
         one_builds(&rt, rt.alloc(), 1117, refused),
-        "a byte less",
+        "the refusal of one insert where a byte is missing",
     );
 }
 
 #[test]
 fn later_builds_take_as_many_ops(rt: HostRuntime) {
     let wrong = wrong_build(&rt, rt.alloc(), LATER);
-    holds(&rt, matches!(wrong, Some(None)), "later builds");
+    alike(
+        &rt,
+        wrong,
+        Some(None),
+        "the first of the later builds that takes another front",
+    );
 }
 
 #[test]
@@ -664,6 +665,11 @@ fn all_six_models_over_three_namespaces_are_spelled(rt: HostRuntime) {
 fn each_batch_numbers_the_namespaces_of_its_own_ops(rt: HostRuntime) {
     for (at, batch) in BATCHES.iter().enumerate() {
         let same = batch_is_numbered(&rt, rt.alloc(), *batch) == Some(true);
-        holds_at(&rt, same, "the numbers of a batch", at);
+        holds_at(
+            &rt,
+            same,
+            "the namespaces of a batch, their numbers, and its ops",
+            at,
+        );
     }
 }

@@ -435,7 +435,7 @@ fn a_write_of_each_kind_stands_once(rt: HostRuntime) {
             &rt,
             (*kind, first_wrong(&rt, rt.alloc(), *kind, true)),
             (*kind, None),
-            "a kind that may be sent again, and the first schedule that does not hold",
+            "a kind by a client that may send again, and the first schedule that does not hold",
         );
     }
 }
@@ -447,7 +447,7 @@ fn a_write_that_may_not_be_sent_again_goes_out_once(rt: HostRuntime) {
             &rt,
             (*kind, first_wrong(&rt, rt.alloc(), *kind, false)),
             (*kind, None),
-            "a kind that may not be sent again, and the first schedule that does not hold",
+            "a kind by a client that may not send again, and the first schedule that does not hold",
         );
     }
 }

@@ -1,6 +1,6 @@
 //! Single writes over a link that would answer each one: what is refused for its input or for its concern, before
 //! anything is sent and without labels, and what is sent beside it.
-use crate::asserting::{Made, holds, holds_at};
+use crate::asserting::{Made, alike, holds, holds_at};
 use crate::calling::id_of;
 use bson_lite::List;
 use driver_inputs::{Call, Outcome};
@@ -321,16 +321,11 @@ fn flaw_ends(
     ends_without(rt, alloc, asked, ended)
 }
 
-/// The first part of the table that does not end so with a flaw.
-fn wrong_part(
-    rt: &impl Abort,
-    alloc: Global,
-    flaw: Flaw,
-    ended: Ended,
-) -> Option<(Kind, Change, Part)> {
-    for row in PARTS {
+/// The place of the first part of the table that does not end so with a flaw.
+fn wrong_part(rt: &impl Abort, alloc: Global, flaw: Flaw, ended: Ended) -> Option<usize> {
+    for (place, row) in PARTS.iter().enumerate() {
         if !flaw_ends(rt, alloc, *row, flaw, ended) {
-            return Some(*row);
+            return Some(place);
         }
     }
     None
@@ -422,7 +417,12 @@ fn an_update_begins_with_an_operator_and_a_replacement_does_not(rt: HostRuntime)
 fn each_part_nests_at_most_96_levels_and_holds_no_zero_byte(rt: HostRuntime) {
     for (at, (flaw, ended)) in FLAWS.iter().enumerate() {
         let wrong = wrong_part(&rt, rt.alloc(), *flaw, *ended);
-        holds_at(&rt, wrong.is_none(), "how each part with a flaw ends", at);
+        alike(
+            &rt,
+            (at, wrong),
+            (at, None),
+            "a flaw, and the first part that does not end so",
+        );
     }
 }
 
@@ -445,11 +445,11 @@ fn faults_are_found_in_their_order(rt: HostRuntime) {
 fn a_writes_own_concern_counts_before_its_clients(rt: HostRuntime) {
     for (at, (own, client, ended)) in CONCERNS.iter().enumerate() {
         let wrong = wrong_kind(&rt, rt.alloc(), *own, *client, *ended);
-        holds_at(
+        alike(
             &rt,
-            wrong.is_none(),
-            "how each kind ends under two concerns",
-            at,
+            (at, wrong),
+            (at, None),
+            "two concerns, and the first kind that does not end so",
         );
     }
 }

@@ -7,8 +7,8 @@ use driver_link::{Link, LinkError};
 use driver_options::{Address, ReadPreference, SelectionCriteria};
 use std::alloc::Global;
 
-/// The address of a server that takes writes. A fault comes only where the link's count of faults rose,
-/// an address is told among those that were selected, and no connection is checked out for it.
+/// The address of a server that takes writes. A fault comes only where the link's count of faults rose or
+/// stands at its end, an address is told among those that were selected, and no connection is checked out for it.
 pub fn primary<L: Link>(alloc: Global, link: &mut L) -> Result<Address, LinkError>
     ensures cause { HasLinkCause (L.tells link.old).faults (L.tells link.new).faults result }
     ensures told { GainsAnswer (L.tells link.old).addresses (L.tells link.new).addresses result }

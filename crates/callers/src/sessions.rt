@@ -5,8 +5,7 @@ use driver_error::Result;
 use driver_session::{ServerSession, SessionStore};
 use std::alloc::Global;
 
-/// Lends a session and draws the number of its next write, which the session then has. Where there is no
-/// number the session goes back to the store.
+/// Lends a session and draws the number of its next write, which the session then has.
 pub fn session_for_write<S: SessionStore>(
     alloc: Global,
     store: &mut S,

@@ -192,7 +192,7 @@ const NOTHING: Says = Says {
     has_no_namespace: false,
 };
 
-const CODES: &[Row] = &[
+const CODES: &[Row; 21] = &[
     Row {
         code: 11600,
         says: SHUTS_DOWN,

@@ -1,5 +1,5 @@
 //! Copies of kinds of errors and of what they hold, with ample memory: each prints as its original.
-use crate::asserting::{Made, holds};
+use crate::asserting::{Made, alike, holds};
 use crate::copies::{concern, write_errors};
 use crate::errors::{command, command_failed, text_list};
 use crate::results::{copies_alike, counts};
@@ -15,10 +15,12 @@ use std::process::Abort;
 #[test]
 fn kinds_are_copied(rt: HostRuntime) {
     for (at, text) in texts().iter().enumerate() {
-        holds(
+        let same = copies_alike(&rt, rt.alloc(), kind(&rt, rt.alloc(), at));
+        alike(
             &rt,
-            copies_alike(&rt, rt.alloc(), kind(&rt, rt.alloc(), at)),
-            *text,
+            (at, *text, same),
+            (at, *text, true),
+            "a kind is copied",
         );
     }
     holds(
@@ -66,7 +68,7 @@ fn body(rt: &impl Abort, alloc: Global) -> CommandErrorBody {
     }
 }
 
-const FAILED_WRITES: &[&str] = &[
+const FAILED_WRITES: &[&str; 4] = &[
     "an insert of many",
     "a bulk write",
     "a write error",
@@ -98,7 +100,7 @@ fn failed_write(rt: &impl Abort, alloc: Global, at: usize) -> ErrorKind {
     }
 }
 
-const FILE_ERRORS: &[&str] = &[
+const FILE_ERRORS: &[&str; 8] = &[
     "no file of a name",
     "no file of an id",
     "no revision",

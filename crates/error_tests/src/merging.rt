@@ -619,8 +619,20 @@ const OTHERS: &[(&str, Cause)] = &[("io", Cause::Io), ("command", Cause::Command
 #[test]
 fn an_error_of_another_kind_takes_no_failures(rt: HostRuntime) {
     for (name, cause) in OTHERS {
-        holds(&rt, stays(&rt, rt.alloc(), *cause, Side::Behind), *name);
-        holds(&rt, stays(&rt, rt.alloc(), *cause, Side::Before), *name);
+        let behind = stays(&rt, rt.alloc(), *cause, Side::Behind);
+        alike(
+            &rt,
+            (*name, behind),
+            (*name, true),
+            "failures behind an error of another kind",
+        );
+        let before = stays(&rt, rt.alloc(), *cause, Side::Before);
+        alike(
+            &rt,
+            (*name, before),
+            (*name, true),
+            "failures before an error of another kind",
+        );
     }
 }
 

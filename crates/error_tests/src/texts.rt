@@ -70,7 +70,12 @@ pub(crate) fn kind(rt: &impl Abort, alloc: Global, at: usize) -> ErrorKind {
 fn kinds_print_their_texts(rt: HostRuntime) {
     for (at, text) in texts().iter().enumerate() {
         let printed = printed(&rt, rt.alloc(), kind(&rt, rt.alloc(), at));
-        alike(&rt, printed.as_str(), *text, *text);
+        alike(
+            &rt,
+            (at, printed.as_str()),
+            (at, *text),
+            "what a kind prints",
+        );
     }
 }
 

@@ -79,12 +79,12 @@ fn an_error_has_the_wire_version_of_its_own_connection(rt: HostRuntime) {
     holds(
         &rt,
         has_version(rt.alloc(), rising, 26),
-        "the later of two rising versions",
+        "the second of two rising versions",
     );
     holds(
         &rt,
         has_version(rt.alloc(), falling, 25),
-        "the later of two falling versions",
+        "the second of two falling versions",
     );
 }
 

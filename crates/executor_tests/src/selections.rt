@@ -53,7 +53,7 @@ fn a_router_that_failed_is_avoided(rt: HostRuntime) {
     holds(
         &rt,
         is_done(rt.alloc(), ROUTERS, true),
-        "a router that failed",
+        "a router that failed is avoided",
     );
 }
 
@@ -62,6 +62,6 @@ fn a_member_of_a_replica_set_that_failed_is_not_avoided(rt: HostRuntime) {
     holds(
         &rt,
         is_done(rt.alloc(), ALIKE, false),
-        "a member that failed",
+        "a member that failed is not avoided",
     );
 }

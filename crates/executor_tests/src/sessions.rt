@@ -79,5 +79,5 @@ fn numbers_go_up_by_one(rt: HostRuntime) {
     let number = told(session.next_number(rt.alloc()));
     store.check_in(session, 6);
     alike(&rt, number, Some(42), "the next number");
-    holds(&rt, store.history().is_empty(), "the history of a number");
+    holds(&rt, store.history().is_empty(), "no history of a number");
 }

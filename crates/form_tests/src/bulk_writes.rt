@@ -379,27 +379,27 @@ fn models_are_read(rt: HostRuntime) {
 #[test]
 fn other_models_are_refused(rt: HostRuntime) {
     let wrong = first_wrong(&rt, rt.alloc(), &NO_MODELS, &AROUND_MODELS, false);
-    alike(&rt, wrong, None, "no model, and not refused");
+    alike(&rt, wrong, None, "no model, and not refused as it must be");
     let wrong = first_wrong(&rt, rt.alloc(), &LACKING_MODELS, &AROUND_MODELS, false);
     alike(
         &rt,
         wrong,
         None,
-        "a model that lacks a part, and not refused",
+        "a model that lacks a part, and not refused as it must be",
     );
     let wrong = first_wrong(&rt, rt.alloc(), &OTHER_MODELS, &AROUND_MODELS, false);
     alike(
         &rt,
         wrong,
         None,
-        "a model with a part of calls, and not refused",
+        "a model with a part of calls, and not refused as it must be",
     );
     let wrong = first_wrong(&rt, rt.alloc(), &ODD_MODELS, &AROUND_MODELS, false);
     alike(
         &rt,
         wrong,
         None,
-        "a model with an odd part, and not refused",
+        "a model with an odd part, and not refused as it must be",
     );
 }
 
@@ -412,7 +412,12 @@ fn bulk_writes_are_read(rt: HostRuntime) {
 #[test]
 fn other_bulk_writes_are_refused(rt: HostRuntime) {
     let wrong = first_wrong(&rt, rt.alloc(), &NO_CALLS, &AROUND_CALL, false);
-    alike(&rt, wrong, None, "no bulk write, and not refused");
+    alike(
+        &rt,
+        wrong,
+        None,
+        "no bulk write, and not refused as it must be",
+    );
 }
 
 #[test]
@@ -422,6 +427,6 @@ fn the_parts_of_a_bulk_write_are_read(rt: HostRuntime) {
         &rt,
         wrong,
         None,
-        "what stands beside models that are not read",
+        "a bulk write whose parts are not read as they stand",
     );
 }

@@ -336,13 +336,18 @@ fn calls_are_read(rt: HostRuntime) {
 #[test]
 fn other_calls_are_refused(rt: HostRuntime) {
     let wrong = first_wrong(&rt, rt.alloc(), &NO_FINDS, &AROUND_CALL, false);
-    alike(&rt, wrong, None, "no call, and not refused");
+    alike(&rt, wrong, None, "no call, and not refused as it must be");
     let wrong = first_wrong(&rt, rt.alloc(), &NO_INSERTS_OF_MANY, &AROUND_CALL, false);
-    alike(&rt, wrong, None, "no insert of many, and not refused");
+    alike(
+        &rt,
+        wrong,
+        None,
+        "no insert of many, and not refused as it must be",
+    );
     let wrong = first_wrong(&rt, rt.alloc(), &NO_DELETES, &AROUND_CALL, false);
-    alike(&rt, wrong, None, "no delete, and not refused");
+    alike(&rt, wrong, None, "no delete, and not refused as it must be");
     let wrong = first_wrong(&rt, rt.alloc(), &NO_UPDATES, &AROUND_CALL, false);
-    alike(&rt, wrong, None, "no update, and not refused");
+    alike(&rt, wrong, None, "no update, and not refused as it must be");
 }
 
 #[test]
@@ -354,7 +359,12 @@ fn options_are_read(rt: HostRuntime) {
 #[test]
 fn other_options_are_refused(rt: HostRuntime) {
     let wrong = first_wrong(&rt, rt.alloc(), &NO_OPTIONS, &AROUND_OPTIONS, false);
-    alike(&rt, wrong, None, "no options, and not refused");
+    alike(
+        &rt,
+        wrong,
+        None,
+        "no options, and not refused as it must be",
+    );
 }
 
 #[test]
@@ -366,7 +376,7 @@ fn limits_are_read(rt: HostRuntime) {
 #[test]
 fn other_limits_are_refused(rt: HostRuntime) {
     let wrong = first_wrong(&rt, rt.alloc(), &NO_LIMITS, &AROUND_LIMITS, false);
-    alike(&rt, wrong, None, "no limits, and not refused");
+    alike(&rt, wrong, None, "no limits, and not refused as it must be");
 }
 
 #[test]
@@ -378,5 +388,10 @@ fn served_steps_are_read(rt: HostRuntime) {
 #[test]
 fn other_served_steps_are_refused(rt: HostRuntime) {
     let wrong = first_wrong(&rt, rt.alloc(), &NOT_SERVED, &AROUND_SERVED, false);
-    alike(&rt, wrong, None, "no served step, and not refused");
+    alike(
+        &rt,
+        wrong,
+        None,
+        "no served step, and not refused as it must be",
+    );
 }

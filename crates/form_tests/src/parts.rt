@@ -523,23 +523,28 @@ fn first_unread_insert(rt: &impl Abort, alloc: Global) -> Option<&'static str> {
 #[test]
 fn the_parts_of_an_insert_of_many_are_read(rt: HostRuntime) {
     let wrong = first_unread_insert(&rt, rt.alloc());
-    alike(&rt, wrong, None, "an insert of many that is not read");
+    alike(
+        &rt,
+        wrong,
+        None,
+        "an insert of many that is not read as it stands",
+    );
 }
 
 #[test]
 fn the_parts_of_each_call_are_read(rt: HostRuntime) {
     let wrong = first_unread_call(&rt, rt.alloc());
-    alike(&rt, wrong, None, "a call that is not read");
+    alike(&rt, wrong, None, "a call that is not read as it stands");
 }
 
 #[test]
 fn the_options_of_a_client_are_read(rt: HostRuntime) {
     let wrong = first_unread_level(&rt, rt.alloc());
-    alike(&rt, wrong, None, "a level that is not read");
+    alike(&rt, wrong, None, "a level that is not read as it stands");
 }
 
 #[test]
 fn the_limits_of_a_server_are_read(rt: HostRuntime) {
     let wrong = first_unlimited(&rt, rt.alloc());
-    alike(&rt, wrong, None, "limits that are not read");
+    alike(&rt, wrong, None, "limits that are not read as they stand");
 }

@@ -55,5 +55,5 @@ fn the_later_of_two_keys_counts(rt: HostRuntime) {
 #[test]
 fn what_the_later_key_makes_no_script_is_refused(rt: HostRuntime) {
     let wrong = first_wrong(&rt, rt.alloc(), &NO_SCRIPTS, false);
-    alike(&rt, wrong, None, "no script, and not refused");
+    alike(&rt, wrong, None, "no script, and not refused as it must be");
 }

@@ -336,13 +336,13 @@ fn steps_are_read(rt: HostRuntime) {
 #[test]
 fn other_steps_are_refused(rt: HostRuntime) {
     let wrong = first_step(&rt, rt.alloc(), &NO_STEPS);
-    alike(&rt, wrong, None, "no step, and not refused");
+    alike(&rt, wrong, None, "no step, and not refused as it must be");
 }
 
 #[test]
 fn other_faults_and_late_deliveries_are_refused(rt: HostRuntime) {
     let wrong = first_script(&rt, rt.alloc(), &NO_SCRIPTS);
-    alike(&rt, wrong, None, "no script, and not refused");
+    alike(&rt, wrong, None, "no script, and not refused as it must be");
 }
 
 #[test]

@@ -188,16 +188,16 @@ fn builds(alloc: Global, insert: &mut Insert<'_>, sizes: Sizes, built: Built) ->
     }
 }
 
-/// The first of these that a build of one insert does not come to, one after the other.
-fn wrong_build(rt: &impl Abort, alloc: Global, rows: &[(Sizes, Built)]) -> Option<(Sizes, Built)> {
+/// The place of the first of these that a build of one insert does not come to, one after the other.
+fn wrong_build(rt: &impl Abort, alloc: Global, rows: &[(Sizes, Built)]) -> Option<usize> {
     let documents = documents(rt, alloc);
     let options = InsertManyOptions::default();
     let collection = items(rt, alloc);
     let mut insert = Insert::new(collection, 5, documents.as_slice(), &options);
     let mut wrong = None;
-    for (sizes, built) in rows {
+    for (at, (sizes, built)) in rows.iter().enumerate() {
         if !builds(alloc, &mut insert, *sizes, *built) && wrong.is_none() {
-            wrong = Some((*sizes, *built));
+            wrong = Some(at);
         }
     }
     drop(insert);
@@ -367,7 +367,12 @@ fn a_first_build_takes_the_longest_front(rt: HostRuntime) {
 #[test]
 fn later_builds_take_as_many_documents(rt: HostRuntime) {
     let wrong = wrong_build(&rt, rt.alloc(), LATER);
-    holds(&rt, wrong.is_none(), "what later builds take");
+    holds_at(
+        &rt,
+        wrong.is_none(),
+        "what later builds take",
+        wrong.unwrap_or(0),
+    );
 }
 
 #[test]

@@ -761,7 +761,12 @@ fn each_front_of_a_reply_is_refused(rt: HostRuntime) {
     let bytes = whole.ok_or(AllocError).made(&rt);
     for count in 0..bytes.len() {
         let cut = is_cut(&rt, rt.alloc(), &bytes, count);
-        holds_at(&rt, cut, "a front of a reply is refused", count);
+        alike(
+            &rt,
+            (count, cut),
+            (count, true),
+            "the first bytes of a reply, and their refusal",
+        );
     }
     drop(bytes);
 }

@@ -186,6 +186,6 @@ const REPLIES: &[Row] = &[
 fn a_find_and_modify_tells_the_document_of_its_reply(rt: HostRuntime) {
     for row in REPLIES {
         let found = told_of(&rt, rt.alloc(), row.kind, row.reply);
-        alike(&rt, found, Some(row.told), row.name);
+        alike(&rt, (row.kind, found), (row.kind, Some(row.told)), row.name);
     }
 }

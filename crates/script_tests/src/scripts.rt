@@ -290,8 +290,8 @@ fn runs_are_reported(rt: HostRuntime) {
         for (room, status) in ROOMS {
             let (found, bytes) = ran(&rt, rt.alloc(), script, None, *room);
             let text = &report.as_bytes()[..(*room).min(report.len())];
-            alike(&rt, found, *status, script);
-            alike(&rt, bytes.as_slice(), text, script);
+            alike(&rt, (*room, found), (*room, *status), script);
+            alike(&rt, (*room, bytes.as_slice()), (*room, text), script);
         }
     }
 }
