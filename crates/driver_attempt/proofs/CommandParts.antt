@@ -17,13 +17,14 @@ use Rattle.driver_link.specs.LinkState.{LinkState}
 use Rattle.driver_link.specs.Reads.{Reads}
 use Rattle.driver_session.specs.declared.retryability.Retryability.{Retryability}
 use Rattle.driver_ops.specs.declared.command.Command.{Command}
-use Rattle.driver_ops.specs.Fields.{FramesUnder, SendContext, in_context}
-use Rattle.driver_ops.specs.Operations.{BuildsCommand, HasBodies, IsBuilt, IsFixed, IsUnframed, OperationSpec, Refuses, SameSpec, StaysFixed, batch_of, send_of}
+use Rattle.driver_ops.specs.Fields.{FramesUnder, IsSixteen, SendContext, in_context, with_fields}
+use Rattle.driver_ops.specs.Encoding.{IsUnspelled}
+use Rattle.driver_ops.specs.Operations.{BuildsCommand, HasBodies, IsBuilt, IsFixed, OperationSpec, Refuses, SameSpec, StaysFixed, batch_of, send_of}
 use Rattle.driver_ops.specs.SendKinds.{SendKind}
-use Rattle.driver_ops.proofs.Frames.{reads_as_asked, unframed}
+use Rattle.driver_ops.proofs.Frames.{reads_as_asked}
 use Rattle.driver_attempt.specs.declared.attempt_end.AttemptEnd.{AttemptEnd}
 use Rattle.driver_attempt.specs.declared.attempt_end.AttemptEnd.TheVariants.{Ended, Unfit}
-use Rattle.driver_attempt.specs.Attempting.{builds_again}
+use Rattle.driver_attempt.specs.Attempting.{LacksFrame, builds_again}
 use Rattle.driver_attempt.specs.Concerns.{concern_of, effective_concern}
 use Rattle.driver_attempt.specs.Failures.{is_memory}
 use Rattle.driver_attempt.specs.Holding.{DrawsNumber, ExecutionSession, held_id}
@@ -100,6 +101,22 @@ within_places {which = which} {command = command} places bodies built =
     let body = bodies which built.statements command built.built.is in
     built.built.within places body.0 body.1
 
+-- what was built has no frame, where it has no spelling with the executor's fields
+lacks_frame : {A : Type 0} {spec : OperationSpec A} {which : SendKind} {description : Description} {before now after : Option ℕ} {command : Command} {error : Error} (context : SendContext)
+    → IsSixteen context.session → BuildsCommand spec which description before now command → after ≡ now → IsUnspelled (with_fields context command).body error → LacksFrame spec context description before after error
+lacks_frame {which = which} {command = command} context sixteen built stays none = record {
+  statements = built.statements;
+  takes = built.takes;
+  by = built.fixed;
+  fixes = stays ∙ built.now_is;
+  unframed = record {
+    fault = none.fault;
+    none = record { which = which; statements = built.statements; command = command; is = built.built.is; sixteen = sixteen; refused = none.refused };
+    is = none.is;
+  };
+  same = refl;
+}
+
 -- a frame of the built command reads as a send, with the front of the places
 pub reads_some : {A : Type 0} {spec : OperationSpec A} {which : SendKind} {description : Description} {before now : Option ℕ} {command : Command} {frame : Framed} (places found : List Place) (context : SendContext)
     → HasBodies spec places → (built : BuildsCommand spec which description before now command) → FramesUnder context command (Ok frame) → (told : ℕ) → IfSome now (λ statements. told ≡ statements)
@@ -118,7 +135,7 @@ module _ {A : Type 0} (spec : OperationSpec A) (which : SendKind) (concern : Opt
 
   -- why there is no frame
   abbrev Why : Error → Type 0
-  Why error = ((builds_again again held ≡ false) × Refuses spec before conn.description error × (after ≡ before)) ⊎ (IsUnframed spec (in_context (held_id numbered) number concern) error ⊎ (kind_of error ≡ kind.Memory))
+  Why error = ((builds_again again held ≡ false) × Refuses spec before conn.description error × (after ≡ before)) ⊎ (LacksFrame spec (in_context (held_id numbered) number concern) conn.description before after error ⊎ (kind_of error ≡ kind.Memory))
 
   -- the build was refused, or there was no memory for it
   pub ends_unbuilt : (error : Error) (found : Bool) (attempt : AttemptEnd A) → found ≡ builds_again again held → (Refuses spec before conn.description error ⊎ (kind_of error ≡ kind.Memory))
@@ -161,14 +178,14 @@ module _ {A : Type 0} (spec : OperationSpec A) (which : SendKind) (concern : Opt
   module _ (now : Option ℕ) (command : Command) (built : BuildsCommand spec which conn.description before now command) where
     -- the built command has no spelling, or there was no memory
     pub ends_unframed : (error : Error) (attempt : AttemptEnd A) → FramesUnder (in_context (held_id numbered) number concern) command (Err error)
-        → attempt ≡ Ended error → link_now ≡ link → count_now ≡ count → Sends numbered attempt
-    ends_unframed error attempt framed ends same uncounted = inr (inl (record {
+        → attempt ≡ Ended error → link_now ≡ link → count_now ≡ count → after ≡ now → Sends numbered attempt
+    ends_unframed error attempt framed ends same uncounted stays = inr (inl (record {
       error = error;
       number = number;
       draws = draws;
       why = inr (elim framed.1 [
         | inl memory ↦ inr memory
-        | inr none ↦ inl (unframed spec which built.statements (in_context (held_id numbered) number concern) command error framed.0 built.built none)
+        | inr none ↦ inl (lacks_frame (in_context (held_id numbered) number concern) framed.0 built stays none)
       ]);
       link_is = same;
       uncounted = uncounted;

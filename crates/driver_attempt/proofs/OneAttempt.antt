@@ -36,7 +36,7 @@ use Rattle.driver_ops.specs.SendKinds.{SendKind}
 use Rattle.driver_attempt.specs.declared.attempt_end.AttemptEnd.{AttemptEnd}
 use Rattle.driver_attempt.specs.declared.attempt_end.AttemptEnd.TheVariants.{Ended, Failed, Stopped, Unselected}
 use Rattle.driver_attempt.specs.AttemptExchanges.{AsksPages, AttemptExchanges, EndsPages, Exchanges, PageAsked, held_after, pages_of}
-use Rattle.driver_attempt.specs.Attempting.{AsksEarly, AttemptState, AttemptedOperation, Connects, FailsIn, LosesExchange, MakesAttempt, NotConnected, Readies, ReadsOn, Selects, Sends, SpellsFailure, asked_for, asks_session, attempted_operation, avoided, besides_out, is_nothing, may_use, on_connection, stops}
+use Rattle.driver_attempt.specs.Attempting.{AsksEarly, AttemptState, AttemptedOperation, Connects, FailsIn, LacksFrame, LosesExchange, MakesAttempt, NotConnected, Readies, ReadsOn, Selects, Sends, SpellsFailure, asked_for, asks_session, attempted_operation, avoided, besides_out, is_nothing, may_use, on_connection, stops}
 use Rattle.driver_attempt.specs.Causes.{AllEarly}
 use Rattle.driver_attempt.specs.Holding.{DrawsNumber, ExecutionSession, held_id, needs_session, number_before}
 use Rattle.retry_rules.specs.Retry.{RetryState}
@@ -223,7 +223,7 @@ module _ {A : Type 0} (old now : OperationSpec A) (same : SameSpec old now) wher
   refuses_same fixed description error refuses = record { refused = (same.refused fixed description error).1 refuses.refused; may = refuses.may; alone = refuses.alone }
 
   -- so is a command without a spelling
-  pub unspelled_same : (context : SendContext) (error : Error) → IsUnframed now context error → IsUnframed old context error
+  unspelled_same : (context : SendContext) (error : Error) → IsUnframed now context error → IsUnframed old context error
   unspelled_same context error unframed =
       let none = unframed.none in record {
         fault = unframed.fault;
@@ -237,6 +237,18 @@ module _ {A : Type 0} (old now : OperationSpec A) (same : SameSpec old now) wher
         };
         is = unframed.is;
       }
+
+  -- of what was built for a connection
+  pub lacks_same : (context : SendContext) (description : Description) (fixed fixed_now : Option ℕ) (error : Error) → LacksFrame now context description fixed fixed_now error → LacksFrame old context description fixed fixed_now error
+  unfolding unspelled_same
+  lacks_same context description fixed fixed_now error lacks = record {
+    statements = lacks.statements;
+    takes = (same.takes fixed description lacks.statements).1 lacks.takes;
+    by = lacks.by;
+    fixes = lacks.fixes;
+    unframed = unspelled_same context error lacks.unframed;
+    same = lacks.same;
+  }
 
   -- and an error that was read in a reply and the pages behind it
   pages_error_same : (statements : ℕ) (bytes : List ℕ) (pages : List Page) (error : Error) → ReadsPagesError now statements bytes pages error → ReadsPagesError old statements bytes pages error

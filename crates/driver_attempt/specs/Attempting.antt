@@ -20,8 +20,8 @@ use Rattle.driver_link.specs.LinkState.{LinkState}
 use Rattle.driver_session.specs.declared.retryability.Retryability.{Retryability}
 use Rattle.driver_session.specs.declared.retryability.Retryability.TheVariants as may
 use Rattle.driver_session.specs.StoreTells.{StoreTells}
-use Rattle.driver_ops.specs.Fields.{in_context}
-use Rattle.driver_ops.specs.Operations.{Batch, IsUnframed, OperationSpec, Refuses}
+use Rattle.driver_ops.specs.Fields.{SendContext, in_context}
+use Rattle.driver_ops.specs.Operations.{Batch, IsFixed, IsUnframed, OperationSpec, Refuses}
 use Rattle.driver_ops.specs.SendKinds.{SendKind}
 use Rattle.driver_attempt.specs.declared.attempt_end.AttemptEnd.{AttemptEnd}
 use Rattle.driver_attempt.specs.declared.attempt_end.AttemptEnd.TheVariants.{Done, Ended, Failed, Stopped, Unfit, Unselected}
@@ -250,6 +250,16 @@ pub record NoNumber (kept : Option RetryState) (description : Description) (conn
 abbrev pub builds_again : Bool → ExecutionSession → Bool
 builds_again again held = again && is_some held.sent
 
+-- a build took so many statements for a connection, by the number that was fixed, which is fixed then, and a command of them has no
+-- spelling with the executor's fields
+pub record LacksFrame {A : Type 0} (spec : OperationSpec A) (context : SendContext) (description : Description) (fixed fixed_now : Option ℕ) (error : Error) : Type 0 where
+  pub statements : ℕ
+  pub takes : spec.takes fixed description statements
+  pub by : IsFixed fixed statements
+  pub fixes : fixed_now ≡ Some statements
+  pub unframed : IsUnframed spec context error
+  pub same : unframed.none.statements ≡ statements
+
 -- there was no frame under the number: the first build was refused, which fixes no number of statements, what was built has no
 -- spelling, or memory ran out
 pub record NoFrame {A : Type 0} (spec : OperationSpec A) (concern : Option WriteConcern) (kept : Option RetryState) (description : Description) (connection_retryability : Retryability) (ready now : ExecutionSession)
@@ -258,7 +268,7 @@ pub record NoFrame {A : Type 0} (spec : OperationSpec A) (concern : Option Write
   pub number : Option ℤ
   pub draws : DrawsNumber ready.sent connection_retryability ready now (Ok number)
   pub allowed : may_use ready description ≡ true
-  pub why : ((builds_again (is_some kept) ready ≡ false) × Refuses spec fixed description error × (fixed_now ≡ fixed)) ⊎ (IsUnframed spec (in_context (held_id now) number concern) error ⊎ (kind_of error ≡ kind.Memory))
+  pub why : ((builds_again (is_some kept) ready ≡ false) × Refuses spec fixed description error × (fixed_now ≡ fixed)) ⊎ (LacksFrame spec (in_context (held_id now) number concern) description fixed fixed_now error ⊎ (kind_of error ≡ kind.Memory))
 
 -- a connection was had, and the command was refused before it went out
 pub record EndsRefused {A : Type 0} (op : AttemptedOperation A) (kept : Option RetryState) (before now : AttemptState) (error : Error) : Type 0 where

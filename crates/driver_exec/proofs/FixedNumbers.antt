@@ -5,17 +5,19 @@ use Rattle.std.specs.Prelude.{ℤ, Bool, true, false, Option, None, Some, is_som
 use Rattle.driver_error.specs.declared.error.Error.{Error}
 use Rattle.driver_options.specs.declared.options.Address.{Address}
 use Rattle.driver_options.specs.declared.options.Conn.{Conn}
+use Rattle.driver_options.specs.declared.options.Description.{Description}
 use Rattle.link_faults.specs.declared.fault.LinkError.{LinkError}
 use Rattle.link_faults.specs.declared.fault.LinkError.TheVariants.{Fault, Memory}
 use Rattle.driver_link.specs.declared.machine.Setup.{Setup}
 use Rattle.link_faults.specs.Failures.{is_network}
-use Rattle.driver_ops.specs.Operations.{OperationSpec}
+use Rattle.driver_ops.specs.Fields.{SendContext}
+use Rattle.driver_ops.specs.Operations.{IsFixed, OperationSpec}
 use Rattle.driver_attempt.specs.declared.attempt_end.AttemptEnd.TheVariants.{Failed}
 use Rattle.retry_rules.specs.declared.failure.AttemptFailure.{AttemptFailure}
 use Rattle.retry_rules.specs.declared.failure.FailurePhase.{FailurePhase}
 use Rattle.retry_rules.specs.declared.failure.FailurePhase.TheVariants.{ConnectionEstablishment, Execution}
 use Rattle.driver_attempt.specs.AttemptExchanges.{PageAsked, held_after, held_after_answer, held_after_pages}
-use Rattle.driver_attempt.specs.Attempting.{AttemptState, AttemptedOperation, FailsIn, MakesAttempt, Readies, ReadsOn, Sends, asks_session, builds_again}
+use Rattle.driver_attempt.specs.Attempting.{AttemptState, AttemptedOperation, FailsIn, LacksFrame, MakesAttempt, Readies, ReadsOn, Sends, asks_session, builds_again}
 use Rattle.driver_attempt.specs.Executing.{AttemptsFail}
 use Rattle.driver_attempt.specs.Holding.{ExecutionSession, HoldsSession, dirty_session_held, needs_session}
 use Rattle.retry_rules.specs.Retry.{RetryState}
@@ -105,6 +107,18 @@ module _ {A : Type 0} (op : AttemptedOperation A) where
   first_fixed sharded before mid failures (failure ∷ done) kept fails reaches first =
       let unsent : is_some mid.held.sent ≡ false = subst (λ k. builds_again (is_some k) mid.held ≡ false) reaches.1.0 first in
       (all_unsent sharded [] before failures mid fails (none_sent mid.held.sent unsent)).0
+
+  -- what was built and has no frame has as many statements as a first build takes
+  pub lacks_first : (fixed : Option ℕ) (setup : Option Setup) (context : SendContext) (description : Description) (before now : Option ℕ) (error : Error) (lacks : LacksFrame op.spec context description before now error)
+      → IsOf setup description → MayBeFixed op.spec fixed setup op.batch.statements before → TakesFirst op.spec fixed setup lacks.statements
+  lacks_first fixed setup context description before now error lacks is was = elim was [
+    | inl same ↦ record {
+      description = description;
+      told = is_told setup description is;
+      takes = subst (λ number. op.spec.takes number description lacks.statements) same lacks.takes;
+    }
+    | inr sent ↦ subst (TakesFirst op.spec fixed setup) (subst (λ number. IsFixed number lacks.statements) sent.1 lacks.by) sent.0
+  ]
 
   -- a command that went out has as many statements as a first build takes
   pub sends_first : (fixed : Option ℕ) (setup : Option Setup) (kept : Option RetryState) (before now : AttemptState) (address : Address) (conn : Conn) (result : Result (List ℕ) LinkError)

@@ -37,7 +37,7 @@ use Rattle.driver_session.specs.declared.retryability.Retryability.TheVariants a
 use Rattle.driver_session.specs.StoreTells.{StoreTells}
 use Rattle.driver_ops.specs.Fields.{SendContext, in_context, under}
 use Rattle.driver_ops.specs.OperationLaw.{NeverOpen}
-use Rattle.driver_ops.specs.Operations.{Batch, IsUnframed, LeavesCursor, OperationSpec, Page, Refuses, front}
+use Rattle.driver_ops.specs.Operations.{Batch, LeavesCursor, OperationSpec, Page, Refuses, front}
 use Rattle.driver_ops.specs.SendKinds.{SendKind}
 use Rattle.driver_attempt.specs.declared.attempt_end.AttemptEnd.{AttemptEnd}
 use Rattle.driver_attempt.specs.declared.attempt_end.AttemptEnd.TheVariants.{Done, Ended, Failed, Stopped, Unfit, Unselected}
@@ -45,7 +45,7 @@ use Rattle.retry_rules.specs.declared.failure.AttemptFailure.{AttemptFailure}
 use Rattle.retry_rules.specs.declared.failure.FailurePhase.{FailurePhase}
 use Rattle.retry_rules.specs.declared.failure.FailurePhase.TheVariants.{ConnectionEstablishment, Execution}
 use Rattle.driver_attempt.specs.AttemptExchanges.{AsksPage, AsksPages, AttemptExchanges, EndsCursor, EndsCursorWhere, EndsPages, PageAsked, PageCame, ends_cursor, no_statements, pages_of}
-use Rattle.driver_attempt.specs.Attempting.{Connects, EndsAtOnce, EndsRefused, EndsSent, EndsUnready, FailsIn, IsAnswered, LosesExchange, MayReadOn, NoFrame, NoNumber, NoSessions, NotConnected, NotSelected, Readies, ReadsOn, AttemptState, Sends, SpellsFailure, AttemptedOperation, MakesAttempt, besides_out, builds_again, on_connection, attempted_operation}
+use Rattle.driver_attempt.specs.Attempting.{Connects, EndsAtOnce, EndsRefused, EndsSent, EndsUnready, FailsIn, IsAnswered, LacksFrame, LosesExchange, MayReadOn, NoFrame, NoNumber, NoSessions, NotConnected, NotSelected, Readies, ReadsOn, AttemptState, Sends, SpellsFailure, AttemptedOperation, MakesAttempt, besides_out, builds_again, on_connection, attempted_operation}
 use Rattle.driver_attempt.specs.Causes as causes
 use Rattle.driver_attempt.specs.Causes.{AllEarly, IsLast, KindAtLast, end_of, outline_of, next_number}
 use Rattle.driver_attempt.specs.Executing.{Ends, EndsWith, Proceeds, first_state}
@@ -63,7 +63,7 @@ use Rattle.driver_attempt.proofs.OneAttempt.{early_counted, later_of}
 use Rattle.driver_exec.specs.OperationCauses.{Caused, DrawsNumbers, EndAtLast, EndNeeds, EndsCaused, FaultLabels, Grounds, IsRead, KindNeeds, PageNeeds, PagesNeed, SpellsEnd, TakesFirst, grounds, labels_after}
 use Rattle.driver_exec.proofs.HeldSessions.{AtEnd, HeldSoFar, IsOf, draw_holds, draws_on, exchange_holds, held_at_first, is_of, is_told, last_draws_none, none_draws, pages_hold, ready_held, ready_holds, sent_held, sessionless, unnumbered_at_end}
 use Rattle.driver_exec.proofs.EndNeeds.{early_twice, end_after, end_before, last_after, notes_twice, page_after, pages_before, pages_since}
-use Rattle.driver_exec.proofs.FixedNumbers.{MayBeFixed, first_fixed, read_sent, ready_sent, sends_first}
+use Rattle.driver_exec.proofs.FixedNumbers.{MayBeFixed, first_fixed, lacks_first, read_sent, ready_sent, sends_first}
 use Rattle.driver_exec.proofs.PassesBy.{no_pages, reads_error, reads_output}
 
 -- a link noted these; its count of faults did not fall, and its setup stays
@@ -354,11 +354,14 @@ module _ {A : Type 0} (on : Grounds A) (before now : ℕ) (items : List Answered
       inl (record { needs = subst (KindNeeds on before now items (labels_of error)) (sym is.kind_is) (none, is.labels_are); no_source = λ told. is.no_source })
 
   -- a built command without a frame
-  unspelled_needs : (context : SendContext) → context.concern ≡ on.concern → (IsUnframed on.spec context error ⊎ (kind_of error ≡ kind.Memory)) → EndNeeds on before now items (Some (outline_of error))
-  unspelled_needs context goes why = elim why [
-    | inl none ↦ inl (record {
-      needs = subst (KindNeeds on before now items (labels_of error)) (sym none.is.kind_is) (record { context = context; goes_with = goes; is = none.none }, none.is.labels_are);
-      no_source = λ told. none.is.no_source;
+  unspelled_needs : (context : SendContext) (description : Description) (fixed fixed_now : Option ℕ) → context.concern ≡ on.concern
+      → ((lacks : LacksFrame on.spec context description fixed fixed_now error) → TakesFirst on.spec on.fixed on.setup lacks.statements)
+      → (LacksFrame on.spec context description fixed fixed_now error ⊎ (kind_of error ≡ kind.Memory)) → EndNeeds on before now items (Some (outline_of error))
+  unspelled_needs context description fixed fixed_now goes first why = elim why [
+    | inl lacks ↦ inl (record {
+      needs = subst (KindNeeds on before now items (labels_of error)) (sym lacks.unframed.is.kind_is)
+          (record { context = context; goes_with = goes; statements = lacks.statements; first = first lacks; is = lacks.unframed.none; same = lacks.same }, lacks.unframed.is.labels_are);
+      no_source = λ told. lacks.unframed.is.no_source;
     })
     | inr memory ↦ memory_needs memory
   ]
@@ -717,7 +720,9 @@ module _ {A : Type 0} (spec : OperationSpec A) (batch : Batch) (which : SendKind
         needs = elim refused.why [
           | inl early ↦ refused_needs on mid.link.faults now.link.faults [] error conn.description (is_conn ready address conn readies)
               (subst (λ number. Refuses spec number conn.description error) (ready_fixed begun early.0) early.1)
-          | inr none ↦ unspelled_needs on mid.link.faults now.link.faults [] error (in_context (held_id now.held) refused.number concern) refl none
+          | inr none ↦ unspelled_needs on mid.link.faults now.link.faults [] error (in_context (held_id now.held) refused.number concern) conn.description ready.fixed now.fixed refl
+              (λ lacks. lacks_first op fixed (setup_of link) (in_context (held_id now.held) refused.number concern) conn.description ready.fixed now.fixed error lacks (is_conn ready address conn readies)
+              (subst (MayBeFixed spec fixed (setup_of link) batch.statements) (sym readies.fixed) fixed_so_far)) none
         ];
         early = λ at unsent. absurd (draws_none ready address conn readies at unsent now.held refused.number refused.draws);
       }

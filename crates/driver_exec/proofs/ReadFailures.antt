@@ -72,7 +72,7 @@ module _ {A : Type 0} (op : AttemptedOperation A) (past : Option RetryState) (mi
       | inr unframed ↦ elim unframed.why [
         | inl early ↦ refused_unread (kind_of error) early.1.may read
         | inr why ↦ elim why [
-          | inl none ↦ subst IsReadFailure none.is.kind_is read
+          | inl none ↦ subst IsReadFailure none.unframed.is.kind_is read
           | inr memory ↦ subst IsReadFailure memory read
         ]
       ]

@@ -66,18 +66,21 @@ HasFault retryability setup fault labels (answer.Reply bytes ∷ items) = HasFau
 HasFault retryability setup fault labels (answer.Fault call found given ∷ items) =
     ((found ≡ fault) × FaultLabels call retryability setup found given labels) ⊎ HasFault retryability setup fault labels items
 
--- a built command with this concern has no spelling, under some session and number
-pub record Unspelled {A : Type 0} (spec : OperationSpec A) (concern : Option WriteConcern) (fault : EncodeFault) : Type 0 where
-  pub context : SendContext
-  pub goes_with : context.concern ≡ concern
-  pub is : HasNoSpelling spec context fault
-
 -- a first build of the operation takes so many statements for a connection, which has the setup's description where the link
 -- tells its setup
 pub record TakesFirst {A : Type 0} (spec : OperationSpec A) (fixed : Option ℕ) (setup : Option Setup) (statements : ℕ) : Type 0 where
   pub description : Description
   pub told : IfSome setup (λ told. description ≡ told.description)
   pub takes : spec.takes fixed description statements
+
+-- a built command with this concern has no spelling, under some session and number: it has as many statements as a first build takes
+pub record Unspelled {A : Type 0} (spec : OperationSpec A) (fixed : Option ℕ) (setup : Option Setup) (concern : Option WriteConcern) (fault : EncodeFault) : Type 0 where
+  pub context : SendContext
+  pub goes_with : context.concern ≡ concern
+  pub statements : ℕ
+  pub first : TakesFirst spec fixed setup statements
+  pub is : HasNoSpelling spec context fault
+  pub same : is.statements ≡ statements
 
 -- a build of the operation, by the number of statements that is fixed, is refused so for a connection, which has the setup's
 -- description where the link tells its setup
@@ -158,7 +161,7 @@ KindNeeds on before now items labels (kind.ConnectionPoolCleared message) = Rose
 KindNeeds on before now items labels (kind.ServerSelection message) = Rose before now × HasFault on.retryability on.setup (fault.Selection message) labels items
 KindNeeds on before now items labels (kind.Authentication message) = Rose before now × HasFault on.retryability on.setup (fault.Authentication message) labels items
 KindNeeds on before now items labels (kind.InvalidArgument message) = (concern_refusal on.concern ≡ Some message) × (labels ≡ no_labels)
-KindNeeds on before now items labels (kind.BsonSerialization fault) = Unspelled on.spec on.concern fault × (labels ≡ no_labels)
+KindNeeds on before now items labels (kind.BsonSerialization fault) = Unspelled on.spec on.fixed on.setup on.concern fault × (labels ≡ no_labels)
 KindNeeds on before now items labels (kind.Internal message) = MayBeLast on.number × (message ≡ number_at_its_end) × (labels ≡ no_labels)
 KindNeeds on before now items labels kind.SessionsNotSupported = (on.setup ≡ None) × (labels ≡ no_labels)
 KindNeeds on before now items labels kind.Memory = Unit {0}

@@ -15,13 +15,13 @@ use Rattle.driver_link.specs.LinkState.{LinkState}
 use Rattle.driver_session.specs.declared.retryability.Retryability.{Retryability}
 use Rattle.driver_session.specs.StoreTells.{StoreTells}
 use Rattle.driver_ops.specs.Fields.{in_context}
-use Rattle.driver_ops.specs.Operations.{Batch, IsUnframed, OperationSpec, Refuses}
+use Rattle.driver_ops.specs.Operations.{Batch, OperationSpec, Refuses}
 use Rattle.driver_ops.specs.SendKinds.{SendKind}
 use Rattle.driver_attempt.specs.declared.attempt_end.AttemptEnd.{AttemptEnd}
 use Rattle.driver_attempt.specs.declared.attempt_end.AttemptEnd.TheVariants.{Ended, Unfit}
 use Rattle.driver_attempt.specs.AttemptExchanges.{AttemptExchanges, Exchanges}
 use Rattle.driver_attempt.specs.Holding.{DrawsNumber, ExecutionSession, held_after_failure, held_id, number_before}
-use Rattle.driver_attempt.specs.Attempting.{AttemptState, besides_out, builds_again}
+use Rattle.driver_attempt.specs.Attempting.{AttemptState, LacksFrame, besides_out, builds_again}
 use Rattle.driver_attempt.specs.Failures.{is_memory}
 use Rattle.driver_attempt.specs.inside.Failures.{EndsLost, EndsRead}
 
@@ -88,7 +88,7 @@ pub record EndsUnframed {A : Type 0} (spec : OperationSpec A) (concern : Option 
   pub error : Error
   pub number : Option ℤ
   pub draws : DrawsNumber held.sent connection_retryability held held_now (Ok number)
-  pub why : ((builds_again again held ≡ false) × Refuses spec fixed conn.description error × (fixed_now ≡ fixed)) ⊎ (IsUnframed spec (in_context (held_id held_now) number concern) error ⊎ (kind_of error ≡ kind.Memory))
+  pub why : ((builds_again again held ≡ false) × Refuses spec fixed conn.description error × (fixed_now ≡ fixed)) ⊎ (LacksFrame spec (in_context (held_id held_now) number concern) conn.description fixed fixed_now error ⊎ (kind_of error ≡ kind.Memory))
   pub link_is : link_now ≡ link
   pub uncounted : count_now ≡ count
   pub ends : attempt ≡ Ended error

@@ -254,6 +254,6 @@ module _ {A : Type 0} (known : KnownCommand A) where
           | inl none ↦ absurd (here.allowed none.none)
           | inr other ↦ elim other [
             | inl none ↦ here.unnumbered (on_connection retryability refused.conn.description) now.held error none.draws
-            | inr none ↦ elim none.why [ inl early ↦ absurd (none_refused refused.ready refused.address refused.conn refused.readies error early.1) | inr late ↦ elim late [ inl unspelled ↦ absurd (spelled _ unspelled.fault refl unspelled.none) | inr memory ↦ memory ] ]
+            | inr none ↦ elim none.why [ inl early ↦ absurd (none_refused refused.ready refused.address refused.conn refused.readies error early.1) | inr late ↦ elim late [ inl lacks ↦ absurd (spelled _ lacks.unframed.fault refl lacks.unframed.none) | inr memory ↦ memory ] ]
           ]
         ]

@@ -61,7 +61,7 @@ returns-in-Err-frame_of-clause-sending g c = λ statements fixed.
     (g.O.Operation.built c.build.new.self) c.in-Ok-build.command c.in-Ok-build.ensures.builds c.in-Err-frame_of.error _
     (subst (λ k. FramesUnder (in_context (held_id c.draw_number-held.result.0) c.in-Ok.number k) c.in-Ok-build.command (Err c.in-Err-frame_of.error)) same
     (subst (λ k. FramesUnder (in_context (held_id c.draw_number-held.result.0) c.in-Ok.number k) c.in-Ok-build.command (Err c.in-Err-frame_of.error)) c.effective_concern-concern.ensures
-    (subst (λ s. FramesUnder (in_context s c.in-Ok.number (option_copied c.effective_concern-concern.result)) c.in-Ok-build.command (Err c.in-Err-frame_of.error)) c.id.ensures c.in-Err-frame_of.ensures))) refl refl refl
+    (subst (λ s. FramesUnder (in_context s c.in-Ok.number (option_copied c.effective_concern-concern.result)) c.in-Ok-build.command (Err c.in-Err-frame_of.error)) c.id.ensures c.in-Err-frame_of.ensures))) refl refl refl refl
 
 pub returns-clause-fixed : goal.returns-clause-fixed
 returns-clause-fixed g c = fixes_twice _ _ _ (build_fixes c.in-Ok-build.ensures.builds) (same_fixes c.exchange.ensures.built)
