@@ -1,6 +1,6 @@
 -- A run of calls between two of its calls: the main theorem holds of the calls that were made, and with it the invariant of
 -- one client's writes, of its pool and of the server.
-use Rattle.std.specs.Prelude.{◌≡◌, ℕ, ◌+◌, ◌≤◌, pos, List, [], ◌∷◌, ◌++◌, length, take, Option, None, Some, slice_get}
+use Rattle.std.specs.Prelude.{◌≡◌, ℕ, zero, suc, ◌+◌, ◌≤◌, pos, List, [], ◌∷◌, ◌++◌, length, take, Option, None, Some, slice_get}
 use Rattle.driver_link.specs.declared.machine.PlacedWrite.{PlacedWrite}
 use Rattle.driver_link.specs.declared.machine.Send.{Send}
 use Rattle.driver_link.specs.Cases.{writes_of}
@@ -26,6 +26,11 @@ pub record RunState : Type 0 where
   pub room : ℕ
   pub outcomes : List Outcome
   pub slots : List ℕ
+
+-- the number of the call that was made last, where so many were made in order after the call of a number
+abbrev pub last_number : ℕ → ℕ → ℕ
+last_number before zero = before
+last_number before (suc made) = made
 
 -- a run that has made no call
 abbrev pub new_run : ℕ → RunState

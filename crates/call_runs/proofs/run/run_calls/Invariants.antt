@@ -4,7 +4,7 @@ use Rattle.driver_attempt.specs.Moment.{DrawsInOrder, HasFreshServer, KeepsClien
 use Rattle.driver_actions.specs.CallParts.{IsReplayed, KeepsMaking}
 use Rattle.call_runs.specs.CallByCall.{HaveCauses}
 use Rattle.call_runs.specs.MainTheorem.{Begins, HaveEnded}
-use Rattle.call_runs.specs.Standing.{RunInvariant}
+use Rattle.call_runs.specs.Standing.{RunInvariant, last_number}
 use Rattle.call_runs.proofs.run.run_calls.Given as goal
 
 abbrev pub invariant-calls : goal.invariant-calls
@@ -22,6 +22,7 @@ invariant-calls g l =
       drawn : DrawsInOrder first now;
       lent : KeepsLent first now;
       causes : HaveCauses (take l.run.made l.calls) l.run.outcomes first now;
+      call : l.outside.call ≡ last_number l.fn.outside.call l.run.made;
     }
 
 abbrev pub decreases-calls : goal.decreases-calls
