@@ -14,6 +14,7 @@ pub fn run_or_status<I: Source, O: Sink>(
     run: &mut Run,
 ) -> Result<(), u8>
     ensures done { OnOk result (RunIsMade (I.left source.old) (I.left source.new) run.new) }
+    ensures written { OnOk result (O.faults sink.new ≡ O.faults sink.old) }
     ensures refused { IfErr result (λ status. status ≡ 3 →
         IsRefused (I.left source.old) (I.left source.new)) }
 {

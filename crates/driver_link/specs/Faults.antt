@@ -1,5 +1,5 @@
--- Counts of faults: a call answers a fault only where its count rose.
-use Rattle.std.specs.Prelude.{ℕ, ◌+◌, ◌-◌, ◌^◌, ◌≤◌, min, Result, Ok, Err}
+-- Counts of faults: a call answers a fault only where its count rose, and a read or a write that doesn't fail leaves it.
+use Rattle.std.specs.Prelude.{◌≡◌, ℕ, ◌+◌, ◌-◌, ◌^◌, ◌≤◌, min, Result, Ok, Err}
 use Rattle.link_faults.specs.declared.fault.LinkError.{LinkError}
 use Rattle.link_faults.specs.declared.fault.LinkError.TheVariants.{Fault, Memory}
 
@@ -7,12 +7,12 @@ use Rattle.link_faults.specs.declared.fault.LinkError.TheVariants.{Fault, Memory
 abbrev pub Rose : ℕ → ℕ → Type 0
 Rose before now = min (before + 1) (2 ^ 64 - 1) ≤ now
 
--- a count never falls, and a failure comes only where it rose
+-- the count tells the failures: it stands where there is none, and rose where there is one
 abbrev pub FailsByCount : {A E : Type 0} → ℕ → ℕ → Result A E → Type 0
-FailsByCount before now (Ok answer) = before ≤ now
+FailsByCount before now (Ok answer) = now ≡ before
 FailsByCount before now (Err failed) = Rose before now × (before ≤ now)
 
--- the same for a link, whose want of memory has no cause
+-- a count of a link never falls, and a fault comes only where it rose; want of memory has no cause
 abbrev pub HasLinkCause : {A : Type 0} → ℕ → ℕ → Result A LinkError → Type 0
 HasLinkCause before now (Ok answer) = before ≤ now
 HasLinkCause before now (Err (Fault fault labels)) = Rose before now × (before ≤ now)

@@ -12,7 +12,7 @@ pub trait Source {
     // The bytes that are left to read, where the source tells them.
     ghost left: { Self → Option (List ℕ) };
 
-    // How many reads failed. The count never falls, and stands still at the greatest u64.
+    // How many reads failed. Nothing else changes the count, which stands still at the greatest u64.
     ghost faults: { Self → ℕ };
 
     /// Reads some bytes into the front of a slice, and answers how many. 0 for a slice that is not
@@ -31,7 +31,7 @@ pub trait Sink {
     // The bytes that were written, where the sink tells them.
     ghost contents: { Self → Option (List ℕ) };
 
-    // How many writes failed. The count never falls, and stands still at the greatest u64.
+    // How many writes failed. Nothing else changes the count, which stands still at the greatest u64.
     ghost faults: { Self → ℕ };
 
     /// Takes a front of a slice, and answers how long it is, which is not 0 for a slice that is not

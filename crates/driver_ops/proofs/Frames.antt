@@ -9,7 +9,6 @@ use Rattle.bson_lite.specs.declared.bson.Bson as bson
 use Rattle.bson_lite.specs.declared.document.Pair.{Pair}
 use Rattle.bson_lite.specs.Fields.{value_of}
 use Rattle.bson_lite.proofs.Numbers.{bytes_eq-same}
-use Rattle.driver_error.specs.declared.error.Error.{Error}
 use Rattle.wire_keys.specs.declared.keys.TheConstants.{AUTOCOMMIT, DATABASE, SESSION, START_TRANSACTION, TRANSACTION_NUMBER, UUID_SUBTYPE, WRITE_CONCERN}
 use Rattle.driver_link.specs.declared.frame.Documents.{Documents}
 use Rattle.driver_link.specs.declared.machine.Place.{Place}
@@ -24,10 +23,9 @@ use Rattle.driver_link.specs.Writes.{is_common}
 use Rattle.driver_link.proofs.Forms.{document_is, text_is}
 use Rattle.driver_ops.specs.declared.command.Command.{Command}
 use Rattle.driver_ops.specs.ConcernFields.{concern_value}
-use Rattle.driver_ops.specs.Encoding.{IsUnspelled}
 use Rattle.driver_ops.specs.Fields.{AreCommon, IsFrameOf, IsPlain, IsSixteen, SendContext, executor_fields, number_field, session_document, session_field, with_fields}
 use Rattle.driver_ops.specs.OptionFields.{option_field}
-use Rattle.driver_ops.specs.Operations.{Batch, IsBuilt, IsUnframed, OperationSpec, ReadsAsAsked, front, send_of}
+use Rattle.driver_ops.specs.Operations.{Batch, IsBuilt, OperationSpec, ReadsAsAsked, front, send_of}
 use Rattle.driver_ops.specs.SendKinds.{SendKind}
 
 -- what values are as the fields of a command
@@ -230,12 +228,3 @@ reads_as_asked spec which batch context command frame sixteen built made body as
           (spells command.body context command.database built.plain sixteen asks.sequences (front batch) body
           (asks.asks _ (are_common context command.database)));
     }
-
--- why there is no such frame
-pub unframed : {A : Type 0} (spec : OperationSpec A) (which : SendKind) (statements : ℕ) (context : SendContext) (command : Command) (error : Error)
-    → IsSixteen context.session → IsBuilt spec which statements command → IsUnspelled (with_fields context command).body error → IsUnframed spec context error
-unframed spec which statements context command error sixteen built none = record {
-  fault = none.fault;
-  none = record { which = which; statements = statements; command = command; is = built.is; sixteen = sixteen; refused = none.refused };
-  is = none.is;
-}

@@ -101,13 +101,26 @@ program_ends left left_now reads_failed reads_failed_now contents contents_now w
   writes_failed_now = writes_failed_now;
 }
 
--- a line was written, or a front of it and the count of failed writes rose
+-- a line was written and no write failed, or a front of it and the count of failed writes rose
 abbrev pub SaysTo : Option (List ℕ) → Option (List ℕ) → ℕ → ℕ → List ℕ → Type 0
-SaysTo contents now failed failed_now line = Appends contents now line ⊎ (Rose failed failed_now × TookFront contents now line)
+SaysTo contents now failed failed_now line =
+    (Appends contents now line × (failed_now ≡ failed)) ⊎ (Rose failed failed_now × TookFront contents now line)
 
 -- the same of the input and the output of a run
 abbrev pub Said : ProgramEnds → List ℕ → Type 0
 Said ends line = SaysTo ends.contents ends.contents_now ends.writes_failed ends.writes_failed_now line
+
+-- no read failed
+abbrev pub NoReadFailed : ProgramEnds → Type 0
+NoReadFailed ends = ends.reads_failed_now ≡ ends.reads_failed
+
+-- the whole report of a run was written, and no write failed
+abbrev pub Reports : Option (List ℕ) → Option (List ℕ) → ℕ → ℕ → Run → Type 0
+Reports contents now failed failed_now run = Appends contents now (report run) × (failed_now ≡ failed)
+
+-- a front of it was written, and the count of failed writes rose
+abbrev pub BreaksOff : Option (List ℕ) → Option (List ℕ) → ℕ → ℕ → Run → Type 0
+BreaksOff contents now failed failed_now run = Rose failed failed_now × TookFront contents now (report run)
 
 -- nothing was written, and no write failed
 abbrev pub IsSilent : Option (List ℕ) → Option (List ℕ) → ℕ → ℕ → Type 0
@@ -181,16 +194,21 @@ large_line = codes "script too large\n"
 
 -- what each status says; after want of memory nothing was written, and the run is the one before or that of the script
 abbrev pub Ended : Status → ProgramEnds → Run → Run → Type 0
-Ended status.Done ends run now = RunIsMade ends.left ends.left_now now × Appends ends.contents ends.contents_now (report now)
-Ended status.Usage ends run now = Said ends usage_line × (ends.left_now ≡ ends.left) × (now ≡ run)
-Ended status.Refused ends run now = ((path : List ℕ) × RefusesScript ends.left ends.left_now path × Said ends (refused_line path)) × (now ≡ run)
+Ended status.Done ends run now =
+    NoReadFailed ends × RunIsMade ends.left ends.left_now now
+    × Reports ends.contents ends.contents_now ends.writes_failed ends.writes_failed_now now
+Ended status.Usage ends run now = NoReadFailed ends × Said ends usage_line × (ends.left_now ≡ ends.left) × (now ≡ run)
+Ended status.Refused ends run now =
+    NoReadFailed ends × ((path : List ℕ) × RefusesScript ends.left ends.left_now path × Said ends (refused_line path)) × (now ≡ run)
 Ended status.ReadFailed ends run now =
     ReadFailed LIMIT ends.left ends.left_now ends.reads_failed ends.reads_failed_now × Said ends failed_line × (now ≡ run)
 Ended status.WriteFailed ends run now =
-    RunIsMade ends.left ends.left_now now × Rose ends.writes_failed ends.writes_failed_now × TookFront ends.contents ends.contents_now (report now)
+    NoReadFailed ends × RunIsMade ends.left ends.left_now now
+    × BreaksOff ends.contents ends.contents_now ends.writes_failed ends.writes_failed_now now
 Ended status.Memory ends run now =
-    IsSilent ends.contents ends.contents_now ends.writes_failed ends.writes_failed_now × ((now ≡ run) ⊎ RunIsMade ends.left ends.left_now now)
-Ended status.TooLarge ends run now = IsTooLarge ends.left ends.left_now × Said ends large_line × (now ≡ run)
+    NoReadFailed ends × IsSilent ends.contents ends.contents_now ends.writes_failed ends.writes_failed_now
+    × ((now ≡ run) ⊎ RunIsMade ends.left ends.left_now now)
+Ended status.TooLarge ends run now = NoReadFailed ends × IsTooLarge ends.left ends.left_now × Said ends large_line × (now ≡ run)
 
 -- the number of a status
 abbrev pub code : Status → ℕ
@@ -219,7 +237,7 @@ Refusal contents now failed failed_now path other = ⊥
 
 -- the report of a run, where there is memory for it
 abbrev pub Reported : Option (List ℕ) → Option (List ℕ) → ℕ → ℕ → Run → Status → Type 0
-Reported contents now failed failed_now run status.Done = Appends contents now (report run)
-Reported contents now failed failed_now run status.WriteFailed = Rose failed failed_now × TookFront contents now (report run)
+Reported contents now failed failed_now run status.Done = Reports contents now failed failed_now run
+Reported contents now failed failed_now run status.WriteFailed = BreaksOff contents now failed failed_now run
 Reported contents now failed failed_now run status.Memory = IsSilent contents now failed failed_now
 Reported contents now failed failed_now run other = ⊥

@@ -1,5 +1,5 @@
 -- What reading a whole input and writing a whole text leave.
-use Rattle.std.specs.Prelude.{ℕ, ◌<◌, ◌≤◌, List, length, take, Option, Result, Ok, Err}
+use Rattle.std.specs.Prelude.{◌≡◌, ℕ, ◌<◌, ◌≤◌, List, length, take, Option, Result, Ok, Err}
 use Rattle.driver_link.specs.Streams.{Consumes, IsAtEnd, Appends}
 use Rattle.driver_link.specs.Faults.{Rose}
 use Rattle.script_run.specs.declared.streams.ReadFault.{ReadFault}
@@ -24,12 +24,12 @@ pub record ReadFailed (limit : ℕ) (left left_now : Option (List ℕ)) (before 
   pub fits : length bytes ≤ limit
   pub rose : Rose before now
 
--- how reading a whole input ends
+-- how reading a whole input ends; the count of failed reads stands where none failed
 abbrev pub EndsReading : ℕ → Option (List ℕ) → Option (List ℕ) → ℕ → ℕ → Result (List ℕ) ReadFault → Type 0
-EndsReading limit left left_now before now (Ok bytes) = ReadToEnd limit left left_now bytes
+EndsReading limit left left_now before now (Ok bytes) = ReadToEnd limit left left_now bytes × (now ≡ before)
 EndsReading limit left left_now before now (Err Failed) = ReadFailed limit left left_now before now
-EndsReading limit left left_now before now (Err TooLarge) = ReadMore limit left left_now
-EndsReading limit left left_now before now (Err Memory) = Unit {0}
+EndsReading limit left left_now before now (Err TooLarge) = ReadMore limit left left_now × (now ≡ before)
+EndsReading limit left left_now before now (Err Memory) = now ≡ before
 
 -- a front of the bytes was taken
 abbrev pub TookFront : Option (List ℕ) → Option (List ℕ) → List ℕ → Type 0

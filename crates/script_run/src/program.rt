@@ -159,7 +159,9 @@ pub fn run_script<I: Source, O: Sink>(
     ensures done { result ≡ 0 → RunIsMade (I.left source.old) (I.left source.new) run.new }
     ensures refused { result ≡ 3 → IsRefused (I.left source.old) (I.left source.new) }
     ensures read_failed { result ≡ 4 → Rose (I.faults source.old) (I.faults source.new) }
+    ensures no_read_failed { result ≢ 4 → I.faults source.new ≡ I.faults source.old }
     ensures write_failed { result ≡ 5 → Rose (O.faults sink.old) (O.faults sink.new) }
+    ensures no_write_failed { result ≡ 0 → O.faults sink.new ≡ O.faults sink.old }
     ensures too_large { result ≡ 7 → IsTooLarge (I.left source.old) (I.left source.new) }
     ensures complete { Completes result (I.left source.old) (I.faults source.old) (I.faults source.new)
         (O.faults sink.old) (O.faults sink.new) }
@@ -279,7 +281,9 @@ pub fn top<T: Wait + Threads, I: Source, O: Sink>(
     ensures done { result ≡ 0 → RunIsMade (I.left source.old) (I.left source.new) run.new }
     ensures refused { result ≡ 3 → IsRefused (I.left source.old) (I.left source.new) }
     ensures read_failed { result ≡ 4 → Rose (I.faults source.old) (I.faults source.new) }
+    ensures no_read_failed { result ≢ 4 → I.faults source.new ≡ I.faults source.old }
     ensures write_failed { result ≡ 5 → Rose (O.faults sink.old) (O.faults sink.new) }
+    ensures no_write_failed { result ≡ 0 → O.faults sink.new ≡ O.faults sink.old }
     ensures too_large { result ≡ 7 → IsTooLarge (I.left source.old) (I.left source.new) }
     ensures complete { command_of words.now ≡ Some Command.Run →
         Completes result (I.left source.old) (I.faults source.old) (I.faults source.new) (O.faults sink.old)
