@@ -1,20 +1,21 @@
--- Laws of transactions: what was aborted never enters the log, and what was committed enters it once.
-use Rattle.std.proofs.Common.{◌≡◌, ℕ, ℤ, Bool, true, false, List, [], Option, refl, sym, subst, ◌∙◌, arith, if◌then◌else◌}
-use Rattle.std.specs.Prelude.{int_lt}
-use Rattle.std.proofs.lemmas.Int.{ints}
-use Rattle.std.specs.Cmp.Lexicographic.{nat_list_cmp_total}
+-- Laws of transactions: what was aborted never enters the log, what was committed enters it once, and either ends its transaction.
+use Rattle.std.proofs.Common.{◌≡◌, ℕ, ℤ, Bool, true, false, List, Option, refl, sym, ap, subst, ◌∙◌}
 use Rattle.std.specs.FinMap as finite
-use Rattle.bson_lite.proofs.FinMaps.{get_inserted}
-use Rattle.driver_link.proofs.TakenNumbers.{not_below_taken, not_new}
-use Rattle.driver_link.specs.Cases.{case_of, case_under, is_in_transaction, known_of, known_under, numbered_case, results_of, too_old, commits}
-use Rattle.driver_link.specs.Serving.{Plan, done_in, served, served_in, session_after, sessions_as}
-use Rattle.driver_link.specs.Sessions.{is_below, is_new}
+use Rattle.driver_link.proofs.ServedSends.{id_same}
+use Rattle.driver_link.proofs.TakenNumbers.{open_above}
+use Rattle.driver_link.specs.Cases.{Case, case_of, is_decided, is_in_transaction, known_of, known_under, results_of, writes_of, too_old, commits, aborts}
+use Rattle.driver_link.specs.Serving.{Plan, done_in, served, served_in, session_after}
+use Rattle.driver_link.specs.Sessions.{is_below}
+use Rattle.driver_link.specs.Statements.{entries_of}
 use Rattle.driver_link.specs.declared.machine.Entry.{Entry}
+use Rattle.driver_link.specs.declared.machine.KnownSession.{KnownSession}
 use Rattle.driver_link.specs.declared.machine.Send.{Send}
 use Rattle.driver_link.specs.declared.machine.SendBody.TheVariants.{Commit}
 use Rattle.driver_link.specs.declared.machine.Server.{Server}
+use Rattle.driver_link.specs.declared.machine.ServerTransaction.{ServerTransaction}
 use Rattle.driver_link.specs.declared.machine.ServerTransaction.TheVariants as transaction
 use Rattle.driver_link.specs.declared.machine.Statement.{Statement}
+use Rattle.machine_laws.proofs.HeldSessions.{greatest_served, is_early, puts_under, taken_greatest}
 use Rattle.machine_laws.proofs.SteadyLaws.{aborted_after, case_there, committed_after, served_case}
 use Rattle.machine_laws.specs.Steady.{GoesUnder, HasTransaction}
 
@@ -30,41 +31,56 @@ pub committed_law : (plan : Plan) (id : List ℕ) (number : ℤ) (server : Serve
     → ((served plan server send).log ≡ server.log) × HasTransaction id number transaction.Committed (served plan server send)
 committed_law plan id number server send under commit has = committed_after id number server send under has.known has.there has.greatest plan has.its commit
 
--- a number that was taken
-equal : (number greatest : ℤ) → int_lt number greatest ≡ false → int_lt greatest number ≡ false → greatest ≡ number
-equal number greatest above below = grind (arith, ints)
+-- what is known of a session once a send under its number was served in a case
+abbrev pub left_by : Plan → Case → List ℕ → ℤ → Server → Send → KnownSession
+left_by plan case id number server send =
+    let done = done_in case plan (results_of (known_of server send)) send.body in
+    session_after case done (entries_of send.session send.number (writes_of send) done) (known_under id number server send)
 
-commits_above : (id : List ℕ) (number : ℤ) (server : Server) (send : Send) (entries : List Entry) → case_under id number server send ≡ commits entries
-    → is_below number (finite.get server.sessions id) ≡ false
-unfolding case_under
-commits_above id number server send entries is = by_test (is_below number (finite.get server.sessions id)) is
-  where
-    by_test : (b : Bool)
-        → (if b then too_old else numbered_case (known_under id number server send) (is_new number (finite.get server.sessions id)) send send.body) ≡ commits entries → b ≡ false
-    by_test true is = let no = is in cc
-    by_test false is = refl
+-- a send whose number is not too old leaves its session with this number, and with what the case makes of the transaction
+pub case_leaves : (id : List ℕ) (number : ℤ) (server : Server) (send : Send) (case : Case) (done : List Statement) (page : Option ℕ) (its : ServerTransaction)
+    → GoesUnder id number send → is_below number (finite.get server.sessions id) ≡ false → is_early case ≡ false
+    → (session_after case done (entries_of send.session send.number (writes_of send) done) (known_under id number server send)).transaction ≡ its
+    → HasTransaction id number its (served_in case done page server send)
+unfolding served_in
+case_leaves id number server send case done page its under above late is =
+    let known : KnownSession = known_under id number server send in
+    let change : KnownSession → KnownSession = session_after case done (entries_of send.session send.number (writes_of send) done) in
+    record {
+      known = change known;
+      there = ap (λ sessions. finite.get sessions id) (puts_under id number case change server send under late) ∙ id_same server.sessions id (change known);
+      greatest =
+          greatest_served case done (entries_of send.session send.number (writes_of send) done) known
+          ∙ taken_greatest number (is_in_transaction send) send.start (finite.get server.sessions id) above;
+      its = is;
+    }
+
+-- a case that the rules on numbers and transactions leave open is not too old
+open_late : (case : Case) → is_decided case ≡ false → is_early case ≡ false
+open_late too_old opens = let no : ◌≡◌ {A = Bool} true false = opens in cc
+open_late case opens = refl
+
+-- the same of a send that is served in such a case
+pub served_leaves : (plan : Plan) (id : List ℕ) (number : ℤ) (server : Server) (send : Send) (case : Case) (its : ServerTransaction) → GoesUnder id number send
+    → case_of server send ≡ case → is_decided case ≡ false → (left_by plan case id number server send).transaction ≡ its
+    → HasTransaction id number its (served plan server send)
+served_leaves plan id number server send case its under is opens left =
+    let above = open_above number id server send (ap is_decided (sym (case_there id number server send under) ∙ is) ∙ opens) in
+    let done : List Statement = done_in case plan (results_of (known_of server send)) send.body in
+    subst (HasTransaction id number its) (sym (served_case plan server send case is))
+    (case_leaves id number server send case done plan.page its under above (open_late case opens) left)
 
 -- after a commit of a transaction that runs it is committed
-commits_there : (id : List ℕ) (number : ℤ) (server : Server) (send : Send) (entries : List Entry) (done : List Statement) (page : Option ℕ) → GoesUnder id number send
-    → is_below number (finite.get server.sessions id) ≡ false → HasTransaction id number transaction.Committed (served_in (commits entries) done page server send)
-unfolding served_in
-commits_there id number server send entries done page under above = record {
-  known = session_after (commits entries) done [] (known_under id number server send);
-  there =
-      (λ i. finite.get (sessions_as (under.its_session i) (under.its_number i) (commits entries) (session_after (commits entries) done []) server send) id)
-      ∙ get_inserted nat_list_cmp_total server.sessions id (session_after (commits entries) done [] (known_under id number server send));
-  greatest = equal number (known_under id number server send).greatest
-      (not_below_taken number (is_in_transaction send) send.start (finite.get server.sessions id) above)
-      (not_new number (is_in_transaction send) send.start (finite.get server.sessions id));
-  its = refl;
-}
-
 pub commits_law : (plan : Plan) (id : List ℕ) (number : ℤ) (server : Server) (send : Send) (entries : List Entry) → GoesUnder id number send
     → case_of server send ≡ commits entries → HasTransaction id number transaction.Committed (served plan server send)
 commits_law plan id number server send entries under is =
-    let above = commits_above id number server send entries (sym (case_there id number server send under) ∙ is) in
-    subst (HasTransaction id number transaction.Committed) (sym (served_case plan server send (commits entries) is))
-    (commits_there id number server send entries (done_in (commits entries) plan (results_of (known_of server send)) send.body) plan.page under above)
+    served_leaves plan id number server send (commits entries) transaction.Committed under is refl refl
+
+-- after an abort of one it is aborted
+pub aborts_law : (plan : Plan) (id : List ℕ) (number : ℤ) (server : Server) (send : Send) → GoesUnder id number send
+    → case_of server send ≡ aborts → HasTransaction id number transaction.Aborted (served plan server send)
+aborts_law plan id number server send under is =
+    served_leaves plan id number server send aborts transaction.Aborted under is refl refl
 
 -- a second commit after one that appended
 pub twice_law : (first second : Plan) (id : List ℕ) (number : ℤ) (server : Server) (send again : Send) (entries : List Entry) → GoesUnder id number send → GoesUnder id number again

@@ -28,7 +28,7 @@ use Rattle.driver_link.specs.declared.machine.ServerTransaction.{ServerTransacti
 use Rattle.driver_link.specs.declared.machine.ServerTransaction.TheVariants as transaction
 use Rattle.driver_link.specs.declared.machine.Statement.{Statement}
 use Rattle.machine_laws.proofs.CommitLaws.{aborted_law, commits_law}
-use Rattle.machine_laws.proofs.HeldSessions.{Held, Keeps, case_above, events_held, interrupted_can, interruption_case, picks_held, puts_under, taken_greatest, told_held}
+use Rattle.machine_laws.proofs.HeldSessions.{Held, Keeps, case_above, events_held, greatest_interrupted, greatest_served, interrupted_can, interruption_case, picks_held, puts_under, taken_greatest, told_held}
 use Rattle.machine_laws.proofs.SteadyLaws.{case_is, case_there, old_law, served_case}
 use Rattle.machine_laws.specs.Ended.{AddsNoEntry, IsInside, IsPastOr, NoneInside, StaysAs, WaitsInside}
 use Rattle.machine_laws.specs.Events.{Event, after_events}
@@ -53,27 +53,6 @@ calm_interrupted most aborts calm = refl
 calm_interrupted most of_cursor calm = refl
 calm_interrupted most nothing calm = refl
 calm_interrupted most denied calm = refl
-
--- a step leaves the number
-pub greatest_served : (case : Case) (done : List Statement) (ran : List Entry) (known : KnownSession) → (session_after case done ran known).greatest ≡ known.greatest
-greatest_served too_old done ran known = refl
-greatest_served outside done ran known = refl
-greatest_served (gathers entries) done ran known = refl
-greatest_served (commits entries) done ran known = refl
-greatest_served aborts done ran known = refl
-greatest_served of_cursor done ran known = refl
-greatest_served nothing done ran known = refl
-greatest_served denied done ran known = refl
-
-pub greatest_interrupted : (case : Case) (done : List Statement) (ran : List Entry) (known : KnownSession) → (session_interrupted case done ran known).greatest ≡ known.greatest
-greatest_interrupted too_old done ran known = refl
-greatest_interrupted outside done ran known = refl
-greatest_interrupted (gathers entries) done ran known = refl
-greatest_interrupted (commits entries) done ran known = refl
-greatest_interrupted aborts done ran known = refl
-greatest_interrupted of_cursor done ran known = refl
-greatest_interrupted nothing done ran known = refl
-greatest_interrupted denied done ran known = refl
 
 -- a calm case leaves a transaction that a denial leaves
 calm_served : (its : ServerTransaction) (case : Case) (done : List Statement) (ran : List Entry) (known : KnownSession) → denied_transaction its ≡ its → is_calm case ≡ true

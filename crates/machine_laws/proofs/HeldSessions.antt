@@ -121,6 +121,30 @@ taken_greatest number inside start before above =
     equal : (number greatest : ℤ) → int_lt number greatest ≡ false → int_lt greatest number ≡ false → greatest ≡ number
     equal number greatest above below = grind (arith, ints)
 
+-- a step leaves the number
+pub greatest_served : (case : Case) (done : List Statement) (ran : List Entry) (known : KnownSession)
+    → (session_after case done ran known).greatest ≡ known.greatest
+greatest_served too_old done ran known = refl
+greatest_served outside done ran known = refl
+greatest_served (gathers entries) done ran known = refl
+greatest_served (commits entries) done ran known = refl
+greatest_served aborts done ran known = refl
+greatest_served of_cursor done ran known = refl
+greatest_served nothing done ran known = refl
+greatest_served denied done ran known = refl
+
+-- so does an interruption
+pub greatest_interrupted : (case : Case) (done : List Statement) (ran : List Entry) (known : KnownSession)
+    → (session_interrupted case done ran known).greatest ≡ known.greatest
+greatest_interrupted too_old done ran known = refl
+greatest_interrupted outside done ran known = refl
+greatest_interrupted (gathers entries) done ran known = refl
+greatest_interrupted (commits entries) done ran known = refl
+greatest_interrupted aborts done ran known = refl
+greatest_interrupted of_cursor done ran known = refl
+greatest_interrupted nothing done ran known = refl
+greatest_interrupted denied done ran known = refl
+
 -- the case of a send whose number is not below the greatest of its session
 pub case_above : (id : List ℕ) (number : ℤ) (server : Server) (send : Send) → GoesUnder id number send → is_below number (finite.get server.sessions id) ≡ false
     → case_of server send ≡ numbered_case (known_under id number server send) (is_new number (finite.get server.sessions id)) send send.body

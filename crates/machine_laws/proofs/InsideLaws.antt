@@ -1,8 +1,8 @@
--- Of a transaction a commit alone adds entries.
+-- Of a transaction a commit alone adds entries, and it adds those that were gathered.
 use Rattle.std.proofs.Common.{◌≡◌, ◌≢◌, ℕ, ℤ, ◌&&◌, ◌||◌, Bool, true, false, List, [], ◌++◌, Option, None, Some, refl, ap, ◌∙◌, if◌then◌else◌}
 use Rattle.std.proofs.lemmas.List.{append-nil}
 use Rattle.std.specs.FinMap as finite
-use Rattle.driver_link.specs.Cases.{Case, abort_case, case_under, is_end, is_in_transaction, known_of, known_under, numbered_case, outside, results_of, too_old, write_case, writes_of}
+use Rattle.driver_link.specs.Cases.{Case, abort_case, case_of, case_under, commits, is_end, is_in_transaction, known_of, known_under, numbered_case, outside, results_of, too_old, write_case, writes_of}
 use Rattle.driver_link.specs.Serving.{Plan, done_in, log_gains, served, served_in}
 use Rattle.driver_link.specs.Sessions.{is_below, is_new, running}
 use Rattle.driver_link.specs.Statements.{entries_of, negated}
@@ -63,3 +63,10 @@ inside_law plan id number server send under inside other =
     ∙ log_is case done plan.page server send
     ∙ ap (λ more. server.log ++ more) (under_gains id number server send (entries_of send.session send.number (writes_of send) done) inside other)
     ∙ append-nil server.log
+
+-- a commit of a transaction that runs appends what that has gathered
+pub appends_law : (plan : Plan) (server : Server) (send : Send) (entries : List Entry) → case_of server send ≡ commits entries
+    → (served plan server send).log ≡ server.log ++ entries
+appends_law plan server send entries is =
+    ap (λ s. s.log) (served_case plan server send (commits entries) is)
+    ∙ log_is (commits entries) (done_in (commits entries) plan (results_of (known_of server send)) send.body) plan.page server send

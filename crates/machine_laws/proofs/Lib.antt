@@ -9,3 +9,4 @@ pub mod EndedTransactions
 pub mod ValidServers
 pub mod QuietAnswers
 pub mod NewWrites
+pub mod GatheredWrites

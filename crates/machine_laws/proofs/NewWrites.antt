@@ -30,7 +30,7 @@ unfolding without_result
 without_kept kept at write writes result is =
     ap (λ found. if is_some found then without_result kept (at + 1) writes else write ∷ without_result kept (at + 1) writes) is
 
-without_new : (kept : Results) (at : ℕ) (write : PlacedWrite) (writes : List PlacedWrite) → finite.get kept at ≡ None
+pub without_new : (kept : Results) (at : ℕ) (write : PlacedWrite) (writes : List PlacedWrite) → finite.get kept at ≡ None
     → without_result kept at (write ∷ writes) ≡ write ∷ without_result kept (at + 1) writes
 unfolding without_result
 without_new kept at write writes is =
@@ -193,7 +193,7 @@ module _ (send : Send) where
   unfolding entries_of statements without_result
   each_end kept at results ordered = tt
 
-  each_entries : (results : List Planned) (ordered : Bool) (kept : Results) (at : ℕ) (writes : List PlacedWrite)
+  pub each_entries : (results : List Planned) (ordered : Bool) (kept : Results) (at : ℕ) (writes : List PlacedWrite)
       → RunsEach kept at writes (statements results [] ordered kept at writes)
   unfolding entries_of statements code_at
   each_entries results ordered kept at [] = each_end kept at results ordered

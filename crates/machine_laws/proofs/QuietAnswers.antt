@@ -16,7 +16,7 @@ use Rattle.driver_link.specs.Gathered.{entries_in, gathered_by, is_numbered}
 use Rattle.driver_link.specs.Honesty.{can_be_transient, facts_of, has_transient, is_overload, ran_before, ran_under}
 use Rattle.driver_link.specs.Interrupting.{aborted, done_before, interrupted_case, interrupted_in, interruption, runs_before, runs_in, session_interrupted, told_of_error, transient_as}
 use Rattle.driver_link.specs.Replies.{error_reply, served_reply, transaction_of}
-use Rattle.driver_link.specs.Serving.{Plan, done_in, log_gains, served, served_in, session_after, usual}
+use Rattle.driver_link.specs.Serving.{Plan, done_in, log_gains, served, served_in, usual}
 use Rattle.driver_link.specs.Sessions.{begin_session, denied_transaction, is_below, is_committed, is_new, taken}
 use Rattle.driver_link.specs.Settled.{Has}
 use Rattle.driver_link.specs.Statements.{entries_of, has_run, negated}
@@ -32,67 +32,81 @@ use Rattle.driver_link.specs.declared.machine.ServerTransaction.{ServerTransacti
 use Rattle.driver_link.specs.declared.machine.ServerTransaction.TheVariants as transaction
 use Rattle.driver_link.specs.declared.machine.Statement.{Statement}
 use Rattle.driver_link.specs.declared.machine.Statement.TheVariants.{Kept, Ran, Failed}
+use Rattle.machine_laws.proofs.CommitLaws.{case_leaves}
 use Rattle.machine_laws.proofs.EndedTransactions.{none_inside}
 use Rattle.machine_laws.proofs.ErrorReplies.{same_code, same_labels, served_error}
 use Rattle.machine_laws.proofs.HeldSessions.{both_false, case_above, events_held, free_sessions, interrupted_can, interrupted_late, interruption_case, is_early, naming, numbered_late, picks_held, puts_under, refused_can, taken_greatest}
 use Rattle.machine_laws.proofs.HonestLabels.{no_writes_told, overload_told}
 use Rattle.machine_laws.proofs.SteadyLaws.{case_there, served_case}
-use Rattle.machine_laws.proofs.ValidServers.{events_valid, held_ran, none_denied, none_opened, picks_valid, ran_held, ran_keeps, transient_put}
+use Rattle.machine_laws.proofs.ValidServers.{empty_denied, empty_opened, events_valid, held_ran, picks_valid, ran_held, ran_keeps, transient_put}
 use Rattle.machine_laws.specs.Ended.{NoneInside}
-use Rattle.machine_laws.specs.ErrorAnswers.{AddsNothing, CallsTransient, HasNone, IsEntryUnder, NoneWritten, NothingRan, SaysNothingRan, gathered_in, has_label}
+use Rattle.machine_laws.specs.ErrorAnswers.{AddsNothing, CallsTransient, HasNone, IsEntryUnder, IsSameOrNone, NoneWritten, NothingRan, SaysNothingRan, gathered_in, has_label}
 use Rattle.machine_laws.specs.Events.{Event, after_events}
 use Rattle.machine_laws.specs.Steady.{GoesUnder, HasTransaction}
 use Rattle.machine_laws.specs.Valid.{HasRunUnder, IsValid, RanUnder}
 
+-- two steps, each of which leaves entries the same or none
+less_twice : (a b c : List Entry) → IsSameOrNone a b → IsSameOrNone b c → IsSameOrNone a c
+less_twice a b c (inl one) (inl two) = inl (two ∙ one)
+less_twice a b c (inr none) (inl two) = inr (two ∙ none)
+less_twice a b c one (inr none) = inr none
+
+-- what stands in entries that are the same as before, or none, stood in them before
+less_has : (old now : List Entry) (entry : Entry) → IsSameOrNone old now → Has now entry → Has old entry
+less_has old now entry (inl same) has = subst (λ entries. Has entries entry) same has
+less_has old now entry (inr none) has = absurd (subst (λ entries. Has entries entry) none has)
+
 -- no session changed, and the log is the same
 adds_same : (old now : Server) → now.sessions ≡ old.sessions → now.log ≡ old.log → AddsNothing old now
-adds_same old now sessions log = record {
-  log = log;
-  gathered = λ id entry has. subst (λ known. Has (gathered_by (finite.get known id)) entry) sessions has;
-}
+adds_same old now sessions log = record { log = log; gathered = λ id. inl (ap (λ known. gathered_by (finite.get known id)) sessions) }
 
--- a session was put whose transaction has no more entries than before
+-- a session was put whose transaction has the same entries as before, or none
 adds_put : (id : List ℕ) (after : KnownSession) (old now : Server) → now.sessions ≡ finite.insert old.sessions id after → now.log ≡ old.log
-    → ((entry : Entry) → Has (entries_in after.transaction) entry → Has (gathered_in old id) entry) → AddsNothing old now
+    → IsSameOrNone (gathered_in old id) (entries_in after.transaction) → AddsNothing old now
 adds_put id after old now sessions log less = record { log = log; gathered = gathered_before }
   where
-    gathered_before : (other : List ℕ) (entry : Entry) → Has (gathered_in now other) entry → Has (gathered_in old other) entry
-    gathered_before other entry has =
-        let put : Has (gathered_by (finite.get (finite.insert old.sessions id after) other)) entry
-        = subst (λ known. Has (gathered_by (finite.get known other)) entry) sessions has in
+    gathered_before : (other : List ℕ) → IsSameOrNone (gathered_in old other) (gathered_in now other)
+    gathered_before other =
+        let put : gathered_in now other ≡ gathered_by (finite.get (finite.insert old.sessions id after) other)
+        = ap (λ known. gathered_by (finite.get known other)) sessions in
         elim (id_cases other id) [
           | inl same ↦
-              let here : finite.get (finite.insert old.sessions id after) other ≡ Some after
-              = ap (λ i. finite.get (finite.insert old.sessions id after) i) same ∙ id_same old.sessions id after in
-              subst (λ i. Has (gathered_in old i) entry) (sym same) (less entry (subst (λ found. Has (gathered_by found) entry) here put))
-          | inr differs ↦ subst (λ found. Has (gathered_by found) entry) (id_other old.sessions id after other differs) put
+              let here : gathered_in now other ≡ entries_in after.transaction
+              = put ∙ ap (λ i. gathered_by (finite.get (finite.insert old.sessions id after) i)) same ∙ ap gathered_by (id_same old.sessions id after) in
+              less_twice (gathered_in old other) (entries_in after.transaction) (gathered_in now other)
+              (less_twice (gathered_in old other) (gathered_in old id) (entries_in after.transaction) (inl (ap (gathered_in old) (sym same))) less) (inl here)
+          | inr differs ↦ inl (put ∙ ap gathered_by (id_other old.sessions id after other differs))
         ]
 
+-- a step that adds nothing after another one
 adds_twice : (a b c : Server) → AddsNothing a b → AddsNothing b c → AddsNothing a c
-adds_twice a b c one two = record { log = two.log ∙ one.log; gathered = λ id entry has. one.gathered id entry (two.gathered id entry has) }
+adds_twice a b c one two = record {
+  log = two.log ∙ one.log;
+  gathered = λ id. less_twice (gathered_in a id) (gathered_in b id) (gathered_in c id) (one.gathered id) (two.gathered id);
+}
 
--- a number that is taken has gathered no more than its session had
-taken_less : (number : ℤ) (inside start : Bool) (before : Option KnownSession) (entry : Entry) → Has (entries_in (taken number inside start before).transaction) entry
-    → Has (gathered_by before) entry
+-- a number that is taken has gathered what its session had, or nothing
+taken_less : (number : ℤ) (inside start : Bool) (before : Option KnownSession)
+    → IsSameOrNone (gathered_by before) (entries_in (taken number inside start before).transaction)
 unfolding taken
-taken_less number inside start None entry has = absurd (none_opened inside start entry has)
-taken_less number inside start (Some known) entry has = by_test (int_lt known.greatest number) has
+taken_less number inside start None = inr (empty_opened inside start)
+taken_less number inside start (Some known) = by_test (int_lt known.greatest number)
   where
-    by_test : (b : Bool) → Has (entries_in (if b then begin_session number inside start else known).transaction) entry → Has (entries_in known.transaction) entry
-    by_test true has = absurd (none_opened inside start entry has)
-    by_test false has = has
+    by_test : (b : Bool) → IsSameOrNone (entries_in known.transaction) (entries_in (if b then begin_session number inside start else known).transaction)
+    by_test true = inr (empty_opened inside start)
+    by_test false = inl refl
 
--- nor has it after an interruption
-left_less : (case : Case) (done : List Statement) (ran : List Entry) (known : KnownSession) (entry : Entry) → Has (entries_in (session_interrupted case done ran known).transaction) entry
-    → Has (entries_in known.transaction) entry
-left_less too_old done ran known entry has = has
-left_less outside done ran known entry has = has
-left_less (gathers entries) done ran known entry has = absurd has
-left_less (commits entries) done ran known entry has = absurd has
-left_less aborts done ran known entry has = absurd has
-left_less of_cursor done ran known entry has = has
-left_less nothing done ran known entry has = has
-left_less denied done ran known entry has = absurd (none_denied known.transaction entry has)
+-- so has it after an interruption
+left_less : (case : Case) (done : List Statement) (ran : List Entry) (known : KnownSession)
+    → IsSameOrNone (entries_in known.transaction) (entries_in (session_interrupted case done ran known).transaction)
+left_less too_old done ran known = inl refl
+left_less outside done ran known = inl refl
+left_less (gathers entries) done ran known = inr refl
+left_less (commits entries) done ran known = inr refl
+left_less aborts done ran known = inr refl
+left_less of_cursor done ran known = inl refl
+left_less nothing done ran known = inl refl
+left_less denied done ran known = inr (empty_denied known.transaction)
 
 -- where nothing ran there is no entry
 no_run : (session : Option (List ℕ)) (number : Option ℤ) (writes : List PlacedWrite) (done : List Statement) → has_run done ≡ false → entries_of session number writes done ≡ []
@@ -146,8 +160,10 @@ interruption_nothing most server send undecided none = elim (naming send) [
       (ap (λ s. s.sessions) whole
       ∙ puts_left (interrupted_case most full) done name.id name.number server send name.under (interrupted_late most full (numbered_late known new send send.body)))
       (left_log most server send none)
-      (λ entry has.
-      taken_less name.number (is_in_transaction send) send.start (finite.get server.sessions name.id) entry (left_less (interrupted_case most full) done ran known entry has))
+      (less_twice (gathered_in server name.id) (entries_in known.transaction)
+      (entries_in (session_interrupted (interrupted_case most full) done ran known).transaction)
+      (taken_less name.number (is_in_transaction send) send.start (finite.get server.sessions name.id))
+      (left_less (interrupted_case most full) done ran known))
   | inr free ↦ adds_same server (interruption most server send) (free_left most server send free) (left_log most server send none)
 ]
 
@@ -162,7 +178,7 @@ transient_nothing (Some id) (Some number) server send = by_test (is_in_transacti
         → AddsNothing server (if b then record server { sessions = finite.insert server.sessions id (aborted (known_under id number server send)) } else server)
     by_test true =
         adds_put id (aborted (known_under id number server send)) server
-        (record server { sessions = finite.insert server.sessions id (aborted (known_under id number server send)) }) refl refl (λ entry has. absurd has)
+        (record server { sessions = finite.insert server.sessions id (aborted (known_under id number server send)) }) refl refl (inr refl)
     by_test false = adds_same server server refl refl
 
 told_nothing : (labels : List (List ℕ)) (server : Server) (send : Send) → AddsNothing server (told_of_error labels server send)
@@ -353,7 +369,8 @@ has_none id number server valid none = record {
 still_none : (id : List ℕ) (number : ℤ) (old now : Server) → AddsNothing old now → HasNone id number old → HasNone id number now
 still_none id number old now adds none = record {
   log = λ entry has under. none.log entry (subst (λ log. Has log entry) adds.log has) under;
-  gathered = λ other entry has under. none.gathered other entry (adds.gathered other entry has) under;
+  gathered = λ other entry has under.
+      none.gathered other entry (less_has (gathered_in old other) (gathered_in now other) entry (adds.gathered other) has) under;
 }
 
 -- the law of answers that no writes were performed
@@ -436,16 +453,9 @@ known_is id number server send under = λ i. known_as (under.its_session i) (und
 denied_there : (id : List ℕ) (number : ℤ) (done : List Statement) (page : Option ℕ) (server : Server) (send : Send) → GoesUnder id number send
     → is_below number (finite.get server.sessions id) ≡ false → is_committed (known_under id number server send).transaction ≡ false
     → HasTransaction id number transaction.Aborted (served_in denied done page server send)
-unfolding served_in
 denied_there id number done page server send under above opens =
-    let known : KnownSession = known_under id number server send in
-    let change : KnownSession → KnownSession = session_after denied done (entries_of send.session send.number (writes_of send) done) in
-    record {
-      known = change known;
-      there = ap (λ sessions. finite.get sessions id) (puts_under id number denied change server send under refl) ∙ id_same server.sessions id (change known);
-      greatest = taken_greatest number (is_in_transaction send) send.start (finite.get server.sessions id) above;
-      its = not_committed known.transaction opens;
-    }
+    case_leaves id number server send denied done page transaction.Aborted under above refl
+    (not_committed (known_under id number server send).transaction opens)
 
 served_there : (id : List ℕ) (number : ℤ) (plan : Plan) (server : Server) (send : Send) (code : ℤ) (labels : List (List ℕ)) → GoesUnder id number send
     → served_reply plan server send ≡ error_reply code labels → has_transient labels ≡ true → HasTransaction id number transaction.Aborted (served plan server send)

@@ -40,8 +40,8 @@ use Rattle.driver_link.specs.declared.machine.ServerTransaction.{ServerTransacti
 use Rattle.driver_link.specs.declared.machine.ServerTransaction.TheVariants as transaction
 use Rattle.driver_link.specs.declared.machine.Statement.{Statement}
 use Rattle.driver_link.specs.declared.machine.Statement.TheVariants.{Kept, Ran, Failed}
-use Rattle.machine_laws.proofs.EndedTransactions.{below_more, below_still, greatest_interrupted, greatest_served, interrupted_log, log_served, same_below}
-use Rattle.machine_laws.proofs.HeldSessions.{Held, IsNamed, Keeps, case_above, free_sessions, interrupted_can, interrupted_late, interruption_case, interruption_held, is_early, naming, numbered_late, puts_under, refused_can, served_held, taken_greatest, transient_held}
+use Rattle.machine_laws.proofs.EndedTransactions.{below_more, below_still, interrupted_log, log_served, same_below}
+use Rattle.machine_laws.proofs.HeldSessions.{Held, IsNamed, Keeps, case_above, free_sessions, greatest_interrupted, greatest_served, interrupted_can, interrupted_late, interruption_case, interruption_held, is_early, naming, numbered_late, puts_under, refused_can, served_held, taken_greatest, transient_held}
 use Rattle.machine_laws.proofs.SteadyLaws.{case_there, old_law, served_case}
 use Rattle.machine_laws.specs.Events.{Event, after_events, arrives, sends}
 use Rattle.machine_laws.specs.Steady.{GoesUnder}
@@ -208,16 +208,26 @@ entry_ran : (session : Option (List ℕ)) (number : Option ℤ) (writes : List P
     → has_run done ≡ true
 entry_ran session number writes done entry is = any_passes_from_place is_run done is.at (Ran is.result) is.ran refl
 
-pub none_opened : (inside start : Bool) (entry : Entry) → Has (entries_in (opened inside start)) entry → ⊥
-none_opened false start entry has = has
-none_opened true true entry has = has
-none_opened true false entry has = has
+-- a transaction that begins has gathered nothing
+pub empty_opened : (inside start : Bool) → entries_in (opened inside start) ≡ []
+empty_opened false start = refl
+empty_opened true true = refl
+empty_opened true false = refl
 
-pub none_denied : (t : ServerTransaction) (entry : Entry) → Has (entries_in (denied_transaction t)) entry → ⊥
-none_denied transaction.None entry has = has
-none_denied (transaction.Running entries) entry has = has
-none_denied transaction.Committed entry has = has
-none_denied transaction.Aborted entry has = has
+-- nor has one in which a send was denied
+pub empty_denied : (t : ServerTransaction) → entries_in (denied_transaction t) ≡ []
+empty_denied transaction.None = refl
+empty_denied (transaction.Running entries) = refl
+empty_denied transaction.Committed = refl
+empty_denied transaction.Aborted = refl
+
+-- so no entry is in the one
+none_opened : (inside start : Bool) (entry : Entry) → Has (entries_in (opened inside start)) entry → ⊥
+none_opened inside start entry has = subst (λ entries. Has entries entry) (empty_opened inside start) has
+
+-- and none in the other
+none_denied : (t : ServerTransaction) (entry : Entry) → Has (entries_in (denied_transaction t)) entry → ⊥
+none_denied t entry has = subst (λ entries. Has entries entry) (empty_denied t) has
 
 -- open cursors have results left
 abbrev IsOpen : List (Option (List Reply)) → Type 0

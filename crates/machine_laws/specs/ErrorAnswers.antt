@@ -1,5 +1,5 @@
 -- What an answer that spells an error says of what its send did.
-use Rattle.std.specs.Prelude.{◌≡◌, ℕ, ℤ, Bool, true, List, Some, ◌⊎◌}
+use Rattle.std.specs.Prelude.{◌≡◌, ℕ, ℤ, Bool, true, List, [], Some, ◌⊎◌}
 use Rattle.std.specs.List.{list_any}
 use Rattle.std.specs.Str.{bytes_eq}
 use Rattle.std.specs.FinMap as finite
@@ -35,10 +35,14 @@ SaysNothingRan item code labels = (list_any is_overload labels ≡ true) ⊎ (Is
 abbrev pub gathered_in : Server → List ℕ → List Entry
 gathered_in server id = gathered_by (finite.get server.sessions id)
 
--- nothing was added: the log is as before, and no transaction has gathered an entry that it had not
+-- entries are the same as before, or none
+abbrev pub IsSameOrNone : List Entry → List Entry → Type 0
+IsSameOrNone old now = (now ≡ old) ⊎ (now ≡ [])
+
+-- nothing was added: the log is as before, and what the transaction of each session has gathered is as before, or none
 pub record AddsNothing (old now : Server) : Type 0 where
   pub log : now.log ≡ old.log
-  pub gathered : (id : List ℕ) (entry : Entry) → Has (gathered_in now id) entry → Has (gathered_in old id) entry
+  pub gathered : (id : List ℕ) → IsSameOrNone (gathered_in old id) (gathered_in now id)
 
 -- an entry of this session and number
 pub record IsEntryUnder (id : List ℕ) (number : ℤ) (entry : Entry) : Type 0 where

@@ -1,5 +1,5 @@
--- The writes of a send that have no kept result, and the entries of some of them.
-use Rattle.std.specs.Prelude.{◌≡◌, ℕ, ◌+◌, List, [], ◌∷◌, ◌++◌, is_some, ◌⊎◌, if◌then◌else◌}
+-- The writes of a send that have no kept result, the entries of some of them, and a transaction that gathers some.
+use Rattle.std.specs.Prelude.{◌≡◌, ℕ, ◌+◌, ℤ, List, [], ◌∷◌, ◌++◌, is_some, ◌⊎◌, if◌then◌else◌}
 use Rattle.std.specs.FinMap as finite
 use Rattle.driver_link.specs.Cases.{known_of, results_of, writes_of}
 use Rattle.driver_link.specs.Statements.{Results, counts_by_plan, entry_of, no_plan}
@@ -8,6 +8,8 @@ use Rattle.driver_link.specs.declared.machine.Entry.{Entry}
 use Rattle.driver_link.specs.declared.machine.PlacedWrite.{PlacedWrite}
 use Rattle.driver_link.specs.declared.machine.Send.{Send}
 use Rattle.driver_link.specs.declared.machine.Server.{Server}
+use Rattle.driver_link.specs.declared.machine.ServerTransaction.TheVariants as transaction
+use Rattle.machine_laws.specs.Steady.{HasTransaction}
 
 -- the writes without a kept result, the first write at a position
 unfoldable pub without_result : Results → ℕ → List PlacedWrite → List PlacedWrite
@@ -52,3 +54,9 @@ pub record GainsOfEach (send : Send) (writes : List PlacedWrite) (old now : Serv
   pub more : List Entry
   pub log : now.log ≡ old.log ++ more
   pub are : AreOfEach send writes more
+
+-- the transaction of this session and number runs, and has gathered these entries and behind them one of each write of a send, no other
+pub record GathersEach (id : List ℕ) (number : ℤ) (send : Send) (entries : List Entry) (now : Server) : Type 0 where
+  pub more : List Entry
+  pub its : HasTransaction id number (transaction.Running (entries ++ more)) now
+  pub are : AreOfEach send (writes_of send) more

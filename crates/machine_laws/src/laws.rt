@@ -1,7 +1,7 @@
 //! Laws of serving: what entered the log stays, and nothing enters it twice.
-ghost use Rattle.std.specs.Prelude.{◌≡◌, ◌≢◌, ℕ, ℤ, true, List, Some};
+ghost use Rattle.std.specs.Prelude.{◌≡◌, ◌≢◌, ℕ, ℤ, true, List, [], ◌++◌, Some};
 ghost use Rattle.std.specs.FinMap as finite;
-ghost use Rattle.driver_link.specs.Cases.{case_of, commits, is_in_transaction, known_of, outside, results_of, writes_of};
+ghost use Rattle.driver_link.specs.Cases.{aborts, case_of, commits, gathers, is_in_transaction, known_of, outside, results_of, writes_of};
 ghost use Rattle.driver_link.specs.Exchange.{delivered, exchanged};
 ghost use Rattle.driver_link.specs.Serving.{Plan, served};
 ghost use Rattle.driver_link.specs.Sessions.{is_below};
@@ -11,6 +11,7 @@ ghost use Rattle.driver_link.specs.declared.machine.Send.{Send};
 ghost use Rattle.driver_link.specs.declared.machine.SendBody.TheVariants.{Commit};
 ghost use Rattle.driver_link.specs.declared.machine.Server.{Server};
 ghost use Rattle.driver_link.specs.declared.machine.ServerTransaction.TheVariants as transaction;
+ghost use Rattle.machine_laws.specs.Fresh.{GathersEach};
 ghost use Rattle.machine_laws.specs.Steady.{GoesUnder, HasResults, HasTransaction, OnlyAdds};
 
 /// A number below the greatest of its session changes nothing.
@@ -47,6 +48,20 @@ pub fn only_a_commit_adds_of_a_transaction()
         (served plan server send).log ≡ server.log }
 {}
 
+/// Where none is to fail, a transaction that runs gathers an entry of each write behind what it had.
+pub fn writes_in_a_transaction_are_gathered_once()
+    ensures { (plan : Plan) (id : List ℕ) (number : ℤ) (server : Server) (send : Send)
+        (entries : List Entry) → GoesUnder id number send → case_of server send ≡ gathers entries →
+        plan.fail ≡ [] → GathersEach id number send entries (served plan server send) }
+{}
+
+/// A commit of a transaction that runs appends what that has gathered, and nothing else.
+#[tactic(auto, using(crate::proofs::InsideLaws::appends_law))]
+pub fn a_commit_appends_what_was_gathered()
+    ensures { (plan : Plan) (server : Server) (send : Send) (entries : List Entry) →
+        case_of server send ≡ commits entries → (served plan server send).log ≡ server.log ++ entries }
+{}
+
 /// After a commit that appended entries, another one under the same number appends none.
 #[tactic(auto, using(crate::proofs::CommitLaws::twice_law))]
 pub fn a_second_commit_appends_nothing()
@@ -55,6 +70,13 @@ pub fn a_second_commit_appends_nothing()
         GoesUnder id number send → GoesUnder id number again → case_of server send ≡ commits entries →
         again.body ≡ Commit →
         (served second (served first server send) again).log ≡ (served first server send).log }
+{}
+
+/// After an abort of a transaction that runs, the transaction is aborted.
+pub fn an_abort_aborts()
+    ensures { (plan : Plan) (id : List ℕ) (number : ℤ) (server : Server) (send : Send) →
+        GoesUnder id number send → case_of server send ≡ aborts →
+        HasTransaction id number transaction.Aborted (served plan server send) }
 {}
 
 /// Serving adds entries at the log's end alone.
