@@ -1,7 +1,9 @@
 //! A reader and a writer, as standard input and output are, as a source and a sink that tell no bytes.
 #![tactic(auto)]
 
-ghost use Rattle.std.specs.Prelude.{◌≡◌, ◌+◌, ◌-◌, ◌^◌, min};
+ghost use Rattle.std.specs.Prelude.{◌≡◌, ◌+◌, ◌-◌, ◌^◌, ◌≤◌, ◌<◌, length, min, IfOk};
+ghost use Rattle.std.specs.Io.KnownBytes.{ReadConsumes, WriteAppends};
+ghost use Rattle.driver_link.specs.Faults.{FailsByCount};
 
 use driver_link::{Failed, Sink, Source};
 use std::io::{Read, Write};
@@ -29,7 +31,11 @@ impl<R: Read> Source for Reading<R> {
 
     ghost faults = { λ reading. reading.faults };
 
-    fn read(&mut self, into: &mut [u8]) -> Result<usize, Failed> {
+    fn read(&mut self, into: &mut [u8]) -> Result<usize, Failed>
+        ensures within { IfOk result (λ count. count ≤ length into.old) }
+        ensures cause { FailsByCount self.old.faults self.new.faults result }
+        ensures reads { ReadConsumes (R.remaining self.old.inner) (R.remaining self.new.inner) result into.new }
+    {
         match self.inner.read(into) {
             Ok(count) => Ok(count),
             Err(_) => {
@@ -64,7 +70,13 @@ impl<W: Write> Sink for Writing<W> {
     ghost faults = { λ writing. writing.faults };
 
     /// A write of nothing out of something is a failure.
-    fn write(&mut self, bytes: &[u8]) -> Result<usize, Failed> {
+    #[tactic(auto, using(crate::proofs::NothingWritten::nothing_written))]
+    fn write(&mut self, bytes: &[u8]) -> Result<usize, Failed>
+        ensures within { IfOk result (λ count. count ≤ length bytes.now) }
+        ensures some { IfOk result (λ count. 0 < length bytes.now → 0 < count) }
+        ensures cause { FailsByCount self.old.faults self.new.faults result }
+        ensures writes { WriteAppends (W.contents self.old.inner) (W.contents self.new.inner) result bytes.now }
+    {
         match self.inner.write(bytes) {
             Ok(count) => {
                 if count > 0 || bytes.is_empty() {
