@@ -1,6 +1,7 @@
 //! A caller of the driver's calls: a list of writes, and how many of them are Ok.
 ghost use Rattle.std.specs.Prelude.{◌≡◌, count_by, is_ok, IfOk, OnErr};
 ghost use Rattle.driver_attempt.specs.Moment.{moment_of};
+ghost use Rattle.call_runs.specs.CallByCall.{HaveCauses};
 ghost use Rattle.call_runs.specs.MainTheorem.{Begins, MeetsMainTheorem};
 
 use bson_lite::List;
@@ -30,6 +31,9 @@ pub fn run_and_count<S: SessionStore, L: Link, K: Clock, R: Rng>(
         (moment_of S.tells L.tells K.tells R.stream client.old outside.old)
         (moment_of S.tells L.tells K.tells R.stream client.new outside.new) →
         MeetsMainTheorem calls.now tally.outcomes
+        (moment_of S.tells L.tells K.tells R.stream client.new outside.new)) }
+    ensures causes { IfOk result (λ tally. HaveCauses calls.now tally.outcomes
+        (moment_of S.tells L.tells K.tells R.stream client.old outside.old)
         (moment_of S.tells L.tells K.tells R.stream client.new outside.new)) }
     ensures counted { IfOk result (λ tally.
         tally.done ≡ count_by (λ outcome. is_ok outcome.result) tally.outcomes) }
