@@ -69,7 +69,7 @@ refused_first : (before now : Moment) (models : List WriteModel) (options : Bulk
 refused_first before now models options error rest prepares = record {
   tells = λ other refused. elim prepares [
     | inl judged ↦ elim judged.1 [
-      | inl memory ↦ inr memory
+      | inl memory ↦ inr memory.kind_is
       | inr found ↦ inl (found.is.kind_is ∙ one_input models options found.why other found.refused refused, found.is.labels_are)
     ]
     | inr short ↦ absurd (not_refused models options other short.0 refused)

@@ -55,7 +55,7 @@ accepted_bulk models options _ accepted refused = refused
 -- so an error that tells of it tells of want of memory
 accepted_memory : (models : List WriteModel) (options : BulkWriteOptions) (error : Error) → IsBulkAccepted models options → TellsBulkInput models options error → kind_of error ≡ kind.Memory
 accepted_memory models options error accepted tells = elim tells [
-  | inl memory ↦ memory
+  | inl memory ↦ memory.kind_is
   | inr input ↦ absurd (accepted_bulk models options input.why accepted input.refused)
 ]
 

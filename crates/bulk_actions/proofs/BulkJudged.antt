@@ -88,7 +88,7 @@ faults_none models options accepted =
 -- models whose input is accepted are spelled as they are sent
 pub models_memory : (models : List WriteModel) (options : BulkWriteOptions) (error : Error) → IsBulkAccepted models options → TellsOneModel models error → kind_of error ≡ kind.Memory
 models_memory models options error accepted tells = elim tells [
-  | inl memory ↦ memory
+  | inl memory ↦ memory.kind_is
   | inr one ↦
       let sent : WriteModel = with_model_id one.own.id one.model in
       let none = each_model_none models one.at one.model one.stands (faults_none models options accepted.values) in

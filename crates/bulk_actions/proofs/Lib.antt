@@ -25,6 +25,7 @@ pub mod FailedBatches
 pub mod FewestBulk
 pub mod FewestRuns
 pub mod Following
+pub mod MemoryAlone
 pub mod OpRuns
 pub mod OpsLeft
 pub mod OpsSpelled

@@ -6,7 +6,8 @@ use Rattle.std.specs.Prelude.{Some, ◌⊎◌}
 use Rattle.bson_lite.specs.declared.bson.ObjectId.{ObjectId}
 use Rattle.driver_error.specs.declared.error.Error.{Error}
 use Rattle.driver_error.specs.declared.kind.ErrorKind.TheVariants.{Memory}
-use Rattle.driver_error.specs.Error.{kind_of}
+use Rattle.driver_error.specs.Error.{IsAlone}
+use Rattle.driver_error.specs.LabelTexts.{no_labels}
 use Rattle.driver_options.specs.declared.models.WriteModel.{WriteModel}
 use Rattle.driver_session.specs.StoreTells.{StoreTells}
 use Rattle.bulk_fronts.specs.declared.own_op.OwnOp.{OwnOp}
@@ -93,7 +94,7 @@ models_may store mid now models at model own within read owns (inr drawn) = reco
 
 -- what refuses one of the models
 pub tells_one_model : (models : List WriteModel) (at : ℕ) (model : WriteModel) (error : Error) → at < length models → model ≡ get_or models at model
-    → (kind_of error ≡ Memory) ⊎ IsModelError model error → TellsOneModel models error
+    → IsAlone Memory no_labels error ⊎ IsModelError model error → TellsOneModel models error
 tells_one_model models at model error within read (inl memory) = inl memory
 tells_one_model models at model error within read (inr own) =
     inr (record { at = at; model = model; stands = slice_get-get_or models at model within ∙ ap (λ (given : WriteModel). Some given) (sym read); own = own })

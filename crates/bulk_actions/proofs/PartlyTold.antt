@@ -190,7 +190,7 @@ refused_none models options _ refused = refl
 unmade_none : (before now : Moment) (models : List WriteModel) (options : BulkWriteOptions) (error : Error) → UnmadeBulk before now models options error → part_of_error error ≡ None
 unmade_none before now models options error unmade = elim unmade.prepares [
   | inl judged ↦ elim judged.1 [
-    | inl memory ↦ part_by error kind.Memory memory
+    | inl memory ↦ part_by error kind.Memory memory.kind_is
     | inr input ↦ part_by error input.why input.is.kind_is ∙ refused_none models options input.why input.refused
   ]
   | inr short ↦ part_by error kind.Memory short.1.0

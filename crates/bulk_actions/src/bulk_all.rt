@@ -1,6 +1,7 @@
 //! The bulk write, from its caller's models to its answer.
-ghost use Rattle.std.specs.Prelude.{◌≡◌, Ok as Fine};
+ghost use Rattle.std.specs.Prelude.{◌≡◌, IfErr, Ok as Fine};
 ghost use Rattle.driver_attempt.specs.Client.{options_of};
+ghost use Rattle.driver_attempt.specs.Failures.{MemoryAlone};
 ghost use Rattle.driver_attempt.specs.Moment.{moment_of};
 ghost use Rattle.bulk_actions.specs.BulkCalls.{AnswersStanding, BulkCaused, MakesBulk};
 ghost use Rattle.bulk_actions.specs.inside.BulkBatches.{IsBegun};
@@ -34,6 +35,7 @@ pub fn bulk_all<S: SessionStore, L: Link, K: Clock, R: Rng, T: BulkWriteResult>(
         (moment_of S.tells L.tells K.tells R.stream client.old outside.old)
         (moment_of S.tells L.tells K.tells R.stream client.new outside.new)
         models.now options.now outside.old.call result }
+    ensures memory { IfErr result (λ error. MemoryAlone error) }
     ensures options { options_of client.new ≡ options_of client.old }
     ensures call { outside.new.call ≡ outside.old.call }
 {

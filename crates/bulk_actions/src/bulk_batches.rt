@@ -1,12 +1,13 @@
 //! The batches of a bulk write, one operation each, and what stands behind them.
-ghost use Rattle.std.specs.Prelude.{◌≡◌, ◌<◌, true, drop, length, IfOk, IfSome, OnErr, None as Unset, Some as Set, if◌then◌else◌};
+ghost use Rattle.std.specs.Prelude.{◌≡◌, ◌<◌, true, drop, length, IfErr, IfOk, IfSome, OnErr, None as Unset, Some as Set, if◌then◌else◌};
 ghost use Rattle.bulk_outcomes.specs.Status.{Stands, goes_on};
 ghost use Rattle.bulk_fronts.specs.BulkWrites.{bulk_is_ordered};
 ghost use Rattle.driver_attempt.specs.Client.{options_of};
+ghost use Rattle.driver_attempt.specs.Failures.{MemoryAlone};
 ghost use Rattle.driver_attempt.specs.Moment.{moment_of};
 ghost use Rattle.many_actions.specs.BatchPlans.{places_from};
 ghost use Rattle.bulk_actions.specs.BulkBatches.{Takes};
-ghost use Rattle.bulk_actions.specs.inside.BulkBatches.{AreBulkOps, BulkBatchMade, EndHasKind, MakesBatches, NextWithin, StepsTo};
+ghost use Rattle.bulk_actions.specs.inside.BulkBatches.{AreBulkOps, BulkBatchMade, EndHasKind, MakesBatches, NextWithin, StandsAlone, StepsTo};
 
 use bulk_fronts::OwnOp;
 use bulk_ops::BulkWriteOp;
@@ -70,6 +71,7 @@ fn make_batch<S: SessionStore, L: Link, K: Clock, R: Rng, T: BulkWriteResult, Q:
         (moment_of S.tells L.tells K.tells R.stream client.old outside.old)
         (moment_of S.tells L.tells K.tells R.stream client.new outside.new)
         batch.count batch.came) }
+    ensures memory { IfOk result (λ batch. IfErr batch.came (λ error. MemoryAlone error)) }
     ensures unmade { OnErr result (
         moment_of S.tells L.tells K.tells R.stream client.new outside.new
         ≡ moment_of S.tells L.tells K.tells R.stream client.old outside.old) }
@@ -131,6 +133,8 @@ fn next_batch<S: SessionStore, L: Link, K: Clock, R: Rng, T: BulkWriteResult>(
     ensures stands { IfOk result (λ behind. IfSome behind.next (λ count. Stands T.tells behind.standing)) }
     ensures goes { IfOk result (λ behind. IfSome behind.next
         (λ count. goes_on (bulk_is_ordered options.now) behind.standing ≡ true)) }
+    ensures memory { IfErr result (λ error. MemoryAlone error) }
+    ensures alone { IfOk result (λ behind. StandsAlone behind.standing) }
     ensures options { options_of client.new ≡ options_of client.old }
     ensures call { outside.new.call ≡ outside.old.call }
 {
@@ -174,6 +178,8 @@ pub(crate) fn make_batches<S: SessionStore, L: Link, K: Clock, R: Rng, T: BulkWr
         (moment_of S.tells L.tells K.tells R.stream client.old outside.old)
         (moment_of S.tells L.tells K.tells R.stream client.new outside.new)
         result }
+    ensures memory { IfErr result (λ error. MemoryAlone error) }
+    ensures alone { IfOk result (λ standing. StandsAlone standing) }
     ensures options { options_of client.new ≡ options_of client.old }
     ensures call { outside.new.call ≡ outside.old.call }
 {

@@ -1,6 +1,7 @@
 //! What a bulk write begins with: its input is judged, and then its ops are made.
-ghost use Rattle.std.specs.Prelude.{◌≡◌};
+ghost use Rattle.std.specs.Prelude.{◌≡◌, IfErr};
 ghost use Rattle.driver_attempt.specs.Client.{options_of, store_of};
+ghost use Rattle.driver_attempt.specs.Failures.{MemoryAlone};
 ghost use Rattle.bulk_actions.specs.BulkIds.{PreparesOps};
 
 use crate::own_ops::own_ops;
@@ -24,6 +25,7 @@ pub fn bulk_ops<S: SessionStore>(
 ) -> Result<List<OwnOp>>
     ensures prepares { PreparesOps (S.tells (store_of client.old)) (S.tells (store_of client.new))
         models.now options.now result }
+    ensures memory { IfErr result (λ error. MemoryAlone error) }
     ensures options { options_of client.new ≡ options_of client.old }
 {
     if let Some(error) = bulk_refusal(alloc, models, options) {

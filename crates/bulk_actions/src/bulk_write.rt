@@ -1,7 +1,8 @@
 //! Bulk writes, as a client's user asks for them.
-ghost use Rattle.std.specs.Prelude.{◌≡◌, None as Unset, Some as Set};
+ghost use Rattle.std.specs.Prelude.{◌≡◌, IfErr, None as Unset, Some as Set};
 ghost use Rattle.bulk_ops.specs.BulkSpec.{is_verbose};
 ghost use Rattle.driver_attempt.specs.Client.{options_of};
+ghost use Rattle.driver_attempt.specs.Failures.{MemoryAlone};
 ghost use Rattle.driver_attempt.specs.Moment.{moment_of};
 ghost use Rattle.bulk_actions.specs.BulkCalls.{BulkCaused, MakesBulk};
 ghost use Rattle.bulk_actions.specs.BulkCompleteness.{CompletesBulk};
@@ -257,10 +258,11 @@ impl<'a, S: SessionStore, T: BulkWriteResult> BulkWrite<'a, S, T> {
     /// server is told an Ok was cut into no more batches than its limits ask for (`fewest`); and where the store tells its
     /// pool, the numbers of idle sessions rise by one at most for each batch into which the models are cut, where the server
     /// is told, and else for each model (`raises`). There, and where no send that waits is of a cursor yet to be opened, a
-    /// valid one whose part of the schedule is gentle answers Ok or want of memory (`complete`). Errors:
-    /// InvalidArgument and BsonSerialization for its input; BulkWrite for writes that failed, a write concern that was not met,
-    /// or a later batch or a page that failed behind what stands, which is then its source; InvalidResponse for sums of counts
-    /// that leave 64 bits; want of memory; and those of `execute_operation` at the first batch.
+    /// valid one whose part of the schedule is gentle answers Ok or want of memory (`complete`). An error of want of memory tells
+    /// of nothing else (`memory`). Errors: InvalidArgument and BsonSerialization for its input; BulkWrite for writes that
+    /// failed, a write concern that was not met, or a later batch or a page that failed behind what stands, which is then its
+    /// source; InvalidResponse for sums of counts that leave 64 bits; want of memory; and those of `execute_operation` at the
+    /// first batch.
     pub fn run<L: Link, K: Clock, R: Rng>(
         self,
         alloc: Global,
@@ -302,6 +304,7 @@ impl<'a, S: SessionStore, T: BulkWriteResult> BulkWrite<'a, S, T> {
             (moment_of S.tells L.tells K.tells R.stream self.entry.client.now outside.old)
             (moment_of S.tells L.tells K.tells R.stream self.exit.0.now outside.new)
             self.entry.models.now self.entry.options (is_verbose T.tells) }
+        ensures memory { IfErr result (λ error. MemoryAlone error) }
         ensures options { options_of self.exit.0.now ≡ options_of self.entry.client.now }
         ensures call { outside.new.call ≡ outside.old.call }
     {

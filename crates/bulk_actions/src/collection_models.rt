@@ -1,7 +1,8 @@
 //! Models of writes on a collection, as its user makes them.
 ghost use Rattle.std.specs.Prelude.{◌≡◌, IfErr, IfOk, None};
 ghost use Rattle.driver_error.specs.declared.kind.ErrorKind.TheVariants.{Memory};
-ghost use Rattle.driver_error.specs.Error.{kind_of};
+ghost use Rattle.driver_error.specs.Error.{IsAlone};
+ghost use Rattle.driver_error.specs.LabelTexts.{no_labels};
 
 use bson_lite::{Document, TryClone};
 use driver_error::Result;
@@ -34,7 +35,7 @@ impl CollectionModels for Collection {
     fn insert_one_model<T: ToDocument>(&self, alloc: Global, document: &T) -> Result<InsertOneModel>
         ensures made { IfOk result (λ model. model ≡ record
             { namespace = self.now.namespace; document = T.document document.now }) }
-        ensures short { IfErr result (λ error. kind_of error ≡ Memory) }
+        ensures short { IfErr result (λ error. IsAlone Memory no_labels error) }
     {
         let namespace = self.namespace.try_clone(alloc)?;
         let document = document.to_document(alloc)?;
@@ -58,7 +59,7 @@ impl CollectionModels for Collection {
           upsert = None;
           sort = None;
         }) }
-        ensures short { IfErr result (λ error. kind_of error ≡ Memory) }
+        ensures short { IfErr result (λ error. IsAlone Memory no_labels error) }
     {
         let namespace = self.namespace.try_clone(alloc)?;
         let replacement = replacement.to_document(alloc)?;

@@ -10,7 +10,8 @@ use Rattle.bson_lite.specs.Namespace.{dotted}
 use Rattle.bson_lite.specs.Spelling.{Spells, four}
 use Rattle.driver_error.specs.declared.error.Error.{Error}
 use Rattle.driver_error.specs.declared.kind.ErrorKind.TheVariants.{Memory}
-use Rattle.driver_error.specs.Error.{kind_of}
+use Rattle.driver_error.specs.Error.{IsAlone}
+use Rattle.driver_error.specs.LabelTexts.{no_labels}
 use Rattle.driver_options.specs.declared.models.OperationType.{OperationType}
 use Rattle.driver_options.specs.declared.models.OperationType.TheVariants as operation
 use Rattle.driver_options.specs.declared.models.ReplaceOneModel.{ReplaceOneModel}
@@ -153,7 +154,7 @@ AreOps (model ∷ models) (own ∷ rest) = IsOpOf model own × AreOps models res
 -- a model's op as it is sent, or the error that tells why it has no spelling, or want of memory
 abbrev pub SpellsOp : WriteModel → Result OwnOp Error → Type 0
 SpellsOp model (Ok own) = IsOpOf model own
-SpellsOp model (Err error) = (kind_of error ≡ Memory) ⊎ IsUnspelled (op_document 0 model) error
+SpellsOp model (Err error) = IsAlone Memory no_labels error ⊎ IsUnspelled (op_document 0 model) error
 
 -- the bytes of an op with the number of its namespace in their place: the document's length, a type and a key of six letters
 -- stand before it

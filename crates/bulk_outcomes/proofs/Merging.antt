@@ -1,11 +1,15 @@
--- Parts of sums that fit, and the order of two results.
-use Rattle.std.proofs.Common.{◌≡◌, ℤ, pos, ◌+ℤ◌, ◌≤ℤ◌, FitsSigned, w64, arith}
+-- Parts of sums that fit, the order of two results, and the grouping of failures.
+use Rattle.std.proofs.Common.{◌≡◌, ℤ, pos, ◌+ℤ◌, ◌≤ℤ◌, Option, None, Some, FitsSigned, w64, refl, ap, append_assoc, arith}
 use Rattle.std.proofs.Math.IntN.{+ℤ_comm}
 use Rattle.std.proofs.lemmas.Int.{ints}
-use Rattle.bson_lite.proofs.Uniting.{union_comm}
+use Rattle.bson_lite.proofs.Uniting.{union_assoc, union_comm}
+use Rattle.server_answers.specs.declared.results.PartialBulkWriteResult.{PartialBulkWriteResult}
+use Rattle.server_answers.specs.declared.results.PartialBulkWriteResult.TheVariants as partly
 use Rattle.server_answers.specs.declared.results.VerboseBulkWriteResult.{VerboseBulkWriteResult}
-use Rattle.driver_error.specs.BulkErrors.{merged_verbose}
+use Rattle.driver_error.specs.declared.write.BulkWriteError.{BulkWriteError}
+use Rattle.driver_error.specs.BulkErrors.{AreAlike, AreOfOneKind, merged_errors, merged_partial, merged_partials, merged_verbose}
 use Rattle.bulk_outcomes.specs.BulkResults.{AreApart, AreCounted}
+use Rattle.bulk_outcomes.specs.lawful.Merging.{added_assoc, merged_assoc}
 use Rattle.driver_error.specs.Counts.{AllFit, Counts, added, five}
 
 -- ---- parts of a sum that fits
@@ -50,3 +54,33 @@ merged_comm a b apart = λ i. record {
   update_results = union_comm a.update_results b.update_results apart.updates i;
   delete_results = union_comm a.delete_results b.delete_results apart.deletes i;
 }
+
+-- ---- the grouping of failures
+partial_groups : (a b c : PartialBulkWriteResult) → AreOfOneKind a b → AreOfOneKind b c → merged_partial (merged_partial a b) c ≡ merged_partial a (merged_partial b c)
+partial_groups (partly.Summary a) (partly.Summary b) (partly.Summary c) first second = ap partly.Summary (added_assoc a b c)
+partial_groups (partly.Verbose a) (partly.Verbose b) (partly.Verbose c) first second = ap partly.Verbose (merged_assoc a b c)
+partial_groups (partly.Summary a) (partly.Summary b) (partly.Verbose c) first second = absurd second
+partial_groups (partly.Verbose a) (partly.Verbose b) (partly.Summary c) first second = absurd second
+partial_groups (partly.Summary a) (partly.Verbose b) c first second = absurd first
+partial_groups (partly.Verbose a) (partly.Summary b) c first second = absurd first
+
+-- the same of results that may not be there
+partials_group : (a b c : Option PartialBulkWriteResult) → AreAlike a b → AreAlike b c → merged_partials (merged_partials a b) c ≡ merged_partials a (merged_partials b c)
+partials_group None b c first second = refl
+partials_group (Some a) None c first second = refl
+partials_group (Some a) (Some b) None first second = refl
+partials_group (Some a) (Some b) (Some c) first second = ap (λ partial. Some partial) (partial_groups a b c first second)
+
+-- failures of three parts
+pub errors_group : (a b c : BulkWriteError) → AreAlike a.partial_result b.partial_result → AreAlike b.partial_result c.partial_result
+    → merged_errors (merged_errors a b) c ≡ merged_errors a (merged_errors b c)
+errors_group a b c first second = λ i. record {
+  write_concern_errors = append_assoc a.write_concern_errors b.write_concern_errors c.write_concern_errors i;
+  write_errors = union_assoc a.write_errors b.write_errors c.write_errors i;
+  partial_result = partials_group a.partial_result b.partial_result c.partial_result first second i;
+}
+
+-- what succeeded in an earlier part stands where a later one tells of nothing
+pub partial_alone : (partial : Option PartialBulkWriteResult) → merged_partials partial None ≡ partial
+partial_alone None = refl
+partial_alone (Some partial) = refl

@@ -1,13 +1,15 @@
 //! Laws of results that are merged, and of what stands between the batches of a bulk write.
-ghost use Rattle.std.specs.Prelude.{◌≡◌, ℕ, Bool, true, Ok};
+ghost use Rattle.std.specs.Prelude.{◌≡◌, ℕ, Bool, true, Ok, Option, None};
 ghost use Rattle.std.specs.FinMap as finite;
 ghost use Rattle.std.specs.Option.{option_or};
 ghost use Rattle.bulk_outcomes.specs.declared.status.ExecutionStatus.{ExecutionStatus};
 ghost use Rattle.bulk_outcomes.specs.BulkResults.{AreApart, AreCounted};
 ghost use Rattle.bulk_outcomes.specs.Status.{FailsWith, HasKind, IsBulkOfKind, Stands, Succeeds, goes_on};
 ghost use Rattle.driver_error.specs.declared.error.Error.{Error};
+ghost use Rattle.server_answers.specs.declared.results.PartialBulkWriteResult.{PartialBulkWriteResult};
 ghost use Rattle.server_answers.specs.declared.results.VerboseBulkWriteResult.{VerboseBulkWriteResult};
-ghost use Rattle.driver_error.specs.BulkErrors.{failures_in, merged_verbose};
+ghost use Rattle.driver_error.specs.declared.write.BulkWriteError.{BulkWriteError};
+ghost use Rattle.driver_error.specs.BulkErrors.{AreAlike, failures_in, merged_errors, merged_partials, merged_verbose};
 ghost use Rattle.driver_error.specs.Counts.{AllFit, Counts, added};
 ghost use Rattle.driver_error.specs.Error.{kind_of};
 
@@ -30,6 +32,22 @@ pub fn groupings_fit_together()
 pub fn nothing_is_neutral<R: BulkWriteResult>()
     ensures before { (a : R) → R.tells.merged R.tells.nothing a ≡ a }
     ensures after { (a : R) → R.tells.merged a R.tells.nothing ≡ a }
+{}
+
+/// How the failures of parts of a bulk write are grouped as they are merged does not matter, where the results in those that
+/// stand side by side are of one kind.
+#[tactic(auto, using(crate::proofs::Merging::errors_group))]
+pub fn merging_failures_is_associative()
+    ensures { (a b c : BulkWriteError) → AreAlike a.partial_result b.partial_result
+        → AreAlike b.partial_result c.partial_result
+        → merged_errors (merged_errors a b) c ≡ merged_errors a (merged_errors b c) }
+{}
+
+/// What succeeded in one of two parts stands where the other tells of nothing.
+#[tactic(auto, using(crate::proofs::Merging::partial_alone))]
+pub fn what_succeeded_alone_stands()
+    ensures before { (partial : Option PartialBulkWriteResult) → merged_partials partial None ≡ partial }
+    ensures after { (partial : Option PartialBulkWriteResult) → merged_partials None partial ≡ partial }
 {}
 
 /// Where no index has a result in both, the order of the two does not matter; counts alone come in any order.

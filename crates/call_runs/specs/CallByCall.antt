@@ -1,6 +1,7 @@
 -- Calls one after another: what holds of each between the moments before and after it.
-use Rattle.std.specs.Prelude.{◌≡◌, ℕ, ◌≤◌, List, [], ◌∷◌, ◌++◌, length}
+use Rattle.std.specs.Prelude.{◌≡◌, ℕ, ◌≤◌, List, [], ◌∷◌, ◌++◌, length, IfErr}
 use Rattle.driver_link.specs.Clock.{ClockTells, ReadsClock}
+use Rattle.driver_attempt.specs.Failures.{MemoryAlone}
 use Rattle.driver_attempt.specs.Moment.{Moment}
 use Rattle.call_runs.specs.CallMaking.{HasCause, MakesCall}
 use Rattle.driver_inputs.specs.declared.call.Call.{Call}
@@ -19,8 +20,8 @@ abbrev pub with_clock : Moment → ClockTells → Moment
 with_clock moment clock = record moment { clock = clock }
 
 -- a call between two moments: its times are readings of the clock, the next one before it and the last one after it; between
--- these its own writes were executed, each command with one send that went out at most twice, or nothing was asked or sent; and it
--- ended with its cause
+-- these its own writes were executed, each command with one send that went out at most twice, or nothing was asked or sent; it
+-- ended with its cause, and an error of want of memory tells of nothing else
 pub record CallCaused (number : ℕ) (before now : Moment) (call : Call) (outcome : Outcome) : Type 0 where
   pub first : ClockTells
   pub started : ReadsClock before.clock first outcome.started_ms
@@ -28,6 +29,7 @@ pub record CallCaused (number : ℕ) (before now : Moment) (call : Call) (outcom
   pub ended : ReadsClock clock now.clock outcome.ended_ms
   pub makes : MakesCall (with_clock before first) (with_clock now clock) call number outcome.result
   pub cause : HasCause (with_clock before first) (with_clock now clock) call number outcome.result
+  pub memory : IfErr outcome.result (λ error. MemoryAlone error)
 
 -- the times of an outcome are in order, no earlier than the last reading before the call, and the second is the last one after
 -- it; nobody slept, and no random word was drawn

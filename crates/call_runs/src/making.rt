@@ -1,8 +1,9 @@
 //! One call of a list.
-ghost use Rattle.std.specs.Prelude.{◌≡◌};
+ghost use Rattle.std.specs.Prelude.{◌≡◌, IfErr};
 ghost use Rattle.bulk_outcomes.specs.BulkResults.{summary_spec, verbose_spec};
 ghost use Rattle.driver_ops.specs.Targets.{in_collection};
 ghost use Rattle.driver_attempt.specs.Client.{options_of};
+ghost use Rattle.driver_attempt.specs.Failures.{MemoryAlone};
 ghost use Rattle.driver_attempt.specs.Moment.{moment_of};
 ghost use Rattle.driver_actions.specs.Causes.{WriteCaused};
 ghost use Rattle.many_actions.specs.ManyCalls.{MakesMany, ManyCaused};
@@ -68,6 +69,7 @@ fn answer_call<S: SessionStore, L: Link, K: Clock, R: Rng>(
         (moment_of S.tells L.tells K.tells R.stream client.old outside.old)
         (moment_of S.tells L.tells K.tells R.stream client.new outside.new)
         call.now outside.old.call result }
+    ensures memory { IfErr result (λ error. MemoryAlone error) }
     ensures options { options_of client.new ≡ options_of client.old }
     ensures call { outside.new.call ≡ outside.old.call }
 {
@@ -101,6 +103,7 @@ fn answer_single<S: SessionStore, L: Link, K: Clock, R: Rng>(
         (moment_of S.tells L.tells K.tells R.stream client.old outside.old)
         (moment_of S.tells L.tells K.tells R.stream client.new outside.new)
         (form_of write.now) result }
+    ensures memory { IfErr result (λ error. MemoryAlone error) }
     ensures options { options_of client.new ≡ options_of client.old }
     ensures call { outside.new.call ≡ outside.old.call }
 {
@@ -127,6 +130,7 @@ fn answer_many<S: SessionStore, L: Link, K: Clock, R: Rng>(
         (moment_of S.tells L.tells K.tells R.stream client.old outside.old)
         (moment_of S.tells L.tells K.tells R.stream client.new outside.new)
         (in_collection namespace.now) documents.now options.now outside.old.call) result }
+    ensures memory { IfErr result (λ error. MemoryAlone error) }
     ensures options { options_of client.new ≡ options_of client.old }
     ensures call { outside.new.call ≡ outside.old.call }
 {
@@ -153,6 +157,7 @@ fn insert_into<S: SessionStore, L: Link, K: Clock, R: Rng>(
         (moment_of S.tells L.tells K.tells R.stream client.old outside.old)
         (moment_of S.tells L.tells K.tells R.stream client.new outside.new)
         (in_collection namespace.now) documents.now options.now outside.old.call result }
+    ensures memory { IfErr result (λ error. MemoryAlone error) }
     ensures options { options_of client.new ≡ options_of client.old }
     ensures call { outside.new.call ≡ outside.old.call }
 {
@@ -181,6 +186,7 @@ fn answer_bulk<S: SessionStore, L: Link, K: Clock, R: Rng>(
         (moment_of S.tells L.tells K.tells R.stream client.old outside.old)
         (moment_of S.tells L.tells K.tells R.stream client.new outside.new)
         models.now options.now verbose outside.old.call result }
+    ensures memory { IfErr result (λ error. MemoryAlone error) }
     ensures options { options_of client.new ≡ options_of client.old }
     ensures call { outside.new.call ≡ outside.old.call }
 {
@@ -207,6 +213,7 @@ fn answer_summary<S: SessionStore, L: Link, K: Clock, R: Rng>(
         (moment_of S.tells L.tells K.tells R.stream client.old outside.old)
         (moment_of S.tells L.tells K.tells R.stream client.new outside.new)
         models.now options.now outside.old.call) result }
+    ensures memory { IfErr result (λ error. MemoryAlone error) }
     ensures options { options_of client.new ≡ options_of client.old }
     ensures call { outside.new.call ≡ outside.old.call }
 {
@@ -234,6 +241,7 @@ fn answer_verbose<S: SessionStore, L: Link, K: Clock, R: Rng>(
         (moment_of S.tells L.tells K.tells R.stream client.old outside.old)
         (moment_of S.tells L.tells K.tells R.stream client.new outside.new)
         models.now options.now outside.old.call) result }
+    ensures memory { IfErr result (λ error. MemoryAlone error) }
     ensures options { options_of client.new ≡ options_of client.old }
     ensures call { outside.new.call ≡ outside.old.call }
 {
@@ -261,6 +269,7 @@ fn write_models<S: SessionStore, L: Link, K: Clock, R: Rng, T: BulkWriteResult>(
         (moment_of S.tells L.tells K.tells R.stream client.old outside.old)
         (moment_of S.tells L.tells K.tells R.stream client.new outside.new)
         models.now options.now outside.old.call result }
+    ensures memory { IfErr result (λ error. MemoryAlone error) }
     ensures options { options_of client.new ≡ options_of client.old }
     ensures call { outside.new.call ≡ outside.old.call }
 {

@@ -4,7 +4,7 @@ use Rattle.std.specs.Prelude.{IsErrAnd, Some, Result, Ok, Err}
 use Rattle.driver_error.specs.declared.error.Error.{Error}
 use Rattle.driver_error.specs.declared.kind.ErrorKind.TheVariants as kind
 use Rattle.driver_error.specs.Conversions.{Converts}
-use Rattle.driver_error.specs.Error.{IsAlone, kind_of}
+use Rattle.driver_error.specs.Error.{IsAlone}
 use Rattle.driver_error.specs.LabelTexts.{no_labels}
 use Rattle.driver_link.specs.declared.machine.Place.{Place}
 use Rattle.driver_link.specs.declared.machine.SendBody.{SendBody}
@@ -32,10 +32,10 @@ caused_input before form error tells = record {
 -- what the exit of a `?` returns where memory ran out before anything was drawn or asked
 pub caused_exit : (before : Moment) (form : WriteForm) (result : Result SingleAnswer Error) → IsErrAnd result (λ error. IsAlone kind.Memory no_labels error) → WriteCaused before before form result
 caused_exit before form (Ok given) exits = absurd exits
-caused_exit before form (Err error) exits = caused_input before form error (inl exits.kind_is)
+caused_exit before form (Err error) exits = caused_input before form error (inl exits)
 
 -- input that is accepted, where memory ran out before anything was asked
-pub caused_memory : {A : Type 0} (before now : Moment) → now.link ≡ before.link → (form : WriteForm) (error : Error) → IsAccepted form → kind_of error ≡ kind.Memory
+pub caused_memory : {A : Type 0} (before now : Moment) → now.link ≡ before.link → (form : WriteForm) (error : Error) → IsAccepted form → IsAlone kind.Memory no_labels error
     → WriteCaused {A = A} before now form (Err error)
 caused_memory before now unasked form error accepted memory = record {
   caused = inl (record { unasked = unasked; error = error; is = refl; why = inl memory });

@@ -75,7 +75,7 @@ use Rattle.driver_inputs.proofs.Refusals.{accepted_not_refused}
 -- an accepted input is refused only for want of memory
 accepted_memory : (form : WriteForm) (error : Error) → IsAccepted form → TellsInput form error → kind_of error ≡ kind.Memory
 accepted_memory form error accepted tells = elim tells [
-  | inl memory ↦ memory
+  | inl memory ↦ memory.kind_is
   | inr found ↦ absurd (accepted_not_refused form found.why accepted found.refused)
 ]
 

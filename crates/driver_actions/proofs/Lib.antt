@@ -4,6 +4,7 @@ pub mod CallWrites
 pub mod Causes
 pub mod Completeness
 pub mod InsertFit
+pub mod MemoryAlone
 pub mod MovesBeside
 pub mod OwnDocuments
 pub mod OwnIds

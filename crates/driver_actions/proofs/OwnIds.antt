@@ -11,7 +11,8 @@ use Rattle.bson_lite.proofs.Named.{kept_with, none_found, with_none}
 use Rattle.driver_error.specs.declared.error.Error.{Error}
 use Rattle.driver_error.specs.declared.kind.ErrorKind.TheVariants.{Memory}
 use Rattle.server_answers.specs.declared.results.InsertOneResult.{InsertOneResult}
-use Rattle.driver_error.specs.Error.{kind_of}
+use Rattle.driver_error.specs.Error.{IsAlone}
+use Rattle.driver_error.specs.LabelTexts.{no_labels}
 use Rattle.driver_session.specs.StoreTells.{DrawsObjectId, MayDrawObjectId, StoreTells}
 use Rattle.driver_ops.specs.Encoding.{IsUnspelled}
 use Rattle.write_ops.specs.declared.own_document.OwnDocument.{OwnDocument}
@@ -65,7 +66,7 @@ sent_drawn store now document id own none twelve draws is spelled = record {
 
 -- why a document that has an id is refused
 pub refused_as_given : (document : List (Pair Bson)) (value : Bson) (error : Error) → ◌≡◌ {A = Option Bson} (Some value) (value_of id_key document)
-    → (kind_of error ≡ Memory) ⊎ IsUnspelled document error → TellsOwnRefusal document error
+    → IsAlone Memory no_labels error ⊎ IsUnspelled document error → TellsOwnRefusal document error
 refused_as_given document value error found why = elim why [
   | inl memory ↦ inl memory
   | inr unspelled ↦ inr (record {
@@ -77,7 +78,7 @@ refused_as_given document value error found why = elim why [
 
 -- and one that has none
 pub refused_drawn : (document : List (Pair Bson)) (id : ObjectId) (error : Error) → length id.bytes ≡ 12
-    → (kind_of error ≡ Memory) ⊎ IsUnspelled (with_id id document) error → TellsOwnRefusal document error
+    → IsAlone Memory no_labels error ⊎ IsUnspelled (with_id id document) error → TellsOwnRefusal document error
 refused_drawn document id error twelve why = elim why [
   | inl memory ↦ inl memory
   | inr unspelled ↦ inr (record { id = id; twelve = twelve; unspelled = unspelled })

@@ -10,7 +10,7 @@ use Rattle.driver_error.specs.declared.error.Error.{Error}
 use Rattle.driver_error.specs.declared.kind.ErrorKind.TheVariants as kind
 use Rattle.server_answers.specs.declared.results.InsertManyResult.{InsertManyResult}
 use Rattle.server_answers.specs.declared.results.InsertOneResult.{InsertOneResult}
-use Rattle.driver_error.specs.Error.{IsAlone, kind_of}
+use Rattle.driver_error.specs.Error.{IsAlone}
 use Rattle.driver_error.specs.LabelTexts.{no_labels}
 use Rattle.driver_options.specs.declared.options.ClientOptions.{ClientOptions}
 use Rattle.driver_options.specs.declared.write_options.InsertManyOptions.{InsertManyOptions}
@@ -86,16 +86,16 @@ drew_nothing (finds namespace filter modification options) before error = refl
 pub unmade_input : (before : Moment) (form : WriteForm) (place : Place) (error : Error) → TellsInput form error → Makes before before form place (Err error)
 unmade_input before form place error why = inl (record { draws = drew_nothing form before error; why = why })
 
-pub unmade_early : (before : Moment) (form : WriteForm) (place : Place) (error : Error) → kind_of error ≡ kind.Memory → Makes before before form place (Err error)
+pub unmade_early : (before : Moment) (form : WriteForm) (place : Place) (error : Error) → IsAlone kind.Memory no_labels error → Makes before before form place (Err error)
 unmade_early before form place error memory = unmade_input before form place error (inl memory)
 
 -- the same of what the exit of a `?` returns
 pub unmade_exit : (before : Moment) (form : WriteForm) (place : Place) (result : Result SingleAnswer Error) → IsErrAnd result (λ error. IsAlone kind.Memory no_labels error)
     → Makes before before form place result
 unmade_exit before form place (Ok given) exits = absurd exits
-unmade_exit before form place (Err error) exits = unmade_early before form place error exits.kind_is
+unmade_exit before form place (Err error) exits = unmade_early before form place error exits
 
 -- an insert for which there was no memory
 pub unmade_memory : (before now : Moment) (namespace : Namespace) (document : List (Pair Bson)) (options : InsertManyOptions) (place : Place) (error : Error) → MayDrawId before now document
-    → kind_of error ≡ kind.Memory → Makes before now (inserts namespace document options) place (Err error)
-unmade_memory before now namespace document options place error draws memory = inl (record { draws = inr (memory, draws); why = inl memory })
+    → IsAlone kind.Memory no_labels error → Makes before now (inserts namespace document options) place (Err error)
+unmade_memory before now namespace document options place error draws memory = inl (record { draws = inr (memory.kind_is, draws); why = inl memory })

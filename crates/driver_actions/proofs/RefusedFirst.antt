@@ -8,7 +8,8 @@ use Rattle.bson_lite.specs.declared.fault.EncodeFault.{EncodeFault}
 use Rattle.bson_lite.specs.Fields.{with_id}
 use Rattle.driver_error.specs.declared.kind.ErrorKind.TheVariants as kind
 use Rattle.driver_error.specs.declared.error.Error.{Error}
-use Rattle.driver_error.specs.Error.{kind_of}
+use Rattle.driver_error.specs.Error.{IsAlone}
+use Rattle.driver_error.specs.LabelTexts.{no_labels}
 use Rattle.driver_options.specs.declared.write_options.InsertManyOptions.{InsertManyOptions}
 use Rattle.driver_attempt.specs.Causes.{ErrorOutline, outline_of}
 use Rattle.driver_attempt.specs.Moment.{Moment}
@@ -20,7 +21,7 @@ use Rattle.driver_inputs.proofs.Refusals.{accepted_not_refused, one_input, spell
 
 -- a document that is not refused is spelled as it is sent
 pub own_memory : (namespace : Namespace) (document : List (Pair Bson)) (options : InsertManyOptions) (error : Error) → RefusesValues (inserts namespace document options) None
-    → TellsOwnRefusal document error → kind_of error ≡ kind.Memory
+    → TellsOwnRefusal document error → IsAlone kind.Memory no_labels error
 own_memory namespace document options error none tells = elim tells [
   | inl memory ↦ memory
   | inr own ↦
@@ -33,7 +34,7 @@ own_memory namespace document options error none tells = elim tells [
 pub input_first : (before : Moment) (form : WriteForm) (error : Error) → TellsInput form error → RefusesFirst before before form (Some (outline_of error))
 input_first before form error tells = record {
   tells = λ other refused. elim tells [
-    | inl memory ↦ inr memory
+    | inl memory ↦ inr memory.kind_is
     | inr found ↦ inl (found.is.kind_is ∙ one_input form found.why other found.refused refused, found.is.labels_are)
   ];
   undone = λ other refused. refl;

@@ -9,7 +9,7 @@ use Rattle.bson_lite.specs.Spelling.{Spells}
 use Rattle.driver_error.specs.declared.error.Error.{Error}
 use Rattle.driver_error.specs.declared.kind.ErrorKind.TheVariants as kind
 use Rattle.driver_error.specs.Conversions.{Converts}
-use Rattle.driver_error.specs.Error.{ErrorKind, kind_of}
+use Rattle.driver_error.specs.Error.{ErrorKind, IsAlone}
 use Rattle.driver_error.specs.LabelTexts.{no_labels}
 use Rattle.driver_options.specs.declared.write_options.InsertManyOptions.{InsertManyOptions}
 use Rattle.driver_ops.specs.Encoding.{IsUnspelled}
@@ -44,7 +44,7 @@ pub record IsOwnError (document : List (Pair Bson)) (error : Error) : Type 0 whe
 
 -- the same, or want of memory
 abbrev pub TellsOwnRefusal : List (Pair Bson) → Error → Type 0
-TellsOwnRefusal document error = (kind_of error ≡ kind.Memory) ⊎ IsOwnError document error
+TellsOwnRefusal document error = IsAlone kind.Memory no_labels error ⊎ IsOwnError document error
 
 -- a write ended before the link was asked: its input is refused, or there was no memory
 pub record EndsEarly {A : Type 0} (before now : Moment) (form : WriteForm) (result : Result A Error) : Type 0 where

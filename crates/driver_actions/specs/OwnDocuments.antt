@@ -6,7 +6,8 @@ use Rattle.bson_lite.specs.declared.document.Pair.{Pair}
 use Rattle.bson_lite.specs.Spelling.{Spells}
 use Rattle.driver_error.specs.declared.error.Error.{Error}
 use Rattle.driver_error.specs.declared.kind.ErrorKind.TheVariants.{Memory}
-use Rattle.driver_error.specs.Error.{kind_of}
+use Rattle.driver_error.specs.Error.{IsAlone}
+use Rattle.driver_error.specs.LabelTexts.{no_labels}
 use Rattle.driver_session.specs.StoreTells.{DrawsObjectId, StoreTells}
 use Rattle.write_ops.specs.declared.own_document.OwnDocument.{OwnDocument}
 use Rattle.driver_actions.specs.Causes.{IsOwnError}
@@ -46,4 +47,4 @@ pub record IsErrorOfOne (documents : List (List (Pair Bson))) (error : Error) : 
 
 -- the same, or want of memory
 abbrev pub TellsOneRefusal : List (List (Pair Bson)) → Error → Type 0
-TellsOneRefusal documents error = (kind_of error ≡ Memory) ⊎ IsErrorOfOne documents error
+TellsOneRefusal documents error = IsAlone Memory no_labels error ⊎ IsErrorOfOne documents error

@@ -1,6 +1,7 @@
 //! The delete of what a filter finds, from its caller to its answer.
-ghost use Rattle.std.specs.Prelude.{◌≡◌};
+ghost use Rattle.std.specs.Prelude.{◌≡◌, IfErr};
 ghost use Rattle.driver_attempt.specs.Client.{options_of};
+ghost use Rattle.driver_attempt.specs.Failures.{MemoryAlone};
 ghost use Rattle.driver_attempt.specs.Moment.{moment_of};
 ghost use Rattle.driver_actions.specs.Causes.{WriteCaused};
 ghost use Rattle.driver_actions.specs.SingleCalls.{Makes};
@@ -22,6 +23,7 @@ use std::marker::Brand;
 use std::sync::ledger::Blank;
 
 /// Deletes one of the documents that a filter finds, or all of them (`multi`), in a place that is given.
+#[tactic(auto, using(crate::proofs::MemoryAlone::input_told))]
 pub(crate) fn delete_found<S: SessionStore, L: Link, K: Clock, R: Rng>(
     alloc: Global,
     client: &mut Client<S>,
@@ -40,6 +42,7 @@ pub(crate) fn delete_found<S: SessionStore, L: Link, K: Clock, R: Rng>(
         (moment_of S.tells L.tells K.tells R.stream client.old outside.old)
         (moment_of S.tells L.tells K.tells R.stream client.new outside.new)
         (deletes namespace.now filter.now multi options.now) result }
+    ensures memory { IfErr result (λ error. MemoryAlone error) }
     ensures options { options_of client.new ≡ options_of client.old }
     ensures call { outside.new.call ≡ outside.old.call }
 {

@@ -1,11 +1,12 @@
 //! The writes that answer the document which their filter finds, from their caller to their answer.
-ghost use Rattle.std.specs.Prelude.{◌≡◌, IfOk};
+ghost use Rattle.std.specs.Prelude.{◌≡◌, IfOk, IfErr};
 ghost use Rattle.driver_options.specs.FindOptions.{options_of_delete, options_of_replace, options_of_update};
 ghost use Rattle.driver_options.specs.declared.updates.Modification.TheVariants.{Delete, Update};
 ghost use Rattle.driver_options.specs.declared.updates.UpdateOrReplace.TheVariants.{Replacement, UpdateModifications as Modifies};
 ghost use Rattle.driver_ops.specs.Targets.{in_collection};
 ghost use Rattle.driver_ops.specs.declared.target.OperationTarget.TheVariants.{Collection as Within};
 ghost use Rattle.driver_attempt.specs.Client.{options_of};
+ghost use Rattle.driver_attempt.specs.Failures.{MemoryAlone};
 ghost use Rattle.driver_attempt.specs.Moment.{moment_of};
 ghost use Rattle.driver_actions.specs.Causes.{WriteCaused};
 ghost use Rattle.driver_actions.specs.SingleCalls.{Makes};
@@ -47,6 +48,7 @@ pub(crate) fn find_one_and_delete<S: SessionStore, L: Link, K: Clock, R: Rng>(
         (moment_of S.tells L.tells K.tells R.stream client.old outside.old)
         (moment_of S.tells L.tells K.tells R.stream client.new outside.new)
         (finds namespace.now filter.now Delete (options_of_delete options.now)) result }
+    ensures memory { IfErr result (λ error. MemoryAlone error) }
     ensures options { options_of client.new ≡ options_of client.old }
     ensures call { outside.new.call ≡ outside.old.call }
 {
@@ -86,6 +88,7 @@ pub(crate) fn find_one_and_update<S: SessionStore, L: Link, K: Clock, R: Rng>(
         (moment_of S.tells L.tells K.tells R.stream client.new outside.new)
         (finds namespace.now filter.now
         (Update (Modifies update.now)) (options_of_update options.now)) result }
+    ensures memory { IfErr result (λ error. MemoryAlone error) }
     ensures options { options_of client.new ≡ options_of client.old }
     ensures call { outside.new.call ≡ outside.old.call }
 {
@@ -126,6 +129,7 @@ pub(crate) fn find_one_and_replace<S: SessionStore, L: Link, K: Clock, R: Rng>(
         (moment_of S.tells L.tells K.tells R.stream client.new outside.new)
         (finds namespace.now filter.now
         (Update (Replacement replacement.now)) (options_of_replace options.now)) result }
+    ensures memory { IfErr result (λ error. MemoryAlone error) }
     ensures options { options_of client.new ≡ options_of client.old }
     ensures call { outside.new.call ≡ outside.old.call }
 {
@@ -146,6 +150,7 @@ pub(crate) fn find_one_and_replace<S: SessionStore, L: Link, K: Clock, R: Rng>(
 }
 
 /// Does what is asked to one of the documents that a filter finds, in a place that is given, and answers it.
+#[tactic(auto, using(crate::proofs::MemoryAlone::input_told))]
 fn find_and_modify<S: SessionStore, L: Link, K: Clock, R: Rng>(
     alloc: Global,
     client: &mut Client<S>,
@@ -164,6 +169,7 @@ fn find_and_modify<S: SessionStore, L: Link, K: Clock, R: Rng>(
         (moment_of S.tells L.tells K.tells R.stream client.old outside.old)
         (moment_of S.tells L.tells K.tells R.stream client.new outside.new)
         (finds namespace.now filter.now modification options) result }
+    ensures memory { IfErr result (λ error. MemoryAlone error) }
     ensures options { options_of client.new ≡ options_of client.old }
     ensures call { outside.new.call ≡ outside.old.call }
 {

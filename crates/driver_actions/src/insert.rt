@@ -1,6 +1,7 @@
 //! The insert of one document, from its caller to its answer.
-ghost use Rattle.std.specs.Prelude.{◌≡◌};
+ghost use Rattle.std.specs.Prelude.{◌≡◌, IfErr};
 ghost use Rattle.driver_attempt.specs.Client.{options_of};
+ghost use Rattle.driver_attempt.specs.Failures.{MemoryAlone};
 ghost use Rattle.driver_attempt.specs.Moment.{moment_of};
 ghost use Rattle.driver_actions.specs.Causes.{WriteCaused};
 ghost use Rattle.driver_actions.specs.SingleCalls.{Makes};
@@ -23,6 +24,7 @@ use std::sync::ledger::Blank;
 use write_ops::Insert;
 
 /// Inserts one document, whose place is given.
+#[tactic(auto, using(crate::proofs::MemoryAlone::input_told, crate::proofs::MemoryAlone::own_told))]
 pub(crate) fn insert_one<S: SessionStore, L: Link, K: Clock, R: Rng>(
     alloc: Global,
     client: &mut Client<S>,
@@ -40,6 +42,7 @@ pub(crate) fn insert_one<S: SessionStore, L: Link, K: Clock, R: Rng>(
         (moment_of S.tells L.tells K.tells R.stream client.old outside.old)
         (moment_of S.tells L.tells K.tells R.stream client.new outside.new)
         (inserts namespace.now document.now options.now) result }
+    ensures memory { IfErr result (λ error. MemoryAlone error) }
     ensures options { options_of client.new ≡ options_of client.old }
     ensures call { outside.new.call ≡ outside.old.call }
 {

@@ -1,6 +1,7 @@
 //! Single writes of a client.
-ghost use Rattle.std.specs.Prelude.{◌≡◌};
+ghost use Rattle.std.specs.Prelude.{◌≡◌, IfErr};
 ghost use Rattle.driver_attempt.specs.Client.{options_of};
+ghost use Rattle.driver_attempt.specs.Failures.{MemoryAlone};
 ghost use Rattle.driver_attempt.specs.Moment.{moment_of};
 ghost use Rattle.driver_actions.specs.Causes.{WriteCaused};
 ghost use Rattle.driver_actions.specs.SingleCalls.{Makes, first_place};
@@ -39,7 +40,8 @@ impl<S: SessionStore> SingleWrites for Client<S> {
     /// is executed (`makes`), and each error has its cause (`cause`). Where store and link tell, and such a write
     /// may be made there, it keeps what stands between the operations of one client (`keeps`), and an Ok has its
     /// entry in the log (`entry`); a valid one whose part of the schedule is gentle ends well (`complete`), and the
-    /// numbers of idle sessions rise by one at most (`raises`).
+    /// numbers of idle sessions rise by one at most (`raises`). An error of want of memory tells of nothing else
+    /// (`memory`).
     fn single<L: Link, K: Clock, R: Rng>(
         &mut self,
         alloc: Global,
@@ -69,6 +71,7 @@ impl<S: SessionStore> SingleWrites for Client<S> {
         ensures raises { RaisesNumbers
             (moment_of S.tells L.tells K.tells R.stream self.old outside.old)
             (moment_of S.tells L.tells K.tells R.stream self.new outside.new) }
+        ensures memory { IfErr result (λ error. MemoryAlone error) }
         ensures options { options_of self.new ≡ options_of self.old }
         ensures call { outside.new.call ≡ outside.old.call }
     {
@@ -96,6 +99,7 @@ fn make_in<S: SessionStore, L: Link, K: Clock, R: Rng>(
         (moment_of S.tells L.tells K.tells R.stream client.old outside.old)
         (moment_of S.tells L.tells K.tells R.stream client.new outside.new)
         (form_of write.now) result }
+    ensures memory { IfErr result (λ error. MemoryAlone error) }
     ensures options { options_of client.new ≡ options_of client.old }
     ensures call { outside.new.call ≡ outside.old.call }
 {

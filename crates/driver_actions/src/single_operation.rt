@@ -1,9 +1,10 @@
 //! The operation of a single write, in its place.
-ghost use Rattle.std.specs.Prelude.{◌≡◌, ◌<◌, ◌∷◌, [], Some};
+ghost use Rattle.std.specs.Prelude.{◌≡◌, ◌<◌, ◌∷◌, [], Some, IfErr};
 ghost use Rattle.driver_link.specs.declared.machine.SendBody.{SendBody};
 ghost use Rattle.driver_ops.specs.Operations.{AsksFor, HasBodies, batch_of};
 ghost use Rattle.driver_ops.specs.SendKinds.{first};
 ghost use Rattle.driver_attempt.specs.Client.{options_of};
+ghost use Rattle.driver_attempt.specs.Failures.{MemoryAlone};
 ghost use Rattle.driver_attempt.specs.Moment.{moment_of};
 ghost use Rattle.driver_actions.specs.SingleCalls.{Runs};
 
@@ -19,6 +20,7 @@ use std::sync::ledger::{Blank, Ledger};
 
 /// Runs an operation of one statement in a place, with a count of its sends over a ledger. An error of many
 /// inserts takes the form of a single write's.
+#[tactic(auto, using(crate::proofs::MemoryAlone::converts_told))]
 pub(crate) fn run_single<
     O: Operation + Drop,
     S: SessionStore,
@@ -45,6 +47,7 @@ pub(crate) fn run_single<
         (moment_of S.tells L.tells K.tells R.stream client.old outside.old)
         (moment_of S.tells L.tells K.tells R.stream client.new outside.new)
         result }
+    ensures memory { IfErr result (λ error. MemoryAlone error) }
     ensures options { options_of client.new ≡ options_of client.old }
     ensures call { outside.new.call ≡ outside.old.call }
 {

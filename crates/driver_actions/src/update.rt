@@ -1,6 +1,7 @@
 //! The update or replacement of what a filter finds, from its caller to its answer.
-ghost use Rattle.std.specs.Prelude.{◌≡◌};
+ghost use Rattle.std.specs.Prelude.{◌≡◌, IfErr};
 ghost use Rattle.driver_attempt.specs.Client.{options_of};
+ghost use Rattle.driver_attempt.specs.Failures.{MemoryAlone};
 ghost use Rattle.driver_attempt.specs.Moment.{moment_of};
 ghost use Rattle.driver_actions.specs.Causes.{WriteCaused};
 ghost use Rattle.driver_actions.specs.SingleCalls.{Makes};
@@ -22,6 +23,7 @@ use std::marker::Brand;
 use std::sync::ledger::Blank;
 
 /// Updates or replaces one of the documents that a filter finds, or all of them (`multi`), in a place that is given.
+#[tactic(auto, using(crate::proofs::MemoryAlone::input_told))]
 pub(crate) fn update_found<S: SessionStore, L: Link, K: Clock, R: Rng>(
     alloc: Global,
     client: &mut Client<S>,
@@ -41,6 +43,7 @@ pub(crate) fn update_found<S: SessionStore, L: Link, K: Clock, R: Rng>(
         (moment_of S.tells L.tells K.tells R.stream client.old outside.old)
         (moment_of S.tells L.tells K.tells R.stream client.new outside.new)
         (updates namespace.now filter.now change multi options.now) result }
+    ensures memory { IfErr result (λ error. MemoryAlone error) }
     ensures options { options_of client.new ≡ options_of client.old }
     ensures call { outside.new.call ≡ outside.old.call }
 {

@@ -3,7 +3,8 @@ use Rattle.std.proofs.Common.{◌≡◌, ℕ, suc, ◌+◌, ◌≤◌, List, ref
 use Rattle.std.specs.Prelude.{ℤ, Bool, true, false, length, take, Option, None, Some, IfSome, IsSome, ◌⊎◌, Ok, Err}
 use Rattle.driver_error.specs.declared.error.Error.{Error}
 use Rattle.driver_error.specs.declared.kind.ErrorKind.TheVariants as kind
-use Rattle.driver_error.specs.Error.{kind_of}
+use Rattle.driver_error.specs.Error.{IsAlone, kind_of}
+use Rattle.driver_error.specs.LabelTexts.{no_labels}
 use Rattle.driver_options.specs.declared.concerns.WriteConcern.{WriteConcern}
 use Rattle.driver_options.specs.declared.options.Address.{Address}
 use Rattle.driver_options.specs.declared.options.ClientOptions.{ClientOptions}
@@ -24,7 +25,7 @@ use Rattle.driver_ops.specs.SendKinds.{SendKind}
 use Rattle.driver_ops.proofs.Frames.{reads_as_asked}
 use Rattle.driver_attempt.specs.declared.attempt_end.AttemptEnd.{AttemptEnd}
 use Rattle.driver_attempt.specs.declared.attempt_end.AttemptEnd.TheVariants.{Ended, Unfit}
-use Rattle.driver_attempt.specs.Attempting.{LacksFrame, builds_again}
+use Rattle.driver_attempt.specs.Attempting.{LacksFrame, MayFix, builds_again}
 use Rattle.driver_attempt.specs.Concerns.{concern_of, effective_concern}
 use Rattle.driver_attempt.specs.Failures.{is_memory}
 use Rattle.driver_attempt.specs.Holding.{DrawsNumber, ExecutionSession, held_id}
@@ -57,6 +58,9 @@ fixed_some (Some fixed) = (fixed, refl)
 -- what stays fixed twice
 pub fixes_twice : (a b c : Option ℕ) → StaysFixed a b → StaysFixed b c → StaysFixed a c
 fixes_twice a b c first second = λ statements fixed. first statements (second statements fixed)
+
+true_not_false : true ≡ false → ⊥
+true_not_false same = cc
 
 -- a build that was Ok fixes a number
 pub build_some : {A : Type 0} {spec : OperationSpec A} {which : SendKind} {description : Description} {before now : Option ℕ} {command : Command} → BuildsCommand spec which description before now command → IsSome now
@@ -135,26 +139,29 @@ module _ {A : Type 0} (spec : OperationSpec A) (which : SendKind) (concern : Opt
 
   -- why there is no frame
   abbrev Why : Error → Type 0
-  Why error = ((builds_again again held ≡ false) × Refuses spec before conn.description error × (after ≡ before)) ⊎ (LacksFrame spec (in_context (held_id numbered) number concern) conn.description before after error ⊎ (kind_of error ≡ kind.Memory))
+  Why error = ((builds_again again held ≡ false) × Refuses spec before conn.description error × (after ≡ before)) ⊎ (LacksFrame spec (in_context (held_id numbered) number concern) conn.description before after error ⊎ (IsAlone kind.Memory no_labels error × MayFix spec conn.description before after))
 
   -- the build was refused, or there was no memory for it
   pub ends_unbuilt : (error : Error) (found : Bool) (attempt : AttemptEnd A) → found ≡ builds_again again held → (Refuses spec before conn.description error ⊎ (kind_of error ≡ kind.Memory))
       → EndsUnbuilt found error attempt → link_now ≡ link → count_now ≡ count → after ≡ before → Sends numbered attempt
   ends_unbuilt error found (Ended now) is refused ends same uncounted unfixed =
       inr (inl (record {
-        error = error;
+        error = now;
         number = number;
         draws = draws;
         why = why;
         link_is = same;
         uncounted = uncounted;
-        ends = ap (λ e. Ended e) ends.0;
+        ends = refl;
       }))
     where
-      why : Why error
-      why = elim refused [
-        | inl is_refused ↦ elim ends.1 [ inl first ↦ inl (sym is ∙ first, is_refused, unfixed) | inr memory ↦ inr (inr memory) ]
-        | inr memory ↦ inr (inr memory)
+      why : Why now
+      why = elim ends [
+        | inl first ↦ elim refused [
+          | inl is_refused ↦ inl (sym is ∙ first.1, subst (Refuses spec before conn.description) (sym first.0) is_refused, unfixed)
+          | inr memory ↦ absurd (true_not_false (ap is_memory (sym memory) ∙ first.2))
+        ]
+        | inr memory ↦ inr (inr (memory.0, inl unfixed))
       ]
   ends_unbuilt error found Unfit is refused ends same uncounted unfixed = elim refused [
     | inl is_refused ↦ inr (inr (inl (record {
@@ -168,11 +175,8 @@ module _ {A : Type 0} (spec : OperationSpec A) (which : SendKind) (concern : Opt
       unfixed = unfixed;
       ends = refl;
     })))
-    | inr memory ↦ absurd (true_false (ap is_memory (sym memory) ∙ ends.1))
+    | inr memory ↦ absurd (true_not_false (ap is_memory (sym memory) ∙ ends.1))
   ]
-    where
-      true_false : true ≡ false → ⊥
-      true_false same = cc
   ends_unbuilt error found _ is refused ends same uncounted unfixed = absurd ends
 
   module _ (now : Option ℕ) (command : Command) (built : BuildsCommand spec which conn.description before now command) where
@@ -184,7 +188,7 @@ module _ {A : Type 0} (spec : OperationSpec A) (which : SendKind) (concern : Opt
       number = number;
       draws = draws;
       why = inr (elim framed.1 [
-        | inl memory ↦ inr memory
+        | inl memory ↦ inr (memory, inr (built.statements, built.takes, built.fixed, stays ∙ built.now_is))
         | inr none ↦ inl (lacks_frame (in_context (held_id numbered) number concern) framed.0 built stays none)
       ]);
       link_is = same;

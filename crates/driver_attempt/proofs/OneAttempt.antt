@@ -5,7 +5,7 @@ use Rattle.std.proofs.lemmas.Bool.{and_parts}
 use Rattle.bson_lite.specs.declared.namespace.Namespace.{Namespace}
 use Rattle.driver_error.specs.declared.error.Error.{Error}
 use Rattle.driver_error.specs.declared.kind.ErrorKind.TheVariants as kind
-use Rattle.driver_error.specs.Error.{IsAlone, kind_of}
+use Rattle.driver_error.specs.Error.{IsAlone}
 use Rattle.driver_error.specs.LabelTexts.{no_labels}
 use Rattle.driver_options.specs.declared.concerns.WriteConcern.{WriteConcern}
 use Rattle.driver_options.specs.declared.options.Address.{Address}
@@ -36,7 +36,7 @@ use Rattle.driver_ops.specs.SendKinds.{SendKind}
 use Rattle.driver_attempt.specs.declared.attempt_end.AttemptEnd.{AttemptEnd}
 use Rattle.driver_attempt.specs.declared.attempt_end.AttemptEnd.TheVariants.{Ended, Failed, Stopped, Unselected}
 use Rattle.driver_attempt.specs.AttemptExchanges.{AsksPages, AttemptExchanges, EndsPages, Exchanges, PageAsked, held_after, pages_of}
-use Rattle.driver_attempt.specs.Attempting.{AsksEarly, AttemptState, AttemptedOperation, Connects, FailsIn, LacksFrame, LosesExchange, MakesAttempt, NotConnected, Readies, ReadsOn, Selects, Sends, SpellsFailure, asked_for, asks_session, attempted_operation, avoided, besides_out, is_nothing, may_use, on_connection, stops}
+use Rattle.driver_attempt.specs.Attempting.{AsksEarly, AttemptState, AttemptedOperation, Connects, FailsIn, LacksFrame, LosesExchange, MayFix, MakesAttempt, NotConnected, Readies, ReadsOn, Selects, Sends, SpellsFailure, asked_for, asks_session, attempted_operation, avoided, besides_out, is_nothing, may_use, on_connection, stops}
 use Rattle.driver_attempt.specs.Causes.{AllEarly}
 use Rattle.driver_attempt.specs.Holding.{DrawsNumber, ExecutionSession, held_id, needs_session, number_before}
 use Rattle.retry_rules.specs.Retry.{RetryState}
@@ -249,6 +249,13 @@ module _ {A : Type 0} (old now : OperationSpec A) (same : SameSpec old now) wher
     unframed = unspelled_same context error lacks.unframed;
     same = lacks.same;
   }
+
+  -- a number that may be fixed
+  pub may_fix_same : (description : Description) (fixed fixed_now : Option ℕ) → MayFix now description fixed fixed_now → MayFix old description fixed fixed_now
+  may_fix_same description fixed fixed_now may = elim may [
+    | inl stays ↦ inl stays
+    | inr takes ↦ inr (takes.0, (same.takes fixed description takes.0).1 takes.1, takes.2, takes.3)
+  ]
 
   -- and an error that was read in a reply and the pages behind it
   pages_error_same : (statements : ℕ) (bytes : List ℕ) (pages : List Page) (error : Error) → ReadsPagesError now statements bytes pages error → ReadsPagesError old statements bytes pages error
@@ -464,7 +471,7 @@ module _ {A : Type 0} (spec : OperationSpec A) (batch : Batch) (which : SendKind
             number_stays = ap number_before exchanges.held_is ∙ number_after_pages exchanges.asked sent
 
             -- there was no memory behind a reply
-            memory_attempt_made : (error : Error) → kind_of error ≡ kind.Memory → MakesAttempt op past began came (Ended error)
+            memory_attempt_made : (error : Error) → IsAlone kind.Memory no_labels error → MakesAttempt op past began came (Ended error)
             memory_attempt_made error memory = inr (inr (record {
               address = address;
               conn = conn;

@@ -254,9 +254,9 @@ page_of_reply bytes (Err failure) spelled = spelled
 pub page_of_failure : (failure : LinkError) (told : Result Error Error) (error : Error) → FaultError failure may.None told → IfOk told (λ found. error ≡ found) → IfErr told (λ found. error ≡ found)
     → PageCame (Err failure) (Err error)
 page_of_failure (Fault fault labels) (Ok found) error is ok err = inl (subst (IsFaultOf fault labels may.None) (sym ok) is)
-page_of_failure (Fault fault labels) (Err found) error memory ok err = inr (ap kind_of err ∙ memory)
+page_of_failure (Fault fault labels) (Err found) error memory ok err = inr (ap kind_of err ∙ memory.kind_is)
 page_of_failure Memory (Ok found) error is ok err = absurd is
-page_of_failure Memory (Err found) error memory ok err = ap kind_of err ∙ memory
+page_of_failure Memory (Err found) error memory ok err = ap kind_of err ∙ memory.kind_is
 
 -- a question that was answered
 module _ (conn : Conn) (session : Option (List ℕ)) (link now : LinkState) (namespace : Namespace) (cursor : ℤ) (held held_now : ExecutionSession) (page : Page) where

@@ -20,7 +20,7 @@ use Rattle.driver_attempt.specs.Attempting.{EndsAtOnce, FailsIn, MayReadOn, Read
 use Rattle.driver_attempt.specs.Holding.{held_id, needs_session}
 use Rattle.driver_attempt.specs.inside.Holding.{HoldsAt}
 use Rattle.retry_rules.specs.Retry.{RetryState}
-use Rattle.driver_attempt.proofs.OneAttempt.{behind_same, framed_same, lacks_same, refuses_same}
+use Rattle.driver_attempt.proofs.OneAttempt.{behind_same, framed_same, lacks_same, may_fix_same, refuses_same}
 
 module _ {A : Type 0} (old now : OperationSpec A) (same : SameSpec old now) (batch : Batch) (which : SendKind) (retryability : Retryability) (concern : Option WriteConcern) where
   abbrev told : AttemptedOperation A
@@ -133,7 +133,7 @@ module _ {A : Type 0} (old now : OperationSpec A) (same : SameSpec old now) (bat
                 | inl early ↦ inl (early.0, refuses_same old now same refused.ready.fixed refused.conn.description error early.1, early.2)
                 | inr late ↦ inr (elim late [
                   | inl lacks ↦ inl (lacks_same old now same _ refused.conn.description refused.ready.fixed after.fixed error lacks)
-                  | inr memory ↦ inr memory
+                  | inr memory ↦ inr (memory.0, may_fix_same old now same refused.conn.description refused.ready.fixed after.fixed memory.1)
                 ])
               ];
             }))

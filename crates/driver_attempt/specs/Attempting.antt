@@ -4,7 +4,7 @@
 use Rattle.std.specs.Prelude.{◌≡◌, ℕ, ◌+◌, ℤ, Bool, true, false, ◌&&◌, List, [], Option, None, Some, is_some, ◌⊎◌, Result, Ok, Err, if◌then◌else◌}
 use Rattle.driver_error.specs.declared.error.Error.{Error}
 use Rattle.driver_error.specs.declared.kind.ErrorKind.TheVariants as kind
-use Rattle.driver_error.specs.Error.{IsAlone, kind_of}
+use Rattle.driver_error.specs.Error.{IsAlone}
 use Rattle.driver_error.specs.LabelTexts.{no_labels}
 use Rattle.driver_options.specs.declared.concerns.WriteConcern.{WriteConcern}
 use Rattle.driver_options.specs.declared.options.Address.{Address}
@@ -230,7 +230,7 @@ pub record EndsUnready (kept : Option RetryState) (before now : AttemptState) (e
   pub held : now.held ≡ before.held
   pub count : now.count ≡ before.count
   pub fixed : now.fixed ≡ before.fixed
-  pub why : kind_of error ≡ kind.Memory
+  pub why : IsAlone kind.Memory no_labels error
 
 -- a session is held, and the connection takes none; the error tells so and nothing else
 pub record NoSessions (description : Description) (ready now : ExecutionSession) (fixed fixed_now : Option ℕ) (error : Error) : Type 0 where
@@ -260,15 +260,20 @@ pub record LacksFrame {A : Type 0} (spec : OperationSpec A) (context : SendConte
   pub unframed : IsUnframed spec context error
   pub same : unframed.none.statements ≡ statements
 
+-- the number of a command's statements stays, or is fixed to as many as a build takes for a connection
+abbrev pub MayFix : {A : Type 0} → OperationSpec A → Description → Option ℕ → Option ℕ → Type 0
+MayFix spec description fixed fixed_now =
+    (fixed_now ≡ fixed) ⊎ ((statements : ℕ) × spec.takes fixed description statements × IsFixed fixed statements × (fixed_now ≡ Some statements))
+
 -- there was no frame under the number: the first build was refused, which fixes no number of statements, what was built has no
--- spelling, or memory ran out
+-- spelling, or memory ran out before or after the build
 pub record NoFrame {A : Type 0} (spec : OperationSpec A) (concern : Option WriteConcern) (kept : Option RetryState) (description : Description) (connection_retryability : Retryability) (ready now : ExecutionSession)
     (fixed fixed_now : Option ℕ) (error : Error) : Type 0 where
   pub goes : stops (is_some kept) connection_retryability ≡ false
   pub number : Option ℤ
   pub draws : DrawsNumber ready.sent connection_retryability ready now (Ok number)
   pub allowed : may_use ready description ≡ true
-  pub why : ((builds_again (is_some kept) ready ≡ false) × Refuses spec fixed description error × (fixed_now ≡ fixed)) ⊎ (LacksFrame spec (in_context (held_id now) number concern) description fixed fixed_now error ⊎ (kind_of error ≡ kind.Memory))
+  pub why : ((builds_again (is_some kept) ready ≡ false) × Refuses spec fixed description error × (fixed_now ≡ fixed)) ⊎ (LacksFrame spec (in_context (held_id now) number concern) description fixed fixed_now error ⊎ (IsAlone kind.Memory no_labels error × MayFix spec description fixed fixed_now))
 
 -- a connection was had, and the command was refused before it went out
 pub record EndsRefused {A : Type 0} (op : AttemptedOperation A) (kept : Option RetryState) (before now : AttemptState) (error : Error) : Type 0 where
@@ -321,7 +326,7 @@ pub record EndsSent {A : Type 0} (op : AttemptedOperation A) (kept : Option Retr
   pub behind : AttemptState
   pub sends : Sends op kept before behind address conn result
   pub reads : MayReadOn op conn result behind now
-  pub why : kind_of error ≡ kind.Memory
+  pub why : IsAlone kind.Memory no_labels error
 
 -- the operation ends at once
 abbrev pub EndsAtOnce : {A : Type 0} → AttemptedOperation A → Option RetryState → AttemptState → AttemptState → Error → Type 0

@@ -3,7 +3,8 @@
 use Rattle.std.specs.Prelude.{◌≡◌, ℕ, Bool, true, false, List, [], ◌∷◌, ◌++◌, Option, None, Some, IfSome, ◌⊎◌, Result, Ok, Err, nat_lt}
 use Rattle.driver_error.specs.declared.error.Error.{Error}
 use Rattle.driver_error.specs.declared.kind.ErrorKind.TheVariants as kind
-use Rattle.driver_error.specs.Error.{kind_of}
+use Rattle.driver_error.specs.Error.{IsAlone}
+use Rattle.driver_error.specs.LabelTexts.{no_labels}
 use Rattle.driver_link.specs.Clock.{ClockTells}
 use Rattle.driver_link.specs.LinkState.{LinkState, setup_of}
 use Rattle.driver_session.specs.StoreTells.{StoreTells}
@@ -76,7 +77,7 @@ pub record EndsNotAllowed {A : Type 0} (op : AttemptedOperation A) (sharded : Bo
   pub makes : MakesAttempt op kept mid now (Failed failure)
   pub error : Error
   pub result_is : result ≡ Err error
-  pub refused : (decide kept failure op.retryability sharded ≡ Err error) ⊎ (kind_of error ≡ kind.Memory)
+  pub refused : (decide kept failure op.retryability sharded ≡ Err error) ⊎ IsAlone kind.Memory no_labels error
 
 -- an operation ends with its last attempt, at the limit, or where a failure may not be followed by another attempt
 abbrev pub Ends : {A : Type 0} → AttemptedOperation A → Bool → Option RetryState → AttemptState → AttemptState → Result A Error → Type 0

@@ -3,7 +3,7 @@ use Rattle.std.specs.Prelude.{◌≡◌, ℕ, ℤ, Bool, true, false, List, Opti
 use Rattle.driver_error.specs.declared.error.Error.{Error}
 use Rattle.driver_error.specs.declared.kind.ErrorKind.TheVariants as kind
 use Rattle.driver_error.specs.Error.{ErrorKind, HasVersion, IsAlone, KeepsAllButLabels, kind_of, labels_of}
-use Rattle.driver_error.specs.LabelTexts.{label_set}
+use Rattle.driver_error.specs.LabelTexts.{label_set, no_labels}
 use Rattle.link_faults.specs.declared.fault.LinkFault.{LinkFault}
 use Rattle.link_faults.specs.Failures.{fault_kind}
 use Rattle.driver_session.specs.declared.retryability.Retryability.{Retryability}
@@ -13,6 +13,10 @@ use Rattle.retry_rules.specs.LabelTable.{labels_outside_transactions}
 abbrev pub is_memory : ErrorKind → Bool
 is_memory kind.Memory = true
 is_memory _ = false
+
+-- an error of want of memory tells of nothing else: no label, version, source or response
+abbrev pub MemoryAlone : Error → Type 0
+MemoryAlone error = kind_of error ≡ kind.Memory → IsAlone kind.Memory no_labels error
 
 -- an error gained the labels of the table, and nothing else
 pub record IsLabelled (retryability : Retryability) (old now : Error) : Type 0 where

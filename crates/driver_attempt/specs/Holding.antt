@@ -4,7 +4,8 @@ use Rattle.std.specs.Prelude.{◌≡◌, ℕ, ℤ, Bool, true, false, ◌&&◌, 
 use Rattle.std.specs.Option.{option_map}
 use Rattle.driver_error.specs.declared.error.Error.{Error}
 use Rattle.driver_error.specs.declared.kind.ErrorKind.TheVariants as kind
-use Rattle.driver_error.specs.Error.{kind_of}
+use Rattle.driver_error.specs.Error.{IsAlone}
+use Rattle.driver_error.specs.LabelTexts.{no_labels}
 use Rattle.link_faults.specs.declared.fault.LinkError.{LinkError}
 use Rattle.link_faults.specs.declared.fault.LinkError.TheVariants.{Fault, Memory}
 use Rattle.driver_link.specs.Clock.{ClockTells, ReadsClock}
@@ -59,7 +60,7 @@ pub record HoldsLent (store now : StoreTells) (held held_now : ExecutionSession)
 abbrev pub HoldsSession : Bool → StoreTells → StoreTells → ExecutionSession → ExecutionSession → Result (Unit {0}) Error → Type 0
 HoldsSession false store now held held_now result = (now ≡ store) × (held_now ≡ held) × (result ≡ Ok tt)
 HoldsSession true store now held held_now (Ok given) = HoldsLent store now held held_now
-HoldsSession true store now held held_now (Err error) = (now ≡ store) × (held_now ≡ held) × (kind_of error ≡ kind.Memory)
+HoldsSession true store now held held_now (Err error) = (now ≡ store) × (held_now ≡ held) × IsAlone kind.Memory no_labels error
 
 -- a session is lent at a reading of the clock, its one then; where none is lent the clock stays
 abbrev pub IsLentAt : (needed : Bool) (store now : StoreTells) (held held_now : ExecutionSession) (result : Result (Unit {0}) Error)

@@ -4,7 +4,7 @@ ghost use Rattle.driver_error.specs.Error.{kind_of};
 ghost use Rattle.driver_attempt.specs.declared.attempt_end.AttemptEnd.TheVariants.{Failed};
 ghost use Rattle.driver_attempt.specs.Failures.{is_memory};
 ghost use Rattle.driver_attempt.specs.inside.Attempting.{EndsUnbuilt};
-ghost use Rattle.driver_attempt.specs.inside.Failures.{EndsLost, EndsRead, EndsUnconnected, EndsUnselected, FaultError, IsLabelledBy};
+ghost use Rattle.driver_attempt.specs.inside.Failures.{EndsLost, EndsRead, EndsForMemory, EndsUnconnected, EndsUnselected, FaultError, IsLabelledBy};
 
 use driver_error::{Error, ErrorKind};
 use driver_link::LinkError;
@@ -37,6 +37,13 @@ pub(crate) fn is_memory(error: &Error) -> bool
         ErrorKind::Memory => true,
         _ => false,
     }
+}
+
+/// The end of an operation for want of memory, whose error tells of nothing else.
+fn no_memory<T>() -> AttemptEnd<T>
+    ensures { EndsForMemory result }
+{
+    AttemptEnd::Ended(Error::from_kind(ErrorKind::Memory))
 }
 
 /// The error with the labels of the table, or want of memory.
@@ -124,7 +131,11 @@ pub(crate) fn unconnected<T>(
 pub(crate) fn unbuilt<T>(error: Error, again: bool) -> AttemptEnd<T>
     ensures { EndsUnbuilt again error result }
 {
-    if again && !is_memory(&error) {
+    if is_memory(&error) {
+        drop(error);
+        return no_memory();
+    }
+    if again {
         drop(error);
         return AttemptEnd::Unfit;
     }
@@ -189,7 +200,8 @@ fn spelled<T>(
     ensures { EndsRead connection_retryability version address number (Err error) result }
 {
     if is_memory(&error) {
-        return AttemptEnd::Ended(error);
+        drop(error);
+        return no_memory();
     }
     match labelled(alloc, error, connection_retryability) {
         Ok(error) => fails_at(

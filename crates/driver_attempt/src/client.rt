@@ -1,6 +1,7 @@
 //! A client: its options and its store of sessions.
 ghost use Rattle.std.specs.Prelude.{◌≡◌, IfErr, IfOk, OnErr};
-ghost use Rattle.driver_error.specs.Error.{kind_of};
+ghost use Rattle.driver_error.specs.Error.{IsAlone};
+ghost use Rattle.driver_error.specs.LabelTexts.{no_labels};
 ghost use Rattle.driver_error.specs.declared.kind.ErrorKind.TheVariants.{Memory};
 ghost use Rattle.driver_session.specs.StoreTells.{DrawsObjectId, LendsSession, TakesSession};
 ghost use Rattle.driver_attempt.specs.Client.{options_of, store_of};
@@ -64,7 +65,7 @@ impl<S: SessionStore> Client<S> {
         ensures lends { IfOk result (λ session.
             LendsSession (S.tells (store_of self.old)) (S.tells (store_of self.new)) now_ms session) }
         ensures err { OnErr result (S.tells (store_of self.new) ≡ S.tells (store_of self.old)) }
-        ensures kind { IfErr result (λ error. kind_of error ≡ Memory) }
+        ensures memory { IfErr result (λ error. IsAlone Memory no_labels error) }
         ensures options { options_of self.new ≡ options_of self.old }
     {
         self.store.check_out(alloc, now_ms)

@@ -110,7 +110,7 @@ impl Error {
     }
 
     /// An error of this kind with these labels, and those of a write concern error inside an error of
-    /// inserts or of a single write. Where it finds no memory it is an error of kind Memory.
+    /// inserts or of a single write. Where it finds no memory it is an error of kind Memory alone.
     pub fn new(alloc: Global, kind: ErrorKind, labels: &[Text]) -> Error
         ensures { IsNew kind labels.now result }
     {
@@ -129,7 +129,7 @@ impl Error {
         }
     }
 
-    /// An error of the caller's own. Where it finds no memory it is an error of kind Memory.
+    /// An error of the caller's own. Where it finds no memory it is an error of kind Memory alone.
     pub fn custom(alloc: Global, text: &str) -> Error
         ensures { IsMade (Custom text.now) no_labels result }
     {

@@ -13,6 +13,8 @@ impl<T: fmt::Display> fmt::Display for Redact<T> {
 
     ghost output = { λ value. shown value.on (T.output value.inner) };
 
+    ghost styled_output = { λ value spec. shown value.on (T.styled_output value.inner spec) };
+
     #[tactic(auto, unfolding(crate::specs::Shown::hidden_text))]
     fn fmt<W: fmt::Write>(&self, f: &mut fmt::Formatter<W>) -> fmt::Result {
         if self.on {

@@ -3,7 +3,8 @@ use Rattle.std.proofs.Common.{◌≡◌, ℕ, List, [], ◌∷◌, refl, sym, su
 use Rattle.std.specs.Prelude.{Bool, false, ◌⊎◌, Option, None, Some, Result, Ok, Err}
 use Rattle.driver_error.specs.declared.error.Error.{Error}
 use Rattle.driver_error.specs.declared.kind.ErrorKind.TheVariants as kind
-use Rattle.driver_error.specs.Error.{kind_of}
+use Rattle.driver_error.specs.Error.{IsAlone, kind_of}
+use Rattle.driver_error.specs.LabelTexts.{no_labels}
 use Rattle.driver_options.specs.declared.concerns.WriteConcern.{WriteConcern}
 use Rattle.driver_options.specs.declared.options.Address.{Address}
 use Rattle.driver_options.specs.declared.options.Conn.{Conn}
@@ -155,10 +156,10 @@ module _ {A : Type 0} (spec : OperationSpec A) (batch : Batch) (which : SendKind
 
     -- a failure that may not be followed by another attempt
     refused_built : (failure : AttemptFailure) (error : Error) → MakesAttempt op kept mid now (Failed failure)
-        → (decide kept failure op.retryability sharded ≡ Err error) ⊎ (kind_of error ≡ kind.Memory) → RunAt now error
+        → (decide kept failure op.retryability sharded ≡ Err error) ⊎ IsAlone kind.Memory no_labels error → RunAt now error
     refused_built failure error makes refused = elim refused [
       | inl is ↦ decided_built kept kept mid far now sharded failure (Err error) makes has is
-      | inr memory ↦ λ read. absurd (subst IsReadFailure memory read)
+      | inr memory ↦ λ read. absurd (subst IsReadFailure memory.kind_is read)
     ]
 
     -- an operation's end

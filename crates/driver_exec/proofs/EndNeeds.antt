@@ -120,7 +120,7 @@ module _ {A : Type 0} (on : Grounds A) (before now from to : ℕ) (items all : L
   kind_elsewhere labels (kind.BsonSerialization refusal) needs = needs
   kind_elsewhere labels (kind.Internal message) needs = needs
   kind_elsewhere labels kind.SessionsNotSupported needs = needs
-  kind_elsewhere labels kind.Memory needs = tt
+  kind_elsewhere labels kind.Memory needs = needs
   kind_elsewhere labels _ needs = absurd needs
 
   -- a reply that is read, or that spells an error, with its pages
@@ -144,6 +144,7 @@ module _ {A : Type 0} (on : Grounds A) (before now from to : ℕ) (items all : L
     told = pages_elsewhere on.spec spelled.statements bytes before now from to items all rises replies lost spelled.pages spelled.told;
     bare = spelled.bare;
     reads = spelled.reads;
+    other = spelled.other;
     connection_retryability = spelled.connection_retryability;
     kind_is = spelled.kind_is;
     labels_are = spelled.labels_are;

@@ -6,7 +6,7 @@ use Rattle.std.specs.Option.{option_map}
 use Rattle.std.proofs.lemmas.Bool.{and_parts}
 use Rattle.driver_error.specs.declared.error.Error.{Error}
 use Rattle.driver_error.specs.declared.kind.ErrorKind.TheVariants as kind
-use Rattle.driver_error.specs.Error.{IsAlone, kind_of}
+use Rattle.driver_error.specs.Error.{IsAlone}
 use Rattle.driver_error.specs.LabelTexts.{no_labels}
 use Rattle.driver_options.specs.declared.options.Address.{Address}
 use Rattle.driver_options.specs.declared.options.Conn.{Conn}
@@ -256,7 +256,7 @@ pub record AtEndBy (next : Option ℤ) (error : Error) : Type 0 where
 
 -- an error tells so, or of want of memory
 abbrev pub AtEnd : Option ℤ → Error → Type 0
-AtEnd next error = (kind_of error ≡ kind.Memory) ⊎ AtEndBy next error
+AtEnd next error = IsAlone kind.Memory no_labels error ⊎ AtEndBy next error
 
 -- where there is no number, an error tells why
 pub unnumbered_at_end : (next : Option ℤ) (connection_retryability : Retryability) (held numbered : ExecutionSession) (error : Error) → IsFirst held.session held.sent next
@@ -266,7 +266,7 @@ unnumbered_at_end next connection_retryability held numbered error first draws =
     err_ok : (number : Option ℤ) → ◌≡◌ {A = Result (Option ℤ) Error} (Err error) (Ok number) → ⊥
     err_ok number same = cc
 
-    tells : (session : Session) (other : Error) → FitsNumber next session.number → ((kind_of other ≡ kind.Memory) ⊎ IsAtItsEnd session other) → AtEnd next other
+    tells : (session : Session) (other : Error) → FitsNumber next session.number → (IsAlone kind.Memory no_labels other ⊎ IsAtItsEnd session other) → AtEnd next other
     tells session other fits ends = elim ends [
       | inl memory ↦ inl memory
       | inr at ↦ inr (record { may = may_be_last next session.number fits at.last; is = at.is })
@@ -276,7 +276,7 @@ unnumbered_at_end next connection_retryability held numbered error first draws =
         → AtEnd next error
     by_next session back (Ok drawn) fits numbers gives = absurd (err_ok (Some drawn) gives)
     by_next session back (Err other) fits numbers gives =
-        let same : other ≡ error = cc (sym gives) in subst (AtEnd next) same (tells session other fits numbers.1)
+        let same : other ≡ error = cc (sym gives) in subst (AtEnd next) same (tells session other fits numbers.2)
 
     by_retryability : (connection_retryability : Retryability) (session now : Option Session) → IsFirst session None next → DrawsSession connection_retryability session now (Err error) → AtEnd next error
     by_retryability may.Write (Some session) now first draws = by_next session draws.numbered draws.next first draws.numbers draws.gives

@@ -9,6 +9,7 @@ pub mod FixedNumbers
 pub mod HeldSessions
 pub mod InvariantSteps
 pub mod KeptFailures
+pub mod MemoryAlone
 pub mod Moments
 pub mod Moves
 pub mod OneCommand

@@ -269,7 +269,7 @@ module _ {A : Type 0} (op : AttemptedOperation A) (sharded : Bool) (store : Stor
       → KeptHas (FailureAt op link most mid) kept → (refused : EndsNotAllowed op sharded kept mid now result) → FailureAt op link (suc most) now refused.error
   refused_read most kept mid now result goes course has refused = elim refused.refused [
     | inl is ↦ decided_read op store link alone kept most mid goes course sharded kept now refused.failure (Err refused.error) refused.makes has is
-    | inr memory ↦ λ read. absurd (subst IsReadFailure memory read)
+    | inr memory ↦ λ read. absurd (subst IsReadFailure memory.kind_is read)
   ]
 
   -- the operation is over

@@ -45,12 +45,12 @@ use Rattle.retry_rules.specs.declared.failure.AttemptFailure.{AttemptFailure}
 use Rattle.retry_rules.specs.declared.failure.FailurePhase.{FailurePhase}
 use Rattle.retry_rules.specs.declared.failure.FailurePhase.TheVariants.{ConnectionEstablishment, Execution}
 use Rattle.driver_attempt.specs.AttemptExchanges.{AsksPage, AsksPages, AttemptExchanges, EndsCursor, EndsCursorWhere, EndsPages, PageAsked, PageCame, ends_cursor, no_statements, pages_of}
-use Rattle.driver_attempt.specs.Attempting.{Connects, EndsAtOnce, EndsRefused, EndsSent, EndsUnready, FailsIn, IsAnswered, LacksFrame, LosesExchange, MayReadOn, NoFrame, NoNumber, NoSessions, NotConnected, NotSelected, Readies, ReadsOn, AttemptState, Sends, SpellsFailure, AttemptedOperation, MakesAttempt, besides_out, builds_again, on_connection, attempted_operation}
+use Rattle.driver_attempt.specs.Attempting.{Connects, EndsAtOnce, EndsRefused, EndsSent, EndsUnready, FailsIn, IsAnswered, LacksFrame, LosesExchange, MayFix, MayReadOn, NoFrame, NoNumber, NoSessions, NotConnected, NotSelected, Readies, ReadsOn, AttemptState, Sends, SpellsFailure, AttemptedOperation, MakesAttempt, besides_out, builds_again, on_connection, attempted_operation}
 use Rattle.driver_attempt.specs.Causes as causes
 use Rattle.driver_attempt.specs.Causes.{AllEarly, IsLast, KindAtLast, end_of, outline_of, next_number}
 use Rattle.driver_attempt.specs.Executing.{Ends, EndsWith, Proceeds, first_state}
 use Rattle.driver_attempt.specs.Concerns.{concern_of}
-use Rattle.driver_attempt.specs.Failures.{IsFaultOf, is_memory}
+use Rattle.driver_attempt.specs.Failures.{IsFaultOf}
 use Rattle.driver_attempt.specs.Holding.{DrawsNumber, ExecutionSession, held_id}
 use Rattle.retry_rules.specs.LabelTable.{labels_outside_transactions}
 use Rattle.driver_attempt.specs.Moment.{Moment}
@@ -159,7 +159,7 @@ module _ {A : Type 0} (on : Grounds A) (before now : ℕ) (which : LinkCall) (gi
       → EndNeeds on before now (answer.Fault which found given ∷ []) (Some (outline_of error))
   fault_end found error is labels none = inl (record {
     needs = subst (KindNeeds on before now (answer.Fault which found given ∷ []) (labels_of error)) (sym is) (fault_needs found (labels_of error) labels);
-    no_source = λ told. none;
+    no_source = none;
   })
 
 -- a fault may be found where the numbers are at their end
@@ -338,32 +338,32 @@ module _ {A : Type 0} (spec : OperationSpec A) (statements : ℕ) (reply : List 
 -- what each end of an attempt needs
 module _ {A : Type 0} (on : Grounds A) (before now : ℕ) (items : List Answered) (error : Error) where
   -- want of memory
-  memory_needs : kind_of error ≡ kind.Memory → EndNeeds on before now items (Some (outline_of error))
+  memory_needs : IsAlone kind.Memory no_labels error → EndNeeds on before now items (Some (outline_of error))
   memory_needs is = inl (record {
-    needs = subst (KindNeeds on before now items (labels_of error)) (sym is) tt;
-    no_source = λ told. absurd (let e : true ≡ false = sym (ap is_memory is) ∙ told in cc);
+    needs = subst (KindNeeds on before now items (labels_of error)) (sym is.kind_is) is.labels_are;
+    no_source = is.no_source;
   })
 
   -- want of memory, where the numbers are at their end
-  memory_at_last : kind_of error ≡ kind.Memory → KindAtLast (kind_of error)
-  memory_at_last is = subst (KindAtLast) (sym is) tt
+  memory_at_last : IsAlone kind.Memory no_labels error → KindAtLast (kind_of error)
+  memory_at_last is = subst (KindAtLast) (sym is.kind_is) tt
 
   -- a session that a connection does not take
   sessions_needs : on.setup ≡ None → IsAlone kind.SessionsNotSupported no_labels error → EndNeeds on before now items (Some (outline_of error))
   sessions_needs none is =
-      inl (record { needs = subst (KindNeeds on before now items (labels_of error)) (sym is.kind_is) (none, is.labels_are); no_source = λ told. is.no_source })
+      inl (record { needs = subst (KindNeeds on before now items (labels_of error)) (sym is.kind_is) (none, is.labels_are); no_source = is.no_source })
 
   -- a built command without a frame
   unspelled_needs : (context : SendContext) (description : Description) (fixed fixed_now : Option ℕ) → context.concern ≡ on.concern
       → ((lacks : LacksFrame on.spec context description fixed fixed_now error) → TakesFirst on.spec on.fixed on.setup lacks.statements)
-      → (LacksFrame on.spec context description fixed fixed_now error ⊎ (kind_of error ≡ kind.Memory)) → EndNeeds on before now items (Some (outline_of error))
+      → (LacksFrame on.spec context description fixed fixed_now error ⊎ (IsAlone kind.Memory no_labels error × MayFix on.spec description fixed fixed_now)) → EndNeeds on before now items (Some (outline_of error))
   unspelled_needs context description fixed fixed_now goes first why = elim why [
     | inl lacks ↦ inl (record {
       needs = subst (KindNeeds on before now items (labels_of error)) (sym lacks.unframed.is.kind_is)
           (record { context = context; goes_with = goes; statements = lacks.statements; first = first lacks; is = lacks.unframed.none; same = lacks.same }, lacks.unframed.is.labels_are);
-      no_source = λ told. lacks.unframed.is.no_source;
+      no_source = lacks.unframed.is.no_source;
     })
-    | inr memory ↦ memory_needs memory
+    | inr memory ↦ memory_needs memory.0
   ]
 
   -- a build that was refused
@@ -376,7 +376,7 @@ module _ {A : Type 0} (on : Grounds A) (before now : ℕ) (items : List Answered
     | inl memory ↦ memory_needs memory
     | inr ends ↦ inl (record {
       needs = subst (KindNeeds on before now items (labels_of error)) (sym ends.is.kind_is) (ends.may, refl, ends.is.labels_are);
-      no_source = λ told. ends.is.no_source;
+      no_source = ends.is.no_source;
     })
   ]
 
@@ -581,6 +581,7 @@ module _ {A : Type 0} (spec : OperationSpec A) (batch : Batch) (which : SendKind
           told = read_told behind now address conn fails.reply (Err fails.bare) sends fails.reads;
           bare = fails.bare;
           reads = reads_error spec batch.statements fails.reply conn exchanges.mid now.link exchanges.asked fails.bare exchanges.ends;
+          other = fails.is.is.told;
           connection_retryability = on_connection retryability conn.description;
           kind_is = (reworded_is error).0 ∙ ap reworded_kind (fails.is.versioned.kind ∙ labelled.rest.kind);
           labels_are = (reworded_is error).1 ∙ fails.is.versioned.labels ∙ labelled.labels;
@@ -911,7 +912,7 @@ module _ {A : Type 0} (spec : OperationSpec A) (batch : Batch) (which : SendKind
 
     -- the last failure may not be followed by another attempt
     caused_refused : (failure : AttemptFailure) (past : Option RetryState) (error : Error) → MakesAttempt op past mid now (Failed failure)
-        → (decide kept failure op.retryability sharded ≡ Err error) ⊎ (kind_of error ≡ kind.Memory) → CausedAt now (Some (outline_of error))
+        → (decide kept failure op.retryability sharded ≡ Err error) ⊎ IsAlone kind.Memory no_labels error → CausedAt now (Some (outline_of error))
     caused_refused failure past error makes refused =
         let fails = failed sharded kept mid now far failure past makes in
         let adds = adds_twice link mid.link now.link far.items fails.more far.adds fails.adds in

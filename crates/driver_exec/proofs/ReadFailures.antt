@@ -48,7 +48,7 @@ refused_unread (kind.BulkWrite failures) may read = may
 refused_unread _ may read = read
 
 -- the number of a session that a store which tells none lends may be any
-any_first : (session : Option Session) (sent : Option (Option ℤ)) → IsFirst session sent None
+pub any_first : (session : Option Session) (sent : Option (Option ℤ)) → IsFirst session sent None
 any_first (Some session) None = tt
 any_first (Some session) (Some before) = tt
 any_first None None = tt
@@ -58,7 +58,7 @@ any_first None (Some before) = tt
 number_unread : (connection_retryability : Retryability) (held numbered : ExecutionSession) (error : Error) → DrawsNumber held.sent connection_retryability held numbered (Err error)
     → IsReadFailure (kind_of error) → ⊥
 number_unread connection_retryability held numbered error draws read = elim (unnumbered_at_end None connection_retryability held numbered error (any_first held.session held.sent) draws) [
-  | inl memory ↦ subst IsReadFailure memory read
+  | inl memory ↦ subst IsReadFailure memory.kind_is read
   | inr ends ↦ subst IsReadFailure ends.is.kind_is read
 ]
 
@@ -73,7 +73,7 @@ module _ {A : Type 0} (op : AttemptedOperation A) (past : Option RetryState) (mi
         | inl early ↦ refused_unread (kind_of error) early.1.may read
         | inr why ↦ elim why [
           | inl none ↦ subst IsReadFailure none.unframed.is.kind_is read
-          | inr memory ↦ subst IsReadFailure memory read
+          | inr memory ↦ subst IsReadFailure memory.0.kind_is read
         ]
       ]
     ]
@@ -82,10 +82,10 @@ module _ {A : Type 0} (op : AttemptedOperation A) (past : Option RetryState) (mi
   -- what ends an operation at once
   pub ended_unread : EndsAtOnce op past mid now error → ⊥
   ended_unread ends = elim ends [
-    | inl unready ↦ subst IsReadFailure unready.why read
+    | inl unready ↦ subst IsReadFailure unready.why.kind_is read
     | inr other ↦ elim other [
       | inl refused ↦ refusal_unread refused
-      | inr sent ↦ subst IsReadFailure sent.why read
+      | inr sent ↦ subst IsReadFailure sent.why.kind_is read
     ]
   ]
 

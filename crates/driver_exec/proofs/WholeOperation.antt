@@ -57,9 +57,9 @@ module _ {A : Type 0} (spec : OperationSpec A) (batch : Batch) (which : SendKind
         needs = inl (record {
           needs = elim refuses.is.is [
             | inl alone ↦ subst (KindNeeds on before.link.faults before.link.faults [] (labels_of refuses.error)) (sym alone.kind_is) (refuses.is.refused, alone.labels_are)
-            | inr memory ↦ subst (KindNeeds on before.link.faults before.link.faults [] (labels_of refuses.error)) (sym memory.kind_is) tt
+            | inr memory ↦ subst (KindNeeds on before.link.faults before.link.faults [] (labels_of refuses.error)) (sym memory.kind_is) memory.labels_are
           ];
-          no_source = λ told. elim refuses.is.is [ inl alone ↦ alone.no_source | inr memory ↦ memory.no_source ];
+          no_source = elim refuses.is.is [ inl alone ↦ alone.no_source | inr memory ↦ memory.no_source ];
         });
         at_last = λ accepted draws last. absurd (let e : ◌≡◌ {A = Option (List ℕ)} None (Some refuses.is.text) = sym accepted ∙ refuses.is.refused in cc);
       }))

@@ -129,8 +129,8 @@ PagesNeed spec statements reply before now items (page ∷ pages) =
     PageNeeds spec statements reply pages before now items page × PagesNeed spec statements reply before now items pages
 
 -- a reply spells this error for an operation, which reads it by the number of statements that a first build takes, with pages behind
--- it: its kind is the one that is read, in words for the caller, its labels are those of what is read, with that of the table where
--- the network failed, and its source is the one that is read
+-- it; what it reads is no want of memory. Its kind is the one that is read, in words for the caller, its labels are those of what is
+-- read, with that of the table where the network failed, and its source is the one that is read
 pub record SpellsEnd {A : Type 0} (on : Grounds A) (before now : ℕ) (items : List Answered) (why : ErrorOutline) (bytes : List ℕ) : Type 0 where
   pub statements : ℕ
   pub first : TakesFirst on.spec on.fixed on.setup statements
@@ -139,6 +139,7 @@ pub record SpellsEnd {A : Type 0} (on : Grounds A) (before now : ℕ) (items : L
   pub told : PagesNeed on.spec statements bytes before now items pages
   pub bare : Error
   pub reads : ReadsPages on.spec statements bytes pages (Err bare)
+  pub other : is_memory (kind_of bare) ≡ false
   pub connection_retryability : Retryability
   pub kind_is : why.kind ≡ reworded_kind (kind_of bare)
   pub labels_are : why.labels ≡ labels_outside_transactions connection_retryability bare
@@ -154,7 +155,7 @@ pub record IsRead {A : Type 0} (on : Grounds A) (before now : ℕ) (items : List
   pub output : A
   pub reads : ReadsPages on.spec statements bytes pages (Ok output)
 
--- what an error of each kind needs; want of memory needs nothing. That of a refusal before a send has no labels
+-- what an error of each kind needs; want of memory has no cause to show. Neither it nor a refusal before a send has labels
 abbrev pub KindNeeds : {A : Type 0} → Grounds A → ℕ → ℕ → List Answered → LabelSet → ErrorKind → Type 0
 KindNeeds on before now items labels (kind.Io io) = Rose before now × HasFault on.retryability on.setup (fault.Io io) labels items
 KindNeeds on before now items labels (kind.ConnectionPoolCleared message) = Rose before now × HasFault on.retryability on.setup (fault.PoolCleared message) labels items
@@ -164,13 +165,13 @@ KindNeeds on before now items labels (kind.InvalidArgument message) = (concern_r
 KindNeeds on before now items labels (kind.BsonSerialization fault) = Unspelled on.spec on.fixed on.setup on.concern fault × (labels ≡ no_labels)
 KindNeeds on before now items labels (kind.Internal message) = MayBeLast on.number × (message ≡ number_at_its_end) × (labels ≡ no_labels)
 KindNeeds on before now items labels kind.SessionsNotSupported = (on.setup ≡ None) × (labels ≡ no_labels)
-KindNeeds on before now items labels kind.Memory = Unit {0}
+KindNeeds on before now items labels kind.Memory = labels ≡ no_labels
 KindNeeds on before now items labels _ = ⊥
 
 -- what an error needs that no reply spells: it has its kind's cause, and no source
 pub record NeedsByKind {A : Type 0} (on : Grounds A) (before now : ℕ) (items : List Answered) (why : ErrorOutline) : Type 0 where
   pub needs : KindNeeds on before now items why.labels why.kind
-  pub no_source : is_memory why.kind ≡ false → why.source ≡ None
+  pub no_source : why.source ≡ None
 
 -- what an end needs: an Ok comes only after a reply that the operation reads, and an error by its kind, after a reply that
 -- spells it, or where a build is refused so

@@ -1,5 +1,5 @@
 //! An operation outside transactions: attempts, and between them the decision on a retry.
-ghost use Rattle.std.specs.Prelude.{◌≡◌, ◌⊎◌, ℕ, List as Listed, IsSome, Some};
+ghost use Rattle.std.specs.Prelude.{◌≡◌, ◌⊎◌, ℕ, List as Listed, IfErr, IsSome, Some};
 ghost use Rattle.driver_link.specs.declared.machine.SendBody.{SendBody};
 ghost use Rattle.driver_ops.specs.Operations.{AsksFor, HasBodies, IsFixed, SameSpec, StaysFixed, batch_of};
 ghost use Rattle.driver_attempt.specs.Attempting.{attempted_operation};
@@ -7,6 +7,7 @@ ghost use Rattle.driver_attempt.specs.Causes.{end_of};
 ghost use Rattle.driver_attempt.specs.Client.{options_of, store_of};
 ghost use Rattle.driver_attempt.specs.Concerns.{concern_of, concern_refusal};
 ghost use Rattle.driver_attempt.specs.Executing.{Attempts, EndsWith, Executes, limit_reached};
+ghost use Rattle.driver_attempt.specs.Failures.{MemoryAlone};
 ghost use Rattle.driver_attempt.specs.Holding.{holds_nothing};
 ghost use Rattle.driver_attempt.specs.Moment.{moment_of};
 ghost use Rattle.retry_rules.specs.Retry.{Decides, decide};
@@ -34,12 +35,12 @@ use std::sync::ledger::Ledger;
 /// Runs an operation outside transactions, with the places of its writes. Its write concern is judged first, and
 /// where that is refused nothing is built or asked (`unbuilt`). Then it makes attempts until one ends it, or its
 /// failure may not be followed by another. An error is that of the concern, or of the failure which is kept, or
-/// what ended the operation at once. `sends` counts the sends of its command, each once, of which there are two
-/// at most (`laws` says this, and what of store and clock stays). Where store and link tell, and its places are
-/// new, it keeps what stands between the operations of one client (`keeps`), an Ok has the entry of each of its
-/// writes in the log, which tell the output (`entries`), and a failure that only a reply spells was read in the
-/// machine's own reply, with the entries of the statements that did not fail in the log (`reported`). Where it was
-/// done, or ended so, it has built its command (`ran`).
+/// what ended the operation at once; one of want of memory tells of nothing else (`memory`). `sends` counts the
+/// sends of its command, each once, of which there are two at most (`laws` says this, and what of store and clock
+/// stays). Where store and link tell, and its places are new, it keeps what stands between the operations of one
+/// client (`keeps`), an Ok has the entry of each of its writes in the log, which tell the output (`entries`), and a
+/// failure that only a reply spells was read in the machine's own reply, with the entries of the statements that
+/// did not fail in the log (`reported`). Where it was done, or ended so, it has built its command (`ran`).
 pub fn execute_operation<O: Operation, S: SessionStore, L: Link, K: Clock, R: Rng, Q: Ledger>(
     alloc: Global,
     client: &mut Client<S>,
@@ -83,6 +84,7 @@ pub fn execute_operation<O: Operation, S: SessionStore, L: Link, K: Clock, R: Rn
         (moment_of S.tells L.tells K.tells R.stream client.old outside.old)
         (moment_of S.tells L.tells K.tells R.stream client.new outside.new)
         (end_of result) }
+    ensures memory { IfErr result (λ error. MemoryAlone error) }
     ensures spec { SameSpec (O.spec op.old) (O.spec op.new) }
     ensures fixed { StaysFixed (O.built op.old) (O.built op.new) }
     ensures unbuilt { (text : Listed ℕ) →

@@ -87,7 +87,7 @@ judged_replacements (model ∷ models) judges some named updated judged =
 pub bulk_argument : (models : List WriteModel) (options : BulkWriteOptions) (error : Error) → IsArgumentError (bulk_argument_refusal models) error → TellsBulkInput models options error
 bulk_argument models options error found = elim found.is [
   | inl alone ↦ inr (record { why = kind.InvalidArgument found.text; refused = found.refused; is = alone })
-  | inr alone ↦ inl alone.kind_is
+  | inr alone ↦ inl alone
 ]
 
 -- what is judged of a bulk write whose arguments are in order

@@ -102,7 +102,7 @@ pub many_argument : (namespace : Namespace) (documents : List (List (Pair Bson))
     → IsArgumentError (many_argument_refusal namespace documents) error → TellsManyInput namespace documents options error
 many_argument namespace documents options error found = elim found.is [
   | inl alone ↦ inr (record { why = kind.InvalidArgument found.text; refused = found.refused; is = alone })
-  | inr alone ↦ inl alone.kind_is
+  | inr alone ↦ inl alone
 ]
 
 -- what is judged of an insert whose arguments are in order

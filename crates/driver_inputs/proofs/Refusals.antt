@@ -163,7 +163,7 @@ replacement_taken document plain = ap (λ b. if b then Some replacement_text els
 argument_input : (form : WriteForm) (error : Error) → IsArgumentError (argument_refusal form) error → TellsInput form error
 argument_input form error found = elim found.is [
   | inl alone ↦ inr (record { why = kind.InvalidArgument found.text; refused = found.refused; is = alone })
-  | inr alone ↦ inl alone.kind_is
+  | inr alone ↦ inl alone
 ]
 
 pub named_input : (form : WriteForm) (error : Error) → IsArgumentError (name_refusal (namespace_in form)) error → TellsInput form error

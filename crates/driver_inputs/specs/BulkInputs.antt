@@ -9,7 +9,7 @@ use Rattle.bson_lite.specs.Fields.{with_id}
 use Rattle.bson_lite.specs.Namespace.{dotted}
 use Rattle.driver_error.specs.declared.error.Error.{Error}
 use Rattle.driver_error.specs.declared.kind.ErrorKind.TheVariants as kind
-use Rattle.driver_error.specs.Error.{ErrorKind, IsAlone, kind_of}
+use Rattle.driver_error.specs.Error.{ErrorKind, IsAlone}
 use Rattle.driver_error.specs.LabelTexts.{no_labels}
 use Rattle.driver_options.specs.declared.models.WriteModel.{WriteModel}
 use Rattle.driver_options.specs.declared.models.WriteModel.TheVariants.{InsertOne, UpdateOne, UpdateMany, ReplaceOne, DeleteOne, DeleteMany}
@@ -123,7 +123,7 @@ pub record IsBulkInputError (models : List WriteModel) (options : BulkWriteOptio
 
 -- an error that tells why an input is refused, or of want of memory
 abbrev pub TellsBulkInput : List WriteModel → BulkWriteOptions → Error → Type 0
-TellsBulkInput models options error = (kind_of error ≡ kind.Memory) ⊎ IsBulkInputError models options error
+TellsBulkInput models options error = IsAlone kind.Memory no_labels error ⊎ IsBulkInputError models options error
 
 -- an input is accepted, or there is an error
 abbrev pub JudgesBulkInput : List WriteModel → BulkWriteOptions → Option Error → Type 0

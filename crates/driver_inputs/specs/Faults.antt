@@ -11,7 +11,7 @@ use Rattle.bson_lite.specs.Spelling.{refusal_within, zero_within}
 use Rattle.driver_error.specs.declared.error.Error.{Error}
 use Rattle.driver_error.specs.declared.kind.ErrorKind.TheVariants as kind
 use Rattle.driver_error.specs.Conversions.{IsMade}
-use Rattle.driver_error.specs.Error.{IsAlone, kind_of}
+use Rattle.driver_error.specs.Error.{IsAlone}
 use Rattle.driver_error.specs.LabelTexts.{no_labels}
 use Rattle.driver_inputs.specs.Inputs.{is_deep, is_long}
 
@@ -67,4 +67,4 @@ ErrorOfFault (Ok None) result = result ≡ None
 ErrorOfFault (Ok (Some fault)) None = ⊥
 ErrorOfFault (Ok (Some fault)) (Some error) = IsAlone (kind.BsonSerialization fault) no_labels error
 ErrorOfFault (Err refused) None = ⊥
-ErrorOfFault (Err refused) (Some error) = kind_of error ≡ kind.Memory
+ErrorOfFault (Err refused) (Some error) = IsAlone kind.Memory no_labels error

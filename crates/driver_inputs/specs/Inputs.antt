@@ -12,7 +12,7 @@ use Rattle.bson_lite.specs.Fields.{begins_with_operator, with_id}
 use Rattle.bson_lite.specs.Spelling.{depth, spelling, zero_within}
 use Rattle.driver_error.specs.declared.error.Error.{Error}
 use Rattle.driver_error.specs.declared.kind.ErrorKind.TheVariants as kind
-use Rattle.driver_error.specs.Error.{ErrorKind, IsAlone, kind_of}
+use Rattle.driver_error.specs.Error.{ErrorKind, IsAlone}
 use Rattle.driver_error.specs.LabelTexts.{no_labels}
 use Rattle.driver_options.specs.declared.find_options.FindAndModifyOptions.{FindAndModifyOptions}
 use Rattle.driver_options.specs.declared.updates.Modification.{Modification}
@@ -166,7 +166,7 @@ pub record IsInputError (form : WriteForm) (error : Error) : Type 0 where
 
 -- an error that tells why an input is refused, or of want of memory
 abbrev pub TellsInput : WriteForm → Error → Type 0
-TellsInput form error = (kind_of error ≡ kind.Memory) ⊎ IsInputError form error
+TellsInput form error = IsAlone kind.Memory no_labels error ⊎ IsInputError form error
 
 -- an input is accepted, or there is an error
 abbrev pub JudgesInput : WriteForm → Option Error → Type 0

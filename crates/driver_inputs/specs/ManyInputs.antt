@@ -9,7 +9,7 @@ use Rattle.bson_lite.specs.declared.namespace.Namespace.{Namespace}
 use Rattle.bson_lite.specs.Fields.{with_id}
 use Rattle.driver_error.specs.declared.error.Error.{Error}
 use Rattle.driver_error.specs.declared.kind.ErrorKind.TheVariants as kind
-use Rattle.driver_error.specs.Error.{ErrorKind, IsAlone, kind_of}
+use Rattle.driver_error.specs.Error.{ErrorKind, IsAlone}
 use Rattle.driver_error.specs.LabelTexts.{no_labels}
 use Rattle.driver_options.specs.declared.write_options.InsertManyOptions.{InsertManyOptions}
 use Rattle.driver_ops.specs.Inserts.{insert_command}
@@ -70,7 +70,7 @@ pub record IsManyInputError (namespace : Namespace) (documents : List (List (Pai
 
 -- an error that tells why an input is refused, or of want of memory
 abbrev pub TellsManyInput : Namespace → List (List (Pair Bson)) → InsertManyOptions → Error → Type 0
-TellsManyInput namespace documents options error = (kind_of error ≡ kind.Memory) ⊎ IsManyInputError namespace documents options error
+TellsManyInput namespace documents options error = IsAlone kind.Memory no_labels error ⊎ IsManyInputError namespace documents options error
 
 -- an input is accepted, or there is an error
 abbrev pub JudgesManyInput : Namespace → List (List (Pair Bson)) → InsertManyOptions → Option Error → Type 0

@@ -1,4 +1,4 @@
--- Counts of faults: a call answers a fault only where its count rose, and a read or a write that doesn't fail leaves it.
+-- Counts of faults: a call answers a fault only where its count rose; a read or a write that fails raises its by one.
 use Rattle.std.specs.Prelude.{◌≡◌, ℕ, ◌+◌, ◌-◌, ◌^◌, ◌≤◌, min, Result, Ok, Err}
 use Rattle.link_faults.specs.declared.fault.LinkError.{LinkError}
 use Rattle.link_faults.specs.declared.fault.LinkError.TheVariants.{Fault, Memory}
@@ -7,10 +7,14 @@ use Rattle.link_faults.specs.declared.fault.LinkError.TheVariants.{Fault, Memory
 abbrev pub Rose : ℕ → ℕ → Type 0
 Rose before now = min (before + 1) (2 ^ 64 - 1) ≤ now
 
--- the count tells the failures: it stands where there is none, and rose where there is one
+-- the count is one more, or stands at the greatest u64
+abbrev pub RoseByOne : ℕ → ℕ → Type 0
+RoseByOne before now = now ≡ min (before + 1) (2 ^ 64 - 1)
+
+-- the count tells the failures: it stands where there is none, and rose by one where there is one
 abbrev pub FailsByCount : {A E : Type 0} → ℕ → ℕ → Result A E → Type 0
 FailsByCount before now (Ok answer) = now ≡ before
-FailsByCount before now (Err failed) = Rose before now × (before ≤ now)
+FailsByCount before now (Err failed) = RoseByOne before now × (before ≤ now)
 
 -- a count of a link never falls, and a fault comes only where it rose; want of memory has no cause
 abbrev pub HasLinkCause : {A : Type 0} → ℕ → ℕ → Result A LinkError → Type 0

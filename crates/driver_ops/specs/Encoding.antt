@@ -6,7 +6,7 @@ use Rattle.bson_lite.specs.declared.fault.EncodeFault.{EncodeFault}
 use Rattle.bson_lite.specs.Spelling.{Spells, refusal}
 use Rattle.driver_error.specs.declared.error.Error.{Error}
 use Rattle.driver_error.specs.declared.kind.ErrorKind.TheVariants.{BsonSerialization, Memory}
-use Rattle.driver_error.specs.Error.{IsAlone, kind_of}
+use Rattle.driver_error.specs.Error.{IsAlone}
 use Rattle.driver_error.specs.LabelTexts.{no_labels}
 
 -- a document has no spelling, and the error tells why and nothing else
@@ -18,4 +18,4 @@ pub record IsUnspelled (document : List (Pair Bson)) (error : Error) : Type 0 wh
 -- a document's spelling, or the error that tells why it has none, or want of memory
 abbrev pub Encoded : List (Pair Bson) → Result (List ℕ) Error → Type 0
 Encoded document (Ok bytes) = (refusal document ≡ None) × Spells document bytes
-Encoded document (Err error) = (kind_of error ≡ Memory) ⊎ IsUnspelled document error
+Encoded document (Err error) = IsAlone Memory no_labels error ⊎ IsUnspelled document error

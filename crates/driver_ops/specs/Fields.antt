@@ -7,7 +7,8 @@ use Rattle.bson_lite.specs.Fields.{value_of}
 use Rattle.bson_lite.specs.Spelling.{Spells}
 use Rattle.driver_error.specs.declared.error.Error.{Error}
 use Rattle.driver_error.specs.declared.kind.ErrorKind.TheVariants.{Memory}
-use Rattle.driver_error.specs.Error.{kind_of}
+use Rattle.driver_error.specs.Error.{IsAlone}
+use Rattle.driver_error.specs.LabelTexts.{no_labels}
 use Rattle.driver_options.specs.declared.concerns.WriteConcern.{WriteConcern}
 use Rattle.wire_keys.specs.declared.keys.TheConstants.{SESSION, SESSION_ID, TRANSACTION_NUMBER, DATABASE, UUID_SUBTYPE, WRITE_CONCERN}
 use Rattle.driver_link.specs.Framed.{Framed}
@@ -84,7 +85,7 @@ pub record IsFrameOf (command : Command) (frame : Framed) : Type 0 where
 -- a command in bytes, or the error that tells why its body has no spelling, or want of memory
 abbrev pub Frames : Command → Result Framed Error → Type 0
 Frames command (Ok frame) = IsFrameOf command frame
-Frames command (Err error) = (kind_of error ≡ Memory) ⊎ IsUnspelled command.body error
+Frames command (Err error) = IsAlone Memory no_labels error ⊎ IsUnspelled command.body error
 
 -- the same with the executor's fields
 abbrev pub FramesUnder : SendContext → Command → Result Framed Error → Type 0

@@ -1,5 +1,5 @@
 //! A write concern as a command carries it.
-ghost use Rattle.std.specs.Prelude.{◌≡◌, ◌++◌, IfOk, OnOk};
+ghost use Rattle.std.specs.Prelude.{◌≡◌, ◌++◌, IfOk, OnErr, OnOk};
 ghost use Rattle.driver_ops.specs.ConcernFields.{acknowledgment_of, acknowledgment_value, concern_document, number_of, number_value};
 ghost use Rattle.driver_ops.specs.OptionFields.{option_field};
 
@@ -29,7 +29,8 @@ fn push_acknowledgment(
     key: &str,
     w: &Option<Acknowledgment>,
 ) -> Result<(), AllocError>
-    ensures { OnOk result (document.new ≡ document.old ++ option_field key.now (acknowledgment_of w.now)) }
+    ensures ok { OnOk result (document.new ≡ document.old ++ option_field key.now (acknowledgment_of w.now)) }
+    ensures err { OnErr result (document.new ≡ document.old) }
 {
     match w {
         None => Ok(()),
@@ -54,7 +55,8 @@ pub fn push_number(
     key: &str,
     number: Option<u32>,
 ) -> Result<(), AllocError>
-    ensures { OnOk result (document.new ≡ document.old ++ option_field key.now (number_of number)) }
+    ensures ok { OnOk result (document.new ≡ document.old ++ option_field key.now (number_of number)) }
+    ensures err { OnErr result (document.new ≡ document.old) }
 {
     match number {
         None => Ok(()),

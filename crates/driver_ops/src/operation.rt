@@ -1,7 +1,8 @@
 //! What is sent: an operation builds its command and reads the answer to it, page by page.
 ghost use Rattle.std.specs.Prelude.{◌≡◌, ℕ, ◌<◌, ◌∷◌, [], List, Option, Some, Ok, IfErr, IfSome, OnErr, OnOk};
 ghost use Rattle.driver_error.specs.declared.kind.ErrorKind.TheVariants.{Memory};
-ghost use Rattle.driver_error.specs.Error.{kind_of};
+ghost use Rattle.driver_error.specs.Error.{IsAlone};
+ghost use Rattle.driver_error.specs.LabelTexts.{no_labels};
 ghost use Rattle.driver_link.specs.CommandNames.{command_named};
 ghost use Rattle.driver_ops.specs.Features.{feature_told};
 ghost use Rattle.driver_ops.specs.OperationLaw.{IsLawful};
@@ -123,12 +124,12 @@ pub trait Operation {
         ensures { result ≡ (spec self.now).after_cluster_time };
 
     /// Makes it ready to be sent again after a failure, which told of overload or not. It fails only for want of
-    /// memory, and then stays as it was.
+    /// memory, with that alone, and then stays as it was.
     fn update_for_retry(&mut self, alloc: Global, overloaded: bool) -> Result<()>
         ensures next { OnOk result
             (SameAt (spec self.old) (kind_after overloaded (next self.old)) (next self.new)) }
         ensures kept { OnErr result (next self.new ≡ next self.old) }
-        ensures memory { IfErr result (λ error. kind_of error ≡ Memory) }
+        ensures memory { IfErr result (λ error. IsAlone Memory no_labels error) }
         ensures spec { SameSpec (spec self.old) (spec self.new) }
         ensures built { built self.new ≡ built self.old };
 

@@ -1,5 +1,5 @@
 //! Fields of commands and statements that stand only where their option is set.
-ghost use Rattle.std.specs.Prelude.{◌≡◌, ◌++◌, ◌∷◌, [], IfOk, OnOk};
+ghost use Rattle.std.specs.Prelude.{◌≡◌, ◌++◌, ◌∷◌, [], IfOk, OnErr, OnOk};
 ghost use Rattle.bson_lite.specs.declared.bson.Bson as bson;
 ghost use Rattle.driver_ops.specs.OptionFields.{document_in, documents_of, documents_value, flag_of, hint_of, hint_value, option_field, where_true};
 
@@ -9,7 +9,8 @@ use std::alloc::{AllocError, Global};
 
 /// Appends a flag where it is set.
 pub fn push_flag(document: &mut Document, key: &str, flag: Option<bool>) -> Result<(), AllocError>
-    ensures { OnOk result (document.new ≡ document.old ++ option_field key.now (flag_of flag)) }
+    ensures ok { OnOk result (document.new ≡ document.old ++ option_field key.now (flag_of flag)) }
+    ensures err { OnErr result (document.new ≡ document.old) }
 {
     match flag {
         None => Ok(()),
@@ -24,7 +25,8 @@ pub fn push_value(
     key: &str,
     value: &Option<Bson>,
 ) -> Result<(), AllocError>
-    ensures { OnOk result (document.new ≡ document.old ++ option_field key.now value.now) }
+    ensures ok { OnOk result (document.new ≡ document.old ++ option_field key.now value.now) }
+    ensures err { OnErr result (document.new ≡ document.old) }
 {
     match value {
         None => Ok(()),
@@ -39,7 +41,8 @@ pub fn push_document(
     key: &str,
     value: &Option<Document>,
 ) -> Result<(), AllocError>
-    ensures { OnOk result (document.new ≡ document.old ++ option_field key.now (document_in value.now)) }
+    ensures ok { OnOk result (document.new ≡ document.old ++ option_field key.now (document_in value.now)) }
+    ensures err { OnErr result (document.new ≡ document.old) }
 {
     match value {
         None => Ok(()),
@@ -54,7 +57,8 @@ pub fn push_documents(
     key: &str,
     documents: &Option<List<Document>>,
 ) -> Result<(), AllocError>
-    ensures { OnOk result (document.new ≡ document.old ++ option_field key.now (documents_of documents.now)) }
+    ensures ok { OnOk result (document.new ≡ document.old ++ option_field key.now (documents_of documents.now)) }
+    ensures err { OnErr result (document.new ≡ document.old) }
 {
     match documents {
         None => Ok(()),
@@ -80,7 +84,8 @@ pub fn push_hint(
     key: &str,
     hint: &Option<Hint>,
 ) -> Result<(), AllocError>
-    ensures { OnOk result (document.new ≡ document.old ++ option_field key.now (hint_of hint.now)) }
+    ensures ok { OnOk result (document.new ≡ document.old ++ option_field key.now (hint_of hint.now)) }
+    ensures err { OnErr result (document.new ≡ document.old) }
 {
     match hint {
         None => Ok(()),
@@ -100,7 +105,8 @@ fn hint_value(alloc: Global, hint: &Hint) -> Result<Bson, AllocError>
 
 /// Appends a flag only where it is true.
 pub fn push_where(document: &mut Document, key: &str, flag: bool) -> Result<(), AllocError>
-    ensures { OnOk result (document.new ≡ document.old ++ option_field key.now (where_true flag)) }
+    ensures ok { OnOk result (document.new ≡ document.old ++ option_field key.now (where_true flag)) }
+    ensures err { OnErr result (document.new ≡ document.old) }
 {
     if flag {
         document.push(key, Bson::Boolean(true))

@@ -2,7 +2,7 @@
 use Rattle.std.specs.Prelude.{◌≡◌, ◌≢◌, ℕ, ℤ, pos, ◌+ℤ◌, ◌≤ℤ◌, Bool, List, codes, ◌⊎◌, Result, Ok, Err}
 use Rattle.driver_error.specs.declared.error.Error.{Error}
 use Rattle.driver_error.specs.declared.kind.ErrorKind.TheVariants.{Internal, Memory}
-use Rattle.driver_error.specs.Error.{IsAlone, kind_of}
+use Rattle.driver_error.specs.Error.{IsAlone}
 use Rattle.driver_error.specs.LabelTexts.{no_labels}
 
 -- an id, the last transaction number that was used, the time of the last use in milliseconds, and
@@ -26,11 +26,11 @@ pub record IsAtItsEnd (session : Session) (error : Error) : Type 0 where
   pub last : session.number ≡ last_number
   pub is : IsAlone (Internal number_at_its_end) no_labels error
 
--- a session gives its next number, which it then has, unless its number is the greatest, or memory runs out; an error changes
--- nothing
+-- a session gives its next number, which it then has, unless its number is the greatest; an error says so, or that there was no
+-- memory to say it, and changes nothing
 abbrev pub Numbers : Session → Session → Result ℤ Error → Type 0
 Numbers old now (Ok number) = (old.number ≢ last_number) × (number ≡ (old.number +ℤ pos 1)) × (now ≡ record old { number = number })
-Numbers old now (Err error) = (now ≡ old) × ((kind_of error ≡ Memory) ⊎ IsAtItsEnd old error)
+Numbers old now (Err error) = (now ≡ old) × (old.number ≡ last_number) × (IsAlone Memory no_labels error ⊎ IsAtItsEnd old error)
 
 -- the session has its next number
 abbrev pub Raises : Session → Session → Type 0

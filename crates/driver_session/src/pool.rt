@@ -1,7 +1,8 @@
 //! The pool of server sessions behind a store, with its history.
 ghost use Rattle.std.specs.Prelude.{◌≡◌, ◌+◌, ◌<◌, ◌≤◌, ◌++◌, [], ◌∷◌, IfErr, IfOk, OnErr, OnOk, if◌then◌else◌, vec_len, vec_capacity};
 ghost use Rattle.std.specs.VecDeque.{deque_len, deque_capacity};
-ghost use Rattle.driver_error.specs.Error.{kind_of};
+ghost use Rattle.driver_error.specs.Error.{IsAlone};
+ghost use Rattle.driver_error.specs.LabelTexts.{no_labels};
 ghost use Rattle.driver_error.specs.declared.kind.ErrorKind.TheVariants.{Memory};
 ghost use Rattle.driver_link.specs.Ids.{after_draw};
 ghost use Rattle.driver_link.specs.declared.ids.IdKind.TheVariants.{Object, Session};
@@ -119,7 +120,7 @@ impl<I: IdSource> StoreState<I> {
         ensures ids { OnOk result
             (I.to_come self.new.ids ≡ ids_after (draws self.old.pool.idle) (I.to_come self.old.ids)) }
         ensures err { OnErr result (self.new ≡ self.old) }
-        ensures kind { IfErr result (λ error. kind_of error ≡ Memory) }
+        ensures memory { IfErr result (λ error. IsAlone Memory no_labels error) }
     {
         make_room(
             &mut self.idle,

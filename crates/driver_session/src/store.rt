@@ -1,6 +1,7 @@
 //! Where sessions are lent from.
 ghost use Rattle.std.specs.Prelude.{◌≡◌, IfErr, IfOk, OnErr};
-ghost use Rattle.driver_error.specs.Error.{kind_of};
+ghost use Rattle.driver_error.specs.Error.{IsAlone};
+ghost use Rattle.driver_error.specs.LabelTexts.{no_labels};
 ghost use Rattle.driver_error.specs.declared.kind.ErrorKind.TheVariants.{Memory};
 ghost use Rattle.driver_session.specs.StoreTells.{DrawsObjectId, LendsSession, StoreTells, TakesSession};
 
@@ -19,7 +20,7 @@ pub trait SessionStore {
         ensures lends { IfOk result
             (λ session. LendsSession (tells self.old) (tells self.new) now_ms session) }
         ensures err { OnErr result (tells self.new ≡ tells self.old) }
-        ensures kind { IfErr result (λ error. kind_of error ≡ Memory) };
+        ensures memory { IfErr result (λ error. IsAlone Memory no_labels error) };
 
     /// Takes a session back. It takes no memory, since the check-out made room. A session that this
     /// store has not lent is dropped and changes nothing.

@@ -61,7 +61,7 @@ impl From<AllocError> for LinkError {
 }
 
 /// The kind of the fault, with the labels that came with it and nothing else. Where their list's
-/// allocator finds no memory for them it is an error of kind Memory.
+/// allocator finds no memory for them it is an error of kind Memory alone.
 impl From<LinkError> for Error {
     ghost use Rattle.link_faults.specs.Failures.{BecomesError};
 

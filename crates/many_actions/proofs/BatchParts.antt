@@ -33,6 +33,7 @@ use Rattle.many_actions.specs.declared.gathered.Gathered.{Gathered}
 use Rattle.many_actions.specs.Batches.{goes_on, insert_plan, is_of_documents, places_from, rest_of, tells_documents}
 use Rattle.many_actions.specs.ManyAnswers.{with_result}
 use Rattle.many_actions.specs.inside.Batches.{AreSpelled, BatchMade, ComesBehind, GathersBatch, IsCount, NextBehind, StepsWithin, StopsBatches}
+use Rattle.many_actions.specs.inside.Taking.{StopsWith}
 use Rattle.many_actions.proofs.BatchPlaces.{places_length}
 use Rattle.driver_actions.proofs.CallWrites.WriteOperations.{of_insert}
 use Rattle.many_actions.proofs.PlannedParts.{planned_made}
@@ -198,8 +199,8 @@ module _ (target : OperationTarget) (options : InsertManyOptions) (call index : 
   ]
   stops_by false is why = stops_alone is (elim why [ inl memory ↦ inl memory | inr alone ↦ inr alone.0 ])
 
-  pub stops_batch : (kind_of error ≡ kind.Memory) ⊎ ((came ≡ Err error) × (is_of_documents came ≡ false)) → StopsBatches target options call index own before now error
-  stops_batch why = stops_by (is_of_documents came) refl why
+  pub stops_batch : StopsWith came error → StopsBatches target options call index own before now error
+  stops_batch why = stops_by (is_of_documents came) refl (elim why [ inl memory ↦ inl memory.kind_is | inr alone ↦ inr alone ])
 
 -- memory ran out before a batch was made
 pub stops_unmade : (target : OperationTarget) (options : InsertManyOptions) (call index : ℕ) (own : List OwnDocument) (before now : Moment) (error : Error) → now ≡ before → kind_of error ≡ kind.Memory

@@ -25,6 +25,7 @@ pub mod ManyNumbers
 pub mod ManyParts
 pub mod ManyRefusals
 pub mod ManySpelled
+pub mod MemoryAlone
 pub mod PlannedBatches
 pub mod PlannedCuts
 pub mod PlannedParts

@@ -70,7 +70,7 @@ accepted_many namespace documents options _ accepted refused = refused
 accepted_memory : (namespace : Namespace) (documents : List (List (Pair Bson))) (options : InsertManyOptions) (error : Error) → IsManyAccepted namespace documents options
     → TellsManyInput namespace documents options error → kind_of error ≡ kind.Memory
 accepted_memory namespace documents options error accepted tells = elim tells [
-  | inl memory ↦ memory
+  | inl memory ↦ memory.kind_is
   | inr input ↦ absurd (accepted_many namespace documents options input.why accepted input.refused)
 ]
 

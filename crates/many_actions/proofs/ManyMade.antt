@@ -307,7 +307,7 @@ failures_answered error failures ends is answers = elim answers [
 input_other : (namespace : Namespace) (documents : List (List (Pair Bson))) (options : InsertManyOptions) (error : Error) (failures : InsertManyError) → kind_of error ≡ kind.InsertMany failures
     → TellsManyInput namespace documents options error → ⊥
 input_other namespace documents options error failures is tells = elim tells [
-  | inl memory ↦ let e : ◌≡◌ {A = ErrorKind} (kind.InsertMany failures) kind.Memory = sym is ∙ memory in cc
+  | inl memory ↦ let e : ◌≡◌ {A = ErrorKind} (kind.InsertMany failures) kind.Memory = sym is ∙ memory.kind_is in cc
   | inr input ↦ subst (ManyInputRefused namespace documents options) (sym input.is.kind_is ∙ is) input.refused
 ]
 

@@ -6,7 +6,7 @@ use Rattle.bson_lite.specs.declared.document.Pair.{Pair}
 use Rattle.driver_error.specs.declared.error.Error.{Error}
 use Rattle.driver_error.specs.declared.kind.ErrorKind.TheVariants as kind
 use Rattle.server_answers.specs.declared.results.InsertManyResult.{InsertManyResult}
-use Rattle.driver_error.specs.Error.{IsAlone, kind_of}
+use Rattle.driver_error.specs.Error.{IsAlone}
 use Rattle.driver_error.specs.LabelTexts.{no_labels}
 use Rattle.driver_options.specs.declared.options.ClientOptions.{ClientOptions}
 use Rattle.driver_options.specs.declared.write_options.InsertManyOptions.{InsertManyOptions}
@@ -39,12 +39,12 @@ module _ (target : OperationTarget) (documents : List (List (Pair Bson))) (optio
   pub many_unmade_exit : (before : Moment) (result : Result InsertManyResult Error) → IsErrAnd result (λ error. IsAlone kind.Memory no_labels error)
       → MakesMany before before target documents options call result
   many_unmade_exit before (Ok output) exits = absurd exits
-  many_unmade_exit before (Err error) exits = many_unmade before error (inl exits.kind_is)
+  many_unmade_exit before (Err error) exits = many_unmade before error (inl exits)
 
   pub many_refused_exit : (before : Moment) (result : Result InsertManyResult Error) → IsErrAnd result (λ error. IsAlone kind.Memory no_labels error)
       → ManyCaused before before target documents options call result
   many_refused_exit before (Ok output) exits = absurd exits
-  many_refused_exit before (Err error) exits = many_refused before error (inl exits.kind_is)
+  many_refused_exit before (Err error) exits = many_refused before error (inl exits)
 
   -- a call that was made, by its result
   made_makes : (before now : Moment) (result : Result InsertManyResult Error) → MadeMany before now target documents options call result → MakesMany before now target documents options call result
@@ -66,9 +66,9 @@ module _ (target : OperationTarget) (documents : List (List (Pair Bson))) (optio
     only_drawn = ap (λ o. record before { store = store; client = record { options = o } }) same
 
     -- memory ran out before there were ids for all documents
-    pub many_short : (error : Error) → DrawsFront before.store store documents → kind_of error ≡ kind.Memory → MakesMany before drawn target documents options call (Err error)
+    pub many_short : (error : Error) → DrawsFront before.store store documents → IsAlone kind.Memory no_labels error → MakesMany before drawn target documents options call (Err error)
     many_short error drew memory = inl (record {
-      draws = inr (memory, record { count = drew.count; ids = drew.ids; twelve = drew.twelve; draws = drew.draws; rest = only_drawn });
+      draws = inr (memory.kind_is, record { count = drew.count; ids = drew.ids; twelve = drew.twelve; draws = drew.draws; rest = only_drawn });
       why = inl memory;
     })
 

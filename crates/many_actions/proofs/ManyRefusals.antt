@@ -11,7 +11,8 @@ use Rattle.bson_lite.specs.Fields.{with_id}
 use Rattle.bson_lite.specs.Spelling.{nesting, zero_in}
 use Rattle.driver_error.specs.declared.error.Error.{Error}
 use Rattle.driver_error.specs.declared.kind.ErrorKind.TheVariants as kind
-use Rattle.driver_error.specs.Error.{ErrorKind, kind_of}
+use Rattle.driver_error.specs.Error.{IsAlone, ErrorKind}
+use Rattle.driver_error.specs.LabelTexts.{no_labels}
 use Rattle.driver_options.specs.declared.write_options.InsertManyOptions.{InsertManyOptions}
 use Rattle.driver_link.proofs.Lists.{none_is_some, some_is_some}
 use Rattle.driver_ops.specs.declared.target.OperationTarget.{OperationTarget}
@@ -72,7 +73,7 @@ pub many_first : (before : Moment) (target : OperationTarget) (documents : List 
     → TellsManyInput (namespace_of target) documents options error → RefusesManyFirst before before target documents options (Some (outline_of error))
 many_first before target documents options error tells = record {
   tells = λ other refused. elim tells [
-    | inl memory ↦ inr memory
+    | inl memory ↦ inr memory.kind_is
     | inr found ↦ inl (found.is.kind_is ∙ one_many_input (namespace_of target) documents options found.why other found.refused refused, found.is.labels_are)
   ];
   undone = λ other refused. refl;
@@ -114,7 +115,7 @@ each_none (one ∷ documents) rest (suc at) document stands none =
 
 -- documents whose input is accepted are spelled as they are sent
 pub own_many_memory : (namespace : Namespace) (documents : List (List (Pair Bson))) (options : InsertManyOptions) (error : Error) → IsManyAccepted namespace documents options
-    → TellsOneRefusal documents error → kind_of error ≡ kind.Memory
+    → TellsOneRefusal documents error → IsAlone kind.Memory no_labels error
 own_many_memory namespace documents options error accepted tells = elim tells [
   | inl memory ↦ memory
   | inr one ↦

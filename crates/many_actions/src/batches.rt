@@ -1,12 +1,13 @@
 //! The batches of an insert of many documents, one operation each.
-ghost use Rattle.std.specs.Prelude.{◌≡◌, ◌<◌, ◌≤◌, drop, length, IfOk, OnErr};
+ghost use Rattle.std.specs.Prelude.{◌≡◌, ◌<◌, ◌≤◌, drop, length, IfErr, IfOk, OnErr};
 ghost use Rattle.driver_ops.specs.Inserts.{insert_is_ordered};
 ghost use Rattle.driver_ops.specs.declared.target.OperationTarget.TheVariants.{Collection as Within};
 ghost use Rattle.driver_attempt.specs.Client.{options_of};
+ghost use Rattle.driver_attempt.specs.Failures.{MemoryAlone};
 ghost use Rattle.driver_attempt.specs.Moment.{moment_of};
 ghost use Rattle.many_actions.specs.Batches.{goes_on, places_from};
 ghost use Rattle.many_actions.specs.ManyAnswers.{nothing_gathered};
-ghost use Rattle.many_actions.specs.inside.Batches.{AreSpelled, BatchMade, BatchesMade, ComesBehind, GathersAll, NextBehind, StepsWithin};
+ghost use Rattle.many_actions.specs.inside.Batches.{AreSpelled, BatchMade, BatchesMade, ComesBehind, GathersAll, NextBehind, StepsWithin, StoppedAlone};
 
 use crate::behind::Behind;
 use crate::gathered::{Gathered, tells_documents};
@@ -134,6 +135,7 @@ fn make_batch<S: SessionStore, L: Link, K: Clock, R: Rng, Q: Ledger>(
     ensures unmade { OnErr result (
         moment_of S.tells L.tells K.tells R.stream client.new outside.new
         ≡ moment_of S.tells L.tells K.tells R.stream client.old outside.old) }
+    ensures memory { IfOk result (λ batch. IfErr batch.came (λ error. MemoryAlone error)) }
     ensures options { options_of client.new ≡ options_of client.old }
     ensures call { outside.new.call ≡ outside.old.call }
 {
@@ -166,6 +168,7 @@ fn gather_batch<S: SessionStore, L: Link, K: Clock, R: Rng>(
         (moment_of S.tells L.tells K.tells R.stream client.new outside.new)
         gathered.old gathered.new result }
     ensures steps { StepsWithin first (length own.now) result }
+    ensures memory { StoppedAlone result }
     ensures options { options_of client.new ≡ options_of client.old }
     ensures call { outside.new.call ≡ outside.old.call }
 {
@@ -205,6 +208,7 @@ fn gather_batches<S: SessionStore, L: Link, K: Clock, R: Rng>(
         (moment_of S.tells L.tells K.tells R.stream client.old outside.old)
         (moment_of S.tells L.tells K.tells R.stream client.new outside.new)
         gathered.new result }
+    ensures memory { IfErr result (λ error. MemoryAlone error) }
     ensures options { options_of client.new ≡ options_of client.old }
     ensures call { outside.new.call ≡ outside.old.call }
 {
@@ -237,6 +241,7 @@ pub(crate) fn make_batches<S: SessionStore, L: Link, K: Clock, R: Rng>(
         (moment_of S.tells L.tells K.tells R.stream client.old outside.old)
         (moment_of S.tells L.tells K.tells R.stream client.new outside.new)
         result }
+    ensures memory { IfErr result (λ error. MemoryAlone error) }
     ensures options { options_of client.new ≡ options_of client.old }
     ensures call { outside.new.call ≡ outside.old.call }
 {

@@ -1,9 +1,11 @@
 //! Inserts of many documents, as a collection's user asks for them.
 ghost use Rattle.std.specs.Prelude.{◌≡◌, IfErr, IfOk, None, Some, map};
 ghost use Rattle.driver_error.specs.declared.kind.ErrorKind.TheVariants.{Memory};
-ghost use Rattle.driver_error.specs.Error.{kind_of};
+ghost use Rattle.driver_error.specs.Error.{IsAlone};
+ghost use Rattle.driver_error.specs.LabelTexts.{no_labels};
 ghost use Rattle.driver_ops.specs.declared.target.OperationTarget.TheVariants.{Collection as Within};
 ghost use Rattle.driver_attempt.specs.Client.{options_of};
+ghost use Rattle.driver_attempt.specs.Failures.{MemoryAlone};
 ghost use Rattle.driver_attempt.specs.Moment.{moment_of};
 ghost use Rattle.many_actions.specs.FewestBatches.{OkIsFewestCut};
 ghost use Rattle.many_actions.specs.ManyCalls.{MakesMany, ManyCaused};
@@ -58,7 +60,7 @@ impl ManyInserts for Collection {
         ensures documents { IfOk result (λ insert. insert.documents ≡ map T.document docs.now) }
         ensures options { IfOk result (λ insert. insert.options ≡ record
             { ordered = None; bypass_document_validation = None; comment = None; write_concern = None }) }
-        ensures short { IfErr result (λ error. kind_of error ≡ Memory) }
+        ensures short { IfErr result (λ error. IsAlone Memory no_labels error) }
     {
         let collection = copy_of(alloc, self)?;
         let documents = documents_of(alloc, docs)?;
@@ -139,9 +141,9 @@ impl InsertMany {
     /// the log, which are all where it is Ok (`listed`), and what its batches told is so, whatever ended it (`told`);
     /// an Ok was cut into no more batches than the limits ask for (`fewest`); a valid one whose part of the schedule
     /// is gentle ends well (`complete`), and the numbers of idle sessions rise by one at most for each batch, where the
-    /// server is told, and else for each document (`raises`). Errors: InvalidArgument and BsonSerialization for its
-    /// input, InsertMany for documents that failed or a write concern that was not met, and those of
-    /// `execute_operation`, each alone.
+    /// server is told, and else for each document (`raises`). An error of want of memory tells of nothing else
+    /// (`memory`). Errors: InvalidArgument and BsonSerialization for its input, InsertMany for documents that failed or
+    /// a write concern that was not met, and those of `execute_operation`, each alone.
     pub fn run<S: SessionStore, L: Link, K: Clock, R: Rng>(
         self,
         alloc: Global,
@@ -180,6 +182,7 @@ impl InsertMany {
             (moment_of S.tells L.tells K.tells R.stream client.old outside.old)
             (moment_of S.tells L.tells K.tells R.stream client.new outside.new)
             self.collection.namespace self.documents self.options }
+        ensures memory { IfErr result (λ error. MemoryAlone error) }
         ensures options { options_of client.new ≡ options_of client.old }
         ensures call { outside.new.call ≡ outside.old.call }
     {

@@ -6,8 +6,8 @@ use Rattle.driver_error.specs.declared.error.Error.{Error}
 use Rattle.driver_error.specs.declared.kind.ErrorKind.TheVariants.{Memory}
 use Rattle.driver_error.specs.declared.labels.TheConstants.{NO_WRITES_PERFORMED, RETRYABLE_WRITE_ERROR}
 use Rattle.driver_error.specs.Chains.{contains_label}
-use Rattle.driver_error.specs.Error.{kind_of, labels_of}
-use Rattle.driver_error.specs.LabelTexts.{has_label}
+use Rattle.driver_error.specs.Error.{IsAlone, labels_of}
+use Rattle.driver_error.specs.LabelTexts.{has_label, no_labels}
 use Rattle.driver_error.specs.Predicates.{is_server_error, is_read_retryable, is_write_retryable}
 use Rattle.driver_options.specs.declared.options.Address.{Address}
 use Rattle.driver_session.specs.declared.retryability.Retryability.{Retryability}
@@ -118,7 +118,7 @@ decide kept failure retryability sharded = decide_reworded kept (reworded_failur
 -- a call gives what is decided, or want of memory
 abbrev pub Decides : Result RetryState Error → Result RetryState Error → Type 0
 Decides decision (Ok retry) = decision ≡ Ok retry
-Decides decision (Err error) = (decision ≡ Err error) ⊎ (kind_of error ≡ Memory)
+Decides decision (Err error) = (decision ≡ Err error) ⊎ IsAlone Memory no_labels error
 
 -- what comes after a decision that allows a further attempt
 abbrev pub and_then : Result RetryState Error → (RetryState → Result (Option RetryState) Error) → Result (Option RetryState) Error

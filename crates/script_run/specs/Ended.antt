@@ -2,7 +2,7 @@
 use Rattle.std.specs.Prelude.{◌≡◌, ℕ, ◌<◌, ◌≤◌, List, [], ◌∷◌, ◌++◌, length, ◌⊎◌, codes, Option, None, Some, Ok, Err, bytes_eq, if◌then◌else◌}
 use Rattle.memory_links.specs.CountingIds.{IdsDrawn, counted_ids, none_drawn}
 use Rattle.driver_link.specs.Exchange.{after_picks, replayed, empty_server}
-use Rattle.driver_link.specs.Faults.{Rose}
+use Rattle.driver_link.specs.Faults.{RoseByOne}
 use Rattle.memory_links.specs.MemClock.{readings_from}
 use Rattle.driver_link.specs.Streams.{Appends}
 use Rattle.driver_session.specs.Pool.{StorePool, empty_pool}
@@ -101,10 +101,10 @@ program_ends left left_now reads_failed reads_failed_now contents contents_now w
   writes_failed_now = writes_failed_now;
 }
 
--- a line was written and no write failed, or a front of it and the count of failed writes rose
+-- a line was written and no write failed, or a front of it and one write failed
 abbrev pub SaysTo : Option (List ℕ) → Option (List ℕ) → ℕ → ℕ → List ℕ → Type 0
 SaysTo contents now failed failed_now line =
-    (Appends contents now line × (failed_now ≡ failed)) ⊎ (Rose failed failed_now × TookFront contents now line)
+    (Appends contents now line × (failed_now ≡ failed)) ⊎ (RoseByOne failed failed_now × TookFront contents now line)
 
 -- the same of the input and the output of a run
 abbrev pub Said : ProgramEnds → List ℕ → Type 0
@@ -118,9 +118,9 @@ NoReadFailed ends = ends.reads_failed_now ≡ ends.reads_failed
 abbrev pub Reports : Option (List ℕ) → Option (List ℕ) → ℕ → ℕ → Run → Type 0
 Reports contents now failed failed_now run = Appends contents now (report run) × (failed_now ≡ failed)
 
--- a front of it was written, and the count of failed writes rose
+-- a front of it was written, and one write failed
 abbrev pub BreaksOff : Option (List ℕ) → Option (List ℕ) → ℕ → ℕ → Run → Type 0
-BreaksOff contents now failed failed_now run = Rose failed failed_now × TookFront contents now (report run)
+BreaksOff contents now failed failed_now run = RoseByOne failed failed_now × TookFront contents now (report run)
 
 -- nothing was written, and no write failed
 abbrev pub IsSilent : Option (List ℕ) → Option (List ℕ) → ℕ → ℕ → Type 0
@@ -166,9 +166,9 @@ pub record OffersScript (left : Option (List ℕ)) : Type 0 where
   pub is : script bytes ≡ Ok asked
   pub few : length asked.calls ≤ MOST_CALLS
 
--- a count of faults did not rise
+-- no failure raised a count of faults: it is not one more, and does not stand at its end
 abbrev pub Stood : ℕ → ℕ → Type 0
-Stood before now = Rose before now → ⊥
+Stood before now = RoseByOne before now → ⊥
 
 -- a script that is offered is run and reported where nothing fails, or memory runs out: the number is that
 -- of one of the two statuses

@@ -1,7 +1,7 @@
 -- What reading a whole input and writing a whole text leave.
 use Rattle.std.specs.Prelude.{◌≡◌, ℕ, ◌<◌, ◌≤◌, List, length, take, Option, Result, Ok, Err}
 use Rattle.driver_link.specs.Streams.{Consumes, IsAtEnd, Appends}
-use Rattle.driver_link.specs.Faults.{Rose}
+use Rattle.driver_link.specs.Faults.{RoseByOne}
 use Rattle.script_run.specs.declared.streams.ReadFault.{ReadFault}
 use Rattle.script_run.specs.declared.streams.ReadFault.TheVariants.{Failed, TooLarge, Memory}
 
@@ -22,7 +22,7 @@ pub record ReadFailed (limit : ℕ) (left left_now : Option (List ℕ)) (before 
   pub bytes : List ℕ
   pub read : Consumes left left_now bytes
   pub fits : length bytes ≤ limit
-  pub rose : Rose before now
+  pub rose : RoseByOne before now
 
 -- how reading a whole input ends; the count of failed reads stands where none failed
 abbrev pub EndsReading : ℕ → Option (List ℕ) → Option (List ℕ) → ℕ → ℕ → Result (List ℕ) ReadFault → Type 0

@@ -1,7 +1,7 @@
 //! The program: words to a command, and a script from its input to its report.
 ghost use Rattle.std.specs.Prelude.{◌≡◌, ◌≢◌, ◌≤◌, ◌↔◌, [], Some, None, IfOk, OnOk, length, ◌<◌, ◌^◌, ◌+◌, ◌-◌};
 ghost use Rattle.driver_link.specs.Exchange.{after_picks, delivered, empty_server};
-ghost use Rattle.driver_link.specs.Faults.{Rose};
+ghost use Rattle.driver_link.specs.Faults.{RoseByOne};
 ghost use Rattle.driver_link.specs.WellFormed.{IsWellFormed};
 ghost use Rattle.model_server.specs.ModelState.{no_calls};
 ghost use Rattle.script_run.specs.Ended.{Completes, Ended, EndsWithStatus, IsRefused, IsRunOf, IsTooLarge, SaysTo, Refusal, Reported, RunIsMade, command_of, program_ends, refused_line, usage_line};
@@ -158,9 +158,9 @@ pub fn run_script<I: Source, O: Sink>(
     ensures no_usage { result ≢ 2 }
     ensures done { result ≡ 0 → RunIsMade (I.left source.old) (I.left source.new) run.new }
     ensures refused { result ≡ 3 → IsRefused (I.left source.old) (I.left source.new) }
-    ensures read_failed { result ≡ 4 → Rose (I.faults source.old) (I.faults source.new) }
+    ensures read_failed { result ≡ 4 → RoseByOne (I.faults source.old) (I.faults source.new) }
     ensures no_read_failed { result ≢ 4 → I.faults source.new ≡ I.faults source.old }
-    ensures write_failed { result ≡ 5 → Rose (O.faults sink.old) (O.faults sink.new) }
+    ensures write_failed { result ≡ 5 → RoseByOne (O.faults sink.old) (O.faults sink.new) }
     ensures no_write_failed { result ≡ 0 → O.faults sink.new ≡ O.faults sink.old }
     ensures too_large { result ≡ 7 → IsTooLarge (I.left source.old) (I.left source.new) }
     ensures complete { Completes result (I.left source.old) (I.faults source.old) (I.faults source.new)
@@ -280,9 +280,9 @@ pub fn top<T: Wait + Threads, I: Source, O: Sink>(
     ensures usage { (result ≡ 2) ↔ (command_of words.now ≡ None) }
     ensures done { result ≡ 0 → RunIsMade (I.left source.old) (I.left source.new) run.new }
     ensures refused { result ≡ 3 → IsRefused (I.left source.old) (I.left source.new) }
-    ensures read_failed { result ≡ 4 → Rose (I.faults source.old) (I.faults source.new) }
+    ensures read_failed { result ≡ 4 → RoseByOne (I.faults source.old) (I.faults source.new) }
     ensures no_read_failed { result ≢ 4 → I.faults source.new ≡ I.faults source.old }
-    ensures write_failed { result ≡ 5 → Rose (O.faults sink.old) (O.faults sink.new) }
+    ensures write_failed { result ≡ 5 → RoseByOne (O.faults sink.old) (O.faults sink.new) }
     ensures no_write_failed { result ≡ 0 → O.faults sink.new ≡ O.faults sink.old }
     ensures too_large { result ≡ 7 → IsTooLarge (I.left source.old) (I.left source.new) }
     ensures complete { command_of words.now ≡ Some Command.Run →

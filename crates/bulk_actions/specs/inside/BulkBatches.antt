@@ -14,6 +14,7 @@ use Rattle.driver_options.specs.declared.write_options.BulkWriteOptions.{BulkWri
 use Rattle.bulk_fronts.specs.declared.own_op.OwnOp.{OwnOp}
 use Rattle.bulk_fronts.specs.BulkOps.{AreOps, IsUndotted}
 use Rattle.bulk_fronts.specs.BulkWrites.{bulk_is_ordered}
+use Rattle.driver_attempt.specs.Failures.{MemoryAlone}
 use Rattle.driver_attempt.specs.Moment.{Moment}
 use Rattle.many_actions.specs.BatchPlans.{IsCount, MakesAllPlanned, MakesPlanned, PlannedEnd}
 use Rattle.bulk_actions.specs.declared.bulk_batches.Behind.{Behind}
@@ -76,6 +77,11 @@ NextWithin index total None = ⊤
 abbrev pub IsBegun : {R : Type 0} → ExecutionStatus R → Type 0
 IsBegun status.None = ⊥
 IsBegun standing = ⊤
+
+-- an error that stands tells of nothing else where it is of want of memory
+abbrev pub StandsAlone : {R : Type 0} → ExecutionStatus R → Type 0
+StandsAlone (status.Error standing) = MemoryAlone standing
+StandsAlone standing = ⊤
 
 -- the batches of a call were made, from the first op on, and this stands behind them
 pub record StandsBehindAll {R : Type 0} (tells : ResultSpec R) (options : BulkWriteOptions) (call : ℕ) (own : List OwnOp) (before now : Moment) (standing : ExecutionStatus R) : Type 0 where

@@ -3,7 +3,8 @@ use Rattle.std.specs.Prelude.{◌≡◌, ℕ, List, length, slice_get, Some, ◌
 use Rattle.bson_lite.specs.declared.bson.ObjectId.{ObjectId}
 use Rattle.driver_error.specs.declared.error.Error.{Error}
 use Rattle.driver_error.specs.declared.kind.ErrorKind.TheVariants.{Memory}
-use Rattle.driver_error.specs.Error.{kind_of}
+use Rattle.driver_error.specs.Error.{IsAlone}
+use Rattle.driver_error.specs.LabelTexts.{no_labels}
 use Rattle.driver_options.specs.declared.models.WriteModel.{WriteModel}
 use Rattle.driver_session.specs.StoreTells.{StoreTells}
 use Rattle.driver_ops.specs.Encoding.{IsUnspelled}
@@ -28,7 +29,7 @@ pub record IsModelError (given : WriteModel) (error : Error) : Type 0 where
 -- a model's op is sent so, or the error tells why it has no spelling, or of want of memory
 abbrev pub SendsOp : StoreTells → StoreTells → WriteModel → Result OwnOp Error → Type 0
 SendsOp store now given (Ok own) = IsSentOp store now given own
-SendsOp store now given (Err error) = (kind_of error ≡ Memory) ⊎ IsModelError given error
+SendsOp store now given (Err error) = IsAlone Memory no_labels error ⊎ IsModelError given error
 
 -- an id was drawn for a model, where it inserts a document without one
 pub record DrawsForModel (store now : StoreTells) (given : WriteModel) : Type 0 where
@@ -49,4 +50,4 @@ pub record IsErrorOfModel (models : List WriteModel) (error : Error) : Type 0 wh
 
 -- the same, or want of memory
 abbrev pub TellsOneModel : List WriteModel → Error → Type 0
-TellsOneModel models error = (kind_of error ≡ Memory) ⊎ IsErrorOfModel models error
+TellsOneModel models error = IsAlone Memory no_labels error ⊎ IsErrorOfModel models error

@@ -6,7 +6,8 @@ use Rattle.bson_lite.specs.declared.document.Pair.{Pair}
 use Rattle.bson_lite.specs.Spelling.{Spells}
 use Rattle.driver_error.specs.declared.error.Error.{Error}
 use Rattle.driver_error.specs.declared.kind.ErrorKind.TheVariants.{Memory}
-use Rattle.driver_error.specs.Error.{kind_of}
+use Rattle.driver_error.specs.Error.{IsAlone}
+use Rattle.driver_error.specs.LabelTexts.{no_labels}
 use Rattle.wire_keys.specs.declared.keys.TheConstants.{DELETE, DOCUMENT, INSERT}
 use Rattle.driver_link.specs.Numbers.{field}
 use Rattle.driver_ops.specs.declared.keys.TheConstants.{FILTER, MULTI}
@@ -38,4 +39,4 @@ pub record HasParts (op : List (Pair Bson)) (namespace : List ℕ) (multi : Bool
 -- it is so, or the error tells why the document has no spelling, or of want of memory
 abbrev pub SpellsParts : List (Pair Bson) → List ℕ → Bool → OpWork → Result OwnOp Error → Type 0
 SpellsParts op namespace multi does (Ok own) = HasParts op namespace multi does own
-SpellsParts op namespace multi does (Err error) = (kind_of error ≡ Memory) ⊎ IsUnspelled op error
+SpellsParts op namespace multi does (Err error) = IsAlone Memory no_labels error ⊎ IsUnspelled op error

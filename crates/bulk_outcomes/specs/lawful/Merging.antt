@@ -11,7 +11,7 @@ use Rattle.bulk_outcomes.specs.BulkResults.{MergesResults, no_counts, no_writes,
 use Rattle.driver_error.specs.Counts.{Counts, added, five}
 
 -- ---- counts
-added_assoc : (a b c : Counts) → added (added a b) c ≡ added a (added b c)
+pub added_assoc : (a b c : Counts) → added (added a b) c ≡ added a (added b c)
 added_assoc a b c = λ i. five
     (+ℤ_assoc a.inserted_count b.inserted_count c.inserted_count i)
     (+ℤ_assoc a.matched_count b.matched_count c.matched_count i)
@@ -36,7 +36,7 @@ added_none a = λ i. five
     (+ℤ_idr a.deleted_count i)
 
 -- ---- verbose results
-merged_assoc : (a b c : VerboseBulkWriteResult) → merged_verbose (merged_verbose a b) c ≡ merged_verbose a (merged_verbose b c)
+pub merged_assoc : (a b c : VerboseBulkWriteResult) → merged_verbose (merged_verbose a b) c ≡ merged_verbose a (merged_verbose b c)
 merged_assoc a b c = λ i. record {
   summary = added_assoc a.summary b.summary c.summary i;
   insert_results = union_assoc a.insert_results b.insert_results c.insert_results i;

@@ -2,7 +2,8 @@
 use Rattle.std.specs.Prelude.{◌≡◌, ℕ, ◌+◌, ℤ, Bool, true, false, List, Option, Some, ◌⊎◌, Result, Ok, Err}
 use Rattle.driver_error.specs.declared.error.Error.{Error}
 use Rattle.driver_error.specs.declared.kind.ErrorKind.TheVariants as kind
-use Rattle.driver_error.specs.Error.{kind_of}
+use Rattle.driver_error.specs.Error.{IsAlone, kind_of}
+use Rattle.driver_error.specs.LabelTexts.{no_labels}
 use Rattle.driver_options.specs.declared.concerns.WriteConcern.{WriteConcern}
 use Rattle.driver_options.specs.declared.options.Address.{Address}
 use Rattle.driver_options.specs.declared.options.Conn.{Conn}
@@ -21,7 +22,7 @@ use Rattle.driver_attempt.specs.declared.attempt_end.AttemptEnd.{AttemptEnd}
 use Rattle.driver_attempt.specs.declared.attempt_end.AttemptEnd.TheVariants.{Ended, Unfit}
 use Rattle.driver_attempt.specs.AttemptExchanges.{AttemptExchanges, Exchanges}
 use Rattle.driver_attempt.specs.Holding.{DrawsNumber, ExecutionSession, held_after_failure, held_id, number_before}
-use Rattle.driver_attempt.specs.Attempting.{AttemptState, LacksFrame, besides_out, builds_again}
+use Rattle.driver_attempt.specs.Attempting.{AttemptState, LacksFrame, MayFix, besides_out, builds_again}
 use Rattle.driver_attempt.specs.Failures.{is_memory}
 use Rattle.driver_attempt.specs.inside.Failures.{EndsLost, EndsRead}
 
@@ -67,9 +68,11 @@ pub record Exchanging {A : Type 0} (spec : OperationSpec A) (which : SendKind) (
   pub exchanges : Exchanges spec which batch link behind conn (in_context (held_id held) (number_before held) concern) result
   pub comes : Comes spec batch.statements behind link_now connection_retryability conn address held held_now result attempt
 
--- the end of an attempt whose build was refused, or met want of memory: a first build's ends the operation
+-- the end of an attempt whose build was refused, or met want of memory: a first build's refusal ends the operation as it is, want
+-- of memory with that alone
 abbrev pub EndsUnbuilt : {A : Type 0} → Bool → Error → AttemptEnd A → Type 0
-EndsUnbuilt again error (Ended now) = (now ≡ error) × ((again ≡ false) ⊎ (kind_of error ≡ kind.Memory))
+EndsUnbuilt again error (Ended now) =
+    ((now ≡ error) × (again ≡ false) × (is_memory (kind_of error) ≡ false)) ⊎ (IsAlone kind.Memory no_labels now × (is_memory (kind_of error) ≡ true))
 EndsUnbuilt again error Unfit = (again ≡ true) × (is_memory (kind_of error) ≡ false)
 EndsUnbuilt again error attempt = ⊥
 
@@ -88,7 +91,7 @@ pub record EndsUnframed {A : Type 0} (spec : OperationSpec A) (concern : Option 
   pub error : Error
   pub number : Option ℤ
   pub draws : DrawsNumber held.sent connection_retryability held held_now (Ok number)
-  pub why : ((builds_again again held ≡ false) × Refuses spec fixed conn.description error × (fixed_now ≡ fixed)) ⊎ (LacksFrame spec (in_context (held_id held_now) number concern) conn.description fixed fixed_now error ⊎ (kind_of error ≡ kind.Memory))
+  pub why : ((builds_again again held ≡ false) × Refuses spec fixed conn.description error × (fixed_now ≡ fixed)) ⊎ (LacksFrame spec (in_context (held_id held_now) number concern) conn.description fixed fixed_now error ⊎ (IsAlone kind.Memory no_labels error × MayFix spec conn.description fixed fixed_now))
   pub link_is : link_now ≡ link
   pub uncounted : count_now ≡ count
   pub ends : attempt ≡ Ended error

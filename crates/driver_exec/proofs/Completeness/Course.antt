@@ -171,13 +171,13 @@ module _ {A : Type 0} (known : KnownCommand A) where
         -- where it ends at once memory ran out
         ended_quiet : (past : Option RetryState) (error : Error) → EndsAtOnce (attempted known) past mid now error → kind_of error ≡ kind.Memory
         ended_quiet past error ends = elim ends [
-          | inl unready ↦ unready.why
+          | inl unready ↦ unready.why.kind_is
           | inr other ↦ elim other [
             | inl refused ↦
                 let came = (connects_lead came_last.moment mid.link refused.ready.link refused.address refused.conn came_last.is refused.readies.connects).leads in
                 let here = prepares (subst (Leads came_last.moment mid.link) (sym refused.link) came) in
                 refused_memory known here.moment mid here.prepared past now error apart refused
-            | inr sent ↦ sent.why
+            | inr sent ↦ sent.why.kind_is
           ]
         ]
 
@@ -228,7 +228,7 @@ module _ {A : Type 0} (known : KnownCommand A) where
             | inl limit ↦ absurd (limit_none limit.retry limit.is limit.reached limit.same)
             | inr refused ↦ elim refused.refused [
               | inl is ↦ absurd (refused_none refused.failure refused.error refused.makes is)
-              | inr memory ↦ quiet_memory refused.error result refused.result_is memory
+              | inr memory ↦ quiet_memory refused.error result refused.result_is memory.kind_is
             ]
           ]
         ]

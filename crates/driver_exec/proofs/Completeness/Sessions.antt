@@ -4,7 +4,8 @@ use Rattle.std.specs.Prelude.{ℤ, pos, ◌+ℤ◌, Option, None, Some, ◌⊎�
 use Rattle.bson_lite.specs.declared.fault.EncodeFault.{EncodeFault}
 use Rattle.driver_error.specs.declared.error.Error.{Error}
 use Rattle.driver_error.specs.declared.kind.ErrorKind.TheVariants as kind
-use Rattle.driver_error.specs.Error.{kind_of}
+use Rattle.driver_error.specs.Error.{IsAlone, kind_of}
+use Rattle.driver_error.specs.LabelTexts.{no_labels}
 use Rattle.driver_options.specs.declared.concerns.WriteConcern.{WriteConcern}
 use Rattle.driver_options.specs.declared.options.Address.{Address}
 use Rattle.driver_options.specs.declared.options.Conn.{Conn}
@@ -134,8 +135,8 @@ module _ {A : Type 0} (known : KnownCommand A) where
     held_first back = record { session = back; sent = None }
 
     -- the session is not at its last number
-    not_at_end : (error : Error) → ((kind_of error ≡ kind.Memory) ⊎ IsAtItsEnd session error) → kind_of error ≡ kind.Memory
-    not_at_end error ends = elim ends [ inl memory ↦ memory | inr at_end ↦ absurd (not_last at lent session lends at_end.last) ]
+    not_at_end : (error : Error) → (IsAlone kind.Memory no_labels error ⊎ IsAtItsEnd session error) → kind_of error ≡ kind.Memory
+    not_at_end error ends = elim ends [ inl memory ↦ memory.kind_is | inr at_end ↦ absurd (not_last at lent session lends at_end.last) ]
 
     -- so there is a number, unless memory runs out
     lent_unnumbered : (connection_retryability : Retryability) (back : Option Session) (error : Error) → DrawsSession connection_retryability (Some session) back (Err error) → kind_of error ≡ kind.Memory
@@ -144,7 +145,7 @@ module _ {A : Type 0} (known : KnownCommand A) where
         by_next : (numbered : Session) (next : Result ℤ Error) → Numbers session numbered next → GivesNumber next (Err error) → kind_of error ≡ kind.Memory
         by_next numbered (Ok number) numbers gives = absurd (err_ok error (Some number) gives)
         by_next numbered (Err other) numbers gives =
-            let same : other ≡ error = cc (sym gives) in subst (λ e. kind_of e ≡ kind.Memory) same (not_at_end other numbers.1)
+            let same : other ≡ error = cc (sym gives) in subst (λ e. kind_of e ≡ kind.Memory) same (not_at_end other numbers.2)
     lent_unnumbered may.Read back error draws = absurd (err_ok error None draws.1)
     lent_unnumbered may.None back error draws = absurd (err_ok error None draws.1)
 
@@ -254,6 +255,6 @@ module _ {A : Type 0} (known : KnownCommand A) where
           | inl none ↦ absurd (here.allowed none.none)
           | inr other ↦ elim other [
             | inl none ↦ here.unnumbered (on_connection retryability refused.conn.description) now.held error none.draws
-            | inr none ↦ elim none.why [ inl early ↦ absurd (none_refused refused.ready refused.address refused.conn refused.readies error early.1) | inr late ↦ elim late [ inl lacks ↦ absurd (spelled _ lacks.unframed.fault refl lacks.unframed.none) | inr memory ↦ memory ] ]
+            | inr none ↦ elim none.why [ inl early ↦ absurd (none_refused refused.ready refused.address refused.conn refused.readies error early.1) | inr late ↦ elim late [ inl lacks ↦ absurd (spelled _ lacks.unframed.fault refl lacks.unframed.none) | inr memory ↦ memory.0.kind_is ] ]
           ]
         ]

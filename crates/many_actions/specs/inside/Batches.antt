@@ -11,6 +11,7 @@ use Rattle.driver_ops.specs.declared.target.OperationTarget.{OperationTarget}
 use Rattle.driver_ops.specs.Inserts.{insert_is_ordered}
 use Rattle.write_ops.specs.declared.own_document.OwnDocument.{OwnDocument}
 use Rattle.write_ops.specs.InsertSpec.{AreOwn}
+use Rattle.driver_attempt.specs.Failures.{MemoryAlone}
 use Rattle.driver_attempt.specs.Moment.{Moment}
 pub use Rattle.many_actions.specs.BatchPlans.{IsCount}
 use Rattle.many_actions.specs.declared.behind.Behind.{Behind}
@@ -64,6 +65,11 @@ ComesBehind target options call index own before now so_far told (Stopped error)
 abbrev pub StepsWithin : ℕ → ℕ → Behind → Type 0
 StepsWithin index total (Next count) = (0 < count) × (index + count ≤ total)
 StepsWithin index total other = Unit {0}
+
+-- an error that ends the call for want of memory tells of nothing else
+abbrev pub StoppedAlone : Behind → Type 0
+StoppedAlone (Stopped error) = MemoryAlone error
+StoppedAlone other = Unit {0}
 
 -- the batches of a call were made, from the first document on, each told of its documents, and this was gathered of them
 pub record AllGathered (target : OperationTarget) (options : InsertManyOptions) (call : ℕ) (own : List OwnDocument) (before now : Moment) (told : Gathered) : Type 0 where

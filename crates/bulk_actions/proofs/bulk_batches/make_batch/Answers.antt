@@ -28,3 +28,7 @@ returns-clause-made g c =
 
 pub returns-clause-options : goal.returns-clause-options
 returns-clause-options g c = ap (λ client. client.options) (kept_client c.execute_operation-came.ensures.executes)
+
+-- what its operation came to
+pub returns-clause-memory : goal.returns-clause-memory
+returns-clause-memory g c = c.execute_operation-came.ensures.memory

@@ -8,6 +8,7 @@ use Rattle.driver_attempt.specs.Moment.{moment_of}
 use Rattle.many_actions.specs.BatchPlans.{places_from}
 use Rattle.bulk_actions.specs.inside.BulkBatches.{ComesBehind, NextWithin}
 use Rattle.bulk_actions.proofs.BulkSequence.{all_done, begins, goes_further, goes_no_further, stops_at}
+use Rattle.bulk_actions.proofs.MemoryAlone.{stands_told}
 use Rattle.bulk_actions.proofs.bulk_batches.make_batches.Goals as goal
 
 pub batches-init : goal.batches-init
@@ -74,3 +75,16 @@ returns-clause-makes g c =
     let so = c.batches.invariant in
     let all : length c.args.own.now ≤ c.batches.first = (let past = c.batches-test.false in omega (arith, past)) in
     all_done g.T.BulkWriteResult.tells c.args.options.now c.args.outside.now.call c.args.own.now before now c.batches.first c.batches.standing so.far c.requires.some all
+
+-- an error that ended a batch
+pub returns-in_err-behind-clause-memory : goal.returns-in_err-behind-clause-memory
+returns-in_err-behind-clause-memory g c =
+    let p = err_from_is_err_and c.from_residual.result c.from_residual.ensures.1 in
+    rw (p.1, p.2) c.in_err-behind.ensures.memory
+
+-- what stands where no other batch is made, and where no op is left
+pub returns-in-None-clause-alone : goal.returns-in-None-clause-alone
+returns-in-None-clause-alone g c = c.in_ok-behind.ensures.alone
+
+pub returns-clause-alone : goal.returns-clause-alone
+returns-clause-alone g c = stands_told g.T.BulkWriteResult.tells c.batches.standing c.batches.invariant.stands

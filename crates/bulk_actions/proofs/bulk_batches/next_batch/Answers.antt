@@ -7,6 +7,7 @@ use Rattle.driver_attempt.specs.Moment.{moment_of}
 use Rattle.many_actions.proofs.BatchPlaces.{places_left}
 use Rattle.bulk_actions.specs.BulkBatches.{end_goes_on}
 use Rattle.bulk_actions.proofs.BulkParts.{KeepsKind, comes_behind, goes_behind, next_within, stands_behind, stops_refused, stops_unmade}
+use Rattle.bulk_actions.proofs.MemoryAlone.{later_told, refused_told}
 use Rattle.bulk_actions.proofs.bulk_batches.next_batch.Goals as goal
 
 pub make_batch-requires-clause-placed : goal.make_batch-requires-clause-placed
@@ -60,3 +61,18 @@ returns-clause-goes g c =
     let on_is = c.should_continue-on.ensures ∙ ap (λ ordered. goes_on ordered c.in_ok-later.later) c.is_ordered.ensures in
     goes_behind g.T.BulkWriteResult.tells c.args.options.now c.args.outside.now.call c.args.first c.args.own.now before now c.args.standing c.in-Ok.made.count c.in-Ok.made.came c.in-Ok.ensures.made
     c.in_ok-later.later c.should_continue-on.result c.count_behind.result on_is c.count_behind.ensures
+
+-- there was no memory for the batch
+pub returns-in-Err-clause-memory : goal.returns-in-Err-clause-memory
+returns-in-Err-clause-memory g c = λ is. c.from_kind.ensures
+
+-- what it came to could not be taken over
+pub returns-in_err-later-clause-memory : goal.returns-in_err-later-clause-memory
+returns-in_err-later-clause-memory g c =
+    let p = err_from_is_err_and c.from_residual.result c.from_residual.ensures.1 in
+    rw (p.1, p.2) (refused_told g.T.BulkWriteResult.tells c.args.standing c.in-Ok.made.came _ c.requires.standing c.in-Ok.ensures.memory c.in_err-later.ensures)
+
+-- it was taken over
+pub returns-clause-alone : goal.returns-clause-alone
+returns-clause-alone g c =
+    later_told g.T.BulkWriteResult.tells c.args.standing c.in-Ok.made.came c.in_ok-later.later c.requires.standing c.in-Ok.ensures.memory c.in_ok-later.ensures

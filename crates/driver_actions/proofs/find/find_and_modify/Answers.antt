@@ -22,12 +22,12 @@ returns-in-Some-clause-cause g c =
 pub returns-in-Err-clause-makes : goal.returns-in-Err-clause-makes
 returns-in-Err-clause-makes g c =
     let before = moment_of g.S.SessionStore.tells g.L.Link.tells g.K.Clock.tells g.R.Rng.stream c.args.client.now c.args.outside.now in
-    unmade_early before (finds c.args.namespace.now c.args.filter.now c.args.modification c.args.options) c.args.place _ c.from.ensures.kind_is
+    unmade_early before (finds c.args.namespace.now c.args.filter.now c.args.modification c.args.options) c.args.place _ c.from.ensures
 
 pub returns-in-Err-clause-cause : goal.returns-in-Err-clause-cause
 returns-in-Err-clause-cause g c =
     let before = moment_of g.S.SessionStore.tells g.L.Link.tells g.K.Clock.tells g.R.Rng.stream c.args.client.now c.args.outside.now in
-    caused_input before (finds c.args.namespace.now c.args.filter.now c.args.modification c.args.options) _ (inl c.from.ensures.kind_is)
+    caused_input before (finds c.args.namespace.now c.args.filter.now c.args.modification c.args.options) _ (inl c.from.ensures)
 
 pub run_single-requires-clause-bodies : goal.run_single-requires-clause-bodies
 run_single-requires-clause-bodies g c = find_has c.args.namespace.now c.args.filter.now c.args.modification c.args.options c.args.place (c.new-find.ensures.target ∙ c.in-Ok.ensures.0) (c.new-find.ensures.filter ∙ c.in-Ok.ensures.1) c.new-find.ensures.modification c.new-find.ensures.options

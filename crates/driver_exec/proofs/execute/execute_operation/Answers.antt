@@ -8,6 +8,7 @@ use Rattle.driver_attempt.specs.Concerns.{IsConcernError, concern_of, concern_re
 use Rattle.driver_attempt.proofs.CommandParts.{fixed_some}
 use Rattle.driver_attempt.specs.inside.Attempting.{attempt_state}
 use Rattle.driver_exec.proofs.BuiltCommands.{executes_built}
+use Rattle.driver_exec.proofs.MemoryAlone.{executes_alone}
 use Rattle.driver_exec.proofs.InvariantSteps.Standing.{one_command_entries, one_command_failures, one_command_keeps}
 use Rattle.driver_exec.proofs.WholeOperation.{executes_caused, executes_sends_one_command}
 use Rattle.driver_exec.proofs.execute.execute_operation.Goals as goal
@@ -72,6 +73,14 @@ returns-clause-ran g c =
     (g.O.Operation.built c.args.op.now) (g.O.Operation.built c.execute_operation_with_retry-held.new.op)
     c.execute_operation_with_retry-held.result.1 (g.met.O.Operation.law c.args.op.now).alone (returns-clause-executes g c some.0 some.1)
 
+-- its error is of another kind, or of want of memory alone
+pub returns-clause-memory : goal.returns-clause-memory
+returns-clause-memory g c =
+    let some = fixed_some (g.O.Operation.built c.execute_operation_with_retry-held.new.op) in
+    executes_alone (g.O.Operation.spec c.args.op.now) (batch_of c.args.places.now some.0) (g.O.Operation.next c.args.op.now) _ _ c.args.sends.now c.execute_operation_with_retry-held.new.sends
+    (g.O.Operation.built c.args.op.now) (g.O.Operation.built c.execute_operation_with_retry-held.new.op)
+    c.execute_operation_with_retry-held.result.1 (returns-clause-executes g c some.0 some.1)
+
 pub returns-in-Some-clause-executes : goal.returns-in-Some-clause-executes
 returns-in-Some-clause-executes g c = λ statements fixed. inl (record {
   error = c.in-Some.error;
@@ -106,3 +115,9 @@ returns-in-Some-clause-ran g c =
     let some = fixed_some (g.O.Operation.built c.args.op.now) in
     executes_built (g.O.Operation.spec c.args.op.now) (batch_of c.args.places.now some.0) (g.O.Operation.next c.args.op.now) _ _ c.args.sends.now c.args.sends.now (g.O.Operation.built c.args.op.now) (g.O.Operation.built c.args.op.now)
     (Err c.in-Some.error) (g.met.O.Operation.law c.args.op.now).alone (returns-in-Some-clause-executes g c some.0 some.1)
+
+pub returns-in-Some-clause-memory : goal.returns-in-Some-clause-memory
+returns-in-Some-clause-memory g c =
+    let some = fixed_some (g.O.Operation.built c.args.op.now) in
+    executes_alone (g.O.Operation.spec c.args.op.now) (batch_of c.args.places.now some.0) (g.O.Operation.next c.args.op.now) _ _ c.args.sends.now c.args.sends.now (g.O.Operation.built c.args.op.now) (g.O.Operation.built c.args.op.now)
+    (Err c.in-Some.error) (returns-in-Some-clause-executes g c some.0 some.1)

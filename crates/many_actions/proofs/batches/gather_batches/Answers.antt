@@ -57,6 +57,9 @@ returns-in-Stopped-clause-gathers g c =
     let stops = subst (λ n. StopsBatches within c.args.options.now n c.batches.first (drop c.batches.first c.args.own.now) mid now c.in-Stopped.error) so.call c.in-Stopped.ensures.comes in
     stops_there within c.args.options.now c.args.outside.now.call c.args.own.now before mid c.batches.first c.batches.gathered so.far now c.in-Stopped.error stops
 
+pub returns-in-Stopped-clause-memory : goal.returns-in-Stopped-clause-memory
+returns-in-Stopped-clause-memory g c = c.in-Stopped.ensures.memory
+
 pub returns-clause-gathers : goal.returns-clause-gathers
 returns-clause-gathers g c =
     let before = moment_of g.S.SessionStore.tells g.L.Link.tells g.K.Clock.tells g.R.Rng.stream c.args.client.now c.args.outside.now in

@@ -19,5 +19,9 @@ returns-clause-made g c =
     batch_made (made.target ∙ ap (λ k. target.Collection k) c.in_ok-copy.ensures) made.first made.documents made.options c.args.outside.now.call c.args.places.now before now _ _ _ _ c.execute_operation-came.result c.statements-count.result
     c.requires.left c.requires.placed c.new-sends.ensures made.fixed (record { executes = of.executes; one_command = of.one_command; caused = of.caused; ran = of.ran }) c.statements-count.ensures
 
+-- what its operation came to is handed on
+pub returns-clause-memory : goal.returns-clause-memory
+returns-clause-memory g c = c.execute_operation-came.ensures.memory
+
 pub returns-clause-options : goal.returns-clause-options
 returns-clause-options g c = ap (λ client. client.options) (kept_client c.execute_operation-came.ensures.executes)

@@ -53,3 +53,6 @@ returns-clause-raises g c =
     let before = moment_of g.S.SessionStore.tells g.L.Link.tells g.K.Clock.tells g.R.Rng.stream c.args.client.now c.args.outside.now in
     let now = moment_of g.S.SessionStore.tells g.L.Link.tells g.K.Clock.tells g.R.Rng.stream c.insert_all.new.client c.insert_all.new.outside in
     many_raises before now (target.Collection c.args.self.collection) c.args.self.documents c.args.self.options c.args.outside.now.call c.insert_all.result (returns-clause-makes g c)
+
+pub returns-clause-memory : goal.returns-clause-memory
+returns-clause-memory g c = c.insert_all.ensures.memory
