@@ -75,50 +75,57 @@ fn text(rt: &impl Abort, alloc: Global, text: &str) -> Bson {
     Bson::String(Text::from_str(alloc, text).made(rt))
 }
 
+/// A document of whole numbers.
+fn numbers(rt: &impl Abort, alloc: Global, fields: &[(&str, i32)]) -> Document {
+    let mut document = Document::new(alloc);
+    for (key, number) in fields {
+        document.push(key, Bson::Int32(*number)).made(rt);
+    }
+    document
+}
+
+/// A document with one field more.
+fn with(rt: &impl Abort, mut document: Document, key: &str, value: Bson) -> Document {
+    document.push(key, value).made(rt);
+    document
+}
+
 /// A results document as a value.
 fn told_value(rt: &impl Abort, alloc: Global, told: Told) -> Bson {
-    let mut document = Document::new(alloc);
-    match told {
-        Told::Counted(index, n) => {
-            document.push("idx", Bson::Int32(index)).made(rt);
-            document.push("n", Bson::Int32(n)).made(rt);
-        }
+    let document = match told {
+        Told::Counted(index, n) => numbers(rt, alloc, &[("idx", index), ("n", n)]),
         Told::Changed(index, n, modified) => {
-            document.push("idx", Bson::Int32(index)).made(rt);
-            document.push("n", Bson::Int32(n)).made(rt);
-            document.push("nModified", Bson::Int32(modified)).made(rt);
+            numbers(
+                rt,
+                alloc,
+                &[("idx", index), ("n", n), ("nModified", modified)],
+            )
         }
         Told::PutIn(index, n, id) => {
-            document.push("idx", Bson::Int32(index)).made(rt);
-            document.push("n", Bson::Int32(n)).made(rt);
-            document.push("nModified", Bson::Int32(0)).made(rt);
-            let mut upserted = Document::new(alloc);
-            upserted.push("_id", Bson::Int32(id)).made(rt);
-            document.push("upserted", Bson::Document(upserted)).made(rt);
+            let counted = numbers(rt, alloc, &[("idx", index), ("n", n), ("nModified", 0)]);
+            let id = numbers(rt, alloc, &[("_id", id)]);
+            with(rt, counted, "upserted", Bson::Document(id))
         }
         Told::PutInNothing(index, n) => {
-            document.push("idx", Bson::Int32(index)).made(rt);
-            document.push("n", Bson::Int32(n)).made(rt);
-            document
-                .push("upserted", Bson::Document(Document::new(alloc)))
-                .made(rt);
+            let counted = numbers(rt, alloc, &[("idx", index), ("n", n)]);
+            with(
+                rt,
+                counted,
+                "upserted",
+                Bson::Document(Document::new(alloc)),
+            )
         }
         Told::Failed(index, code) => {
-            document.push("idx", Bson::Int32(index)).made(rt);
-            document.push("code", Bson::Int32(code)).made(rt);
-            document
-                .push("errmsg", text(rt, alloc, "duplicate"))
-                .made(rt);
+            let failed = numbers(rt, alloc, &[("idx", index), ("code", code)]);
+            with(rt, failed, "errmsg", text(rt, alloc, "duplicate"))
         }
         Told::FailedCounted(index, code, n) => {
-            document.push("idx", Bson::Int32(index)).made(rt);
-            document.push("code", Bson::Int32(code)).made(rt);
-            document.push("n", Bson::Int32(n)).made(rt);
+            numbers(rt, alloc, &[("idx", index), ("code", code), ("n", n)])
         }
-        Told::Nowhere => document.push("n", Bson::Int32(1)).made(rt),
-        Told::Nothing(index) => document.push("idx", Bson::Int32(index)).made(rt),
+        Told::Nowhere => numbers(rt, alloc, &[("n", 1)]),
+        Told::Nothing(index) => numbers(rt, alloc, &[("idx", index)]),
         Told::Text => return text(rt, alloc, "no document"),
-    }
+    };
     Bson::Document(document)
 }
 
@@ -241,26 +248,16 @@ fn document(rt: &impl Abort, alloc: Global, answer: Answer) -> Option<Document> 
         Answer::First(given) => first_reply(rt, alloc, given),
         Answer::Lacking(lack) => lacking(rt, alloc, lack),
         Answer::Next(id, all) => {
-            let mut document = Document::new(alloc);
-            document.push("ok", Bson::Int32(1)).made(rt);
-            document
-                .push("cursor", cursor(rt, alloc, "nextBatch", id, all))
-                .made(rt);
-            document
+            let page = cursor(rt, alloc, "nextBatch", id, all);
+            with(rt, numbers(rt, alloc, &[("ok", 1)]), "cursor", page)
         }
         Answer::Unnamed => unnamed(rt, alloc),
         Answer::Refused(code, label) => {
-            let mut document = Document::new(alloc);
-            document.push("ok", Bson::Int32(0)).made(rt);
-            document.push("code", Bson::Int32(code)).made(rt);
+            let mut document = numbers(rt, alloc, &[("ok", 0), ("code", code)]);
             push_label(rt, alloc, &mut document, label);
             document
         }
-        Answer::Plain => {
-            let mut document = Document::new(alloc);
-            document.push("ok", Bson::Int32(1)).made(rt);
-            document
-        }
+        Answer::Plain => numbers(rt, alloc, &[("ok", 1)]),
         Answer::Bytes(_) | Answer::Reset => return None,
     })
 }
