@@ -9,7 +9,7 @@ use Rattle.call_runs.specs.CallMaking.{HasCause}
 use Rattle.driver_inputs.specs.declared.call.Answer.TheVariants as answer
 use Rattle.driver_inputs.specs.declared.call.Call.TheVariants.{Single}
 use Rattle.driver_inputs.specs.declared.call.SingleAnswer.{SingleAnswer}
-use Rattle.driver_inputs.specs.declared.call.SingleWrite.{SingleWrite}
+use Rattle.driver_inputs.specs.declared.single_write.SingleWrite.{SingleWrite}
 use Rattle.driver_inputs.specs.Forms.{form_of}
 
 -- the cause of a single write is that of its call, with its answer

@@ -65,7 +65,7 @@ use Rattle.driver_inputs.specs.declared.call.Call.{Call}
 use Rattle.driver_inputs.specs.declared.call.Call.TheVariants.{BulkWrite, InsertMany, Single}
 use Rattle.driver_inputs.specs.declared.call.Outcome.{Outcome}
 use Rattle.driver_inputs.specs.declared.call.SingleAnswer.{SingleAnswer}
-use Rattle.driver_inputs.specs.declared.call.SingleWrite.{SingleWrite}
+use Rattle.driver_inputs.specs.declared.single_write.SingleWrite.{SingleWrite}
 use Rattle.driver_inputs.specs.Forms.{WriteForm, form_of, kind_in, repeats_in}
 
 -- a part of a schedule that is gentle for a call is so for one write, where all that it sent carries the same

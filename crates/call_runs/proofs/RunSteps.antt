@@ -65,7 +65,7 @@ use Rattle.driver_inputs.specs.declared.call.Call.{Call}
 use Rattle.driver_inputs.specs.declared.call.Call.TheVariants.{BulkWrite, InsertMany, Single}
 use Rattle.driver_inputs.specs.declared.call.Outcome.{Outcome}
 use Rattle.driver_inputs.specs.declared.call.SingleAnswer.{SingleAnswer}
-use Rattle.driver_inputs.specs.declared.call.SingleWrite.{SingleWrite}
+use Rattle.driver_inputs.specs.declared.single_write.SingleWrite.{SingleWrite}
 use Rattle.driver_inputs.specs.Calls.{Done, OwnAt, bulk_answer, call_result, write_at, written}
 use Rattle.driver_inputs.specs.Forms.{WriteForm, asked_in, form_of}
 

@@ -24,7 +24,7 @@ use Rattle.driver_inputs.specs.declared.call.Call.{Call}
 use Rattle.driver_inputs.specs.declared.call.Call.TheVariants.{BulkWrite, InsertMany, Single}
 use Rattle.driver_inputs.specs.declared.call.Outcome.{Outcome}
 use Rattle.driver_inputs.specs.declared.call.SingleAnswer.{SingleAnswer}
-use Rattle.driver_inputs.specs.declared.call.SingleWrite.{SingleWrite}
+use Rattle.driver_inputs.specs.declared.single_write.SingleWrite.{SingleWrite}
 use Rattle.driver_inputs.specs.Calls.{OwnAt, IsOwn, Done, answer_by, bulk_answer, write_at, write_in, written, entries_in_log, entry_at, entry_id, ids_in_log, put_id, result_of, call_result}
 
 -- what the log spells of the calls that answered

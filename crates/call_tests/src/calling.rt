@@ -4,7 +4,7 @@ use bson_lite::{Bson, Bytes, Document, EncodeFault, List, Namespace, Text, TryCl
 use call_runs::{CallRun, run_calls};
 use driver_attempt::{Client, Outside};
 use driver_error::{Error, ErrorKind, IoKind};
-use driver_inputs::{Answer, Call, Outcome, SingleAnswer, SingleWrite};
+use driver_inputs::{Answer, Call, InsertWrite, Outcome, SingleAnswer, SingleWrite};
 use driver_link::{Answered, Frame, Link, LinkError, LinkFault, Place};
 use driver_options::{Address, ClientOptions, Conn, InsertManyOptions, SelectionCriteria};
 use driver_session::PlainStore;
@@ -129,11 +129,11 @@ fn insert(rt: &impl Abort, alloc: Global, document: Document) -> Call {
         coll: Text::from_str(alloc, "items").made(rt),
     };
     Call::Single {
-        write: SingleWrite::InsertOne {
+        write: SingleWrite::InsertOne(InsertWrite {
             namespace,
             document,
             options: InsertManyOptions::default(),
-        },
+        }),
     }
 }
 

@@ -8,7 +8,7 @@ use bson_lite::{Bson, Document, List, Namespace, Text};
 use call_runs::run_calls;
 use driver_attempt::{Client, Outside};
 use driver_error::{Error, ErrorKind, IoKind, RETRYABLE_WRITE_ERROR};
-use driver_inputs::{Answer, Call, Outcome, SingleAnswer, SingleWrite};
+use driver_inputs::{Answer, Call, InsertWrite, Outcome, SingleAnswer, SingleWrite};
 use driver_link::{Entry, Item, Schedule, Scheduled, Server, WriteKind, Written};
 use driver_options::{ClientOptions, InsertManyOptions};
 use driver_session::PlainStore;
@@ -79,11 +79,11 @@ fn call(rt: &impl Abort, alloc: Global, number: i32) -> Call {
         coll: Text::from_str(alloc, "items").made(rt),
     };
     Call::Single {
-        write: SingleWrite::InsertOne {
+        write: SingleWrite::InsertOne(InsertWrite {
             namespace,
             document,
             options: InsertManyOptions::default(),
-        },
+        }),
     }
 }
 

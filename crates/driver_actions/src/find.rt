@@ -1,8 +1,5 @@
 //! The writes that answer the document which their filter finds, from their caller to their answer.
 ghost use Rattle.std.specs.Prelude.{◌≡◌, IfOk, IfErr};
-ghost use Rattle.driver_options.specs.FindOptions.{options_of_delete, options_of_replace, options_of_update};
-ghost use Rattle.driver_options.specs.declared.updates.Modification.TheVariants.{Delete, Update};
-ghost use Rattle.driver_options.specs.declared.updates.UpdateOrReplace.TheVariants.{Replacement, UpdateModifications as Modifies};
 ghost use Rattle.driver_ops.specs.Targets.{in_collection};
 ghost use Rattle.driver_ops.specs.declared.target.OperationTarget.TheVariants.{Collection as Within};
 ghost use Rattle.driver_attempt.specs.Client.{options_of};
@@ -10,19 +7,17 @@ ghost use Rattle.driver_attempt.specs.Failures.{MemoryAlone};
 ghost use Rattle.driver_attempt.specs.Moment.{moment_of};
 ghost use Rattle.driver_actions.specs.Causes.{WriteCaused};
 ghost use Rattle.driver_actions.specs.SingleCalls.{Makes};
-ghost use Rattle.driver_inputs.specs.Forms.{finds};
+ghost use Rattle.driver_inputs.specs.Forms.{finds, form_of};
+ghost use Rattle.driver_inputs.specs.declared.single_write.SingleWrite.TheVariants.{FindOneAndDelete, FindOneAndReplace, FindOneAndUpdate};
 
 use crate::single_operation::run_single;
 use bson_lite::{Document, Namespace, TryClone};
 use driver_attempt::{Client, Outside};
 use driver_error::{Error, Result};
-use driver_inputs::{SingleAnswer, find_refusal};
+use driver_inputs::{FindAndDelete, FindAndReplace, FindAndUpdate, SingleAnswer, find_refusal};
 use driver_link::{Clock, Link, Place};
 use driver_ops::Collection;
-use driver_options::{
-    FindAndModifyOptions, FindOneAndDeleteOptions, FindOneAndReplaceOptions,
-    FindOneAndUpdateOptions, Modification, UpdateModifications, UpdateOrReplace,
-};
+use driver_options::{FindAndModifyOptions, Modification, UpdateOrReplace};
 use driver_session::SessionStore;
 use rand_core::Rng;
 use statement_ops::FindAndModify;
@@ -35,32 +30,30 @@ pub(crate) fn find_one_and_delete<S: SessionStore, L: Link, K: Clock, R: Rng>(
     alloc: Global,
     client: &mut Client<S>,
     outside: &mut Outside<L, K, R>,
-    namespace: &Namespace,
-    filter: &Document,
-    options: &FindOneAndDeleteOptions,
+    write: &FindAndDelete,
     place: Place,
 ) -> Result<SingleAnswer>
     ensures makes { Makes
         (moment_of S.tells L.tells K.tells R.stream client.old outside.old)
         (moment_of S.tells L.tells K.tells R.stream client.new outside.new)
-        (finds namespace.now filter.now Delete (options_of_delete options.now)) place result }
+        (form_of (FindOneAndDelete write.now)) place result }
     ensures cause { WriteCaused
         (moment_of S.tells L.tells K.tells R.stream client.old outside.old)
         (moment_of S.tells L.tells K.tells R.stream client.new outside.new)
-        (finds namespace.now filter.now Delete (options_of_delete options.now)) result }
+        (form_of (FindOneAndDelete write.now)) result }
     ensures memory { IfErr result (λ error. MemoryAlone error) }
     ensures options { options_of client.new ≡ options_of client.old }
     ensures call { outside.new.call ≡ outside.old.call }
 {
-    let given = options.try_clone(alloc)?;
+    let given = write.options.get().try_clone(alloc)?;
     let options = FindAndModifyOptions::from(given);
     let modification = Modification::Delete;
     find_and_modify(
         alloc,
         client,
         outside,
-        namespace,
-        filter,
+        &write.namespace,
+        &write.filter,
         modification,
         options,
         place,
@@ -72,36 +65,31 @@ pub(crate) fn find_one_and_update<S: SessionStore, L: Link, K: Clock, R: Rng>(
     alloc: Global,
     client: &mut Client<S>,
     outside: &mut Outside<L, K, R>,
-    namespace: &Namespace,
-    filter: &Document,
-    update: &UpdateModifications,
-    options: &FindOneAndUpdateOptions,
+    write: &FindAndUpdate,
     place: Place,
 ) -> Result<SingleAnswer>
     ensures makes { Makes
         (moment_of S.tells L.tells K.tells R.stream client.old outside.old)
         (moment_of S.tells L.tells K.tells R.stream client.new outside.new)
-        (finds namespace.now filter.now
-        (Update (Modifies update.now)) (options_of_update options.now)) place result }
+        (form_of (FindOneAndUpdate write.now)) place result }
     ensures cause { WriteCaused
         (moment_of S.tells L.tells K.tells R.stream client.old outside.old)
         (moment_of S.tells L.tells K.tells R.stream client.new outside.new)
-        (finds namespace.now filter.now
-        (Update (Modifies update.now)) (options_of_update options.now)) result }
+        (form_of (FindOneAndUpdate write.now)) result }
     ensures memory { IfErr result (λ error. MemoryAlone error) }
     ensures options { options_of client.new ≡ options_of client.old }
     ensures call { outside.new.call ≡ outside.old.call }
 {
-    let update = update.try_clone(alloc)?;
-    let given = options.try_clone(alloc)?;
+    let update = write.update.try_clone(alloc)?;
+    let given = write.options.get().try_clone(alloc)?;
     let options = FindAndModifyOptions::from(given);
     let modification = Modification::Update(UpdateOrReplace::UpdateModifications(update));
     find_and_modify(
         alloc,
         client,
         outside,
-        namespace,
-        filter,
+        &write.namespace,
+        &write.filter,
         modification,
         options,
         place,
@@ -113,36 +101,31 @@ pub(crate) fn find_one_and_replace<S: SessionStore, L: Link, K: Clock, R: Rng>(
     alloc: Global,
     client: &mut Client<S>,
     outside: &mut Outside<L, K, R>,
-    namespace: &Namespace,
-    filter: &Document,
-    replacement: &Document,
-    options: &FindOneAndReplaceOptions,
+    write: &FindAndReplace,
     place: Place,
 ) -> Result<SingleAnswer>
     ensures makes { Makes
         (moment_of S.tells L.tells K.tells R.stream client.old outside.old)
         (moment_of S.tells L.tells K.tells R.stream client.new outside.new)
-        (finds namespace.now filter.now
-        (Update (Replacement replacement.now)) (options_of_replace options.now)) place result }
+        (form_of (FindOneAndReplace write.now)) place result }
     ensures cause { WriteCaused
         (moment_of S.tells L.tells K.tells R.stream client.old outside.old)
         (moment_of S.tells L.tells K.tells R.stream client.new outside.new)
-        (finds namespace.now filter.now
-        (Update (Replacement replacement.now)) (options_of_replace options.now)) result }
+        (form_of (FindOneAndReplace write.now)) result }
     ensures memory { IfErr result (λ error. MemoryAlone error) }
     ensures options { options_of client.new ≡ options_of client.old }
     ensures call { outside.new.call ≡ outside.old.call }
 {
-    let replacement = replacement.try_clone(alloc)?;
-    let given = options.try_clone(alloc)?;
+    let replacement = write.replacement.try_clone(alloc)?;
+    let given = write.options.get().try_clone(alloc)?;
     let options = FindAndModifyOptions::from(given);
     let modification = Modification::Update(UpdateOrReplace::Replacement(replacement));
     find_and_modify(
         alloc,
         client,
         outside,
-        namespace,
-        filter,
+        &write.namespace,
+        &write.filter,
         modification,
         options,
         place,

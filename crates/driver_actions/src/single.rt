@@ -10,16 +10,14 @@ ghost use Rattle.driver_actions.specs.SingleEntries.{KeepsSingle, OkHasEntry};
 ghost use Rattle.driver_inputs.specs.Calls.{written};
 ghost use Rattle.driver_inputs.specs.Forms.{form_of};
 
-use crate::delete::delete_found;
+use crate::delete::delete;
 use crate::find::{find_one_and_delete, find_one_and_replace, find_one_and_update};
 use crate::insert::insert_one;
-use crate::update::update_found;
-use bson_lite::TryClone;
+use crate::update::{replace, update};
 use driver_attempt::{Client, Outside};
 use driver_error::Result;
 use driver_inputs::{SingleAnswer, SingleWrite};
 use driver_link::{Clock, Link, Place};
-use driver_options::UpdateOrReplace;
 use driver_session::SessionStore;
 use rand_core::Rng;
 use std::alloc::Global;
@@ -104,103 +102,20 @@ fn make_in<S: SessionStore, L: Link, K: Clock, R: Rng>(
     ensures call { outside.new.call ≡ outside.old.call }
 {
     match write {
-        SingleWrite::InsertOne {
-            namespace,
-            document,
-            options,
-        } => insert_one(alloc, client, outside, namespace, document, options, place),
-        SingleWrite::UpdateOne {
-            namespace,
-            filter,
-            update,
-            options,
-        } => {
-            let change = UpdateOrReplace::UpdateModifications(update.try_clone(alloc)?);
-            let options = options.get();
-            update_found(
-                alloc, client, outside, namespace, filter, change, false, options, place,
-            )
+        SingleWrite::InsertOne(write) => insert_one(alloc, client, outside, write, place),
+        SingleWrite::UpdateOne(write) => update(alloc, client, outside, write, false, place),
+        SingleWrite::UpdateMany(write) => update(alloc, client, outside, write, true, place),
+        SingleWrite::ReplaceOne(write) => replace(alloc, client, outside, write, place),
+        SingleWrite::DeleteOne(write) => delete(alloc, client, outside, write, false, place),
+        SingleWrite::DeleteMany(write) => delete(alloc, client, outside, write, true, place),
+        SingleWrite::FindOneAndDelete(write) => {
+            find_one_and_delete(alloc, client, outside, write, place)
         }
-        SingleWrite::UpdateMany {
-            namespace,
-            filter,
-            update,
-            options,
-        } => {
-            let change = UpdateOrReplace::UpdateModifications(update.try_clone(alloc)?);
-            let options = options.get();
-            update_found(
-                alloc, client, outside, namespace, filter, change, true, options, place,
-            )
+        SingleWrite::FindOneAndUpdate(write) => {
+            find_one_and_update(alloc, client, outside, write, place)
         }
-        SingleWrite::ReplaceOne {
-            namespace,
-            filter,
-            replacement,
-            options,
-        } => {
-            let change = UpdateOrReplace::Replacement(replacement.try_clone(alloc)?);
-            let options = options.get();
-            update_found(
-                alloc, client, outside, namespace, filter, change, false, options, place,
-            )
-        }
-        SingleWrite::DeleteOne {
-            namespace,
-            filter,
-            options,
-        } => {
-            let options = options.get();
-            delete_found(
-                alloc, client, outside, namespace, filter, false, options, place,
-            )
-        }
-        SingleWrite::DeleteMany {
-            namespace,
-            filter,
-            options,
-        } => {
-            let options = options.get();
-            delete_found(
-                alloc, client, outside, namespace, filter, true, options, place,
-            )
-        }
-        SingleWrite::FindOneAndDelete {
-            namespace,
-            filter,
-            options,
-        } => {
-            let options = options.get();
-            find_one_and_delete(alloc, client, outside, namespace, filter, options, place)
-        }
-        SingleWrite::FindOneAndUpdate {
-            namespace,
-            filter,
-            update,
-            options,
-        } => {
-            let options = options.get();
-            find_one_and_update(
-                alloc, client, outside, namespace, filter, update, options, place,
-            )
-        }
-        SingleWrite::FindOneAndReplace {
-            namespace,
-            filter,
-            replacement,
-            options,
-        } => {
-            let options = options.get();
-            find_one_and_replace(
-                alloc,
-                client,
-                outside,
-                namespace,
-                filter,
-                replacement,
-                options,
-                place,
-            )
+        SingleWrite::FindOneAndReplace(write) => {
+            find_one_and_replace(alloc, client, outside, write, place)
         }
     }
 }

@@ -33,8 +33,8 @@ use Rattle.statement_ops.specs.Deleting.{delete_command, delete_statement}
 use Rattle.statement_ops.specs.FindingAndModifying.{find_command}
 use Rattle.write_ops.specs.InsertSpec.{own_of_insert}
 use Rattle.statement_ops.specs.Updating.{update_command, update_statement}
-use Rattle.driver_inputs.specs.declared.call.SingleWrite.{SingleWrite}
-use Rattle.driver_inputs.specs.declared.call.SingleWrite.TheVariants.{DeleteMany, DeleteOne, FindOneAndDelete, FindOneAndReplace, FindOneAndUpdate, InsertOne, ReplaceOne, UpdateMany, UpdateOne}
+use Rattle.driver_inputs.specs.declared.single_write.SingleWrite.{SingleWrite}
+use Rattle.driver_inputs.specs.declared.single_write.SingleWrite.TheVariants.{DeleteMany, DeleteOne, FindOneAndDelete, FindOneAndReplace, FindOneAndUpdate, InsertOne, ReplaceOne, UpdateMany, UpdateOne}
 
 -- what a single write does: it inserts a document, changes what a filter finds, or deletes it, one document or all that are found; or
 -- it does one of both to one document, and answers that
@@ -46,15 +46,15 @@ pub data WriteForm : Type 0 where
 
 -- what a single write does, as it was given
 abbrev pub form_of : SingleWrite → WriteForm
-form_of (InsertOne namespace document options) = inserts namespace document options
-form_of (UpdateOne namespace filter update options) = updates namespace filter (change.UpdateModifications update) false options
-form_of (UpdateMany namespace filter update options) = updates namespace filter (change.UpdateModifications update) true options
-form_of (ReplaceOne namespace filter replacement options) = updates namespace filter (change.Replacement replacement) false options
-form_of (DeleteOne namespace filter options) = deletes namespace filter false options
-form_of (DeleteMany namespace filter options) = deletes namespace filter true options
-form_of (FindOneAndDelete namespace filter options) = finds namespace filter modification.Delete (options_of_delete options)
-form_of (FindOneAndUpdate namespace filter update options) = finds namespace filter (modification.Update (change.UpdateModifications update)) (options_of_update options)
-form_of (FindOneAndReplace namespace filter replacement options) = finds namespace filter (modification.Update (change.Replacement replacement)) (options_of_replace options)
+form_of (InsertOne write) = inserts write.namespace write.document write.options
+form_of (UpdateOne write) = updates write.namespace write.filter (change.UpdateModifications write.update) false write.options
+form_of (UpdateMany write) = updates write.namespace write.filter (change.UpdateModifications write.update) true write.options
+form_of (ReplaceOne write) = updates write.namespace write.filter (change.Replacement write.replacement) false write.options
+form_of (DeleteOne write) = deletes write.namespace write.filter false write.options
+form_of (DeleteMany write) = deletes write.namespace write.filter true write.options
+form_of (FindOneAndDelete write) = finds write.namespace write.filter modification.Delete (options_of_delete write.options)
+form_of (FindOneAndUpdate write) = finds write.namespace write.filter (modification.Update (change.UpdateModifications write.update)) (options_of_update write.options)
+form_of (FindOneAndReplace write) = finds write.namespace write.filter (modification.Update (change.Replacement write.replacement)) (options_of_replace write.options)
 
 -- the collection that it goes to
 abbrev pub namespace_in : WriteForm → Namespace

@@ -1,78 +1,11 @@
 //! Calls and what they answer, as plain data.
-use bson_lite::{Boxed, Document, List, Namespace};
+use crate::single_write::SingleWrite;
+use bson_lite::{Document, List, Namespace};
 use driver_error::{
     DeleteResult, Error, InsertManyResult, InsertOneResult, SummaryBulkWriteResult, UpdateResult,
     VerboseBulkWriteResult,
 };
-use driver_options::{
-    BulkWriteOptions, DeleteOptions, FindOneAndDeleteOptions, FindOneAndReplaceOptions,
-    FindOneAndUpdateOptions, InsertManyOptions, UpdateModifications, UpdateOptions, WriteModel,
-};
-
-/// A write of one statement. Options that are larger than those of an insert stand in memory of their own, so that a
-/// list of calls is as large as its inserts need.
-#[derive(Debug, Drop)]
-pub enum SingleWrite {
-    /// Inserts a document, with an id put first where it has none.
-    InsertOne {
-        namespace: Namespace,
-        document: Document,
-        options: InsertManyOptions,
-    },
-    /// Changes one of the documents that the filter finds.
-    UpdateOne {
-        namespace: Namespace,
-        filter: Document,
-        update: UpdateModifications,
-        options: Boxed<UpdateOptions>,
-    },
-    /// Changes all documents that the filter finds.
-    UpdateMany {
-        namespace: Namespace,
-        filter: Document,
-        update: UpdateModifications,
-        options: Boxed<UpdateOptions>,
-    },
-    /// Puts a document in the place of one that the filter finds.
-    ReplaceOne {
-        namespace: Namespace,
-        filter: Document,
-        replacement: Document,
-        options: Boxed<UpdateOptions>,
-    },
-    /// Deletes one of the documents that the filter finds.
-    DeleteOne {
-        namespace: Namespace,
-        filter: Document,
-        options: Boxed<DeleteOptions>,
-    },
-    /// Deletes all documents that the filter finds.
-    DeleteMany {
-        namespace: Namespace,
-        filter: Document,
-        options: Boxed<DeleteOptions>,
-    },
-    /// Takes out one of the documents that the filter finds, and answers it.
-    FindOneAndDelete {
-        namespace: Namespace,
-        filter: Document,
-        options: Boxed<FindOneAndDeleteOptions>,
-    },
-    /// Changes one of the documents that the filter finds, and answers it.
-    FindOneAndUpdate {
-        namespace: Namespace,
-        filter: Document,
-        update: UpdateModifications,
-        options: Boxed<FindOneAndUpdateOptions>,
-    },
-    /// Puts a document in the place of one that the filter finds, and answers that one.
-    FindOneAndReplace {
-        namespace: Namespace,
-        filter: Document,
-        replacement: Document,
-        options: Boxed<FindOneAndReplaceOptions>,
-    },
-}
+use driver_options::{BulkWriteOptions, InsertManyOptions, WriteModel};
 
 /// What a single write answers.
 #[derive(Debug, Drop)]

@@ -2,10 +2,13 @@
 use Rattle.std.specs.Prelude.{ℕ, Bool, false, if◌then◌else◌, List, [], ◌∷◌, Option, None, bytes_eq, unwrap_or}
 use Rattle.std.specs.Option.{option_and_then, option_map}
 use Rattle.bson_lite.specs.declared.bson.Bson.{Bson}
+use Rattle.bson_lite.specs.declared.document.Pair.{Pair}
+use Rattle.bson_lite.specs.declared.namespace.Namespace.{Namespace}
 use Rattle.driver_options.specs.declared.concerns.WriteConcern.{WriteConcern}
 use Rattle.driver_options.specs.declared.find_options.FindOneAndDeleteOptions.{FindOneAndDeleteOptions}
 use Rattle.driver_options.specs.declared.find_options.FindOneAndReplaceOptions.{FindOneAndReplaceOptions}
 use Rattle.driver_options.specs.declared.find_options.FindOneAndUpdateOptions.{FindOneAndUpdateOptions}
+use Rattle.driver_options.specs.declared.updates.UpdateModifications.{UpdateModifications}
 use Rattle.driver_options.specs.declared.write_options.BulkWriteOptions.{BulkWriteOptions}
 use Rattle.driver_options.specs.declared.write_options.DeleteOptions.{DeleteOptions}
 use Rattle.driver_options.specs.declared.write_options.InsertManyOptions.{InsertManyOptions}
@@ -13,8 +16,9 @@ use Rattle.driver_options.specs.declared.write_options.UpdateOptions.{UpdateOpti
 use Rattle.driver_script.specs.declared.calls.BulkManner.{BulkManner}
 use Rattle.driver_script.specs.declared.calls.DeleteCall.{DeleteCall}
 use Rattle.driver_script.specs.declared.calls.SharedOptions.{SharedOptions}
-use Rattle.driver_script.specs.declared.calls.UpdateCall.{UpdateCall}
 use Rattle.driver_script.specs.declared.parts.DeleteParts.{DeleteParts}
+use Rattle.driver_script.specs.declared.parts.InsertParts.{InsertParts}
+use Rattle.driver_script.specs.declared.parts.ReplaceParts.{ReplaceParts}
 use Rattle.driver_script.specs.declared.parts.UpdateParts.{UpdateParts}
 use Rattle.script_parts.specs.declared.keys.TheConstants.{BULK_WRITE, COMMENT, DELETE_MANY, DELETE_ONE, DOC, DOCS, FILTER, FIND_ONE_AND_DELETE, FIND_ONE_AND_REPLACE, FIND_ONE_AND_UPDATE, INSERT_MANY, INSERT_ONE, MODELS, NS, ORDERED, REPLACE_ONE, UPDATE, UPDATE_MANY, UPDATE_ONE, UPSERT, VERBOSE, WRITE_CONCERN}
 use Rattle.script_parts.specs.Json.{has_only, list_of, needed_part, optional_part}
@@ -24,7 +28,14 @@ use Rattle.driver_script.specs.Parts.{delete_parts_of, insert_parts_of, replace_
 use Rattle.script_parts.specs.Values.{document_of, namespace_of, value_of}
 use Rattle.driver_inputs.specs.declared.call.Call.{Call}
 use Rattle.driver_inputs.specs.declared.call.Call.TheVariants.{BulkWrite, InsertMany, Single}
-use Rattle.driver_inputs.specs.declared.call.SingleWrite.TheVariants.{DeleteMany, DeleteOne, FindOneAndDelete, FindOneAndReplace, FindOneAndUpdate, InsertOne, ReplaceOne, UpdateMany, UpdateOne}
+use Rattle.driver_inputs.specs.declared.single_write.DeleteWrite.{DeleteWrite}
+use Rattle.driver_inputs.specs.declared.single_write.FindAndDelete.{FindAndDelete}
+use Rattle.driver_inputs.specs.declared.single_write.FindAndReplace.{FindAndReplace}
+use Rattle.driver_inputs.specs.declared.single_write.FindAndUpdate.{FindAndUpdate}
+use Rattle.driver_inputs.specs.declared.single_write.InsertWrite.{InsertWrite}
+use Rattle.driver_inputs.specs.declared.single_write.ReplaceWrite.{ReplaceWrite}
+use Rattle.driver_inputs.specs.declared.single_write.SingleWrite.TheVariants.{DeleteMany, DeleteOne, FindOneAndDelete, FindOneAndReplace, FindOneAndUpdate, InsertOne, ReplaceOne, UpdateMany, UpdateOne}
+use Rattle.driver_inputs.specs.declared.single_write.UpdateWrite.{UpdateWrite}
 use Rattle.serde_json.specs.Data.{Data, object, no_members, member}
 
 -- the options that every write has: a write concern and a comment
@@ -44,11 +55,15 @@ insert_options ordered shared = record {
   write_concern = shared.write_concern;
 }
 
+-- the insert of a document with these parts and options
+abbrev pub insert_with : InsertParts → SharedOptions → InsertWrite
+insert_with parts shared = record { namespace = parts.namespace; document = parts.document; options = insert_options None shared }
+
 -- an insert of one document: an object with its parts and its options
 unfoldable pub insert_one_of : Data → Option Call
 insert_one_of d =
     if has_only (NS.now ∷ DOC.now ∷ WRITE_CONCERN.now ∷ COMMENT.now ∷ []) d
-    then option_and_then (λ parts. option_map (λ shared. Single (InsertOne parts.namespace parts.document (insert_options None shared)))
+    then option_and_then (λ parts. option_map (λ shared. Single (InsertOne (insert_with parts shared)))
     (shared_of d)) (insert_parts_of d)
     else None
 
@@ -106,34 +121,44 @@ update_options upsert shared = record {
   write_concern = shared.write_concern;
 }
 
--- the call of an update with these parts and options
-abbrev pub update_call_with : UpdateParts → SharedOptions → UpdateCall
-update_call_with parts shared = record { parts = parts; shared = shared }
+-- the change of what a filter finds, with these parts and options
+abbrev pub update_with : UpdateParts → SharedOptions → UpdateWrite
+update_with parts shared = record {
+  namespace = parts.namespace;
+  filter = parts.filter;
+  update = parts.update;
+  options = update_options parts.upsert shared;
+}
 
--- what the call of an update is made of: an object with its parts and its options
-unfoldable pub update_call_of : Data → Option UpdateCall
-update_call_of d =
+-- the change of what a filter finds: an object with its parts and its options
+unfoldable pub update_write_of : Data → Option UpdateWrite
+update_write_of d =
     if has_only (NS.now ∷ FILTER.now ∷ UPDATE.now ∷ UPSERT.now ∷ WRITE_CONCERN.now ∷ COMMENT.now ∷ []) d
-    then option_and_then (λ parts. option_map (update_call_with parts) (shared_of d)) (update_parts_of d)
+    then option_and_then (λ parts. option_map (update_with parts) (shared_of d)) (update_parts_of d)
     else None
 
 -- an update of one document
 unfoldable pub update_one_of : Data → Option Call
-update_one_of d =
-    option_map (λ call. Single (UpdateOne call.parts.namespace call.parts.filter call.parts.update (update_options call.parts.upsert call.shared)))
-    (update_call_of d)
+update_one_of d = option_map (λ write. Single (UpdateOne write)) (update_write_of d)
 
 -- an update of all that its filter finds
 unfoldable pub update_many_of : Data → Option Call
-update_many_of d =
-    option_map (λ call. Single (UpdateMany call.parts.namespace call.parts.filter call.parts.update (update_options call.parts.upsert call.shared)))
-    (update_call_of d)
+update_many_of d = option_map (λ write. Single (UpdateMany write)) (update_write_of d)
+
+-- the replacement of a document, with these parts and options
+abbrev pub replace_with : ReplaceParts → SharedOptions → ReplaceWrite
+replace_with parts shared = record {
+  namespace = parts.namespace;
+  filter = parts.filter;
+  replacement = parts.replacement;
+  options = update_options parts.upsert shared;
+}
 
 -- a replacement of one document: an object with its parts and its options
 unfoldable pub replace_one_of : Data → Option Call
 replace_one_of d =
     if has_only (NS.now ∷ FILTER.now ∷ DOC.now ∷ UPSERT.now ∷ WRITE_CONCERN.now ∷ COMMENT.now ∷ []) d
-    then option_and_then (λ parts. option_map (λ shared. Single (ReplaceOne parts.namespace parts.filter parts.replacement (update_options parts.upsert shared)))
+    then option_and_then (λ parts. option_map (λ shared. Single (ReplaceOne (replace_with parts shared)))
     (shared_of d)) (replace_parts_of d)
     else None
 
@@ -158,13 +183,21 @@ delete_call_of d =
     then option_and_then (λ parts. option_map (delete_call_with parts) (shared_of d)) (delete_parts_of d)
     else None
 
+-- the delete of what a filter finds, with these parts and options
+abbrev pub delete_with : DeleteCall → DeleteWrite
+delete_with call = record { namespace = call.parts.namespace; filter = call.parts.filter; options = delete_options call.shared }
+
+-- the delete of what a filter finds
+unfoldable pub delete_write_of : Data → Option DeleteWrite
+delete_write_of d = option_map delete_with (delete_call_of d)
+
 -- a delete of one document
 unfoldable pub delete_one_of : Data → Option Call
-delete_one_of d = option_map (λ call. Single (DeleteOne call.parts.namespace call.parts.filter (delete_options call.shared))) (delete_call_of d)
+delete_one_of d = option_map (λ write. Single (DeleteOne write)) (delete_write_of d)
 
 -- a delete of all that its filter finds
 unfoldable pub delete_many_of : Data → Option Call
-delete_many_of d = option_map (λ call. Single (DeleteMany call.parts.namespace call.parts.filter (delete_options call.shared))) (delete_call_of d)
+delete_many_of d = option_map (λ write. Single (DeleteMany write)) (delete_write_of d)
 
 -- the options of a delete that answers its document, of which these are set
 abbrev pub find_delete_options : SharedOptions → FindOneAndDeleteOptions
@@ -179,10 +212,14 @@ find_delete_options shared = record {
   write_concern = shared.write_concern;
 }
 
+-- the delete of a document that is answered, with these parts and options
+abbrev pub find_delete_with : DeleteCall → FindAndDelete
+find_delete_with call =
+    record { namespace = call.parts.namespace; filter = call.parts.filter; options = find_delete_options call.shared }
+
 -- a delete that answers its document
 unfoldable pub find_one_and_delete_of : Data → Option Call
-find_one_and_delete_of d =
-    option_map (λ call. Single (FindOneAndDelete call.parts.namespace call.parts.filter (find_delete_options call.shared))) (delete_call_of d)
+find_one_and_delete_of d = option_map (λ call. Single (FindOneAndDelete (find_delete_with call))) (delete_call_of d)
 
 -- the options of an update that answers its document, of which these are set
 abbrev pub find_update_options : SharedOptions → FindOneAndUpdateOptions
@@ -201,11 +238,16 @@ find_update_options shared = record {
   write_concern = shared.write_concern;
 }
 
+-- the change of a document that is answered, with these parts and options
+abbrev pub find_update_with : Namespace → List (Pair Bson) → UpdateModifications → SharedOptions → FindAndUpdate
+find_update_with namespace filter update shared =
+    record { namespace = namespace; filter = filter; update = update; options = find_update_options shared }
+
 -- an update that answers its document: an object with its namespace, its filter, what it does, and its options
 unfoldable pub find_one_and_update_of : Data → Option Call
 find_one_and_update_of d =
     if has_only (NS.now ∷ FILTER.now ∷ UPDATE.now ∷ WRITE_CONCERN.now ∷ COMMENT.now ∷ []) d
-    then option_and_then (λ namespace. option_and_then (λ filter. option_and_then (λ update. option_map (λ shared. Single (FindOneAndUpdate namespace filter update (find_update_options shared)))
+    then option_and_then (λ namespace. option_and_then (λ filter. option_and_then (λ update. option_map (λ shared. Single (FindOneAndUpdate (find_update_with namespace filter update shared)))
     (shared_of d)) (needed_part update_of UPDATE.now d)) (needed_part document_of FILTER.now d)) (needed_part namespace_of NS.now d)
     else None
 
@@ -225,11 +267,16 @@ find_replace_options shared = record {
   write_concern = shared.write_concern;
 }
 
+-- the replacement of a document that is answered, with these parts and options
+abbrev pub find_replace_with : Namespace → List (Pair Bson) → List (Pair Bson) → SharedOptions → FindAndReplace
+find_replace_with namespace filter replacement shared =
+    record { namespace = namespace; filter = filter; replacement = replacement; options = find_replace_options shared }
+
 -- a replacement that answers a document: an object with its namespace, its filter, the document that is put in, and its options
 unfoldable pub find_one_and_replace_of : Data → Option Call
 find_one_and_replace_of d =
     if has_only (NS.now ∷ FILTER.now ∷ DOC.now ∷ WRITE_CONCERN.now ∷ COMMENT.now ∷ []) d
-    then option_and_then (λ namespace. option_and_then (λ filter. option_and_then (λ replacement. option_map (λ shared. Single (FindOneAndReplace namespace filter replacement (find_replace_options shared)))
+    then option_and_then (λ namespace. option_and_then (λ filter. option_and_then (λ replacement. option_map (λ shared. Single (FindOneAndReplace (find_replace_with namespace filter replacement shared)))
     (shared_of d)) (needed_part document_of DOC.now d)) (needed_part document_of FILTER.now d)) (needed_part namespace_of NS.now d)
     else None
 

@@ -1,6 +1,6 @@
 //! Readers of a script's calls: each is an object whose one key names it.
 ghost use Rattle.std.specs.Prelude.{◌≡◌};
-ghost use Rattle.driver_script.specs.Calls.{bulk_manner_of, bulk_options, bulk_write_of, call_of, call_under, delete_call_of, delete_many_of, delete_one_of, delete_options, find_delete_options, find_one_and_delete_of, find_one_and_replace_of, find_one_and_update_of, find_replace_options, find_under, find_update_options, insert_many_of, insert_one_of, insert_options, insert_options_of, replace_one_of, shared_of, update_call_of, update_many_of, update_one_of, update_options, update_under, write_under};
+ghost use Rattle.driver_script.specs.Calls.{bulk_manner_of, bulk_options, bulk_write_of, call_of, call_under, delete_call_of, delete_many_of, delete_one_of, delete_options, delete_write_of, find_delete_options, find_one_and_delete_of, find_one_and_replace_of, find_one_and_update_of, find_replace_options, find_under, find_update_options, insert_many_of, insert_one_of, insert_options, insert_options_of, replace_one_of, shared_of, update_many_of, update_one_of, update_options, update_under, update_write_of, write_under};
 ghost use Rattle.script_parts.specs.Json.{GivesPart};
 ghost use Rattle.script_parts.specs.inside.Tree.{view};
 
@@ -10,7 +10,10 @@ use crate::parts::{
     update_parts,
 };
 use bson_lite::{Boxed, Bson};
-use driver_inputs::{Call, SingleWrite};
+use driver_inputs::{
+    Call, DeleteWrite, FindAndDelete, FindAndReplace, FindAndUpdate, InsertWrite, ReplaceWrite,
+    SingleWrite, UpdateWrite,
+};
 use driver_options::{
     BulkWriteOptions, DeleteOptions, FindOneAndDeleteOptions, FindOneAndReplaceOptions,
     FindOneAndUpdateOptions, InsertManyOptions, UpdateOptions, WriteConcern,
@@ -29,13 +32,6 @@ use std::alloc::Global;
 pub(crate) struct SharedOptions {
     pub write_concern: Option<WriteConcern>,
     pub comment: Option<Bson>,
-}
-
-/// What the call of an update is made of, one or many.
-#[derive(Drop)]
-pub(crate) struct UpdateCall {
-    pub parts: UpdateParts,
-    pub shared: SharedOptions,
 }
 
 /// What the call of a delete is made of: of one, of many, or of one that it answers.
@@ -93,11 +89,11 @@ fn insert_one(alloc: Global, value: &Json<'_, '_>) -> Result<Call, Unread>
     } = insert_parts(alloc, value)?;
     let shared = read_shared(alloc, value)?;
     Ok(Call::Single {
-        write: SingleWrite::InsertOne {
+        write: SingleWrite::InsertOne(InsertWrite {
             namespace,
             document,
             options: insert_options(None, shared),
-        },
+        }),
     })
 }
 
@@ -188,23 +184,16 @@ fn update_options(upsert: Option<bool>, shared: SharedOptions) -> UpdateOptions
     }
 }
 
-#[tactic(auto, unfolding(crate::specs::Calls::update_call_of))]
-fn update_call(alloc: Global, value: &Json<'_, '_>) -> Result<UpdateCall, Unread>
-    ensures { GivesPart result (update_call_of (view value.now)) }
+/// The change of what a filter finds, one or many.
+#[tactic(auto, unfolding(crate::specs::Calls::update_write_of))]
+fn update_write(alloc: Global, value: &Json<'_, '_>) -> Result<UpdateWrite, Unread>
+    ensures { GivesPart result (update_write_of (view value.now)) }
 {
     if !is_object_of(value, &[NS, FILTER, UPDATE, UPSERT, WRITE_CONCERN, COMMENT]) {
         return Err(Unread::Wrong);
     }
     let parts = update_parts(alloc, value)?;
     let shared = read_shared(alloc, value)?;
-    Ok(UpdateCall { parts, shared })
-}
-
-#[tactic(auto, unfolding(crate::specs::Calls::update_one_of))]
-fn update_one(alloc: Global, value: &Json<'_, '_>) -> Result<Call, Unread>
-    ensures { GivesPart result (update_one_of (view value.now)) }
-{
-    let UpdateCall { parts, shared } = update_call(alloc, value)?;
     let UpdateParts {
         namespace,
         filter,
@@ -212,13 +201,21 @@ fn update_one(alloc: Global, value: &Json<'_, '_>) -> Result<Call, Unread>
         upsert,
     } = parts;
     let options = Boxed::new(alloc, update_options(upsert, shared))?;
+    Ok(UpdateWrite {
+        namespace,
+        filter,
+        update,
+        options,
+    })
+}
+
+#[tactic(auto, unfolding(crate::specs::Calls::update_one_of))]
+fn update_one(alloc: Global, value: &Json<'_, '_>) -> Result<Call, Unread>
+    ensures { GivesPart result (update_one_of (view value.now)) }
+{
+    let update = update_write(alloc, value)?;
     Ok(Call::Single {
-        write: SingleWrite::UpdateOne {
-            namespace,
-            filter,
-            update,
-            options,
-        },
+        write: SingleWrite::UpdateOne(update),
     })
 }
 
@@ -226,21 +223,9 @@ fn update_one(alloc: Global, value: &Json<'_, '_>) -> Result<Call, Unread>
 fn update_many(alloc: Global, value: &Json<'_, '_>) -> Result<Call, Unread>
     ensures { GivesPart result (update_many_of (view value.now)) }
 {
-    let UpdateCall { parts, shared } = update_call(alloc, value)?;
-    let UpdateParts {
-        namespace,
-        filter,
-        update,
-        upsert,
-    } = parts;
-    let options = Boxed::new(alloc, update_options(upsert, shared))?;
+    let update = update_write(alloc, value)?;
     Ok(Call::Single {
-        write: SingleWrite::UpdateMany {
-            namespace,
-            filter,
-            update,
-            options,
-        },
+        write: SingleWrite::UpdateMany(update),
     })
 }
 
@@ -260,12 +245,12 @@ fn replace_one(alloc: Global, value: &Json<'_, '_>) -> Result<Call, Unread>
     let shared = read_shared(alloc, value)?;
     let options = Boxed::new(alloc, update_options(upsert, shared))?;
     Ok(Call::Single {
-        write: SingleWrite::ReplaceOne {
+        write: SingleWrite::ReplaceOne(ReplaceWrite {
             namespace,
             filter,
             replacement,
             options,
-        },
+        }),
     })
 }
 
@@ -294,19 +279,28 @@ fn delete_call(alloc: Global, value: &Json<'_, '_>) -> Result<DeleteCall, Unread
     Ok(DeleteCall { parts, shared })
 }
 
-#[tactic(auto, unfolding(crate::specs::Calls::delete_one_of))]
-fn delete_one(alloc: Global, value: &Json<'_, '_>) -> Result<Call, Unread>
-    ensures { GivesPart result (delete_one_of (view value.now)) }
+/// The delete of what a filter finds, one or many.
+#[tactic(auto, unfolding(crate::specs::Calls::delete_write_of))]
+fn delete_write(alloc: Global, value: &Json<'_, '_>) -> Result<DeleteWrite, Unread>
+    ensures { GivesPart result (delete_write_of (view value.now)) }
 {
     let DeleteCall { parts, shared } = delete_call(alloc, value)?;
     let DeleteParts { namespace, filter } = parts;
     let options = Boxed::new(alloc, delete_options(shared))?;
+    Ok(DeleteWrite {
+        namespace,
+        filter,
+        options,
+    })
+}
+
+#[tactic(auto, unfolding(crate::specs::Calls::delete_one_of))]
+fn delete_one(alloc: Global, value: &Json<'_, '_>) -> Result<Call, Unread>
+    ensures { GivesPart result (delete_one_of (view value.now)) }
+{
+    let delete = delete_write(alloc, value)?;
     Ok(Call::Single {
-        write: SingleWrite::DeleteOne {
-            namespace,
-            filter,
-            options,
-        },
+        write: SingleWrite::DeleteOne(delete),
     })
 }
 
@@ -314,15 +308,9 @@ fn delete_one(alloc: Global, value: &Json<'_, '_>) -> Result<Call, Unread>
 fn delete_many(alloc: Global, value: &Json<'_, '_>) -> Result<Call, Unread>
     ensures { GivesPart result (delete_many_of (view value.now)) }
 {
-    let DeleteCall { parts, shared } = delete_call(alloc, value)?;
-    let DeleteParts { namespace, filter } = parts;
-    let options = Boxed::new(alloc, delete_options(shared))?;
+    let delete = delete_write(alloc, value)?;
     Ok(Call::Single {
-        write: SingleWrite::DeleteMany {
-            namespace,
-            filter,
-            options,
-        },
+        write: SingleWrite::DeleteMany(delete),
     })
 }
 
@@ -350,11 +338,11 @@ fn find_one_and_delete(alloc: Global, value: &Json<'_, '_>) -> Result<Call, Unre
     let DeleteParts { namespace, filter } = parts;
     let options = Boxed::new(alloc, find_delete_options(shared))?;
     Ok(Call::Single {
-        write: SingleWrite::FindOneAndDelete {
+        write: SingleWrite::FindOneAndDelete(FindAndDelete {
             namespace,
             filter,
             options,
-        },
+        }),
     })
 }
 
@@ -391,12 +379,12 @@ fn find_one_and_update(alloc: Global, value: &Json<'_, '_>) -> Result<Call, Unre
     let shared = read_shared(alloc, value)?;
     let options = Boxed::new(alloc, find_update_options(shared))?;
     Ok(Call::Single {
-        write: SingleWrite::FindOneAndUpdate {
+        write: SingleWrite::FindOneAndUpdate(FindAndUpdate {
             namespace,
             filter,
             update,
             options,
-        },
+        }),
     })
 }
 
@@ -432,12 +420,12 @@ fn find_one_and_replace(alloc: Global, value: &Json<'_, '_>) -> Result<Call, Unr
     let shared = read_shared(alloc, value)?;
     let options = Boxed::new(alloc, find_replace_options(shared))?;
     Ok(Call::Single {
-        write: SingleWrite::FindOneAndReplace {
+        write: SingleWrite::FindOneAndReplace(FindAndReplace {
             namespace,
             filter,
             replacement,
             options,
-        },
+        }),
     })
 }
 

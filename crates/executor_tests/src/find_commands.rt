@@ -3,7 +3,7 @@
 use crate::asserting::{Made, holds_at};
 use crate::statements::{ENGLISH, Hinted, Said, Shared, VARIABLES, filters, sends, shared_options};
 use bson_lite::{Boxed, Document};
-use driver_inputs::SingleWrite;
+use driver_inputs::{FindAndDelete, FindAndReplace, FindAndUpdate, SingleWrite};
 use driver_options::{
     Acknowledgment, FindOneAndDeleteOptions, FindOneAndReplaceOptions, FindOneAndUpdateOptions,
     ReturnDocument, UpdateModifications, WriteConcern,
@@ -183,14 +183,14 @@ fn all_of_update(rt: &impl Abort, alloc: Global) -> FindOneAndUpdateOptions {
 
 /// The update with every option.
 fn update(rt: &impl Abort, alloc: Global) -> SingleWrite {
-    SingleWrite::FindOneAndUpdate {
+    SingleWrite::FindOneAndUpdate(FindAndUpdate {
         namespace: namespace(alloc, "shop").made(rt),
         filter: number(alloc, "x", 1).made(rt),
         update: UpdateModifications::Document(operators(alloc, number(alloc, "y", 2).made(rt)).made(
             rt,
         )),
         options: Boxed::new(alloc, all_of_update(rt, alloc)).made(rt),
-    }
+    })
 }
 
 /// Every option of a delete that answers a document.
@@ -220,11 +220,11 @@ fn all_of_delete(rt: &impl Abort, alloc: Global) -> FindOneAndDeleteOptions {
 
 /// The delete with every option.
 fn delete(rt: &impl Abort, alloc: Global) -> SingleWrite {
-    SingleWrite::FindOneAndDelete {
+    SingleWrite::FindOneAndDelete(FindAndDelete {
         namespace: namespace(alloc, "shop").made(rt),
         filter: number(alloc, "x", 1).made(rt),
         options: Boxed::new(alloc, all_of_delete(rt, alloc)).made(rt),
-    }
+    })
 }
 
 /// Every option of a replacement that answers a document.
@@ -253,12 +253,12 @@ fn all_of_replace(rt: &impl Abort, alloc: Global) -> FindOneAndReplaceOptions {
 
 /// The replacement with every option.
 fn replacement(rt: &impl Abort, alloc: Global) -> SingleWrite {
-    SingleWrite::FindOneAndReplace {
+    SingleWrite::FindOneAndReplace(FindAndReplace {
         namespace: namespace(alloc, "shop").made(rt),
         filter: number(alloc, "x", 1).made(rt),
         replacement: number(alloc, "y", 2).made(rt),
         options: Boxed::new(alloc, all_of_replace(rt, alloc)).made(rt),
-    }
+    })
 }
 
 /// The update by a pipeline of two stages.
@@ -266,12 +266,12 @@ fn piped_update(rt: &impl Abort, alloc: Global) -> SingleWrite {
     let set = operators(alloc, number(alloc, "y", 2).made(rt)).made(rt);
     let unset = text(alloc, "$unset", "z").made(rt);
     let stages = two(alloc, set, unset).made(rt);
-    SingleWrite::FindOneAndUpdate {
+    SingleWrite::FindOneAndUpdate(FindAndUpdate {
         namespace: namespace(alloc, "shop").made(rt),
         filter: number(alloc, "x", 1).made(rt),
         update: UpdateModifications::Pipeline(stages),
         options: Boxed::new(alloc, FindOneAndUpdateOptions::default()).made(rt),
-    }
+    })
 }
 
 /// The write of a row.

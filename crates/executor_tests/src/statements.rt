@@ -2,7 +2,7 @@
 //! have, in which order, with every option and with none.
 use crate::asserting::{Made, holds_at};
 use bson_lite::{Boxed, Bson, Document, List, Text};
-use driver_inputs::SingleWrite;
+use driver_inputs::{DeleteWrite, InsertWrite, SingleWrite, UpdateWrite};
 use driver_options::{
     Acknowledgment, DeleteOptions, Hint, InsertManyOptions, UpdateModifications, UpdateOptions,
     WriteConcern,
@@ -226,14 +226,14 @@ fn all_of_update(rt: &impl Abort, alloc: Global) -> UpdateOptions {
 
 /// The update of all with every option.
 fn update_of_all(rt: &impl Abort, alloc: Global) -> SingleWrite {
-    SingleWrite::UpdateMany {
+    SingleWrite::UpdateMany(UpdateWrite {
         namespace: namespace(alloc, "shop").made(rt),
         filter: number(alloc, "x", 1).made(rt),
         update: UpdateModifications::Document(operators(alloc, number(alloc, "y", 2).made(rt)).made(
             rt,
         )),
         options: Boxed::new(alloc, all_of_update(rt, alloc)).made(rt),
-    }
+    })
 }
 
 /// Every option of a delete.
@@ -259,11 +259,11 @@ fn all_of_delete(rt: &impl Abort, alloc: Global) -> DeleteOptions {
 
 /// The delete of one with every option.
 fn delete_of_one(rt: &impl Abort, alloc: Global) -> SingleWrite {
-    SingleWrite::DeleteOne {
+    SingleWrite::DeleteOne(DeleteWrite {
         namespace: namespace(alloc, "shop").made(rt),
         filter: number(alloc, "x", 1).made(rt),
         options: Boxed::new(alloc, all_of_delete(rt, alloc)).made(rt),
-    }
+    })
 }
 
 /// The update by a pipeline of two stages.
@@ -271,17 +271,17 @@ fn piped_update(rt: &impl Abort, alloc: Global) -> SingleWrite {
     let set = operators(alloc, number(alloc, "y", 2).made(rt)).made(rt);
     let unset = text(alloc, "$unset", "z").made(rt);
     let stages = two(alloc, set, unset).made(rt);
-    SingleWrite::UpdateOne {
+    SingleWrite::UpdateOne(UpdateWrite {
         namespace: namespace(alloc, "shop").made(rt),
         filter: number(alloc, "x", 1).made(rt),
         update: UpdateModifications::Pipeline(stages),
         options: Boxed::new(alloc, UpdateOptions::default()).made(rt),
-    }
+    })
 }
 
 /// The insert with every option.
 fn insert_of_one(rt: &impl Abort, alloc: Global) -> SingleWrite {
-    SingleWrite::InsertOne {
+    SingleWrite::InsertOne(InsertWrite {
         namespace: namespace(alloc, "shop").made(rt),
         document: number(alloc, "y", 2).made(rt),
         options: InsertManyOptions {
@@ -290,7 +290,7 @@ fn insert_of_one(rt: &impl Abort, alloc: Global) -> SingleWrite {
             comment: Some(noted(alloc).made(rt)),
             write_concern: Some(by_one_node()),
         },
-    }
+    })
 }
 
 /// The write of a row.

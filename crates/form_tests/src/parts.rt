@@ -2,7 +2,10 @@
 use crate::asserting::{Made, alike};
 use crate::schedules::script_in;
 use bson_lite::{Bson, Document, List, Namespace};
-use driver_inputs::{Call, SingleWrite};
+use driver_inputs::{
+    Call, DeleteWrite, FindAndDelete, FindAndReplace, FindAndUpdate, InsertWrite, ReplaceWrite,
+    SingleWrite, UpdateWrite,
+};
 use driver_link::Setup;
 use driver_options::{
     Acknowledgment, ClientOptions, DeleteOptions, InsertManyOptions, ReadConcern, ReadConcernLevel,
@@ -201,155 +204,80 @@ pub(crate) fn is_pipeline(update: &UpdateModifications) -> bool {
     }
 }
 
-/// Whether a write is the insert among the calls, with all its parts as they were written.
-fn is_insert(write: &SingleWrite) -> bool {
-    match write {
-        SingleWrite::InsertOne {
-            namespace,
-            document,
-            options,
-        } => {
-            is_namespace(namespace)
-                && has_one(document, "d", 1)
-                && are_shared(&options.write_concern, &options.comment)
-                && options.ordered.is_none()
-                && options.bypass_document_validation.is_none()
-        }
-        _ => false,
-    }
+/// Whether it is the insert among the calls, with all its parts as they were written.
+fn is_insert(insert: &InsertWrite) -> bool {
+    is_namespace(&insert.namespace)
+        && has_one(&insert.document, "d", 1)
+        && are_insert_options(&insert.options, None)
 }
 
-/// Whether a write is the update of one document, or that of all, with all its parts.
-fn is_update(write: &SingleWrite, of_all: bool) -> bool {
-    match write {
-        SingleWrite::UpdateOne {
-            namespace,
-            filter,
-            update,
-            options,
-        } => {
-            !of_all
-                && is_found(namespace, filter)
-                && is_document(update)
-                && are_update_options(options.get(), Some(true))
-        }
-        SingleWrite::UpdateMany {
-            namespace,
-            filter,
-            update,
-            options,
-        } => {
-            of_all
-                && is_found(namespace, filter)
-                && is_pipeline(update)
-                && are_update_options(options.get(), Some(false))
-        }
-        _ => false,
-    }
+/// Whether it is the update of one document, with all its parts.
+fn is_update_of_one(update: &UpdateWrite) -> bool {
+    is_found(&update.namespace, &update.filter)
+        && is_document(&update.update)
+        && are_update_options(update.options.get(), Some(true))
 }
 
-/// Whether a write is the replacement, with all its parts.
-fn is_replacement(write: &SingleWrite) -> bool {
-    match write {
-        SingleWrite::ReplaceOne {
-            namespace,
-            filter,
-            replacement,
-            options,
-        } => {
-            is_found(namespace, filter)
-                && has_one(replacement, "d", 1)
-                && are_update_options(options.get(), None)
-        }
-        _ => false,
-    }
+/// Whether it is the update of all, with all its parts.
+fn is_update_of_all(update: &UpdateWrite) -> bool {
+    is_found(&update.namespace, &update.filter)
+        && is_pipeline(&update.update)
+        && are_update_options(update.options.get(), Some(false))
 }
 
-/// Whether a write is the delete of one document, or that of all, with all its parts.
-fn is_delete(write: &SingleWrite, of_all: bool) -> bool {
-    match write {
-        SingleWrite::DeleteOne {
-            namespace,
-            filter,
-            options,
-        } => !of_all && is_found(namespace, filter) && are_delete_options(options.get()),
-        SingleWrite::DeleteMany {
-            namespace,
-            filter,
-            options,
-        } => of_all && is_found(namespace, filter) && are_delete_options(options.get()),
-        _ => false,
-    }
+/// Whether it is the replacement, with all its parts.
+fn is_replacement(replace: &ReplaceWrite) -> bool {
+    is_found(&replace.namespace, &replace.filter)
+        && has_one(&replace.replacement, "d", 1)
+        && are_update_options(replace.options.get(), None)
 }
 
-/// Whether a write is the delete that answers its document, with all its parts.
-fn is_find_and_delete(write: &SingleWrite) -> bool {
-    match write {
-        SingleWrite::FindOneAndDelete {
-            namespace,
-            filter,
-            options,
-        } => {
-            is_found(namespace, filter)
-                && are_shared(&options.get().write_concern, &options.get().comment)
-                && options.get().sort.is_none()
-                && options.get().hint.is_none()
-        }
-        _ => false,
-    }
+/// Whether it is the delete of one document, or of all, with all its parts.
+fn is_delete(delete: &DeleteWrite) -> bool {
+    is_found(&delete.namespace, &delete.filter) && are_delete_options(delete.options.get())
 }
 
-/// Whether a write is the update that answers its document, with all its parts.
-fn is_find_and_update(write: &SingleWrite) -> bool {
-    match write {
-        SingleWrite::FindOneAndUpdate {
-            namespace,
-            filter,
-            update,
-            options,
-        } => {
-            is_found(namespace, filter)
-                && is_document(update)
-                && are_shared(&options.get().write_concern, &options.get().comment)
-                && options.get().upsert.is_none()
-                && options.get().return_document.is_none()
-        }
-        _ => false,
-    }
+/// Whether it is the delete that answers its document, with all its parts.
+fn is_find_and_delete(find: &FindAndDelete) -> bool {
+    let options = find.options.get();
+    is_found(&find.namespace, &find.filter)
+        && are_shared(&options.write_concern, &options.comment)
+        && options.sort.is_none()
+        && options.hint.is_none()
 }
 
-/// Whether a write is the replacement that answers its document, with all its parts.
-fn is_find_and_replace(write: &SingleWrite) -> bool {
-    match write {
-        SingleWrite::FindOneAndReplace {
-            namespace,
-            filter,
-            replacement,
-            options,
-        } => {
-            is_found(namespace, filter)
-                && has_one(replacement, "d", 1)
-                && are_shared(&options.get().write_concern, &options.get().comment)
-                && options.get().upsert.is_none()
-                && options.get().return_document.is_none()
-        }
-        _ => false,
-    }
+/// Whether it is the update that answers its document, with all its parts.
+fn is_find_and_update(find: &FindAndUpdate) -> bool {
+    let options = find.options.get();
+    is_found(&find.namespace, &find.filter)
+        && is_document(&find.update)
+        && are_shared(&options.write_concern, &options.comment)
+        && options.upsert.is_none()
+        && options.return_document.is_none()
+}
+
+/// Whether it is the replacement that answers its document, with all its parts.
+fn is_find_and_replace(find: &FindAndReplace) -> bool {
+    let options = find.options.get();
+    is_found(&find.namespace, &find.filter)
+        && has_one(&find.replacement, "d", 1)
+        && are_shared(&options.write_concern, &options.comment)
+        && options.upsert.is_none()
+        && options.return_document.is_none()
 }
 
 /// Whether a write is the call of this number, with all its parts as they were written.
 fn is_call(write: &SingleWrite, number: usize) -> bool {
-    match number {
-        0 => is_insert(write),
-        1 => is_update(write, false),
-        2 => is_update(write, true),
-        3 => is_replacement(write),
-        4 => is_delete(write, false),
-        5 => is_delete(write, true),
-        6 => is_find_and_delete(write),
-        7 => is_find_and_update(write),
-        8 => is_find_and_replace(write),
-        _ => false,
+    match write {
+        SingleWrite::InsertOne(insert) => number == 0 && is_insert(insert),
+        SingleWrite::UpdateOne(update) => number == 1 && is_update_of_one(update),
+        SingleWrite::UpdateMany(update) => number == 2 && is_update_of_all(update),
+        SingleWrite::ReplaceOne(replace) => number == 3 && is_replacement(replace),
+        SingleWrite::DeleteOne(delete) => number == 4 && is_delete(delete),
+        SingleWrite::DeleteMany(delete) => number == 5 && is_delete(delete),
+        SingleWrite::FindOneAndDelete(find) => number == 6 && is_find_and_delete(find),
+        SingleWrite::FindOneAndUpdate(find) => number == 7 && is_find_and_update(find),
+        SingleWrite::FindOneAndReplace(find) => number == 8 && is_find_and_replace(find),
     }
 }
 

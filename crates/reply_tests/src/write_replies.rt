@@ -3,7 +3,7 @@
 use crate::asserting::{Made, alike};
 use bson_lite::{Bson, Document};
 use driver_error::{Error, Result, UpdateResult};
-use driver_inputs::{SingleAnswer, SingleWrite};
+use driver_inputs::{InsertWrite, SingleAnswer, SingleWrite};
 use driver_options::InsertManyOptions;
 use memory_links::FakeLink;
 use std::alloc::Global;
@@ -586,14 +586,14 @@ pub(crate) fn told_of(
 
 /// The insert of a document whose failure stops no other.
 fn unordered_insert(rt: &impl Abort, alloc: Global) -> SingleWrite {
-    SingleWrite::InsertOne {
+    SingleWrite::InsertOne(InsertWrite {
         namespace: namespace(alloc, "shop").made(rt),
         document: number(alloc, "y", 2).made(rt),
         options: InsertManyOptions {
             ordered: Some(false),
             ..InsertManyOptions::default()
         },
-    }
+    })
 }
 
 /// The kind and the name of the first of these rows whose write tells something else.

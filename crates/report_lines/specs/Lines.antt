@@ -29,8 +29,8 @@ use Rattle.driver_inputs.specs.declared.call.Call.{Call}
 use Rattle.driver_inputs.specs.declared.call.Call.TheVariants as call
 use Rattle.driver_inputs.specs.declared.call.Outcome.{Outcome}
 use Rattle.driver_inputs.specs.declared.call.SingleAnswer.TheVariants.{Deleted, Found, Inserted, Updated}
-use Rattle.driver_inputs.specs.declared.call.SingleWrite.{SingleWrite}
-use Rattle.driver_inputs.specs.declared.call.SingleWrite.TheVariants.{DeleteMany, DeleteOne, FindOneAndDelete, FindOneAndReplace, FindOneAndUpdate, InsertOne, ReplaceOne, UpdateMany, UpdateOne}
+use Rattle.driver_inputs.specs.declared.single_write.SingleWrite.{SingleWrite}
+use Rattle.driver_inputs.specs.declared.single_write.SingleWrite.TheVariants.{DeleteMany, DeleteOne, FindOneAndDelete, FindOneAndReplace, FindOneAndUpdate, InsertOne, ReplaceOne, UpdateMany, UpdateOne}
 
 -- the end of a line
 abbrev pub newline : List ℕ
@@ -122,15 +122,15 @@ result_text (Err error) = error_text error
 
 -- the key of a single write in a script
 unfoldable pub single_name : SingleWrite → List ℕ
-single_name (InsertOne namespace document options) = INSERT_ONE.now
-single_name (UpdateOne namespace filter update options) = UPDATE_ONE.now
-single_name (UpdateMany namespace filter update options) = UPDATE_MANY.now
-single_name (ReplaceOne namespace filter replacement options) = REPLACE_ONE.now
-single_name (DeleteOne namespace filter options) = DELETE_ONE.now
-single_name (DeleteMany namespace filter options) = DELETE_MANY.now
-single_name (FindOneAndDelete namespace filter options) = FIND_ONE_AND_DELETE.now
-single_name (FindOneAndUpdate namespace filter update options) = FIND_ONE_AND_UPDATE.now
-single_name (FindOneAndReplace namespace filter replacement options) = FIND_ONE_AND_REPLACE.now
+single_name (InsertOne write) = INSERT_ONE.now
+single_name (UpdateOne write) = UPDATE_ONE.now
+single_name (UpdateMany write) = UPDATE_MANY.now
+single_name (ReplaceOne write) = REPLACE_ONE.now
+single_name (DeleteOne write) = DELETE_ONE.now
+single_name (DeleteMany write) = DELETE_MANY.now
+single_name (FindOneAndDelete write) = FIND_ONE_AND_DELETE.now
+single_name (FindOneAndUpdate write) = FIND_ONE_AND_UPDATE.now
+single_name (FindOneAndReplace write) = FIND_ONE_AND_REPLACE.now
 
 -- the key of a call in a script
 unfoldable pub call_name : Call → List ℕ

@@ -237,15 +237,15 @@ fn name_of_single(write: &SingleWrite) -> &'static str
     ensures { result.now ≡ single_name write.now }
 {
     match write {
-        SingleWrite::InsertOne { .. } => INSERT_ONE,
-        SingleWrite::UpdateOne { .. } => UPDATE_ONE,
-        SingleWrite::UpdateMany { .. } => UPDATE_MANY,
-        SingleWrite::ReplaceOne { .. } => REPLACE_ONE,
-        SingleWrite::DeleteOne { .. } => DELETE_ONE,
-        SingleWrite::DeleteMany { .. } => DELETE_MANY,
-        SingleWrite::FindOneAndDelete { .. } => FIND_ONE_AND_DELETE,
-        SingleWrite::FindOneAndUpdate { .. } => FIND_ONE_AND_UPDATE,
-        SingleWrite::FindOneAndReplace { .. } => FIND_ONE_AND_REPLACE,
+        SingleWrite::InsertOne(_) => INSERT_ONE,
+        SingleWrite::UpdateOne(_) => UPDATE_ONE,
+        SingleWrite::UpdateMany(_) => UPDATE_MANY,
+        SingleWrite::ReplaceOne(_) => REPLACE_ONE,
+        SingleWrite::DeleteOne(_) => DELETE_ONE,
+        SingleWrite::DeleteMany(_) => DELETE_MANY,
+        SingleWrite::FindOneAndDelete(_) => FIND_ONE_AND_DELETE,
+        SingleWrite::FindOneAndUpdate(_) => FIND_ONE_AND_UPDATE,
+        SingleWrite::FindOneAndReplace(_) => FIND_ONE_AND_REPLACE,
     }
 }
 

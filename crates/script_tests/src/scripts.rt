@@ -143,12 +143,12 @@ fn insert_of(rt: &impl Abort, alloc: Global, document: &str) -> String {
 /// The bytes of the document of a call, and none where it has no spelling.
 fn spelled(rt: &impl Abort, alloc: Global, call: &Call) -> Option<Bytes> {
     let Call::Single {
-        write: SingleWrite::InsertOne { document, .. },
+        write: SingleWrite::InsertOne(insert),
     } = call
     else {
         return None;
     };
-    match encode(alloc, document) {
+    match encode(alloc, &insert.document) {
         Ok(bytes) => Some(bytes),
         Err(EncodeFault::Memory) => Err(AllocError).made(rt),
         Err(_) => None,

@@ -4,7 +4,7 @@ use crate::writes::{
     modifications, namespace, option_at, shared_options, write_concern,
 };
 use bson_lite::Boxed;
-use driver_inputs::SingleWrite;
+use driver_inputs::{FindAndDelete, FindAndReplace, FindAndUpdate, SingleWrite};
 use driver_options::{FindOneAndDeleteOptions, FindOneAndReplaceOptions, FindOneAndUpdateOptions};
 use std::alloc::{AllocError, Global};
 
@@ -100,11 +100,11 @@ pub(crate) fn find_and_delete(
     asked: Asked,
     own: Concern,
 ) -> Result<SingleWrite, AllocError> {
-    Ok(SingleWrite::FindOneAndDelete {
+    Ok(SingleWrite::FindOneAndDelete(FindAndDelete {
         namespace: namespace(alloc, database(asked))?,
         filter: document_at(alloc, asked, Part::Filter, "x", 1)?,
         options: Boxed::new(alloc, delete_options(alloc, asked, own)?)?,
-    })
+    }))
 }
 
 /// An update that answers one.
@@ -113,12 +113,12 @@ pub(crate) fn find_and_update(
     asked: Asked,
     own: Concern,
 ) -> Result<SingleWrite, AllocError> {
-    Ok(SingleWrite::FindOneAndUpdate {
+    Ok(SingleWrite::FindOneAndUpdate(FindAndUpdate {
         namespace: namespace(alloc, database(asked))?,
         filter: document_at(alloc, asked, Part::Filter, "x", 1)?,
         update: modifications(alloc, asked)?,
         options: Boxed::new(alloc, update_options(alloc, asked, own)?)?,
-    })
+    }))
 }
 
 /// A replacement that answers one.
@@ -127,10 +127,10 @@ pub(crate) fn find_and_replace(
     asked: Asked,
     own: Concern,
 ) -> Result<SingleWrite, AllocError> {
-    Ok(SingleWrite::FindOneAndReplace {
+    Ok(SingleWrite::FindOneAndReplace(FindAndReplace {
         namespace: namespace(alloc, database(asked))?,
         filter: document_at(alloc, asked, Part::Filter, "x", 1)?,
         replacement: change_document(alloc, asked)?,
         options: Boxed::new(alloc, replace_options(alloc, asked, own)?)?,
-    })
+    }))
 }

@@ -4,7 +4,7 @@ use bson_lite::{Bson, Document, EncodeFault, Namespace, Text};
 use driver_actions::SingleWrites;
 use driver_attempt::{Client, Outside};
 use driver_error::{Error, ErrorKind, IoKind, RETRYABLE_WRITE_ERROR, Result, WriteFailure};
-use driver_inputs::{SingleAnswer, SingleWrite};
+use driver_inputs::{InsertWrite, SingleAnswer, SingleWrite};
 use driver_link::Link;
 use driver_options::{ClientOptions, Description, InsertManyOptions, WriteConcern};
 use driver_session::PlainStore;
@@ -167,11 +167,11 @@ fn write(alloc: Global) -> std::result::Result<SingleWrite, AllocError> {
         db: Text::from_str(alloc, "shop")?,
         coll: Text::from_str(alloc, "items")?,
     };
-    Ok(SingleWrite::InsertOne {
+    Ok(SingleWrite::InsertOne(InsertWrite {
         namespace,
         document,
         options: InsertManyOptions::default(),
-    })
+    }))
 }
 
 /// The insert's end and the link afterwards, or none where there is no memory.

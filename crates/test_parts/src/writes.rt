@@ -2,7 +2,7 @@
 //! row asks for no others.
 use crate::finds::{find_and_delete, find_and_replace, find_and_update};
 use bson_lite::{Boxed, Bson, Document, List, Namespace, Text};
-use driver_inputs::SingleWrite;
+use driver_inputs::{DeleteWrite, InsertWrite, ReplaceWrite, SingleWrite, UpdateWrite};
 use driver_options::{
     Acknowledgment, DeleteOptions, Hint, InsertManyOptions, UpdateModifications, UpdateOptions,
     WriteConcern,
@@ -351,7 +351,7 @@ fn update_options(alloc: Global, asked: Asked, own: Concern) -> Result<UpdateOpt
 
 /// An insert with a concern of its own.
 fn insert(alloc: Global, asked: Asked, own: Concern) -> Result<SingleWrite, AllocError> {
-    Ok(SingleWrite::InsertOne {
+    Ok(SingleWrite::InsertOne(InsertWrite {
         namespace: namespace(alloc, database(asked))?,
         document: change_document(alloc, asked)?,
         options: InsertManyOptions {
@@ -360,7 +360,7 @@ fn insert(alloc: Global, asked: Asked, own: Concern) -> Result<SingleWrite, Allo
             comment: comment(alloc, asked)?,
             write_concern: write_concern(own),
         },
-    })
+    }))
 }
 
 /// An update of one or of all.
@@ -369,30 +369,26 @@ fn update(alloc: Global, asked: Asked, own: Concern) -> Result<SingleWrite, Allo
     let filter = document_at(alloc, asked, Part::Filter, "x", 1)?;
     let update = modifications(alloc, asked)?;
     let options = Boxed::new(alloc, update_options(alloc, asked, own)?)?;
+    let update = UpdateWrite {
+        namespace,
+        filter,
+        update,
+        options,
+    };
     Ok(match asked.kind {
-        Kind::UpdateMany => SingleWrite::UpdateMany {
-            namespace,
-            filter,
-            update,
-            options,
-        },
-        _ => SingleWrite::UpdateOne {
-            namespace,
-            filter,
-            update,
-            options,
-        },
+        Kind::UpdateMany => SingleWrite::UpdateMany(update),
+        _ => SingleWrite::UpdateOne(update),
     })
 }
 
 /// A replacement.
 fn replace(alloc: Global, asked: Asked, own: Concern) -> Result<SingleWrite, AllocError> {
-    Ok(SingleWrite::ReplaceOne {
+    Ok(SingleWrite::ReplaceOne(ReplaceWrite {
         namespace: namespace(alloc, database(asked))?,
         filter: document_at(alloc, asked, Part::Filter, "x", 1)?,
         replacement: change_document(alloc, asked)?,
         options: Boxed::new(alloc, update_options(alloc, asked, own)?)?,
-    })
+    }))
 }
 
 /// The options of a delete.
@@ -417,17 +413,14 @@ fn delete(alloc: Global, asked: Asked, own: Concern) -> Result<SingleWrite, Allo
     let namespace = namespace(alloc, database(asked))?;
     let filter = document_at(alloc, asked, Part::Filter, "x", 1)?;
     let options = Boxed::new(alloc, delete_options(alloc, asked, own)?)?;
+    let delete = DeleteWrite {
+        namespace,
+        filter,
+        options,
+    };
     Ok(match asked.kind {
-        Kind::DeleteMany => SingleWrite::DeleteMany {
-            namespace,
-            filter,
-            options,
-        },
-        _ => SingleWrite::DeleteOne {
-            namespace,
-            filter,
-            options,
-        },
+        Kind::DeleteMany => SingleWrite::DeleteMany(delete),
+        _ => SingleWrite::DeleteOne(delete),
     })
 }
 

@@ -3,7 +3,7 @@ ghost use Rattle.driver_link.specs.WellFormed.{IsWellFormed};
 
 use bson_lite::{Bson, Document, List, Namespace, Text};
 use driver_attempt::{Client, Outside};
-use driver_inputs::{Call, SingleWrite};
+use driver_inputs::{Call, InsertWrite, SingleWrite};
 use driver_link::Schedule;
 use driver_options::{ClientOptions, InsertManyOptions};
 use driver_session::PlainStore;
@@ -26,11 +26,11 @@ pub fn insert(alloc: Global, number: u32) -> Result<SingleWrite, AllocError> {
         db: Text::from_str(alloc, "bench")?,
         coll: Text::from_str(alloc, "a")?,
     };
-    Ok(SingleWrite::InsertOne {
+    Ok(SingleWrite::InsertOne(InsertWrite {
         namespace,
         document,
         options: InsertManyOptions::default(),
-    })
+    }))
 }
 
 /// The calls of so many inserts.

@@ -11,19 +11,19 @@ use Rattle.driver_inputs.specs.Forms.{finds}
 pub returns-in_err-given-clause-makes : goal.returns-in_err-given-clause-makes
 returns-in_err-given-clause-makes g c =
     let before = moment_of g.S.SessionStore.tells g.L.Link.tells g.K.Clock.tells g.R.Rng.stream c.args.client.now c.args.outside.now in
-    unmade_exit before (finds c.args.namespace.now c.args.filter.now (Update (Replacement c.args.replacement.now)) (options_of_replace c.args.options.now)) c.args.place c.from_residual-in_err-given.result c.from_residual-in_err-given.ensures.1
+    unmade_exit before (finds c.args.write.now.namespace c.args.write.now.filter (Update (Replacement c.args.write.now.replacement)) (options_of_replace c.args.write.now.options)) c.args.place c.from_residual-in_err-given.result c.from_residual-in_err-given.ensures.1
 
 pub returns-in_err-given-clause-cause : goal.returns-in_err-given-clause-cause
 returns-in_err-given-clause-cause g c =
     let before = moment_of g.S.SessionStore.tells g.L.Link.tells g.K.Clock.tells g.R.Rng.stream c.args.client.now c.args.outside.now in
-    caused_exit before (finds c.args.namespace.now c.args.filter.now (Update (Replacement c.args.replacement.now)) (options_of_replace c.args.options.now)) c.from_residual-in_err-given.result c.from_residual-in_err-given.ensures.1
+    caused_exit before (finds c.args.write.now.namespace c.args.write.now.filter (Update (Replacement c.args.write.now.replacement)) (options_of_replace c.args.write.now.options)) c.from_residual-in_err-given.result c.from_residual-in_err-given.ensures.1
 
 pub returns-in_err-replacement-clause-makes : goal.returns-in_err-replacement-clause-makes
 returns-in_err-replacement-clause-makes g c =
     let before = moment_of g.S.SessionStore.tells g.L.Link.tells g.K.Clock.tells g.R.Rng.stream c.args.client.now c.args.outside.now in
-    unmade_exit before (finds c.args.namespace.now c.args.filter.now (Update (Replacement c.args.replacement.now)) (options_of_replace c.args.options.now)) c.args.place c.from_residual.result c.from_residual.ensures.1
+    unmade_exit before (finds c.args.write.now.namespace c.args.write.now.filter (Update (Replacement c.args.write.now.replacement)) (options_of_replace c.args.write.now.options)) c.args.place c.from_residual.result c.from_residual.ensures.1
 
 pub returns-in_err-replacement-clause-cause : goal.returns-in_err-replacement-clause-cause
 returns-in_err-replacement-clause-cause g c =
     let before = moment_of g.S.SessionStore.tells g.L.Link.tells g.K.Clock.tells g.R.Rng.stream c.args.client.now c.args.outside.now in
-    caused_exit before (finds c.args.namespace.now c.args.filter.now (Update (Replacement c.args.replacement.now)) (options_of_replace c.args.options.now)) c.from_residual.result c.from_residual.ensures.1
+    caused_exit before (finds c.args.write.now.namespace c.args.write.now.filter (Update (Replacement c.args.write.now.replacement)) (options_of_replace c.args.write.now.options)) c.from_residual.result c.from_residual.ensures.1

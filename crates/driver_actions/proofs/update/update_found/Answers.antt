@@ -1,8 +1,7 @@
 -- The update is refused for its input, or its operation is run.
-use Rattle.std.proofs.Common.{◌∙◌, refl, ap, inr}
+use Rattle.std.proofs.Common.{refl, inr}
 use Rattle.std.specs.Prelude.{Ok, Err}
 use Rattle.std.proofs.lemmas.Result.{err_from_is_err_and}
-use Rattle.driver_ops.specs.Targets.{in_collection}
 use Rattle.driver_attempt.specs.Moment.{moment_of}
 use Rattle.driver_actions.proofs.Causes.{caused_exit, caused_input, made_caused}
 use Rattle.driver_actions.proofs.Parts.{unmade_exit, unmade_input}
@@ -20,58 +19,38 @@ returns-in-Some-clause-cause g c =
     let before = moment_of g.S.SessionStore.tells g.L.Link.tells g.K.Clock.tells g.R.Rng.stream c.args.client.now c.args.outside.now in
     caused_input before (updates c.args.namespace.now c.args.filter.now c.args.change c.args.multi c.args.options.now) _ c.in-Some.ensures
 
-pub returns-in_err-try_clone-clause-makes : goal.returns-in_err-try_clone-clause-makes
-returns-in_err-try_clone-clause-makes g c =
+pub returns-in_err-op-clause-makes : goal.returns-in_err-op-clause-makes
+returns-in_err-op-clause-makes g c =
     let before = moment_of g.S.SessionStore.tells g.L.Link.tells g.K.Clock.tells g.R.Rng.stream c.args.client.now c.args.outside.now in
     unmade_exit before (updates c.args.namespace.now c.args.filter.now c.args.change c.args.multi c.args.options.now) c.args.place c.from_residual.result c.from_residual.ensures.1
 
-pub returns-in_err-try_clone-clause-cause : goal.returns-in_err-try_clone-clause-cause
-returns-in_err-try_clone-clause-cause g c =
+pub returns-in_err-op-clause-cause : goal.returns-in_err-op-clause-cause
+returns-in_err-op-clause-cause g c =
     let before = moment_of g.S.SessionStore.tells g.L.Link.tells g.K.Clock.tells g.R.Rng.stream c.args.client.now c.args.outside.now in
     caused_exit before (updates c.args.namespace.now c.args.filter.now c.args.change c.args.multi c.args.options.now) c.from_residual.result c.from_residual.ensures.1
 
-pub returns-in_err-filter-clause-makes : goal.returns-in_err-filter-clause-makes
-returns-in_err-filter-clause-makes g c =
-    let before = moment_of g.S.SessionStore.tells g.L.Link.tells g.K.Clock.tells g.R.Rng.stream c.args.client.now c.args.outside.now in
-    unmade_exit before (updates c.args.namespace.now c.args.filter.now c.args.change c.args.multi c.args.options.now) c.args.place c.from_residual-in_err-filter.result c.from_residual-in_err-filter.ensures.1
-
-pub returns-in_err-filter-clause-cause : goal.returns-in_err-filter-clause-cause
-returns-in_err-filter-clause-cause g c =
-    let before = moment_of g.S.SessionStore.tells g.L.Link.tells g.K.Clock.tells g.R.Rng.stream c.args.client.now c.args.outside.now in
-    caused_exit before (updates c.args.namespace.now c.args.filter.now c.args.change c.args.multi c.args.options.now) c.from_residual-in_err-filter.result c.from_residual-in_err-filter.ensures.1
-
-pub returns-in_err-options-clause-makes : goal.returns-in_err-options-clause-makes
-returns-in_err-options-clause-makes g c =
-    let before = moment_of g.S.SessionStore.tells g.L.Link.tells g.K.Clock.tells g.R.Rng.stream c.args.client.now c.args.outside.now in
-    unmade_exit before (updates c.args.namespace.now c.args.filter.now c.args.change c.args.multi c.args.options.now) c.args.place c.from_residual-in_err-options.result c.from_residual-in_err-options.ensures.1
-
-pub returns-in_err-options-clause-cause : goal.returns-in_err-options-clause-cause
-returns-in_err-options-clause-cause g c =
-    let before = moment_of g.S.SessionStore.tells g.L.Link.tells g.K.Clock.tells g.R.Rng.stream c.args.client.now c.args.outside.now in
-    caused_exit before (updates c.args.namespace.now c.args.filter.now c.args.change c.args.multi c.args.options.now) c.from_residual-in_err-options.result c.from_residual-in_err-options.ensures.1
-
 pub run_single-requires-clause-bodies : goal.run_single-requires-clause-bodies
-run_single-requires-clause-bodies g c = update_has c.args.namespace.now c.args.filter.now c.args.change c.args.multi c.args.options.now c.args.place (c.new-update.ensures.target ∙ ap (λ n. in_collection n) c.in_ok-try_clone.ensures.same) (c.new-update.ensures.filter ∙ c.in_ok-filter.ensures.same) c.new-update.ensures.change c.new-update.ensures.multi (c.new-update.ensures.options ∙ c.in_ok-options.ensures.same)
+run_single-requires-clause-bodies g c = update_has c.args.namespace.now c.args.filter.now c.args.change c.args.multi c.args.options.now c.args.place c.in_ok-op.ensures.target c.in_ok-op.ensures.filter c.in_ok-op.ensures.change c.in_ok-op.ensures.multi c.in_ok-op.ensures.options
 
 pub returns-in_err-output-clause-makes : goal.returns-in_err-output-clause-makes
 returns-in_err-output-clause-makes g c =
     let before = moment_of g.S.SessionStore.tells g.L.Link.tells g.K.Clock.tells g.R.Rng.stream c.args.client.now c.args.outside.now in
     let now = moment_of g.S.SessionStore.tells g.L.Link.tells g.K.Clock.tells g.R.Rng.stream c.run_single.new.client c.run_single.new.outside in
     let p = err_from_is_err_and c.from_residual-in_err-output.result c.from_residual-in_err-output.ensures.1 in
-    rw (p.1, p.2) (inr (update_made c.args.namespace.now c.args.filter.now c.args.change c.args.multi c.args.options.now c.args.place (c.new-update.ensures.target ∙ ap (λ n. in_collection n) c.in_ok-try_clone.ensures.same) (c.new-update.ensures.filter ∙ c.in_ok-filter.ensures.same) c.new-update.ensures.change c.new-update.ensures.multi (c.new-update.ensures.options ∙ c.in_ok-options.ensures.same) c.in_default.ensures before now (Err _) (Err _) c.in_err-output.ensures.runs refl))
+    rw (p.1, p.2) (inr (update_made c.args.namespace.now c.args.filter.now c.args.change c.args.multi c.args.options.now c.args.place c.in_ok-op.ensures.target c.in_ok-op.ensures.filter c.in_ok-op.ensures.change c.in_ok-op.ensures.multi c.in_ok-op.ensures.options c.in_default.ensures before now (Err _) (Err _) c.in_err-output.ensures.runs refl))
 
 pub returns-in_err-output-clause-cause : goal.returns-in_err-output-clause-cause
 returns-in_err-output-clause-cause g c =
     let before = moment_of g.S.SessionStore.tells g.L.Link.tells g.K.Clock.tells g.R.Rng.stream c.args.client.now c.args.outside.now in
     let now = moment_of g.S.SessionStore.tells g.L.Link.tells g.K.Clock.tells g.R.Rng.stream c.run_single.new.client c.run_single.new.outside in
     let p = err_from_is_err_and c.from_residual-in_err-output.result c.from_residual-in_err-output.ensures.1 in
-    rw (p.1, p.2) (made_caused before now (updates c.args.namespace.now c.args.filter.now c.args.change c.args.multi c.args.options.now) c.args.place (Err _) (update_made c.args.namespace.now c.args.filter.now c.args.change c.args.multi c.args.options.now c.args.place (c.new-update.ensures.target ∙ ap (λ n. in_collection n) c.in_ok-try_clone.ensures.same) (c.new-update.ensures.filter ∙ c.in_ok-filter.ensures.same) c.new-update.ensures.change c.new-update.ensures.multi (c.new-update.ensures.options ∙ c.in_ok-options.ensures.same) c.in_default.ensures before now (Err _) (Err _) c.in_err-output.ensures.runs refl))
+    rw (p.1, p.2) (made_caused before now (updates c.args.namespace.now c.args.filter.now c.args.change c.args.multi c.args.options.now) c.args.place (Err _) (update_made c.args.namespace.now c.args.filter.now c.args.change c.args.multi c.args.options.now c.args.place c.in_ok-op.ensures.target c.in_ok-op.ensures.filter c.in_ok-op.ensures.change c.in_ok-op.ensures.multi c.in_ok-op.ensures.options c.in_default.ensures before now (Err _) (Err _) c.in_err-output.ensures.runs refl))
 
 pub returns-clause-makes : goal.returns-clause-makes
 returns-clause-makes g c =
     let before = moment_of g.S.SessionStore.tells g.L.Link.tells g.K.Clock.tells g.R.Rng.stream c.args.client.now c.args.outside.now in
     let now = moment_of g.S.SessionStore.tells g.L.Link.tells g.K.Clock.tells g.R.Rng.stream c.run_single.new.client c.run_single.new.outside in
-    update_made c.args.namespace.now c.args.filter.now c.args.change c.args.multi c.args.options.now c.args.place (c.new-update.ensures.target ∙ ap (λ n. in_collection n) c.in_ok-try_clone.ensures.same) (c.new-update.ensures.filter ∙ c.in_ok-filter.ensures.same) c.new-update.ensures.change c.new-update.ensures.multi (c.new-update.ensures.options ∙ c.in_ok-options.ensures.same) c.in_default.ensures before now (Ok _) (Ok _) c.in_ok-output.ensures.runs refl
+    update_made c.args.namespace.now c.args.filter.now c.args.change c.args.multi c.args.options.now c.args.place c.in_ok-op.ensures.target c.in_ok-op.ensures.filter c.in_ok-op.ensures.change c.in_ok-op.ensures.multi c.in_ok-op.ensures.options c.in_default.ensures before now (Ok _) (Ok _) c.in_ok-output.ensures.runs refl
 
 pub returns-clause-cause : goal.returns-clause-cause
 returns-clause-cause g c =
